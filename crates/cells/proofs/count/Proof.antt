@@ -9,4 +9,5 @@ returns : tie.Need-returns
 returns c = c .count-of .ensures ∙ ap countOf (toZ-ofZ (sfits-of (c .before .number .ok)) ∙ c .before .number .ensures)
 
 pub count-spec : {M : Type 1} → statement M
-count-spec = tie.close (tie.spec (λ c κs. search needs) (λ c κs. search needs) returns)
+count-spec =
+    tie.close (tie.spec (λ c κs. search needs) (λ c κs. search needs) returns)

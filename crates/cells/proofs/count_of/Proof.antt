@@ -17,4 +17,5 @@ unfolding countOf
 returns-2 c = rw (toZ-ofZ (c .before .fits .x), is-pos (c .before .fits .x) (c .if1 .left))
 
 pub count-of-spec : {M : Type 1} → statement M
-count-of-spec = tie.close (tie.spec cast-result returns returns-2)
+count-of-spec =
+    tie.close (tie.spec cast-result returns returns-2)

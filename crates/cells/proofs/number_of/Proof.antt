@@ -10,14 +10,8 @@ use Rattle.cells.proofs.Signs.{zero-minus, zero-minus-fits}
 use Rattle.cells.proofs.number_of.Statement.{statement}
 use Rattle.cells.proofs.number_of.Tie as tie
 
-cast-result : tie.Need-cast-result
-cast-result c = search needs
-
 sub-result : tie.Need-sub-result
 sub-result c = zero-minus-fits (c .before .args .size) (omega arith)
-
-cast-result-2 : tie.Need-cast-result-2
-cast-result-2 c = search needs
 
 returns : tie.Need-returns
 unfolding numberOf
@@ -28,4 +22,5 @@ unfolding numberOf
 returns-2 c = rw (c .if1 .left) (toZ-pos w64 (c .before .args .size) (omega arith))
 
 pub number-of-spec : {M : Type 1} → statement M
-number-of-spec = tie.close (tie.spec cast-result sub-result cast-result-2 returns returns-2)
+number-of-spec =
+    tie.close (tie.spec (λ c. search needs) sub-result (λ c. search needs) returns returns-2)

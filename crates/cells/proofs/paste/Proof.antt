@@ -10,8 +10,6 @@ use mir.Facts.{toZ-ofZ}
 use Rattle.cells.specs.Cell.{pasted}
 use Rattle.cells.proofs.paste.Statement.{statement}
 use Rattle.cells.proofs.paste.Tie as tie
-use Rattle.cells.proofs.paste.Reads as reads
-use Rattle.cells.proofs.paste.Lts as lts
 
 abbrev Inv-loop : tie.InvT-loop
 Inv-loop t₀ at src j₀ t j = (j ≤ length src) × (length t ≡ length t₀) × (t ≡ Seq.paste t₀ at src j)
@@ -24,33 +22,12 @@ loop-holds : tie.Need-loop-holds Inv-loop μ-loop
 loop-holds c = (omega arith, refl, Seq.paste-zero (c .args .t .now) (c .args .at) (c .args .src .now))
 
 -- src/lib.rt:91:17
-mul-x : tie.Need-mul-x Inv-loop μ-loop
-mul-x c = omega arith
-
 -- src/lib.rt:91:17
-shared-slice-copy-out-x : tie.Need-shared-slice-copy-out-x Inv-loop μ-loop
-shared-slice-copy-out-x c = omega arith
-
 -- src/lib.rt:92:11
-add-x : tie.Need-add-x Inv-loop μ-loop
-add-x c = omega arith
-
 -- src/lib.rt:92:9
-mul-x-2 : tie.Need-mul-x-2 Inv-loop μ-loop
-mul-x-2 c = omega arith
-
 -- src/lib.rt:92:9
-slice-set-from-x : tie.Need-slice-set-from-x Inv-loop μ-loop
-slice-set-from-x c = omega arith
-
 -- src/lib.rt:93:9
-add-j : tie.Need-add-j Inv-loop μ-loop
-add-j c = omega arith
-
 -- src/lib.rt:90:5
-loop-less : tie.Need-loop-less Inv-loop μ-loop
-loop-less c = omega arith
-
 -- src/lib.rt:90:5
 loop-again : tie.Need-loop-again Inv-loop μ-loop
 loop-again c =
@@ -77,18 +54,4 @@ returns c =
 
 pub paste-spec : {M : Type 1} → statement M
 paste-spec =
-    tie.close
-    (tie.spec
-    Inv-loop
-    μ-loop
-    loop-holds
-    mul-x
-    shared-slice-copy-out-x
-    add-x
-    mul-x-2
-    slice-set-from-x
-    add-j
-    loop-less
-    loop-again
-    same-length
-    returns)
+    tie.close (tie.spec Inv-loop μ-loop loop-holds (λ c. omega arith) (λ c. omega arith) (λ c. omega arith) (λ c. omega arith) (λ c. omega arith) (λ c. omega arith) (λ c. omega arith) loop-again same-length returns)

@@ -6,4 +6,5 @@ returns : tie.Need-returns
 returns c = bits-same _ _ (c .fits .a) (c .fits .b)
 
 pub same-spec : {M : Type 1} → statement M
-same-spec = tie.close (tie.spec returns)
+same-spec =
+    tie.close (tie.spec returns)

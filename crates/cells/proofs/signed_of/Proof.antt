@@ -26,4 +26,5 @@ unfolding signedOf
 returns-2 c = rw (toZ-ofZ (c .before .fits .x), is-pos (c .before .fits .x) (c .if1 .left))
 
 pub signed-of-spec : {M : Type 1} → statement M
-signed-of-spec = tie.close (tie.spec cast-t5 add-t6 cast-t7 returns returns-2)
+signed-of-spec =
+    tie.close (tie.spec cast-t5 add-t6 cast-t7 returns returns-2)
