@@ -1,7 +1,7 @@
 // One number of a table: as a count, as a sign and a size, compared, read where it may not be there, and the one loop that
 // copies numbers into a table. Above it stand the layout of a table and the test of one.
 ghost use mathlib.Core.Path.{_≡_};
-ghost use Prim.Native.Nat.{_+_, _≤_};
+ghost use Prim.Native.Nat.{_+_, _≤_, _<_};
 ghost use lib.ListN.{length};
 ghost use lib.IntN.{pos};
 ghost use lib.Signed.{leZ};
@@ -34,6 +34,14 @@ pub fn count(t: &[i64], i: usize) -> usize
     ensures { λ r. ⌜ r ≡ countOf (cell (now (t .entry)) i) ⌝ }
 {
     count_of(number(t, i))
+}
+
+// The same where the number is known to be there.
+pub fn count_at(t: &[i64], i: usize) -> usize
+    requires { ⌜ i < length (now t) ⌝ }
+    ensures { λ r. ⌜ r ≡ countOf (cell (now (t .entry)) i) ⌝ }
+{
+    count_of(t[i])
 }
 
 pub fn signed_of(x: i64) -> Signed

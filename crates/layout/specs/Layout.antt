@@ -1,7 +1,7 @@
 -- The layout of a table, "64-bit signed numbers; rows and byte places count from 0": a header of six numbers, eighteen for each
 -- row, four for each line.
 use mathlib.Core.List.{List}
-use Prim.Native.Nat.{ℕ, _+_, _*_, _≤_}
+use Prim.Native.Nat.{ℕ, _+_, _*_}
 use lib.IntN.{ℤ}
 use Rattle.cells.specs.Cell.{cell, countOf}
 use Rattle.layout.specs.declared.Header.{Header}
@@ -37,10 +37,6 @@ linesBase v = headerSize + rowSize * v
 
 abbrev pub lineBase : ℕ → ℕ → ℕ
 lineBase v j = linesBase v + lineSize * j
-
--- a place so low that a row or line from it on has places that can be counted
-pub record Columned (at : ℕ) : Type 0 where
-  pub low : at ≤ rowBase mostRows + lineSize * mostLines
 
 -- ---- the numbers of the header, of a row and of a line, by their columns
 unfoldable pub headerOf : List ℤ → Header

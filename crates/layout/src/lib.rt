@@ -1,8 +1,9 @@
 // The layout of a table: its header, rows and lines, the numbers of their columns and sizes, each named once, and what the
 // numbers of a row mean. Above it stand the widths of numbers, the test of a table and everything that reads a row.
 ghost use mathlib.Core.Path.{_≡_};
-ghost use Prim.Native.Nat.{_+_, _*_, _≤_};
-ghost use Rattle.layout.specs.Layout.{rowBase, linesBase, lineBase, mostRows, mostLines, Columned, headerOf, columnsAt, lineAt};
+ghost use Prim.Native.Nat.{_+_, _≤_};
+ghost use lib.ListN.{length};
+ghost use Rattle.layout.specs.Layout.{rowSize, lineSize, rowBase, lineBase, mostRows, mostLines, headerOf, columnsAt, lineAt};
 ghost use Rattle.layout.specs.Row.{spreadOf, kindOf, rowOf, rowAt};
 
 // How a quantity's numbers stand in the data: how many decimals, and the code of its point: 0 none, 1 a point.
@@ -132,43 +133,46 @@ impl Line {
 
     // The line whose numbers start at a place of the table.
     pub fn read(t: &[i64], at: usize) -> Line
-        requires { ⌜ Columned at ⌝ }
+        requires { ⌜ at + lineSize ≤ length (now t) ⌝ }
         ensures { λ r. ⌜ r ≡ lineAt (now (t .entry)) at ⌝ }
     {
+        let value = t[at];
         Line {
-            value: cells::number(t, at),
-            special: cells::count(t, at + Line::SPECIAL),
-            text: cells::count(t, at + Line::TEXT),
-            text_len: cells::count(t, at + Line::TEXT_LEN),
+            value,
+            special: cells::count_at(t, at + Line::SPECIAL),
+            text: cells::count_at(t, at + Line::TEXT),
+            text_len: cells::count_at(t, at + Line::TEXT_LEN),
         }
     }
 }
 
 impl Columns {
-    // The columns whose numbers start at a place of the table: past the table's end a column is 0.
+    // The columns whose numbers start at a place of the table.
     pub fn read(t: &[i64], at: usize) -> Columns
-        requires { ⌜ Columned at ⌝ }
+        requires { ⌜ at + rowSize ≤ length (now t) ⌝ }
         ensures { λ r. ⌜ r ≡ columnsAt (now (t .entry)) at ⌝ }
     {
+        let from = t[at + Row::FROM];
+        let to = t[at + Row::TO];
         Columns {
-            ident: cells::count(t, at + Row::IDENT),
-            kind: cells::count(t, at + Row::TYPE),
-            start: cells::count(t, at + Row::START),
-            finish: cells::count(t, at + Row::FINISH),
-            width: cells::count(t, at + Row::WIDTH),
-            decimals: cells::count(t, at + Row::DECIMALS),
-            point: cells::count(t, at + Row::POINT),
-            subfields: cells::count(t, at + Row::SUBFIELDS),
-            subwidth: cells::count(t, at + Row::SUBWIDTH),
-            range: cells::count(t, at + Row::RANGE),
-            from: cells::number(t, at + Row::FROM),
-            to: cells::number(t, at + Row::TO),
-            before: cells::count(t, at + Row::BEFORE),
-            lines: cells::count(t, at + Row::LINES),
-            name: cells::count(t, at + Row::NAME),
-            name_len: cells::count(t, at + Row::NAME_LEN),
-            label: cells::count(t, at + Row::LABEL),
-            label_len: cells::count(t, at + Row::LABEL_LEN),
+            ident: cells::count_at(t, at + Row::IDENT),
+            kind: cells::count_at(t, at + Row::TYPE),
+            start: cells::count_at(t, at + Row::START),
+            finish: cells::count_at(t, at + Row::FINISH),
+            width: cells::count_at(t, at + Row::WIDTH),
+            decimals: cells::count_at(t, at + Row::DECIMALS),
+            point: cells::count_at(t, at + Row::POINT),
+            subfields: cells::count_at(t, at + Row::SUBFIELDS),
+            subwidth: cells::count_at(t, at + Row::SUBWIDTH),
+            range: cells::count_at(t, at + Row::RANGE),
+            from,
+            to,
+            before: cells::count_at(t, at + Row::BEFORE),
+            lines: cells::count_at(t, at + Row::LINES),
+            name: cells::count_at(t, at + Row::NAME),
+            name_len: cells::count_at(t, at + Row::NAME_LEN),
+            label: cells::count_at(t, at + Row::LABEL),
+            label_len: cells::count_at(t, at + Row::LABEL_LEN),
         }
     }
 }
@@ -271,7 +275,7 @@ impl Row {
 
     // Row i of a table.
     pub fn read(t: &[i64], i: usize) -> Row
-        requires { ⌜ i ≤ mostRows ⌝ }
+        requires { ⌜ (i ≤ mostRows) × (rowBase i + rowSize ≤ length (now t)) ⌝ }
         ensures { λ r. ⌜ r ≡ rowAt (now (t .entry)) i ⌝ }
     {
         Row::of(Columns::read(t, Row::base(i)))

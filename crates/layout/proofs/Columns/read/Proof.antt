@@ -8,34 +8,30 @@ returns : tie.Need-returns
 unfolding columnsAt
 returns c =
     rw (
-      c .before .before .before .before .before .before .before .before .before .before .before .before .before .before .before .before .before .count .ensures,
-      c .before .before .before .before .before .before .before .before .before .before .before .before .before .before .before .before .count2 .ensures,
-      c .before .before .before .before .before .before .before .before .before .before .before .before .before .before .before .count3 .ensures,
-      c .before .before .before .before .before .before .before .before .before .before .before .before .before .before .count4 .ensures,
-      c .before .before .before .before .before .before .before .before .before .before .before .before .before .count5 .ensures,
-      c .before .before .before .before .before .before .before .before .before .before .before .before .count6 .ensures,
+      toZ-ofZ (sfits-of (c .before .before .before .before .before .before .before .before .before .before .before .before .before .before .before .before .before .from .given)),
+      toZ-ofZ (sfits-of (c .before .before .before .before .before .before .before .before .before .before .before .before .before .before .before .before .to .given)),
+      c .before .before .before .before .before .before .before .before .before .before .before .before .before .before .before .count-at .ensures,
+      c .before .before .before .before .before .before .before .before .before .before .before .before .before .before .count-at2 .ensures,
+      c .before .before .before .before .before .before .before .before .before .before .before .before .before .count-at3 .ensures,
+      c .before .before .before .before .before .before .before .before .before .before .before .before .count-at4 .ensures,
     )
     (rw (
-      c .before .before .before .before .before .before .before .before .before .before .before .count7 .ensures,
-      c .before .before .before .before .before .before .before .before .before .before .count8 .ensures,
-      c .before .before .before .before .before .before .before .before .before .count9 .ensures,
-      c .before .before .before .before .before .before .before .before .count10 .ensures,
-      toZ-ofZ (sfits-of (c .before .before .before .before .before .before .before .number .ok)),
-      c .before .before .before .before .before .before .before .number .ensures,
+      c .before .before .before .before .before .before .before .before .before .before .before .count-at5 .ensures,
+      c .before .before .before .before .before .before .before .before .before .before .count-at6 .ensures,
+      c .before .before .before .before .before .before .before .before .before .count-at7 .ensures,
+      c .before .before .before .before .before .before .before .before .count-at8 .ensures,
+      c .before .before .before .before .before .before .before .count-at9 .ensures,
+      c .before .before .before .before .before .before .count-at10 .ensures,
     )
     (rw (
-      toZ-ofZ (sfits-of (c .before .before .before .before .before .before .number2 .ok)),
-      c .before .before .before .before .before .before .number2 .ensures,
-      c .before .before .before .before .before .count11 .ensures,
-      c .before .before .before .before .count12 .ensures,
-      c .before .before .before .count13 .ensures,
-      c .before .before .count14 .ensures,
-    )
-    (rw (
-      c .before .count15 .ensures,
-      c .count16 .ensures,
-    ))))
+      c .before .before .before .before .before .count-at11 .ensures,
+      c .before .before .before .before .count-at12 .ensures,
+      c .before .before .before .count-at13 .ensures,
+      c .before .before .count-at14 .ensures,
+      c .before .count-at15 .ensures,
+      c .count-at16 .ensures,
+    )))
 
 pub read-spec : {M : Type 1} → statement M
 read-spec =
-    tie.close (tie.spec (λ c. search needs) (λ c κs. search needs) (λ c. search needs) (λ c κs. search needs) (λ c. search needs) (λ c κs. search needs) (λ c. search needs) (λ c κs. search needs) (λ c. search needs) (λ c κs. search needs) (λ c. search needs) (λ c κs. search needs) (λ c. search needs) (λ c κs. search needs) (λ c. search needs) (λ c κs. search needs) (λ c. search needs) (λ c κs. search needs) (λ c. search needs) (λ c κs. search needs) (λ c. search needs) (λ c κs. search needs) (λ c. search needs) (λ c κs. search needs) (λ c. search needs) (λ c κs. search needs) (λ c. search needs) (λ c κs. search needs) (λ c. search needs) (λ c κs. search needs) (λ c. search needs) (λ c κs. search needs) (λ c. search needs) (λ c κs. search needs) (λ c. search needs) (λ c κs. search needs) returns)
+    tie.close (tie.spec (λ c. search needs) (λ c. search needs) (λ c. search needs) (λ c. search needs) (λ c. search needs) (λ c. search needs) (λ c. search needs) (λ c κs. search needs) (λ c. search needs) (λ c κs. search needs) (λ c. search needs) (λ c κs. search needs) (λ c. search needs) (λ c κs. search needs) (λ c. search needs) (λ c κs. search needs) (λ c. search needs) (λ c κs. search needs) (λ c. search needs) (λ c κs. search needs) (λ c. search needs) (λ c κs. search needs) (λ c. search needs) (λ c κs. search needs) (λ c. search needs) (λ c κs. search needs) (λ c. search needs) (λ c κs. search needs) (λ c. search needs) (λ c κs. search needs) (λ c. search needs) (λ c κs. search needs) (λ c. search needs) (λ c κs. search needs) (λ c. search needs) (λ c κs. search needs) (λ c. search needs) (λ c κs. search needs) returns)

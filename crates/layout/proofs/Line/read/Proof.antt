@@ -8,13 +8,12 @@ returns : tie.Need-returns
 unfolding lineAt
 returns c =
     rw (
-      toZ-ofZ (sfits-of (c .before .before .before .number .ok)),
-      c .before .before .before .number .ensures,
-      c .before .before .count .ensures,
-      c .before .count2 .ensures,
-      c .count3 .ensures,
+      toZ-ofZ (sfits-of (c .before .before .before .value .given)),
+      c .before .before .count-at .ensures,
+      c .before .count-at2 .ensures,
+      c .count-at3 .ensures,
     )
 
 pub read-spec : {M : Type 1} → statement M
 read-spec =
-    tie.close (tie.spec (λ c κs. search needs) (λ c. search needs) (λ c κs. search needs) (λ c. search needs) (λ c κs. search needs) (λ c. search needs) (λ c κs. search needs) returns)
+    tie.close (tie.spec (λ c. search needs) (λ c. search needs) (λ c. search needs) (λ c κs. search needs) (λ c. search needs) (λ c κs. search needs) (λ c. search needs) (λ c κs. search needs) returns)
