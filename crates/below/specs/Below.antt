@@ -89,6 +89,10 @@ module _ (f : ℕ → Bool) where
   all-of zero g = refl
   all-of (suc n) g = rw (all-of n (λ k h. g k (omega arith)), g n (omega arith))
 
+  -- true to n: true to any k that is not above
+  pub all-down : (n k : ℕ) → k ≤ n → allBelow n f ≡ true → allBelow k f ≡ true
+  all-down n k h e = all-of k (λ j l. all-at n j (omega arith) e)
+
   pub any-none : anyBelow 0 f ≡ false
   unfolding anyBelow
   any-none = refl
