@@ -39,6 +39,22 @@ pub both-and : {a b : Bool} → a ≡ true → b ≡ true → a and b ≡ true
 unfolding _and_
 both-and e f = rw (e, f)
 
+-- the same of `&&` itself, where its parts are written out
+pub and-true : (a b : Bool) → a ≡ true → b ≡ true → (a && b) ≡ true
+and-true a b e g = rw (e, g)
+
+pub and-left : (a b : Bool) → (a && b) ≡ true → a ≡ true
+and-left true b e = refl
+and-left false b e = e
+
+pub and-right : (a b : Bool) → (a && b) ≡ true → b ≡ true
+and-right true b e = e
+and-right false b e = let z : _≡_ {A = ℕ} 0 1 = cc in absurd (omega arith)
+
+pub or-true : (b : Bool) → (b || true) ≡ true
+or-true true = refl
+or-true false = refl
+
 -- two tests that hold together are one test
 pub same-bool : (x y : Bool) → (x ≡ true → y ≡ true) → (y ≡ true → x ≡ true) → x ≡ y
 same-bool true y f g = sym (f refl)
@@ -110,10 +126,6 @@ module _ (f : ℕ → Bool) where
       (λ q. let e′ : f n ≡ true = ap f (sym q) ∙ e in rw e′ (or-true (anyBelow n f)))
       (λ l. rw (any-holds n k l e))
       (eq-or-lt-of-le (le-of-suc-le-suc h))
-    where
-      or-true : (b : Bool) → b || true ≡ true
-      or-true true = refl
-      or-true false = refl
 
   -- it holds nowhere below n
   pub any-fails : (n : ℕ) → ((k : ℕ) → k < n → f k ≡ false) → anyBelow n f ≡ false

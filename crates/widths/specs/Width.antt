@@ -127,3 +127,25 @@ module _ (k : Kind) where
   need-between a (pos n) (negsuc m) h g p q = holds-not g refl
   need-between (pos m) (negsuc n) b h g p q = holds-not h refl
   need-between (negsuc m) (negsuc n) b h g p q = omega (arith, rises-down k n m (leb-true n m h) p)
+
+-- ---- a number within the limits of its kind has at most 15 digits
+up-small : (k : Kind) (n : ℕ) → leZ (pos n) (highest k) ≡ true → n ≤ 999999999999999
+unfolding highest
+up-small Single n e = omega (arith, leb-true n 9999 e)
+up-small (Multiple s) n e = omega (arith, leb-true n 9999 e)
+up-small (Quantity f) n e = leb-true n 999999999999999 e
+up-small Character n e = omega (arith, leb-true n 9999 e)
+up-small Logical n e = omega (arith, leb-true n 9999 e)
+
+down-small : (k : Kind) (n : ℕ) → leZ (lowest k) (negsuc n) ≡ true → suc n ≤ 999999999999999
+unfolding lowest
+down-small Single n e = holds-not e refl
+down-small (Multiple s) n e = holds-not e refl
+down-small (Quantity f) n e = omega (arith, leb-true n 999999999999998 e)
+down-small Character n e = holds-not e refl
+down-small Logical n e = holds-not e refl
+
+pub size-small : (k : Kind) (z : ℤ) → leZ (lowest k) z ≡ true → leZ z (highest k) ≡ true → sizeOf z ≤ 999999999999999
+unfolding signedOf
+size-small k (pos n) e g = up-small k n g
+size-small k (negsuc n) e g = down-small k n e
