@@ -19,8 +19,9 @@ use Rattle.cells.specs.Order.{le-self, le-join, le-else}
 use Rattle.layout.specs.Layout.{mostRows, mostLines, lineBase}
 use Rattle.layout.specs.declared.Kind.{Kind}
 use Rattle.widths.specs.Width.{need, need-between, fitsKind, lowest, highest, sizeOf, size-small}
-use Rattle.sound.specs.Sound.{valuesFit, valuesDiffer}
+use Rattle.sound.specs.Sound.{valuesFit, unlike, valueNew, valuesDiffer}
 use Rattle.sound.specs.declared.Hull.{Hull}
+use Rattle.sound.specs.declared.Block.{Block}
 
 -- n lines from b on stand in a table of v rows
 pub record Standing (t : List ℤ) (v b n : ℕ) : Type 0 where
@@ -48,6 +49,11 @@ pub record Hulled (f : ℕ → ℤ) (n : ℕ) (h : Hull) : Type 0 where
   pub most-at : ℕ
   pub most-below : most-at < n
   pub most-is : h .most ≡ f most-at
+
+-- whether the first n differ, and their hull
+pub record Blocked (f : ℕ → ℤ) (n : ℕ) (r : Block) : Type 0 where
+  pub differ : r .differ ≡ valuesDiffer f n
+  pub hull : Hulled f n (r .hull)
 
 -- ---- laws
 module _ (f : ℕ → ℤ) where
@@ -166,8 +172,8 @@ module _ (f : ℕ → ℤ) (n : ℕ) (r : valuesRise f n ≡ true) where
       go false e = refl
 
   pub rise-differ : valuesDiffer f n ≡ true
-  unfolding valuesDiffer
-  rise-differ = all-of _ n (λ k l. all-of _ k (λ j h. differs k j h l))
+  unfolding valuesDiffer valueNew
+  rise-differ = all-of (valueNew f) n (λ k l. all-of (unlike f k) k (λ j h. differs k j h l))
 
 -- ---- limits and widths go by the hull
 unfoldable pub hullFits : Kind → Hull → Bool
@@ -213,6 +219,8 @@ module _ (k : Kind) (f : ℕ → ℤ) (n : ℕ) (h : Hull) (u : Hulled f n h) wh
       (max-least (λ j. need k (f j)) n (max (need k (h .least)) (need k (h .most)))
       (λ j l. need-between k (h .least) (f j) (h .most) (u .low j l) (u .high j l)
       (lt-of-le-of-lt (least-small e) (omega arith)) (lt-of-le-of-lt (most-small e) (omega arith))))
-      (omega (arith,
-      rw (← u .least-is) at (max-at (λ j. need k (f j)) n (u .least-at) (u .least-below)),
-      rw (← u .most-is) at (max-at (λ j. need k (f j)) n (u .most-at) (u .most-below))))
+      (omega (
+        arith,
+        rw (← u .least-is) at (max-at (λ j. need k (f j)) n (u .least-at) (u .least-below)),
+        rw (← u .most-is) at (max-at (λ j. need k (f j)) n (u .most-at) (u .most-below)),
+      ))

@@ -99,9 +99,15 @@ linesPlain t v b n = allBelow n (plainAt t v b)
 unfoldable pub valuesFit : Kind → (ℕ → ℤ) → ℕ → Bool
 valuesFit k f n = allBelow n (λ j. fitsKind k (f j))
 
--- "value repeated": no two of the first n are equal
+-- "value repeated": the one at k is none of those before it
+abbrev pub unlike : (ℕ → ℤ) → ℕ → ℕ → Bool
+unlike f k j = not (eqZ (f k) (f j))
+
+unfoldable pub valueNew : (ℕ → ℤ) → ℕ → Bool
+valueNew f k = allBelow k (unlike f k)
+
 unfoldable pub valuesDiffer : (ℕ → ℤ) → ℕ → Bool
-valuesDiffer f n = allBelow n (λ k. allBelow k (λ j. not (eqZ (f k) (f j))))
+valuesDiffer f n = allBelow n (valueNew f)
 
 -- ---- w, recomputed
 -- the widest of the range ends and values

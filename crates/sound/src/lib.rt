@@ -3,10 +3,12 @@
 ghost use mathlib.Core.Path.{_≡_};
 ghost use Prim.Native.Nat.{_+_, _≤_, _<_};
 ghost use lib.ListN.{length};
+ghost use lib.Signed.{leZ};
+ghost use mathlib.Core.Bool.{cond};
 ghost use Rattle.ascii.specs.Tens.{Tens};
 ghost use Rattle.widths.specs.Width.{FewDecimals};
-ghost use Rattle.sound.specs.Sound.{headCounts, headSums, typeKnown, decimalsFew, flagsPlain, lackedZero, rangeLacked, pointGiven, valuesGiven, identGood, positionGood, subfieldsGood, textsGood, countsGood, placesGood, linePlain, linesPlain, valueAt, valuesDiffer};
-ghost use Rattle.sound.specs.Block.{Standing, above, valuesRise, Hulled};
+ghost use Rattle.sound.specs.Sound.{headCounts, headSums, typeKnown, decimalsFew, flagsPlain, lackedZero, rangeLacked, pointGiven, valuesGiven, identGood, positionGood, subfieldsGood, textsGood, countsGood, placesGood, linePlain, linesPlain, valueAt, valueNew, valuesDiffer};
+ghost use Rattle.sound.specs.Block.{Standing, above, valuesRise, hullWith, Hulled, Blocked};
 use layout::Columns;
 use layout::Header;
 use layout::Kind;
@@ -133,4 +135,101 @@ fn values_rise(t: &[i64], v: usize, b: usize, n: usize) -> bool
         k += 1;
     }
     true
+}
+
+// Does the value of line k differ from those of the lines before it?
+fn value_new(t: &[i64], v: usize, b: usize, n: usize, k: usize) -> bool
+    requires { ⌜ Standing (now t) v b n × (k < n) ⌝ }
+    ensures { λ r. ⌜ r ≡ valueNew (valueAt (now (t .entry)) v b) k ⌝ }
+{
+    let x = value(t, v, b, n, k);
+    let mut j: usize = 0;
+    while j < k {
+        if cells::same(x, value(t, v, b, n, j)) {
+            return false;
+        }
+        j += 1;
+    }
+    true
+}
+
+// Are the values pairwise different?
+fn values_differ(t: &[i64], v: usize, b: usize, n: usize) -> bool
+    requires { ⌜ Standing (now t) v b n ⌝ }
+    ensures { λ r. ⌜ r ≡ valuesDiffer (valueAt (now (t .entry)) v b) n ⌝ }
+{
+    let mut k: usize = 0;
+    while k < n {
+        if !value_new(t, v, b, n, k) {
+            return false;
+        }
+        k += 1;
+    }
+    true
+}
+
+// The hull with one number more.
+fn hull_with(h: Hull, z: i64) -> Hull
+    ensures { λ r. ⌜ r ≡ hullWith h z ⌝ }
+{
+    let least = h.least;
+    let most = h.most;
+    Hull {
+        least: lesser(least, z),
+        most: greater(z, most),
+    }
+}
+
+// The first number where it is at most the second, else the second.
+fn lesser(a: i64, b: i64) -> i64
+    ensures { λ r. ⌜ r ≡ cond (leZ a b) a b ⌝ }
+{
+    if a <= b { a } else { b }
+}
+
+// The second number where the first is at most it, else the first.
+fn greater(a: i64, b: i64) -> i64
+    ensures { λ r. ⌜ r ≡ cond (leZ a b) b a ⌝ }
+{
+    if a <= b { b } else { a }
+}
+
+// The least and the most of the values of n lines.
+fn hull_of(t: &[i64], v: usize, b: usize, n: usize) -> Hull
+    requires { ⌜ Standing (now t) v b n × (1 ≤ n) ⌝ }
+    ensures { λ r. ⌜ Hulled (valueAt (now (t .entry)) v b) n r ⌝ }
+{
+    let first = value(t, v, b, n, 0);
+    let mut h = Hull {
+        least: first,
+        most: first,
+    };
+    let mut k: usize = 1;
+    while k < n {
+        h = hull_with(h, value(t, v, b, n, k));
+        k += 1;
+    }
+    h
+}
+
+// What is known of a row's lines: whether their values differ, and the least and the most of them.
+pub struct Block {
+    pub differ: bool,
+    pub hull: Hull,
+}
+
+fn block_of(t: &[i64], v: usize, b: usize, n: usize) -> Block
+    requires { ⌜ Standing (now t) v b n × (1 ≤ n) ⌝ }
+    ensures { λ r. ⌜ Blocked (valueAt (now (t .entry)) v b) n r ⌝ }
+{
+    if values_rise(t, v, b, n) {
+        let hull = Hull {
+            least: value(t, v, b, n, 0),
+            most: value(t, v, b, n, n - 1),
+        };
+        return Block { differ: true, hull };
+    }
+    let differ = values_differ(t, v, b, n);
+    let hull = hull_of(t, v, b, n);
+    Block { differ, hull }
 }
