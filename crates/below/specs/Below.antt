@@ -39,6 +39,19 @@ pub both-and : {a b : Bool} → a ≡ true → b ≡ true → a and b ≡ true
 unfolding _and_
 both-and e f = rw (e, f)
 
+pub and-no : (a b : Bool) → a ≡ false → a and b ≡ false
+unfolding _and_
+and-no a b e = rw e
+
+pub and-nor : (a b : Bool) → b ≡ false → a and b ≡ false
+unfolding _and_
+and-nor true b e = e
+and-nor false b e = refl
+
+pub and-yes : (a b : Bool) → a ≡ true → a and b ≡ b
+unfolding _and_
+and-yes a b e = rw e
+
 -- the same of `&&` itself, where its parts are written out
 pub and-true : (a b : Bool) → a ≡ true → b ≡ true → (a && b) ≡ true
 and-true a b e g = rw (e, g)

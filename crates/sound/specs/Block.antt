@@ -4,30 +4,60 @@ use mathlib.Core.Path.{_≡_, refl, sym, ap, _∙_}
 use mathlib.Core.Logic.{_⊎_, ⊎-elim}
 use mathlib.Core.Bool.{Bool, true, false, cond, not, _&&_, _||_}
 use mathlib.Core.List.{List}
-use Prim.Native.Nat.{ℕ, zero, suc, _+_, _-_, _*_, _^_, _≤_, _<_, max}
+use Prim.Native.Nat.{ℕ, zero, suc, _+_, _-_, _*_, _/_, _^_, _≤_, _<_, max}
 use native.Mathlib.Nat.{eq-or-lt-of-le, le-of-suc-le-suc, not-suc-le-zero, le-antisymm, lt-of-le-of-lt}
 use native.Mathlib.Numerals.{add-one}
 use native.Mathlib.Omega.{arith}
-use borrow.Author.Tests.{ltb-true, leb-true, not-true, ne-eqb}
+use borrow.Author.Tests.{eqb-true, ltb-true, leb-true, not-true, ne-eqb}
 use lib.Dec.{eqb, ltb, leb}
 use lib.IntN.{ℤ, pos, negsuc}
 use lib.ListN.{length}
 use lib.Signed.{leZ, ltZ}
-use Rattle.below.specs.Below.{allBelow, all-none, all-more, all-at, all-of, maxBelow, max-at, max-least, same-bool, holds-not, or-true, and-true, and-left, and-right}
-use Rattle.cells.specs.Cell.{eqZ, same-true}
+use Rattle.below.specs.Below.{_and_, and-both, both-and, and-no, and-nor, and-yes, allBelow, all-none, all-more, all-at, all-of, maxBelow, max-none, max-at, max-least, same-bool, holds-not, or-true, and-true, and-left, and-right}
+use Rattle.cells.specs.Cell.{eqZ, same-true, signedOf}
+use Rattle.ascii.specs.Tens.{digits-few}
 use Rattle.cells.specs.Order.{le-self, le-join, le-else}
 use Rattle.layout.specs.Layout.{mostRows, mostLines, lineBase}
+use Rattle.layout.specs.declared.Row.{Row}
+use Rattle.layout.specs.declared.Spread.the-variants.{Bits, Fields}
 use Rattle.layout.specs.declared.Kind.{Kind}
-use Rattle.widths.specs.Width.{need, need-between, fitsKind, lowest, highest, sizeOf, size-small}
-use Rattle.sound.specs.Sound.{valuesFit, unlike, valueNew, valuesDiffer}
+use Rattle.layout.specs.declared.Kind.the-variants.{Single, Multiple, Quantity, Character, Logical}
+use Rattle.widths.specs.Width.{need, need-between, fitsKind, lowest, highest, sizeOf, size-small, FewDecimals, quantityWidth, wholeDigits, decimalsOf, tail-few}
+use Rattle.sound.specs.Sound.{valuesFit, unlike, valueNew, valuesDiffer, widthGood, linesPlain, linesGood, valuesGood, widthsGood, valueAt, rangeGood, rangeWidth, widest}
 use Rattle.sound.specs.declared.Hull.{Hull}
 use Rattle.sound.specs.declared.Block.{Block}
+
+-- subfields are some, and have a width
+abbrev pub Subfielded : Kind → Type 0
+Subfielded Single = Unit
+Subfielded (Multiple Bits) = Unit
+Subfielded (Multiple (Fields n b)) = (1 ≤ n) × (1 ≤ b)
+Subfielded (Quantity f) = Unit
+Subfielded Character = Unit
+Subfielded Logical = Unit
 
 -- n lines from b on stand in a table of v rows
 pub record Standing (t : List ℤ) (v b n : ℕ) : Type 0 where
   pub few-rows : v ≤ mostRows
   pub few-lines : b + n ≤ mostLines
   pub stand : lineBase v (b + n) ≤ length t
+
+-- a row's position lies where positions may, and its subfields have a width
+pub record Placed (r : Row) : Type 0 where
+  pub from-one : 1 ≤ r .start
+  pub low : r .start ≤ 16384
+  pub finish-low : r .finish ≤ 16384
+  pub subfields : Subfielded (r .kind)
+
+-- what a row's columns show before its numbers are looked at
+pub record Ready (t : List ℤ) (v : ℕ) (r : Row) : Type 0 where
+  pub lines : Standing t v (r .before) (r .lines)
+  pub placed : Placed r
+  pub decimals : FewDecimals (r .kind)
+
+-- a row with lines, of which the range is good
+unfoldable pub linedGood : List ℤ → ℕ → Row → Bool
+linedGood t v r = linesGood t v r and widthsGood t v r
 
 -- the number at k is above the one before it
 unfoldable pub above : (ℕ → ℤ) → ℕ → Bool
@@ -182,6 +212,9 @@ hullFits k h = leZ (lowest k) (h .least) && leZ (h .most) (highest k)
 unfoldable pub hullWidth : Kind → Hull → ℕ
 hullWidth k h = max (need k (h .least)) (need k (h .most))
 
+fits-small : (k : Kind) (z : ℤ) → fitsKind k z ≡ true → sizeOf z ≤ 999999999999999
+fits-small k z e = size-small k z (and-left (leZ (lowest k) z) (leZ z (highest k)) e) (and-right (leZ (lowest k) z) (leZ z (highest k)) e)
+
 module _ (k : Kind) (f : ℕ → ℤ) (n : ℕ) (h : Hull) (u : Hulled f n h) where
   -- every number of the hull fits just where its least and most do
   pub hull-fits : valuesFit k f n ≡ hullFits k h
@@ -195,21 +228,15 @@ module _ (k : Kind) (f : ℕ → ℤ) (n : ℕ) (h : Hull) (u : Hulled f n h) wh
       (le-join (lowest k) (h .least) (f j) (and-left (leZ (lowest k) (h .least)) _ e) (u .low j l))
       (le-join (f j) (h .most) (highest k) (u .high j l) (and-right (leZ (lowest k) (h .least)) _ e))))
 
-  least-small : hullFits k h ≡ true → sizeOf (h .least) ≤ 999999999999999
-  unfolding hullFits
-  least-small e =
-      let l = and-left (leZ (lowest k) (h .least)) _ e in
-      let m = and-right (leZ (lowest k) (h .least)) _ e in
-      size-small k (h .least) l
-      (rw (u .least-is) (le-join (f (u .least-at)) (h .most) (highest k) (u .high (u .least-at) (u .least-below)) m))
+  all-fit : hullFits k h ≡ true → (j : ℕ) → j < n → fitsKind k (f j) ≡ true
+  unfolding valuesFit
+  all-fit e j l = all-at (λ i. fitsKind k (f i)) n j l (hull-fits ∙ e)
 
-  most-small : hullFits k h ≡ true → sizeOf (h .most) ≤ 999999999999999
-  unfolding hullFits
-  most-small e =
-      let l = and-left (leZ (lowest k) (h .least)) _ e in
-      let m = and-right (leZ (lowest k) (h .least)) _ e in
-      size-small k (h .most)
-      (rw (u .most-is) (le-join (lowest k) (h .least) (f (u .most-at)) l (u .low (u .most-at) (u .most-below)))) m
+  pub least-fits : hullFits k h ≡ true → fitsKind k (h .least) ≡ true
+  least-fits e = rw (u .least-is) (all-fit e (u .least-at) (u .least-below))
+
+  pub most-fits : hullFits k h ≡ true → fitsKind k (h .most) ≡ true
+  most-fits e = rw (u .most-is) (all-fit e (u .most-at) (u .most-below))
 
   -- and none is wider than the wider of the two
   pub hull-width : hullFits k h ≡ true → maxBelow n (λ j. need k (f j)) ≡ hullWidth k h
@@ -218,9 +245,108 @@ module _ (k : Kind) (f : ℕ → ℤ) (n : ℕ) (h : Hull) (u : Hulled f n h) wh
       le-antisymm
       (max-least (λ j. need k (f j)) n (max (need k (h .least)) (need k (h .most)))
       (λ j l. need-between k (h .least) (f j) (h .most) (u .low j l) (u .high j l)
-      (lt-of-le-of-lt (least-small e) (omega arith)) (lt-of-le-of-lt (most-small e) (omega arith))))
+      (lt-of-le-of-lt (fits-small k (h .least) (least-fits e)) (omega arith))
+      (lt-of-le-of-lt (fits-small k (h .most) (most-fits e)) (omega arith))))
       (omega (
         arith,
         rw (← u .least-is) at (max-at (λ j. need k (f j)) n (u .least-at) (u .least-below)),
         rw (← u .most-is) at (max-at (λ j. need k (f j)) n (u .most-at) (u .most-below)),
       ))
+
+-- a width that is as it should be is small
+pub width-few : (k : Kind) (w m : ℕ) → widthGood k w m ≡ true → m ≤ 9999 → w ≤ 9999
+unfolding widthGood
+width-few Single w m e h = omega (arith, eqb-true w m e)
+width-few (Multiple s) w m e h = omega (arith, eqb-true w m e)
+width-few (Quantity f) w m e h = omega (arith, eqb-true w m e)
+width-few Character w m e h = omega (arith, leb-true w 4096 (and-right (leb 1 w) (leb w 4096) e))
+width-few Logical w m e h = omega (arith, eqb-true w 1 e)
+
+-- ---- a number within the limits of its kind takes at most 9,999 bytes
+code-few : (z : ℤ) → leZ z (pos 9999) ≡ true → leZ (pos 1) z ≡ true → sizeOf z ≤ 9999
+unfolding signedOf
+code-few (pos n) e g = leb-true n 9999 e
+code-few (negsuc n) e g = holds-not g refl
+
+pub need-few : (k : Kind) (z : ℤ) → FewDecimals k → fitsKind k z ≡ true → need k z ≤ 9999
+unfolding need quantityWidth wholeDigits decimalsOf lowest highest
+need-few Single z d e = omega (arith, digits-few (sizeOf z))
+need-few (Multiple Bits) z d e = code-few z (and-right (leZ (pos 1) z) (leZ z (pos 9999)) e) (and-left (leZ (pos 1) z) (leZ z (pos 9999)) e)
+need-few (Multiple (Fields n w)) z d e = omega (arith, digits-few (sizeOf z))
+need-few (Quantity f) z d e =
+    omega (arith, digits-few (sizeOf z / 10 ^ f .decimals), tail-few f (d .few), minus-few (signedOf z .minus))
+  where
+    minus-few : (b : Bool) → cond b 1 0 ≤ 1
+    minus-few true = omega arith
+    minus-few false = omega arith
+need-few Character z d e = omega arith
+need-few Logical z d e = omega arith
+
+-- the range's ends, and the hull
+pub range-few : (r : Row) → FewDecimals (r .kind) → rangeGood r ≡ true → rangeWidth r ≤ 9999
+unfolding rangeWidth
+range-few r d = go (r .range)
+  where
+    go : (b : Bool) → (not b || (leZ (r .from) (r .to) && (fitsKind (r .kind) (r .from) && fitsKind (r .kind) (r .to)))) ≡ true → cond b (max (need (r .kind) (r .from)) (need (r .kind) (r .to))) 0 ≤ 9999
+    go true e =
+        let both = and-right (leZ (r .from) (r .to)) (fitsKind (r .kind) (r .from) && fitsKind (r .kind) (r .to)) e in
+        omega (
+          arith,
+          need-few (r .kind) (r .from) d (and-left (fitsKind (r .kind) (r .from)) (fitsKind (r .kind) (r .to)) both),
+          need-few (r .kind) (r .to) d (and-right (fitsKind (r .kind) (r .from)) (fitsKind (r .kind) (r .to)) both),
+        )
+    go false e = omega arith
+
+module _ (t : List ℤ) (v : ℕ) (r : Row) (h : Hull) (u : Hulled (valueAt t v (r .before)) (r .lines) h) where
+  pub hull-few : FewDecimals (r .kind) → hullFits (r .kind) h ≡ true → hullWidth (r .kind) h ≤ 9999
+  unfolding hullWidth
+  hull-few d e =
+      omega (
+        arith,
+        need-few (r .kind) (h .least) d (least-fits (r .kind) (valueAt t v (r .before)) (r .lines) h u e),
+        need-few (r .kind) (h .most) d (most-fits (r .kind) (valueAt t v (r .before)) (r .lines) h u e),
+      )
+
+  pub widest-hull : hullFits (r .kind) h ≡ true → widest t v r ≡ max (rangeWidth r) (hullWidth (r .kind) h)
+  unfolding widest
+  widest-hull e = rw (hull-width (r .kind) (valueAt t v (r .before)) (r .lines) h u e)
+
+-- a row without lines has the range's width
+pub widest-none : (t : List ℤ) (v : ℕ) (r : Row) → r .lines ≡ 0 → widest t v r ≡ rangeWidth r
+unfolding widest
+widest-none t v r e = rw (e, max-none _) (omega arith)
+
+pub lines-none : (t : List ℤ) (v : ℕ) (r : Row) → r .lines ≡ 0 → linesGood t v r ≡ true
+unfolding linesGood linesPlain valuesFit valuesDiffer
+lines-none t v r e = rw e (both-and (both-and (all-none _) (all-none _)) (all-none _))
+
+-- ---- a row with lines, clause by clause
+module _ (t : List ℤ) (v : ℕ) (r : Row) where
+  pub lined-plain : linesPlain t v (r .before) (r .lines) ≡ false → linedGood t v r ≡ false
+  unfolding linedGood linesGood
+  lined-plain e = and-no _ _ (and-no _ _ (and-no _ _ e))
+
+  pub lined-fits : valuesFit (r .kind) (valueAt t v (r .before)) (r .lines) ≡ false → linedGood t v r ≡ false
+  unfolding linedGood linesGood
+  lined-fits e = and-no _ _ (and-no _ _ (and-nor _ _ e))
+
+  pub lined-differ : valuesDiffer (valueAt t v (r .before)) (r .lines) ≡ false → linedGood t v r ≡ false
+  unfolding linedGood linesGood
+  lined-differ e = and-no _ _ (and-nor _ _ e)
+
+  pub lined-width : linesPlain t v (r .before) (r .lines) ≡ true → valuesFit (r .kind) (valueAt t v (r .before)) (r .lines) ≡ true → valuesDiffer (valueAt t v (r .before)) (r .lines) ≡ true → linedGood t v r ≡ widthsGood t v r
+  unfolding linedGood linesGood
+  lined-width e f g = and-yes _ _ (both-and (both-and e f) g)
+
+  -- a row without lines; a row by its range and its lines
+  pub range-not : rangeGood r ≡ false → (valuesGood t v r and widthsGood t v r) ≡ false
+  unfolding valuesGood
+  range-not e = and-no _ _ (and-no _ _ e)
+
+  pub lines-width : rangeGood r ≡ true → linesGood t v r ≡ true → (valuesGood t v r and widthsGood t v r) ≡ widthsGood t v r
+  unfolding valuesGood
+  lines-width e f = and-yes _ _ (both-and e f)
+
+  pub lines-lined : rangeGood r ≡ true → (valuesGood t v r and widthsGood t v r) ≡ linedGood t v r
+  unfolding valuesGood linedGood
+  lines-lined e = rw (and-yes _ (linesGood t v r) e)

@@ -110,11 +110,13 @@ unfoldable pub valuesDiffer : (ℕ → ℤ) → ℕ → Bool
 valuesDiffer f n = allBelow n (valueNew f)
 
 -- ---- w, recomputed
+-- the wider of the range ends
+unfoldable pub rangeWidth : Row → ℕ
+rangeWidth r = cond (r .range) (max (need (r .kind) (r .from)) (need (r .kind) (r .to))) 0
+
 -- the widest of the range ends and values
 unfoldable pub widest : List ℤ → ℕ → Row → ℕ
-widest t v r =
-    max (cond (r .range) (max (need (r .kind) (r .from)) (need (r .kind) (r .to))) 0)
-    (maxBelow (r .lines) (λ k. need (r .kind) (valueAt t v (r .before) k)))
+widest t v r = max (rangeWidth r) (maxBelow (r .lines) (λ k. need (r .kind) (valueAt t v (r .before) k)))
 
 -- SIZE for CHARACTER, 1 to 4,096; 1 for LOGICAL; else the widest number
 unfoldable pub widthGood : Kind → ℕ → ℕ → Bool
@@ -125,20 +127,25 @@ widthGood Character w m = within 1 4096 w
 widthGood Logical w m = eqb w 1
 
 -- "POSITION must hold w (for a spread, n times the declared subfield width, itself at least w)"
+abbrev pub holdsWidth : Row → Bool
+holdsWidth r = leb (r .start + r .width) (r .finish + 1)
+
 unfoldable pub roomGood : Kind → Row → Bool
 roomGood (Multiple (Fields n b)) r = leb (r .width) b && leb (r .start + n * b) (r .finish + 1)
-roomGood (Multiple Bits) r = leb (r .start + r .width) (r .finish + 1)
-roomGood Single r = leb (r .start + r .width) (r .finish + 1)
-roomGood (Quantity f) r = leb (r .start + r .width) (r .finish + 1)
-roomGood Character r = leb (r .start + r .width) (r .finish + 1)
-roomGood Logical r = leb (r .start + r .width) (r .finish + 1)
+roomGood (Multiple Bits) r = holdsWidth r
+roomGood Single r = holdsWidth r
+roomGood (Quantity f) r = holdsWidth r
+roomGood Character r = holdsWidth r
+roomGood Logical r = holdsWidth r
 
-unfoldable pub valuesGood : List ℤ → ℕ → Row → Bool
-valuesGood t v r =
-    rangeGood r
-    and linesPlain t v (r .before) (r .lines)
+unfoldable pub linesGood : List ℤ → ℕ → Row → Bool
+linesGood t v r =
+    linesPlain t v (r .before) (r .lines)
     and valuesFit (r .kind) (valueAt t v (r .before)) (r .lines)
     and valuesDiffer (valueAt t v (r .before)) (r .lines)
+
+unfoldable pub valuesGood : List ℤ → ℕ → Row → Bool
+valuesGood t v r = rangeGood r and linesGood t v r
 
 unfoldable pub widthsGood : List ℤ → ℕ → Row → Bool
 widthsGood t v r = widthGood (r .kind) (r .width) (widest t v r) and roomGood (r .kind) r

@@ -1,14 +1,16 @@
 // The test behind refusal 20: is a table well formed? It asks nothing of the table. Above it stand all calls on records and files,
 // which test the table by it and then use what it gives.
 ghost use mathlib.Core.Path.{_≡_};
-ghost use Prim.Native.Nat.{_+_, _≤_, _<_};
+ghost use Prim.Native.Nat.{_+_, _*_, _≤_, _<_, max};
+ghost use lib.Dec.{leb};
 ghost use lib.ListN.{length};
 ghost use lib.Signed.{leZ};
-ghost use mathlib.Core.Bool.{cond};
+ghost use mathlib.Core.Bool.{cond, true};
 ghost use Rattle.ascii.specs.Tens.{Tens};
-ghost use Rattle.widths.specs.Width.{FewDecimals};
-ghost use Rattle.sound.specs.Sound.{headCounts, headSums, typeKnown, decimalsFew, flagsPlain, lackedZero, rangeLacked, pointGiven, valuesGiven, identGood, positionGood, subfieldsGood, textsGood, countsGood, placesGood, linePlain, linesPlain, valueAt, valueNew, valuesDiffer};
-ghost use Rattle.sound.specs.Block.{Standing, above, valuesRise, hullWith, Hulled, Blocked};
+ghost use Rattle.below.specs.Below.{_and_};
+ghost use Rattle.widths.specs.Width.{need, fitsKind, FewDecimals};
+ghost use Rattle.sound.specs.Sound.{headCounts, headSums, typeKnown, decimalsFew, flagsPlain, lackedZero, rangeLacked, pointGiven, valuesGiven, identGood, positionGood, subfieldsGood, textsGood, countsGood, placesGood, linePlain, linesPlain, valueAt, valueNew, valuesDiffer, rangeGood, rangeWidth, widthGood, roomGood, valuesGood, widthsGood};
+ghost use Rattle.sound.specs.Block.{Standing, above, valuesRise, hullWith, Hulled, Blocked, hullFits, hullWidth, Placed, Ready, linedGood};
 use layout::Columns;
 use layout::Header;
 use layout::Kind;
@@ -232,4 +234,176 @@ fn block_of(t: &[i64], v: usize, b: usize, n: usize) -> Block
     let differ = values_differ(t, v, b, n);
     let hull = hull_of(t, v, b, n);
     Block { differ, hull }
+}
+
+fn fits_kind(kind: Kind, z: i64) -> bool
+    ensures { λ r. ⌜ r ≡ fitsKind kind z ⌝ }
+{
+    (widths::lowest_of(kind) <= z) & (z <= widths::highest_of(kind))
+}
+
+// Do the least and the most, and so all numbers between them, lie within the limits of their kind?
+fn hull_fits(kind: Kind, h: Hull) -> bool
+    ensures { λ r. ⌜ r ≡ hullFits kind h ⌝ }
+{
+    let least = h.least;
+    let most = h.most;
+    (widths::lowest_of(kind) <= least) & (most <= widths::highest_of(kind))
+}
+
+fn larger(a: usize, b: usize) -> usize
+    ensures { λ r. ⌜ r ≡ max a b ⌝ }
+{
+    if a <= b { b } else { a }
+}
+
+// The bytes that the wider of two numbers takes.
+fn wider(powers: &[u64; 16], kind: Kind, a: i64, b: i64) -> usize
+    requires { ⌜ Tens (now powers) ⌝ }
+    requires { ⌜ FewDecimals kind ⌝ }
+    ensures { λ r. ⌜ r ≡ max (need kind a) (need kind b) ⌝ }
+{
+    larger(
+        widths::needed(powers, kind, a),
+        widths::needed(powers, kind, b),
+    )
+}
+
+fn range_good(r: Row) -> bool
+    ensures { λ b. ⌜ b ≡ rangeGood r ⌝ }
+{
+    let kind = r.kind;
+    let from = r.from;
+    let to = r.to;
+    !r.range | (cells::not_above(from, to) & (fits_kind(kind, from) & fits_kind(kind, to)))
+}
+
+// The bytes that the range's ends take.
+fn range_width(powers: &[u64; 16], r: Row) -> usize
+    requires { ⌜ Tens (now powers) ⌝ }
+    requires { ⌜ FewDecimals (r .kind) ⌝ }
+    ensures { λ w. ⌜ w ≡ rangeWidth r ⌝ }
+{
+    let kind = r.kind;
+    let from = r.from;
+    let to = r.to;
+    if r.range {
+        wider(powers, kind, from, to)
+    } else {
+        0
+    }
+}
+
+// Is w the width that a row's numbers give, m being the widest of them?
+fn width_good(kind: Kind, w: usize, m: usize) -> bool
+    ensures { λ b. ⌜ b ≡ widthGood kind w m ⌝ }
+{
+    match kind {
+        Kind::Single => w == m,
+        Kind::Multiple(_) => w == m,
+        Kind::Quantity(_) => w == m,
+        Kind::Character => (1 <= w) & (w <= 4_096),
+        Kind::Logical => w == 1,
+    }
+}
+
+// Do n subfields of b bytes fit a position?
+fn subfields_fit(n: usize, b: usize, start: usize, finish: usize) -> bool
+    requires { ⌜ (1 ≤ n) × (1 ≤ b) ⌝ }
+    requires { ⌜ (1 ≤ start) × (start ≤ 16384) × (finish ≤ 16384) ⌝ }
+    ensures { λ r. ⌜ r ≡ leb (start + n * b) (finish + 1) ⌝ }
+{
+    if 16_384 < n {
+        return false;
+    }
+    if 16_384 < b {
+        return false;
+    }
+    start + n * b <= finish + 1
+}
+
+// Does the position hold the row's value?
+fn room_good(r: Row) -> bool
+    requires { ⌜ Placed r × (r .width ≤ 9999) ⌝ }
+    ensures { λ b. ⌜ b ≡ roomGood (r .kind) r ⌝ }
+{
+    let kind = r.kind;
+    let holds = r.start + r.width <= r.finish + 1;
+    match kind {
+        Kind::Multiple(s) => match s {
+            Spread::Fields { count, width } => {
+                (r.width <= width) & subfields_fit(count, width, r.start, r.finish)
+            }
+            Spread::Bits => holds,
+        },
+        Kind::Single => holds,
+        Kind::Quantity(_) => holds,
+        Kind::Character => holds,
+        Kind::Logical => holds,
+    }
+}
+
+// Is w as it should be, and does the position hold it?
+fn widths_good(r: Row, m: usize) -> bool
+    requires { ⌜ Placed r × (m ≤ 9999) ⌝ }
+    ensures { λ b. ⌜ b ≡ (widthGood (r .kind) (r .width) m and roomGood (r .kind) r) ⌝ }
+{
+    let kind = r.kind;
+    if !width_good(kind, r.width, m) {
+        return false;
+    }
+    room_good(r)
+}
+
+// The bytes that the widest number of a hull takes.
+fn hull_width(powers: &[u64; 16], kind: Kind, h: Hull) -> usize
+    requires { ⌜ Tens (now powers) ⌝ }
+    requires { ⌜ FewDecimals kind ⌝ }
+    ensures { λ r. ⌜ r ≡ hullWidth kind h ⌝ }
+{
+    let least = h.least;
+    let most = h.most;
+    wider(powers, kind, least, most)
+}
+
+// Are the numbers of a row that has lines good, and is its width theirs?
+fn lined_good(t: &[i64], powers: &[u64; 16], v: usize, r: Row) -> bool
+    requires { ⌜ Tens (now powers) ⌝ }
+    requires { ⌜ Ready (now t) v r ⌝ }
+    requires { ⌜ (1 ≤ r .lines) × (rangeGood r ≡ true) ⌝ }
+    ensures { λ g. ⌜ g ≡ linedGood (now (t .entry)) v r ⌝ }
+{
+    let kind = r.kind;
+    let b = r.before;
+    let n = r.lines;
+    if !lines_plain(t, v, b, n) {
+        return false;
+    }
+    let block = block_of(t, v, b, n);
+    let hull = block.hull;
+    if !hull_fits(kind, hull) {
+        return false;
+    }
+    if !block.differ {
+        return false;
+    }
+    widths_good(
+        r,
+        larger(range_width(powers, r), hull_width(powers, kind, hull)),
+    )
+}
+
+// Are the numbers of a row good, and is its width theirs?
+fn row_good(t: &[i64], powers: &[u64; 16], v: usize, r: Row) -> bool
+    requires { ⌜ Tens (now powers) ⌝ }
+    requires { ⌜ Ready (now t) v r ⌝ }
+    ensures { λ g. ⌜ g ≡ (valuesGood (now (t .entry)) v r and widthsGood (now (t .entry)) v r) ⌝ }
+{
+    if !range_good(r) {
+        return false;
+    }
+    if r.lines == 0 {
+        return widths_good(r, range_width(powers, r));
+    }
+    lined_good(t, powers, v, r)
 }
