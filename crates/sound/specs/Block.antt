@@ -8,7 +8,7 @@ use Prim.Native.Nat.{ℕ, zero, suc, _+_, _-_, _*_, _/_, _^_, _≤_, _<_, max}
 use native.Mathlib.Nat.{eq-or-lt-of-le, le-of-suc-le-suc, not-suc-le-zero, le-antisymm, lt-of-le-of-lt}
 use native.Mathlib.Numerals.{add-one}
 use native.Mathlib.Omega.{arith}
-use borrow.Author.Tests.{eqb-true, ltb-true, leb-true, not-true, ne-eqb}
+use borrow.Author.Tests.{lt-ltb, le-ltb, eqb-true, ltb-true, leb-true, not-true, ne-eqb}
 use lib.Dec.{eqb, ltb, leb}
 use lib.IntN.{ℤ, pos, negsuc}
 use lib.ListN.{length}
@@ -23,7 +23,7 @@ use Rattle.layout.specs.declared.Spread.the-variants.{Bits, Fields}
 use Rattle.layout.specs.declared.Kind.{Kind}
 use Rattle.layout.specs.declared.Kind.the-variants.{Single, Multiple, Quantity, Character, Logical}
 use Rattle.widths.specs.Width.{need, need-between, fitsKind, lowest, highest, sizeOf, size-small, FewDecimals, quantityWidth, wholeDigits, decimalsOf, tail-few}
-use Rattle.sound.specs.Sound.{valuesFit, unlike, valueNew, valuesDiffer, widthGood, linesPlain, linesGood, valuesGood, widthsGood, valueAt, rangeGood, rangeWidth, widest}
+use Rattle.sound.specs.Sound.{valuesFit, unlike, valueNew, valuesDiffer, widthGood, linesPlain, linesGood, valuesGood, widthsGood, valueAt, rangeGood, rangeWidth, widest, identAt, otherIdent, identNew, identsDiffer}
 use Rattle.sound.specs.declared.Hull.{Hull}
 use Rattle.sound.specs.declared.Block.{Block}
 
@@ -54,6 +54,13 @@ pub record Ready (t : List ℤ) (v : ℕ) (r : Row) : Type 0 where
   pub lines : Standing t v (r .before) (r .lines)
   pub placed : Placed r
   pub decimals : FewDecimals (r .kind)
+
+-- the idents rise, each above the one before it
+unfoldable pub identRises : List ℤ → ℕ → Bool
+identRises t i = eqb i 0 || ltb (identAt t (i - 1)) (identAt t i)
+
+unfoldable pub identsRise : List ℤ → ℕ → Bool
+identsRise t v = allBelow v (identRises t)
 
 -- a row with lines, of which the range is good
 unfoldable pub linedGood : List ℤ → ℕ → Row → Bool
@@ -350,3 +357,36 @@ module _ (t : List ℤ) (v : ℕ) (r : Row) where
   pub lines-lined : rangeGood r ≡ true → (valuesGood t v r and widthsGood t v r) ≡ linedGood t v r
   unfolding valuesGood linedGood
   lines-lined e = rw (and-yes _ (linesGood t v r) e)
+
+-- ---- idents
+module _ (t : List ℤ) where
+  pub ident-first : allBelow 1 (identRises t) ≡ true
+  unfolding identRises
+  ident-first = all-more (identRises t) 0 (all-none (identRises t)) refl
+
+  pub ident-here : (i : ℕ) → identAt t (i - 1) < identAt t i → identRises t i ≡ true
+  unfolding identRises
+  ident-here i l = rw (lt-ltb (identAt t (i - 1)) (identAt t i) l) (or-true (eqb i 0))
+
+  pub ident-not : (i : ℕ) → 1 ≤ i → identAt t i ≤ identAt t (i - 1) → identRises t i ≡ false
+  unfolding identRises
+  ident-not i h l = rw (ne-eqb i 0 (λ q. omega arith), le-ltb (identAt t (i - 1)) (identAt t i) l)
+
+  -- rising idents differ
+  module _ (v : ℕ) (r : identsRise t v ≡ true) where
+    ident-step : (i : ℕ) → suc i < v → identAt t i < identAt t (suc i)
+    unfolding identsRise identRises
+    ident-step i h =
+        let p : suc i - 1 ≡ i = omega arith in
+        ltb-true (identAt t i) (identAt t (suc i)) (rw (ne-eqb (suc i) 0 (λ q. omega arith), p) at (all-at (identRises t) v (suc i) h r))
+
+    ident-rise : (i j : ℕ) → j < i → i < v → identAt t j < identAt t i
+    ident-rise zero j h l = absurd (not-suc-le-zero h)
+    ident-rise (suc i) j h l =
+        ⊎-elim (λ q. rw q (ident-step i l)) (λ m. omega (arith, ident-rise i j m (omega arith), ident-step i l))
+        (eq-or-lt-of-le (le-of-suc-le-suc h))
+
+    pub idents-rise-differ : identsDiffer t v ≡ true
+    unfolding identsDiffer identNew
+    idents-rise-differ =
+        all-of (identNew t) v (λ i l. all-of (otherIdent t i) i (λ j h. ap not (ne-eqb (identAt t j) (identAt t i) (λ q. let m = ident-rise i j h l in omega arith))))

@@ -1,5 +1,6 @@
 -- "A table is well formed when ..": each clause of document 01 under a name of its own. A negative number counts as more than every
 -- limit (`countOf`), so that each limit below also says "no number of it is negative".
+use mathlib.Core.Path.{_≡_}
 use mathlib.Core.Bool.{Bool, true, false, cond, not, _&&_, _||_, Bool·beq}
 use mathlib.Core.List.{List}
 use Prim.Native.Nat.{ℕ, _+_, _*_, max}
@@ -8,7 +9,7 @@ use lib.IntN.{ℤ, pos}
 use lib.ListN.{length}
 use lib.Signed.{leZ}
 use Rattle.ascii.specs.Class.{within}
-use Rattle.below.specs.Below.{_and_, allBelow, sumBelow, maxBelow}
+use Rattle.below.specs.Below.{_and_, and-no, and-yes, allBelow, sumBelow, maxBelow}
 use Rattle.cells.specs.Cell.{cell, eqZ}
 use Rattle.layout.specs.Layout.{mark, mostRows, mostLines, headerSize, lineSize, rowBase, linesBase, lineBase, headerOf, columnsAt, lineAt}
 use Rattle.layout.specs.Row.{rowOf}
@@ -70,11 +71,11 @@ abbrev pub textsGood : Columns → Bool
 textsGood c =
     leb (c .name) 1048576 && leb (c .«name_len») 1048576 && leb (c .label) 1048576 && leb (c .«label_len») 1048576
 
-abbrev pub countsGood : Columns → Bool
-countsGood c = typeKnown c && decimalsFew c && flagsPlain c && lackedZero c && pointGiven c && valuesGiven c
+unfoldable pub countsGood : Columns → Bool
+countsGood c = typeKnown c and decimalsFew c and flagsPlain c and lackedZero c and pointGiven c and valuesGiven c
 
-abbrev pub placesGood : Columns → Bool
-placesGood c = identGood c && positionGood c && subfieldsGood c && textsGood c
+unfoldable pub placesGood : Columns → Bool
+placesGood c = identGood c and positionGood c and subfieldsGood c and textsGood c
 
 -- ---- a row's values
 -- refusals 6 and 8 of a range: not reversed, both ends within the limits of their kind
@@ -156,24 +157,36 @@ columnsGood e before c =
     countsGood c and placesGood c and rangeLacked c and eqb (c .before) before and leb (before + c .lines) e
 
 unfoldable pub rowGood : List ℤ → ℕ → ℕ → ℕ → Columns → Bool
-rowGood t v e before c = columnsGood e before c and valuesGood t v (rowOf c) and widthsGood t v (rowOf c)
+rowGood t v e before c = columnsGood e before c and (valuesGood t v (rowOf c) and widthsGood t v (rowOf c))
 
 abbrev pub columnsOf : List ℤ → ℕ → Columns
 columnsOf t i = columnsAt t (rowBase i)
 
+abbrev pub linesAt : List ℤ → ℕ → ℕ
+linesAt t i = columnsOf t i .lines
+
+abbrev pub finishAt : List ℤ → ℕ → ℕ
+finishAt t i = columnsOf t i .finish
+
 -- the lines before row i, the highest finish of v rows
 abbrev pub linesBefore : List ℤ → ℕ → ℕ
-linesBefore t i = sumBelow i (λ j. columnsOf t j .lines)
+linesBefore t i = sumBelow i (linesAt t)
 
 abbrev pub highest : List ℤ → ℕ → ℕ
-highest t v = maxBelow v (λ j. columnsOf t j .finish)
+highest t v = maxBelow v (finishAt t)
 
 abbrev pub goodAt : List ℤ → ℕ → ℕ → ℕ → Bool
 goodAt t v e i = rowGood t v e (linesBefore t i) (columnsOf t i)
 
 -- refusal 5 of two idents: row i's is no earlier row's
-abbrev pub identNew : List ℤ → ℕ → Bool
-identNew t i = allBelow i (λ j. not (eqb (columnsOf t j .ident) (columnsOf t i .ident)))
+abbrev pub identAt : List ℤ → ℕ → ℕ
+identAt t i = columnsOf t i .ident
+
+abbrev pub otherIdent : List ℤ → ℕ → ℕ → Bool
+otherIdent t i j = not (eqb (identAt t j) (identAt t i))
+
+unfoldable pub identNew : List ℤ → ℕ → Bool
+identNew t i = allBelow i (otherIdent t i)
 
 unfoldable pub identsDiffer : List ℤ → ℕ → Bool
 identsDiffer t v = allBelow v (identNew t)
@@ -198,3 +211,13 @@ unfoldable pub wellFormed : List ℤ → Bool
 wellFormed t =
     headCounts (headerOf t) and headSums (headerOf t) (length t) and rowsGood t (headerOf t)
     and identsDiffer t (headerOf t .rows)
+
+-- ---- laws: a row by its columns, then by its values
+module _ (t : List ℤ) (v e before : ℕ) (c : Columns) where
+  pub row-columns : columnsGood e before c ≡ false → rowGood t v e before c ≡ false
+  unfolding rowGood
+  row-columns h = and-no _ _ h
+
+  pub row-values : columnsGood e before c ≡ true → rowGood t v e before c ≡ (valuesGood t v (rowOf c) and widthsGood t v (rowOf c))
+  unfolding rowGood
+  row-values h = and-yes _ _ h

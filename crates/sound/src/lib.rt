@@ -9,8 +9,8 @@ ghost use mathlib.Core.Bool.{cond, true};
 ghost use Rattle.ascii.specs.Tens.{Tens};
 ghost use Rattle.below.specs.Below.{_and_};
 ghost use Rattle.widths.specs.Width.{need, fitsKind, FewDecimals};
-ghost use Rattle.sound.specs.Sound.{headCounts, headSums, typeKnown, decimalsFew, flagsPlain, lackedZero, rangeLacked, pointGiven, valuesGiven, identGood, positionGood, subfieldsGood, textsGood, countsGood, placesGood, linePlain, linesPlain, valueAt, valueNew, valuesDiffer, rangeGood, rangeWidth, widthGood, roomGood, valuesGood, widthsGood};
-ghost use Rattle.sound.specs.Block.{Standing, above, valuesRise, hullWith, Hulled, Blocked, hullFits, hullWidth, Placed, Ready, linedGood};
+ghost use Rattle.sound.specs.Sound.{headCounts, headSums, typeKnown, decimalsFew, flagsPlain, lackedZero, rangeLacked, pointGiven, valuesGiven, identGood, positionGood, subfieldsGood, textsGood, countsGood, placesGood, linePlain, linesPlain, valueAt, valueNew, valuesDiffer, rangeGood, rangeWidth, widthGood, roomGood, valuesGood, widthsGood, columnsGood, rowGood, rowsGood, identAt, identNew, identsDiffer, wellFormed};
+ghost use Rattle.sound.specs.Block.{Standing, above, valuesRise, hullWith, Hulled, Blocked, hullFits, hullWidth, Placed, Ready, linedGood, identsRise};
 use layout::Columns;
 use layout::Header;
 use layout::Kind;
@@ -406,4 +406,133 @@ fn row_good(t: &[i64], powers: &[u64; 16], v: usize, r: Row) -> bool
         return widths_good(r, range_width(powers, r));
     }
     lined_good(t, powers, v, r)
+}
+
+// Are the columns of a row good by themselves, with `before` lines before its own, of the table's e?
+fn columns_good(e: usize, before: usize, c: Columns) -> bool
+    requires { ⌜ before ≤ e ⌝ }
+    ensures { λ r. ⌜ r ≡ columnsGood e before c ⌝ }
+{
+    counts_good(c)
+        & places_good(c)
+        & range_lacked(c)
+        & (c.before == before)
+        & (c.lines <= e - before)
+}
+
+// Is a row good, with `before` lines before its own?
+fn whole_row_good(
+    t: &[i64],
+    powers: &[u64; 16],
+    v: usize,
+    e: usize,
+    before: usize,
+    c: Columns,
+) -> bool
+    requires { ⌜ Tens (now powers) ⌝ }
+    requires { ⌜ Standing (now t) v 0 e × (before ≤ e) ⌝ }
+    ensures { λ r. ⌜ r ≡ rowGood (now (t .entry)) v e before c ⌝ }
+{
+    if !columns_good(e, before, c) {
+        return false;
+    }
+    row_good(t, powers, v, Row::of(c))
+}
+
+// Are all rows good, their lines counted up, and L the highest finish?
+fn rows_good(t: &[i64], powers: &[u64; 16], h: Header) -> bool
+    requires { ⌜ Tens (now powers) ⌝ }
+    requires { ⌜ Standing (now t) (h .rows) 0 (h .lines) ⌝ }
+    ensures { λ r. ⌜ r ≡ rowsGood (now (t .entry)) h ⌝ }
+{
+    let v = h.rows;
+    let e = h.lines;
+    let mut i: usize = 0;
+    let mut sum: usize = 0;
+    let mut high: usize = 0;
+    while i < v {
+        let c = Columns::read(t, Row::base(i));
+        if !whole_row_good(t, powers, v, e, sum, c) {
+            return false;
+        }
+        sum += c.lines;
+        high = larger(high, c.finish);
+        i += 1;
+    }
+    (sum == e) & (high == h.length)
+}
+
+// The ident of row i.
+fn ident(t: &[i64], v: usize, i: usize) -> usize
+    requires { ⌜ Standing (now t) v 0 0 × (i < v) ⌝ }
+    ensures { λ r. ⌜ r ≡ identAt (now (t .entry)) i ⌝ }
+{
+    cells::count_at(t, Row::base(i) + Row::IDENT)
+}
+
+// Does each ident rise above the one before it? The usual case, in which no two are equal.
+fn idents_rise(t: &[i64], v: usize) -> bool
+    requires { ⌜ Standing (now t) v 0 0 ⌝ }
+    ensures { λ r. ⌜ r ≡ identsRise (now (t .entry)) v ⌝ }
+{
+    let mut i: usize = 1;
+    while i < v {
+        if ident(t, v, i) <= ident(t, v, i - 1) {
+            return false;
+        }
+        i += 1;
+    }
+    true
+}
+
+// Is the ident of row i that of no earlier row?
+fn ident_new(t: &[i64], v: usize, i: usize) -> bool
+    requires { ⌜ Standing (now t) v 0 0 × (i < v) ⌝ }
+    ensures { λ r. ⌜ r ≡ identNew (now (t .entry)) i ⌝ }
+{
+    let x = ident(t, v, i);
+    let mut j: usize = 0;
+    while j < i {
+        if ident(t, v, j) == x {
+            return false;
+        }
+        j += 1;
+    }
+    true
+}
+
+// Are the idents pairwise different?
+fn idents_differ(t: &[i64], v: usize) -> bool
+    requires { ⌜ Standing (now t) v 0 0 ⌝ }
+    ensures { λ r. ⌜ r ≡ identsDiffer (now (t .entry)) v ⌝ }
+{
+    if idents_rise(t, v) {
+        return true;
+    }
+    let mut i: usize = 0;
+    while i < v {
+        if !ident_new(t, v, i) {
+            return false;
+        }
+        i += 1;
+    }
+    true
+}
+
+// Is the table well formed?
+pub fn well_formed(t: &[i64]) -> bool
+    ensures { λ r. ⌜ r ≡ wellFormed (now (t .entry)) ⌝ }
+{
+    let h = Header::read(t);
+    if !head_counts(h) {
+        return false;
+    }
+    if !head_sums(h, t.len()) {
+        return false;
+    }
+    let powers = ascii::powers();
+    if !rows_good(t, &powers, h) {
+        return false;
+    }
+    idents_differ(t, h.rows)
 }

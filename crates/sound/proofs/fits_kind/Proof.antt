@@ -8,4 +8,5 @@ returns c =
     rw (toZ-ofZ (sfits-of (c .before .lowest-of .ok)), toZ-ofZ (c .before .before .fits .z), toZ-ofZ (sfits-of (c .highest-of .ok)), c .before .lowest-of .ensures, c .highest-of .ensures)
 
 pub fits-kind-spec : {M : Type 1} → statement M
-fits-kind-spec = tie.close (tie.spec (λ c κs. search needs) (λ c κs. search needs) returns)
+fits-kind-spec =
+    tie.close (tie.spec (λ c κs. search needs) (λ c κs. search needs) returns)

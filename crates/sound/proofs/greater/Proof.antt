@@ -9,4 +9,5 @@ returns-2 : tie.Need-returns-2
 returns-2 c = rw (toZ-ofZ (c .before .fits .a), rw (toZ-ofZ (c .before .fits .a), toZ-ofZ (c .before .fits .b)) at (c .if1 .left))
 
 pub greater-spec : {M : Type 1} → statement M
-greater-spec = tie.close (tie.spec returns returns-2)
+greater-spec =
+    tie.close (tie.spec returns returns-2)

@@ -19,4 +19,5 @@ returns c =
     rw (toZ-ofZ (sfits-of (c .before .lowest-of .ok)), least-back (c .before .before), most-back (c .before .before), toZ-ofZ (sfits-of (c .highest-of .ok)), c .before .lowest-of .ensures, c .highest-of .ensures)
 
 pub hull-fits-spec : {M : Type 1} → statement M
-hull-fits-spec = tie.close (tie.spec (λ c κs. search needs) (λ c κs. search needs) returns)
+hull-fits-spec =
+    tie.close (tie.spec (λ c κs. search needs) (λ c κs. search needs) returns)

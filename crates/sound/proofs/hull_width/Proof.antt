@@ -17,4 +17,5 @@ unfolding hullWidth
 returns c = c .wider .ensures ∙ rw (least-back (c .before), most-back (c .before))
 
 pub hull-width-spec : {M : Type 1} → statement M
-hull-width-spec = tie.close (tie.spec (λ c κs. search needs) returns)
+hull-width-spec =
+    tie.close (tie.spec (λ c κs. search needs) returns)

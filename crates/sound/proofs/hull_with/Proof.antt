@@ -28,4 +28,5 @@ unfolding hullWith
 returns c = rw (toZ-ofZ (sfits-of (c .before .lesser .ok)), toZ-ofZ (sfits-of (c .greater .ok)), lesser-is (c .before), greater-is c)
 
 pub hull-with-spec : {M : Type 1} → statement M
-hull-with-spec = tie.close (tie.spec (λ c κs. search needs) (λ c κs. search needs) returns)
+hull-with-spec =
+    tie.close (tie.spec (λ c κs. search needs) (λ c κs. search needs) returns)

@@ -16,4 +16,5 @@ returns c =
     rw (c .before .before .not-above .ensures, c .before .fits-kind .ensures, c .fits-kind2 .ensures, from-back (c .before .before .before .before), to-back (c .before .before .before .before))
 
 pub range-good-spec : {M : Type 1} → statement M
-range-good-spec = tie.close (tie.spec (λ c κs. search needs) (λ c κs. search needs) (λ c κs. search needs) returns)
+range-good-spec =
+    tie.close (tie.spec (λ c κs. search needs) (λ c κs. search needs) (λ c κs. search needs) returns)

@@ -4,15 +4,6 @@ use mir.Val.{toZ, ofZ}
 use borrow.Author.Needs.{needs}
 use Rattle.sound.proofs.range_lacked.Statement.{statement}
 use Rattle.sound.proofs.range_lacked.Tie as tie
-use Rattle.sound.proofs.range_lacked.Reads as reads
-use Rattle.sound.proofs.range_lacked.Lts as lts
-use Rattle.cells.proofs.same.Reads as same-reads
-
-same-requires : tie.Need-same-requires
-same-requires c κs = search needs
-
-same-requires-2 : tie.Need-same-requires-2
-same-requires-2 c κs = search needs
 
 from-back : (c : tie.After-struct-told2) → toZ w64 (ofZ w64 (c .before .before .args .c .from)) ≡ c .before .before .args .c .from
 from-back c = search needs
@@ -24,4 +15,5 @@ returns : tie.Need-returns
 returns c = rw (c .before .same .ensures, c .same2 .ensures, from-back (c .before .before .before), to-back (c .before .before .before))
 
 pub range-lacked-spec : {M : Type 1} → statement M
-range-lacked-spec = tie.close (tie.spec same-requires same-requires-2 returns)
+range-lacked-spec =
+    tie.close (tie.spec (λ c κs. search needs) (λ c κs. search needs) returns)

@@ -21,4 +21,5 @@ unfolding rangeWidth
 returns-2 c = rw (c .if1 .left)
 
 pub range-width-spec : {M : Type 1} → statement M
-range-width-spec = tie.close (tie.spec (λ c κs. search needs) returns returns-2)
+range-width-spec =
+    tie.close (tie.spec (λ c κs. search needs) returns returns-2)

@@ -3,39 +3,9 @@ use Rattle.sound.specs.Sound.{roomGood}
 use borrow.Author.Needs.{needs}
 use Rattle.sound.proofs.room_good.Statement.{statement}
 use Rattle.sound.proofs.room_good.Tie as tie
-use Rattle.sound.proofs.room_good.Reads as reads
-use Rattle.sound.proofs.room_good.Lts as lts
-use Rattle.sound.proofs.subfields_fit.Reads as subfields-fit-reads
-
-add-holds : tie.Need-add-holds
-add-holds c = search needs
-
-add-holds-2 : tie.Need-add-holds-2
-add-holds-2 c = search needs
-
-enum-known-kind : tie.Need-enum-known-kind
-enum-known-kind c = search needs
-
-enum-known-s : tie.Need-enum-known-s
-enum-known-s c = search needs
 
 subfields-fit-requires : tie.Need-subfields-fit-requires
 subfields-fit-requires c κs = (rw (c .before .before .before .before .before .kind .given .1, c .before .before .s .given .1) at (c .before .before .before .before .before .before .before .before .before .pre .0 .subfields), (omega arith, omega arith, omega arith))
-
-enum-told : tie.Need-enum-told
-enum-told c = search needs
-
-enum-told-2 : tie.Need-enum-told-2
-enum-told-2 c = search needs
-
-enum-told-3 : tie.Need-enum-told-3
-enum-told-3 c = search needs
-
-enum-told-4 : tie.Need-enum-told-4
-enum-told-4 c = search needs
-
-enum-told-5 : tie.Need-enum-told-5
-enum-told-5 c = search needs
 
 returns : tie.Need-returns
 unfolding roomGood
@@ -63,21 +33,4 @@ returns-6 c = rw (c .enum-told5 .given .1)
 
 pub room-good-spec : {M : Type 1} → statement M
 room-good-spec =
-    tie.close
-    (tie.spec
-    add-holds
-    add-holds-2
-    enum-known-kind
-    enum-known-s
-    subfields-fit-requires
-    enum-told
-    enum-told-2
-    enum-told-3
-    enum-told-4
-    enum-told-5
-    returns
-    returns-2
-    returns-3
-    returns-4
-    returns-5
-    returns-6)
+    tie.close (tie.spec (λ c. search needs) (λ c. search needs) (λ c. search needs) (λ c. search needs) subfields-fit-requires (λ c. search needs) (λ c. search needs) (λ c. search needs) (λ c. search needs) (λ c. search needs) returns returns-2 returns-3 returns-4 returns-5 returns-6)

@@ -36,4 +36,5 @@ add-result : tie.Need-add-result
 add-result c = omega (arith, product (c .before .before .args .n) (c .before .before .args .b) (c .before .if1 .left) (c .if2 .left))
 
 pub subfields-fit-spec : {M : Type 1} → statement M
-subfields-fit-spec = tie.close (tie.spec returns returns-2 mul-result add-result (λ c. search needs) (λ c. search needs))
+subfields-fit-spec =
+    tie.close (tie.spec returns returns-2 mul-result add-result (λ c. search needs) (λ c. search needs))

@@ -10,4 +10,5 @@ returns c =
     ∙ rw (c .before .before .needed .ensures, c .before .needed2 .ensures, toZ-ofZ (c .before .before .before .fits .a), toZ-ofZ (c .before .before .before .fits .b))
 
 pub wider-spec : {M : Type 1} → statement M
-wider-spec = tie.close (tie.spec (λ c κs. search needs) (λ c κs. search needs) (λ c κs. search needs) returns)
+wider-spec =
+    tie.close (tie.spec (λ c κs. search needs) (λ c κs. search needs) (λ c κs. search needs) returns)

@@ -2,23 +2,6 @@ use Rattle.sound.specs.Sound.{widthGood}
 use borrow.Author.Needs.{needs}
 use Rattle.sound.proofs.width_good.Statement.{statement}
 use Rattle.sound.proofs.width_good.Tie as tie
-use Rattle.sound.proofs.width_good.Reads as reads
-use Rattle.sound.proofs.width_good.Lts as lts
-
-enum-told : tie.Need-enum-told
-enum-told c = search needs
-
-enum-told-2 : tie.Need-enum-told-2
-enum-told-2 c = search needs
-
-enum-told-3 : tie.Need-enum-told-3
-enum-told-3 c = search needs
-
-enum-told-4 : tie.Need-enum-told-4
-enum-told-4 c = search needs
-
-enum-told-5 : tie.Need-enum-told-5
-enum-told-5 c = search needs
 
 returns : tie.Need-returns
 unfolding widthGood
@@ -42,15 +25,4 @@ returns-5 c = rw (c .enum-told5 .given .1)
 
 pub width-good-spec : {M : Type 1} → statement M
 width-good-spec =
-    tie.close
-    (tie.spec
-    enum-told
-    enum-told-2
-    enum-told-3
-    enum-told-4
-    enum-told-5
-    returns
-    returns-2
-    returns-3
-    returns-4
-    returns-5)
+    tie.close (tie.spec (λ c. search needs) (λ c. search needs) (λ c. search needs) (λ c. search needs) (λ c. search needs) returns returns-2 returns-3 returns-4 returns-5)

@@ -16,4 +16,5 @@ returns-2 : tie.Need-returns-2
 returns-2 c = c .room-good .ensures ∙ sym (and-yes _ _ (sym (c .before .before .width-good .ensures) ∙ not-false _ (c .before .if1 .left)))
 
 pub widths-good-spec : {M : Type 1} → statement M
-widths-good-spec = tie.close (tie.spec (λ c κs. search needs) returns room-good-requires returns-2)
+widths-good-spec =
+    tie.close (tie.spec (λ c κs. search needs) returns room-good-requires returns-2)
