@@ -1,7 +1,7 @@
 -- A test at every number below n, at some number below n, the first n of a row of numbers added up, and the largest of them:
 -- what a loop over 0..n computes.
 use mathlib.Core.Path.{_≡_, refl, sym, ap, _∙_}
-use mathlib.Core.Logic.{⊎-elim}
+use mathlib.Core.Logic.{_⊎_, inl, inr, ⊎-elim}
 use mathlib.Core.Bool.{Bool, true, false, cond, not, _&&_, _||_, and-false}
 use Prim.Native.Nat.{ℕ, zero, suc, _+_, _≤_, _<_, max}
 use native.Mathlib.Nat.{not-suc-le-zero, eq-or-lt-of-le, le-of-suc-le-suc}
@@ -67,6 +67,10 @@ and-right false b e = let z : _≡_ {A = ℕ} 0 1 = cc in absurd (omega arith)
 pub or-true : (b : Bool) → (b || true) ≡ true
 or-true true = refl
 or-true false = refl
+
+pub either-true : (a b : Bool) → (a || b) ≡ true → (a ≡ true) ⊎ (b ≡ true)
+either-true true b e = inl refl
+either-true false b e = inr e
 
 -- two tests that hold together are one test
 pub same-bool : (x y : Bool) → (x ≡ true → y ≡ true) → (y ≡ true → x ≡ true) → x ≡ y
@@ -139,6 +143,12 @@ module _ (f : ℕ → Bool) where
       (λ q. let e′ : f n ≡ true = ap f (sym q) ∙ e in rw e′ (or-true (anyBelow n f)))
       (λ l. rw (any-holds n k l e))
       (eq-or-lt-of-le (le-of-suc-le-suc h))
+
+  -- it holds somewhere below n: what follows wherever it may be, follows
+  pub any-some : {A : Type 0} (n : ℕ) → anyBelow n f ≡ true → ((k : ℕ) → k < n → f k ≡ true → A) → A
+  unfolding anyBelow
+  any-some zero e g = holds-not e refl
+  any-some (suc n) e g = ⊎-elim (λ p. any-some n p (λ k h. g k (omega arith))) (λ p. g n (omega arith) p) (either-true (anyBelow n f) (f n) e)
 
   -- it holds nowhere below n
   pub any-fails : (n : ℕ) → ((k : ℕ) → k < n → f k ≡ false) → anyBelow n f ≡ false

@@ -9,7 +9,7 @@ use borrow.Author.Tests.{eqb-true, eqb-false, leb-true, eq-eqb, ne-eqb}
 use lib.Dec.{eqb, leb}
 use lib.IntN.{ℤ, pos}
 use lib.ListN.{length}
-use Rattle.below.specs.Below.{_and_, and-both, both-and, and-no, and-nor, and-yes, and-left, and-right, holds-not}
+use Rattle.below.specs.Below.{_and_, and-both, both-and, and-no, and-nor, and-yes, and-left, and-right, either-true, holds-not}
 use Rattle.layout.specs.Layout.{mark, headerSize, mostRows, mostLines, linesBase, lineBase, headerOf}
 use Rattle.layout.specs.declared.Header.{Header}
 use Rattle.layout.specs.Row.{rowOf, kindOf, kind-cases}
@@ -38,11 +38,6 @@ pub record ColumnFacts (e before : ℕ) (c : Columns) : Type 0 where
   pub lines-before : c .before ≡ before
   pub lines-within : before + c .lines ≤ e
 
--- one of two tests holds
-either : (a b : Bool) → (a || b) ≡ true → (a ≡ true) ⊎ (b ≡ true)
-either true b e = inl refl
-either false b e = inr e
-
 module _ (e before : ℕ) (c : Columns) (g : columnsGood e before c ≡ true) where
   pub column-facts : ColumnFacts e before c
   unfolding columnsGood countsGood placesGood
@@ -66,15 +61,15 @@ module _ (e before : ℕ) (c : Columns) (g : columnsGood e before c ≡ true) wh
         range = leb-true (c .range) 1 (and-right (leb (c .point) 1) (leb (c .range) 1) (n2 .1));
         plain =
             ⊎-elim (λ x. inl (eqb-true (c .decimals) 0 x)) (λ x. inr (eqb-true (c .point) 1 x))
-            (either (eqb (c .decimals) 0) (eqb (c .point) 1) (n4 .1));
+            (either-true (eqb (c .decimals) 0) (eqb (c .point) 1) (n4 .1));
         given =
             ⊎-elim (λ x. inl (leb-true 4 (c .kind) x))
-            (λ x. inr (⊎-elim (λ y. inl (eqb-true (c .range) 1 y)) (λ y. inr (leb-true 1 (c .lines) y)) (either (eqb (c .range) 1) (leb 1 (c .lines)) x)))
-            (either (leb 4 (c .kind)) (eqb (c .range) 1 || leb 1 (c .lines)) (n5 .1));
+            (λ x. inr (⊎-elim (λ y. inl (eqb-true (c .range) 1 y)) (λ y. inr (leb-true 1 (c .lines) y)) (either-true (eqb (c .range) 1) (leb 1 (c .lines)) x)))
+            (either-true (leb 4 (c .kind)) (eqb (c .range) 1 || leb 1 (c .lines)) (n5 .1));
         lacked =
             ⊎-elim (λ x. inl (leb-true (c .kind) 3 x))
             (λ x. inr (eqb-true (c .range) 0 (and-left (eqb (c .range) 0) (eqb (c .lines) 0) x), eqb-true (c .lines) 0 (and-right (eqb (c .range) 0) (eqb (c .lines) 0) x)))
-            (either (leb (c .kind) 3) (eqb (c .range) 0 && eqb (c .lines) 0)
+            (either-true (leb (c .kind) 3) (eqb (c .range) 0 && eqb (c .lines) 0)
             (and-right
             ((eqb (c .kind) 3 || eqb (c .decimals) 0 && eqb (c .point) 0) && (eqb (c .kind) 2 || eqb (c .subfields) 0 && eqb (c .subwidth) 0))
             (leb (c .kind) 3 || eqb (c .range) 0 && eqb (c .lines) 0)
@@ -94,7 +89,7 @@ beq-false false true e f = sym e
 beq-false false false e f = refl
 
 module _ (e before : ℕ) (c : Columns) (f : ColumnFacts e before c) where
-  few-decimals : FewDecimals (kindOf c)
+  pub few-decimals : FewDecimals (kindOf c)
   unfolding decimalsOf
   few-decimals =
       kind-cases c FewDecimals (λ k. record { few = omega arith }) (λ k s. record { few = omega arith })
@@ -133,6 +128,13 @@ head-few h e =
       leb-true (h .rows) mostRows (and-right (eqb (h .mark) mark && leb 1 (h .rows)) (leb (h .rows) mostRows) a),
       leb-true (h .lines) mostLines (and-right (eqb (h .mark) mark && leb 1 (h .rows) && leb (h .rows) mostRows) (leb (h .lines) mostLines) e),
     )
+
+pub head-some : (h : Header) → headCounts h ≡ true → 1 ≤ h .rows
+head-some h e =
+    leb-true 1 (h .rows)
+    (and-right (eqb (h .mark) mark) (leb 1 (h .rows))
+    (and-left (eqb (h .mark) mark && leb 1 (h .rows)) (leb (h .rows) mostRows)
+    (and-left (eqb (h .mark) mark && leb 1 (h .rows) && leb (h .rows) mostRows) (leb (h .lines) mostLines) e)))
 
 pub head-standing : (t : List ℤ) (h : Header) → headCounts h ≡ true → headSums h (length t) ≡ true → Standing t (h .rows) 0 (h .lines)
 head-standing t h e f =

@@ -1,3 +1,4 @@
 pub mod Sound
 pub mod Block
 pub mod Given
+pub mod Rows

@@ -168,12 +168,12 @@ linesAt t i = columnsOf t i .lines
 abbrev pub finishAt : List ℤ → ℕ → ℕ
 finishAt t i = columnsOf t i .finish
 
--- the lines before row i, the highest finish of v rows
+-- the lines before row i, the highestFinish finish of v rows
 abbrev pub linesBefore : List ℤ → ℕ → ℕ
 linesBefore t i = sumBelow i (linesAt t)
 
-abbrev pub highest : List ℤ → ℕ → ℕ
-highest t v = maxBelow v (finishAt t)
+abbrev pub highestFinish : List ℤ → ℕ → ℕ
+highestFinish t v = maxBelow v (finishAt t)
 
 abbrev pub goodAt : List ℤ → ℕ → ℕ → ℕ → Bool
 goodAt t v e i = rowGood t v e (linesBefore t i) (columnsOf t i)
@@ -199,12 +199,12 @@ abbrev pub headSums : Header → ℕ → Bool
 headSums h n =
     eqb (h .«rows_at») headerSize && eqb (h .«lines_at») (linesBase (h .rows)) && leb (lineBase (h .rows) (h .lines)) n
 
--- every row good, the lines added up, L the highest finish
+-- every row good, the lines added up, L the highestFinish finish
 unfoldable pub rowsGood : List ℤ → Header → Bool
 rowsGood t h =
     allBelow (h .rows) (goodAt t (h .rows) (h .lines))
     and eqb (linesBefore t (h .rows)) (h .lines)
-    and eqb (highest t (h .rows)) (h .length)
+    and eqb (highestFinish t (h .rows)) (h .length)
 
 -- THE TEST behind refusal 20
 unfoldable pub wellFormed : List ℤ → Bool

@@ -1,5 +1,5 @@
 -- `sound::rows_good` meets its contract. The invariant: the rows are good as far as they were looked at, their lines added up to sum,
--- the highest finish is high.
+-- the highestFinish finish is high.
 use mathlib.Core.Path.{_≡_, sym, ap, _∙_}
 use mathlib.Core.Bool.{true, _&&_}
 use Prim.Native.Nat.{_+_, _≤_, _<_, _-_, max}
@@ -8,14 +8,14 @@ use borrow.Author.Needs.{needs}
 use borrow.Author.Tests.{not-true, not-false}
 use Rattle.below.specs.Below.{_and_, and-no, and-yes, allBelow, all-none, all-more, all-fails, sum-none, sum-more, max-none, max-more}
 use Rattle.layout.specs.Layout.{columnsAt}
-use Rattle.sound.specs.Sound.{columnsOf, linesAt, finishAt, linesBefore, highest, goodAt, rowGood, rowsGood}
+use Rattle.sound.specs.Sound.{columnsOf, linesAt, finishAt, linesBefore, highestFinish, goodAt, rowGood, rowsGood}
 use Rattle.sound.specs.Given.{row-within}
 use Rattle.sound.proofs.rows_good.Statement.{statement}
 use Rattle.sound.proofs.rows_good.Tie as tie
 
 abbrev Inv-loop : tie.InvT-loop
 Inv-loop t powers h v e i₀ sum₀ high₀ i sum high =
-    (i ≤ v) × (sum ≤ e) × (sum ≡ linesBefore t i) × (high ≡ highest t i) × (allBelow i (goodAt t v e) ≡ true)
+    (i ≤ v) × (sum ≤ e) × (sum ≡ linesBefore t i) × (high ≡ highestFinish t i) × (allBelow i (goodAt t v e) ≡ true)
 
 abbrev μ-loop : tie.MeasureT-loop
 μ-loop t powers h v e i₀ sum₀ high₀ i sum high = v - i
