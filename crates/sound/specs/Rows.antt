@@ -12,9 +12,9 @@ use lib.IntN.{ℤ, pos}
 use lib.ListN.{length}
 use lib.Signed.{leZ}
 use Rattle.below.specs.Below.{_and_, and-both, and-left, and-right, either-true, holds-not, all-at, any-some, sum-rises, sum-more, maxBelow, max-at, max-least}
-use Rattle.cells.specs.Cell.{eqZ, same-true}
+use Rattle.cells.specs.Cell.{cell, eqZ, same-true}
 use Rattle.cells.specs.Order.{le-join}
-use Rattle.layout.specs.Layout.{mostRows, mostLines, lineBase, headerOf}
+use Rattle.layout.specs.Layout.{mostRows, mostLines, lineSize, lineBase, headerOf}
 use Rattle.layout.specs.Row.{rowOf, rowAt, kindOf, kind-cases}
 use Rattle.layout.specs.declared.Columns.{Columns}
 use Rattle.layout.specs.declared.Row.{Row}
@@ -108,12 +108,15 @@ module _ (t : List ℤ) (v : ℕ) (r : Row) (u : FitAs t v r (r .kind)) where
         below = and-right (leZ (r .from) z) _ b;
       }
 
+  line-value : (j : ℕ) → lineValue t v r j ≡ valueAt t v (r .before) j
+  line-value j = let p : lineBase v (r .before + j) ≡ lineBase v (r .before) + lineSize * j = omega arith in ap (cell t) p
+
   -- what holds between the range's ends and at each line's value holds of each legal number
   pub legal-cases : {A : Type 0} (z : ℤ) → legal t v r z ≡ true → (Between z → A) → ((j : ℕ) → j < r .lines → valueAt t v (r .before) j ≡ z → A) → A
   unfolding legal onLine
   legal-cases z e f g =
       ⊎-elim (λ p. f (between z p))
-      (λ p. any-some (λ k. eqZ (lineValue t v r k) z) (r .lines) p (λ j l q. g j l (same-true (lineValue t v r j) z q)))
+      (λ p. any-some (λ k. eqZ (lineValue t v r k) z) (r .lines) p (λ j l q. g j l (sym (line-value j) ∙ same-true (lineValue t v r j) z q)))
       (either-true (inRange r z) _ e)
 
   lower : (z : ℤ) → fitsKind (r .kind) z ≡ true → leZ (lowest (r .kind)) z ≡ true

@@ -97,6 +97,7 @@ module _ (f : ℕ → ℤ) where
     where
       each : (k j : ℕ) → j < k + 1 → (j ≡ k) ⊎ (j < k)
       each k j h = let g : j ≤ k = omega arith in eq-or-lt-of-le g
+
       go : (j : ℕ) (b : Bool) → eqb (markOf (f j)) place ≡ b → (j ≡ k) ⊎ (j < k) → getD (set marks place 1) (markOf (f j)) 0 ≡ 1
       go j true q c = rw (eqb-true (markOf (f j)) place q) (getD-set-same marks place 1 0 h)
       go j false q c =
