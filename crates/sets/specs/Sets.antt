@@ -2,7 +2,7 @@
 use mathlib.Core.Path.{_≡_}
 use mathlib.Core.Bool.{Bool, true, false, cond}
 use mathlib.Core.List.{List, _++_}
-use Prim.Native.Nat.{ℕ}
+use Prim.Native.Nat.{ℕ, _+_, _≤_}
 use lib.Dec.{leb}
 use lib.IntN.{ℤ}
 use lib.ListN.{length, drop}
@@ -45,3 +45,8 @@ pub record ReadSet (f : Field) (list list′ : List ℤ) (r : SetRead) : Type 0 
 unfoldable pub isIllegal : Field → Bool
 isIllegal (holds v) = false
 isIllegal illegal = true
+
+-- w bytes from a place on lie in a record of so many
+pub record BitsRoom (at w len : ℕ) : Type 0 where
+  pub few : w ≤ 9999
+  pub inside : at + w ≤ len
