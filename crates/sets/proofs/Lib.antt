@@ -1,3 +1,4 @@
 pub mod MarkLaws
 pub mod BitLaws
 pub mod FillLaws
+pub mod SpreadLaws

@@ -2,7 +2,7 @@
 use mathlib.Core.Path.{_≡_}
 use mathlib.Core.Bool.{Bool, true, false, cond}
 use mathlib.Core.List.{List, _++_}
-use Prim.Native.Nat.{ℕ, _+_, _≤_}
+use Prim.Native.Nat.{ℕ, _+_, _*_, _≤_}
 use lib.Dec.{leb}
 use lib.IntN.{ℤ}
 use lib.ListN.{length, drop}
@@ -50,3 +50,9 @@ isIllegal illegal = true
 pub record BitsRoom (at w len : ℕ) : Type 0 where
   pub few : w ≤ 9999
   pub inside : at + w ≤ len
+
+-- n subfields of b bytes, each of which holds w, lie in a record from a place on
+pub record SpreadRoom (at b w n len : ℕ) : Type 0 where
+  pub few : w ≤ 4
+  pub holds : w ≤ b
+  pub inside : at + n * b ≤ len

@@ -15,7 +15,15 @@ use super::marks::allows;
 use layout::Row;
 
 // Whether the bytes of the categories are all spaces.
-pub fn bits_blank(t: &[i64], rows: usize, row: Row, marks: &[u8], bytes: &[u8], at: usize, w: usize) -> bool
+pub fn bits_blank(
+    t: &[i64],
+    rows: usize,
+    row: Row,
+    marks: &[u8],
+    bytes: &[u8],
+    at: usize,
+    w: usize,
+) -> bool
     requires { ⌜ LineFacts (now t) rows row ⌝ }
     requires { ⌜ Marks (λ x. legal (now t) rows row x) (now marks) ⌝ }
     requires { ⌜ BitsRoom at w (length (now bytes)) ⌝ }
@@ -35,7 +43,15 @@ pub fn bits_blank(t: &[i64], rows: usize, row: Row, marks: &[u8], bytes: &[u8], 
 }
 
 // How many categories are set, or that a byte is neither `0` nor `1`.
-pub fn bits_counted(t: &[i64], rows: usize, row: Row, marks: &[u8], bytes: &[u8], at: usize, w: usize) -> Counted
+pub fn bits_counted(
+    t: &[i64],
+    rows: usize,
+    row: Row,
+    marks: &[u8],
+    bytes: &[u8],
+    at: usize,
+    w: usize,
+) -> Counted
     requires { ⌜ LineFacts (now t) rows row ⌝ }
     requires { ⌜ Marks (λ x. legal (now t) rows row x) (now marks) ⌝ }
     requires { ⌜ BitsRoom at w (length (now bytes)) ⌝ }
@@ -61,7 +77,16 @@ pub fn bits_counted(t: &[i64], rows: usize, row: Row, marks: &[u8], bytes: &[u8]
 }
 
 // The categories that are set, rising, at the start of the list, which has room for them.
-pub fn bits_fill(t: &[i64], rows: usize, row: Row, marks: &[u8], bytes: &[u8], at: usize, w: usize, list: &mut [i64])
+pub fn bits_fill(
+    t: &[i64],
+    rows: usize,
+    row: Row,
+    marks: &[u8],
+    bytes: &[u8],
+    at: usize,
+    w: usize,
+    list: &mut [i64],
+)
     requires { ⌜ LineFacts (now t) rows row ⌝ }
     requires { ⌜ Marks (λ x. legal (now t) rows row x) (now marks) ⌝ }
     requires { ⌜ BitsRoom at w (length (now bytes)) ⌝ }
