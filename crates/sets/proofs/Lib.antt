@@ -2,3 +2,4 @@ pub mod MarkLaws
 pub mod BitLaws
 pub mod FillLaws
 pub mod SpreadLaws
+pub mod SetLaws
