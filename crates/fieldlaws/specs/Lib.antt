@@ -1,3 +1,5 @@
 pub mod Tests
 pub mod PlaceLaws
 pub mod NumberLaws
+pub mod RisingLaws
+pub mod BitLaws
