@@ -3,3 +3,4 @@ pub mod PlaceLaws
 pub mod NumberLaws
 pub mod RisingLaws
 pub mod BitLaws
+pub mod SpreadLaws

@@ -1,7 +1,11 @@
 -- Tests joined, and what holds of both branches.
 use mathlib.Core.Path.{_≡_, refl}
 use mathlib.Core.Bool.{Bool, true, false, cond, _&&_, _||_}
+use Prim.Native.Nat.{ℕ}
+use borrow.Author.Tests.{ne-eqb}
+use lib.IntN.{pos}
 use Rattle.below.specs.Below.{holds-not}
+use Rattle.cells.specs.Cell.{eqZ}
 
 -- what holds of both holds of the one that is taken
 pub either : {A : Type 0} (P : A → Type 0) (b : Bool) (x y : A) → P x → P y → P (cond b x y)
@@ -23,3 +27,7 @@ both-true false b e f = e
 pub or-right : (a : Bool) → (a || true) ≡ true
 or-right true = refl
 or-right false = refl
+
+pub counts-differ : (a b : ℕ) → (a ≡ b → ⊥) → eqZ (pos a) (pos b) ≡ false
+unfolding eqZ
+counts-differ a b h = ne-eqb a b h
