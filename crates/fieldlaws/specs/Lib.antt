@@ -4,3 +4,4 @@ pub mod NumberLaws
 pub mod RisingLaws
 pub mod BitLaws
 pub mod SpreadLaws
+pub mod TextLaws
