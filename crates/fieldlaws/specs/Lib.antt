@@ -5,3 +5,4 @@ pub mod RisingLaws
 pub mod BitLaws
 pub mod SpreadLaws
 pub mod TextLaws
+pub mod BackLaws
