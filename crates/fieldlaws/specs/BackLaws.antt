@@ -225,10 +225,10 @@ module _ (t : List ℤ) (v : ℕ) (r : Row) where
   length-by k l (truth b) e = length-truth-by k b e
 
 -- ---- WHAT A FIELD HOLDS FITS
-illegal-holds : {A : Type 0} {x : Value} → illegal ≡ holds x → A
+pub illegal-holds : {A : Type 0} {x : Value} → illegal ≡ holds x → A
 illegal-holds e = let z : _≡_ {A = ℕ} 0 1 = cc in absurd (omega arith)
 
-held : {y x : Value} → holds y ≡ holds x → y ≡ x
+pub held : {y x : Value} → holds y ≡ holds x → y ≡ x
 held e = cc
 
 module _ (t : List ℤ) (v : ℕ) (r : Row) (x : Value) where

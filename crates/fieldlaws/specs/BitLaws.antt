@@ -71,7 +71,7 @@ module _ (ok : ℤ → Bool) (ms : List ℤ) (legal : allLegal ok ms ≡ true) w
 
 -- ---- what is read may be written
 module _ (ok : ℤ → Bool) where
-  set-rising : (c n : ℕ) (s : List ℕ) → Rising c n (setBits (defined ok c n) s)
+  pub set-rising : (c n : ℕ) (s : List ℕ) → Rising c n (setBits (defined ok c n) s)
   unfolding defined setBits
   set-rising c zero s = none
   set-rising c (suc n) s = go (ok (pos c)) s (set-rising (suc c) n)

@@ -6,3 +6,5 @@ pub mod BitLaws
 pub mod SpreadLaws
 pub mod TextLaws
 pub mod BackLaws
+pub mod KeptLaws
+pub mod Corrections

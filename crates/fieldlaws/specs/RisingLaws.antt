@@ -127,7 +127,7 @@ passing-legal f ok c (suc n) e = go (f (pos c)) refl (passing-legal f ok (suc c)
     go false q l = l
 
 -- a set is the numbers that are its members
-not-below : (x : ℕ) {c n : ℕ} {ms : List ℤ} → Rising c n ms → x < c → isMember ms (pos x) ≡ false
+pub not-below : (x : ℕ) {c n : ℕ} {ms : List ℤ} → Rising c n ms → x < c → isMember ms (pos x) ≡ false
 unfolding isMember eqZ
 not-below x none h = refl
 not-below x (skip s) h = not-below x s (omega arith)

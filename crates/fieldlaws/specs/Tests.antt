@@ -28,6 +28,10 @@ pub or-right : (a : Bool) → (a || true) ≡ true
 or-right true = refl
 or-right false = refl
 
+pub or-left : (a : Bool) → (a || false) ≡ true → a ≡ true
+or-left true e = refl
+or-left false e = e
+
 pub counts-differ : (a b : ℕ) → (a ≡ b → ⊥) → eqZ (pos a) (pos b) ≡ false
 unfolding eqZ
 counts-differ a b h = ne-eqb a b h
