@@ -161,6 +161,12 @@ whole-some : (f : Format) (n : ℕ) → 1 ≤ wholeDigits f n
 unfolding wholeDigits
 whole-some f n = digits-some (n / 10 ^ f .decimals)
 
+-- as many bytes as the width, where the point, the decimals and the minus have room
+pub quantity-length : (f : Format) (w : ℕ) (z : ℤ) → tailOf f + minusOf z ≤ w → length (quantityBytes f w z) ≡ w
+unfolding quantityBytes signedOf
+quantity-length f w (pos n) h = length-amount f w n (omega arith)
+quantity-length f w (negsuc n) h = rw (length-amount f (w - 1) (suc n) (omega arith)) (omega arith)
+
 module _ (f : Format) (w : ℕ) (plain : f .point ≡ 0 → f .decimals ≡ 0) where
   pub quantity-back : (z : ℤ) → sizeOf z < 10 ^ 16 → quantityWidth f z ≤ w → quantityOf f (quantityBytes f w z) ≡ says z
   unfolding quantityOf quantityAfter unspaced quantityBytes quantityWidth signedOf numberOf
@@ -172,9 +178,8 @@ module _ (f : Format) (w : ℕ) (plain : f .point ≡ 0 → f .decimals ≡ 0) w
       (whole-few f (suc n) (w - 1 - tailOf f) few (omega arith))
 
   pub length-quantity : (z : ℤ) → quantityWidth f z ≤ w → length (quantityBytes f w z) ≡ w
-  unfolding quantityBytes quantityWidth signedOf
-  length-quantity (pos n) h = length-amount f w n (omega arith)
-  length-quantity (negsuc n) h = rw (length-amount f (w - 1) (suc n) (omega (arith, whole-some f (suc n)))) (omega (arith, whole-some f (suc n)))
+  unfolding quantityWidth
+  length-quantity z h = quantity-length f w z (omega arith)
 
 -- ---- a code of at most w digits
 pub code-read : (w : ℕ) (z : ℤ) → 1 ≤ w → 0 < sizeOf z → sizeOf z < 10 ^ 16 → signedOf z .minus ≡ false → digitsOf (sizeOf z) ≤ w → codeOf (codeBytes w z) ≡ says z
