@@ -48,7 +48,7 @@ text-kept w s e = rw (← e) (text-split s .1)
 -- a bitstring's bytes
 module _ (ok : ℤ → Bool) where
   -- a member below every category does not matter
-  other-member : (m c n : ℕ) (ms : List ℤ) → m < c → bitBytes (pos m ∷ ms) (defined ok c n) ≡ bitBytes ms (defined ok c n)
+  pub other-member : (m c n : ℕ) (ms : List ℤ) → m < c → bitBytes (pos m ∷ ms) (defined ok c n) ≡ bitBytes ms (defined ok c n)
   unfolding defined bitBytes isMember
   other-member m c zero ms h = refl
   other-member m c (suc n) ms h = go (ok (pos c)) (other-member m (suc c) n ms (omega arith))

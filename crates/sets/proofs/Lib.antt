@@ -1,0 +1,3 @@
+pub mod MarkLaws
+pub mod BitLaws
+pub mod FillLaws

@@ -1,0 +1,52 @@
+-- Reading a set: what was found, the number of members, and the list that they fill.
+use mathlib.Core.Path.{_≡_}
+use mathlib.Core.Bool.{Bool, true, false, cond}
+use mathlib.Core.List.{List, _++_}
+use Prim.Native.Nat.{ℕ, _+_, _≤_}
+use lib.Dec.{leb}
+use lib.IntN.{ℤ}
+use lib.ListN.{length, drop}
+use Rattle.fields.specs.Field.{Value, missing, number, members, text, truth, Field, holds, illegal, allBits, setBits}
+use Rattle.sets.specs.declared.SetRead.{SetRead}
+use Rattle.sets.specs.declared.SetRead.the-variants.{Missing, Count, Illegal, Short}
+use Rattle.sets.specs.declared.Counted.{Counted}
+use Rattle.sets.specs.declared.Counted.the-variants as counted
+
+-- "a set fills the start of a lent list; the rest is kept"
+unfoldable pub filledOf : List ℤ → List ℤ → List ℤ
+filledOf ms list = ms ++ drop (length ms) list
+
+-- how many categories are set, where every byte is `0` or `1`
+unfoldable pub bitsCounted : List ℕ → List ℕ → Counted
+bitsCounted cs s = cond (allBits s) (counted.Members (length (setBits cs s))) counted.Wrong
+
+-- a set's answer, and the list after it: a set longer than the list is refused and keeps it
+unfoldable pub setAnswer : Field → List ℤ → SetRead
+setAnswer (holds (members ms)) list = cond (leb (length ms) (length list)) (Count (length ms)) Short
+setAnswer (holds missing) list = Missing
+setAnswer (holds (number z)) list = Illegal
+setAnswer (holds (text s)) list = Illegal
+setAnswer (holds (truth b)) list = Illegal
+setAnswer illegal list = Illegal
+
+unfoldable pub listAfter : Field → List ℤ → List ℤ
+listAfter (holds (members ms)) list = cond (leb (length ms) (length list)) (filledOf ms list) list
+listAfter (holds missing) list = list
+listAfter (holds (number z)) list = list
+listAfter (holds (text s)) list = list
+listAfter (holds (truth b)) list = list
+listAfter illegal list = list
+
+pub record ReadSet (f : Field) (list list′ : List ℤ) (r : SetRead) : Type 0 where
+  pub answer : r ≡ setAnswer f list
+  pub leaves : list′ ≡ listAfter f list
+
+-- whether a field is illegal
+unfoldable pub isIllegal : Field → Bool
+isIllegal (holds v) = false
+isIllegal illegal = true
+
+-- w bytes from a place on lie in a record of so many
+pub record BitsRoom (at w len : ℕ) : Type 0 where
+  pub few : w ≤ 9999
+  pub inside : at + w ≤ len
