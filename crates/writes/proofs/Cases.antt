@@ -1,0 +1,90 @@
+-- The four outcomes of a write to a row.
+use mathlib.Core.Path.{_≡_, refl}
+use mathlib.Core.Bool.{Bool, true, false}
+use mathlib.Core.List.{List}
+use Prim.Native.Nat.{ℕ, _+_, _^_, _≤_, _<_}
+use native.Mathlib.Omega.{arith}
+use borrow.Author.Tests.{leb-true}
+use lib.IntN.{ℤ, pos, negsuc}
+use lib.Signed.{leZ}
+use Rattle.below.specs.Below.{holds-not}
+use Rattle.cells.specs.Cell.{signedOf}
+use Rattle.widths.specs.Width.{sizeOf, lowest, highest, need, quantityWidth}
+use Rattle.fields.specs.Legal.{legal}
+use Rattle.layout.specs.declared.Kind.the-variants.{Single, Quantity}
+use Rattle.layout.specs.declared.Format.{Format}
+use Rattle.digits.specs.Room.{Wide}
+use lib.ListN.{length}
+use Rattle.places.specs.Places.{put, run}
+use Rattle.places.specs.Laws.{length-run}
+use Rattle.layout.specs.declared.Kind.{Kind}
+use Rattle.layout.specs.declared.Row.{Row}
+use Rattle.fields.specs.Field.{spaces}
+use Rattle.fields.specs.Row.{fits, otherType, notLegal, tooMany, legalFit, fitsBy, bytesBy, placesBy}
+use Rattle.writes.specs.declared.Wrote.the-variants.{Done, OtherType, NotLegal, TooMany}
+use Rattle.writes.specs.declared.Value.{Value}
+use Rattle.writes.specs.declared.Value.the-variants.{Missing}
+use Rattle.writes.specs.Write.{valueOf, WrittenBy, Ready, answerBy, leftBy}
+
+module _ {k : Kind} {t : List ℤ} {v : ℕ} {r : Row} {value value′ : Value} {list : List ℤ} {text : List ℕ} {old : List ℕ} (given : value ≡ value′) where
+  pub accepted : {new : List ℕ} → fitsBy k t v r (valueOf value′ list text) ≡ fits → new ≡ put old (placesBy k t v r) (bytesBy k t v r (valueOf value′ list text))
+      → WrittenBy k t v r value list text old new Done
+  unfolding answerBy leftBy
+  accepted e q = record { says = rw (given, e); leaves = rw (given, e, q) }
+
+  pub other : fitsBy k t v r (valueOf value′ list text) ≡ otherType → WrittenBy k t v r value list text old old OtherType
+  unfolding answerBy leftBy
+  other e = record { says = rw (given, e); leaves = rw (given, e) }
+
+  pub illegal : fitsBy k t v r (valueOf value′ list text) ≡ notLegal → WrittenBy k t v r value list text old old NotLegal
+  unfolding answerBy leftBy
+  illegal e = record { says = rw (given, e); leaves = rw (given, e) }
+
+  pub many : fitsBy k t v r (valueOf value′ list text) ≡ tooMany → WrittenBy k t v r value list text old old TooMany
+  unfolding answerBy leftBy
+  many e = record { says = rw (given, e); leaves = rw (given, e) }
+
+-- a missing value fits every kind, and gives spaces
+pub blanked : {k : Kind} {t : List ℤ} {v : ℕ} {r : Row} {value : Value} {list : List ℤ} {text : List ℕ} {old new : List ℕ} → value ≡ Missing
+    → new ≡ put old (placesBy k t v r) (spaces (length (placesBy k t v r))) → WrittenBy k t v r value list text old new Done
+unfolding valueOf fitsBy bytesBy
+blanked given q = accepted given refl q
+
+-- in one run of places
+pub blanked-run : {k : Kind} {t : List ℤ} {v : ℕ} {r : Row} {value : Value} {list : List ℤ} {text : List ℕ} {old new : List ℕ} → value ≡ Missing
+    → (at w : ℕ) → placesBy k t v r ≡ run at w → new ≡ put old (run at w) (spaces w) → WrittenBy k t v r value list text old new Done
+blanked-run given at w e q = blanked given (rw (e, length-run at w) q)
+
+-- a number from 1 to 9,999
+pub code-size : (z : ℤ) → leZ (pos 1) z ≡ true → leZ z (pos 9999) ≡ true → sizeOf z < 10 ^ 16
+unfolding signedOf
+code-size (pos n) a b = omega (arith, leb-true n 9999 b)
+code-size (negsuc n) a b = holds-not a refl
+
+pub legal-fits : {b : Bool} → b ≡ true → legalFit b ≡ fits
+unfolding legalFit
+legal-fits e = rw e
+
+pub legal-not : {b : Bool} → b ≡ false → legalFit b ≡ notLegal
+unfolding legalFit
+legal-not e = rw e
+
+-- a legal code has few digits
+pub code-few : {t : List ℤ} {v n : ℕ} {r : Row} → Ready Single t v n r → (z : ℤ) → legal t v r z ≡ true → sizeOf z < 10 ^ 16
+unfolding lowest highest
+code-few h z e = code-size z (h .least z e) (h .most z e)
+
+-- a legal quantity has room in the row's width
+quantity-few : (z : ℤ) → leZ (negsuc 999999999999998) z ≡ true → leZ z (pos 999999999999999) ≡ true → sizeOf z < 10 ^ 16
+unfolding signedOf
+quantity-few (pos n) a b = omega (arith, leb-true n 999999999999999 b)
+quantity-few (negsuc n) a b = omega (arith, leb-true n 999999999999998 a)
+
+pub quantity-wide : {t : List ℤ} {v n : ℕ} {r : Row} {f : Format} → Ready (Quantity f) t v n r → (z : ℤ) → legal t v r z ≡ true → Wide f (r .width) z
+unfolding lowest highest need quantityWidth
+quantity-wide h z e = record {
+  few = quantity-few z (h .least z e) (h .most z e);
+  decimals = h .kind .decimals;
+  tail = omega (arith, h .room z e);
+  inside = omega (arith, h .kind .width .few);
+}
