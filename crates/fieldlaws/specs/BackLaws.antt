@@ -109,12 +109,12 @@ missing-back Logical t v r n = rw (spaces-blank n)
 
 module _ (t : List ℤ) (v : ℕ) (r : Row) where
   -- ---- the sets of a row with limits
-  bits-members : Limits (Multiple Bits) t v r → (ms : List ℤ) → setFits (legal t v r) ms ≡ true → Rising 1 (r .width) ms
+  pub bits-members : Limits (Multiple Bits) t v r → (ms : List ℤ) → setFits (legal t v r) ms ≡ true → Rising 1 (r .width) ms
   unfolding lowest highest need
   bits-members l ms e =
       rising-of (legal t v r) (r .width) (λ z q. top-bits (r .width) (counted z (l .least z q) (l .most z q)) (l .room z q)) (l .least) ms e
 
-  spread-members : (n b : ℕ) → Limits (Multiple (Fields n b)) t v r → (ms : List ℤ) → setFits (legal t v r) ms ≡ true → Rising 1 (10 ^ r .width - 1) ms
+  pub spread-members : (n b : ℕ) → Limits (Multiple (Fields n b)) t v r → (ms : List ℤ) → setFits (legal t v r) ms ≡ true → Rising 1 (10 ^ r .width - 1) ms
   unfolding lowest highest need
   spread-members n b l ms e =
       rising-of (legal t v r) (10 ^ r .width - 1) (λ z q. top-digits (r .width) (counted z (l .least z q) (l .most z q)) (l .room z q)) (l .least) ms e
