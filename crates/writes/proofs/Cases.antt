@@ -132,3 +132,11 @@ set-many e f = rw (e, f)
 
 pub set-fits : {a b : Bool} → a ≡ true → b ≡ false → cond a (cond b tooMany fits) notLegal ≡ fits
 set-fits e f = rw (e, f)
+
+-- ---- the kind of a row, once it is known
+pub ready-as : {k k′ : Kind} {t : List ℤ} {v n : ℕ} {r : Row} → k ≡ k′ → Ready k t v n r → Ready k′ t v n r
+ready-as e h = rw e at h
+
+pub written-as : {k k′ : Kind} {t : List ℤ} {v : ℕ} {r : Row} {value : Value} {list : List ℤ} {text : List ℕ} {old new : List ℕ} {a : Wrote}
+    → k ≡ k′ → WrittenBy k′ t v r value list text old new a → WrittenBy k t v r value list text old new a
+written-as e w = rw e w

@@ -3,6 +3,7 @@ use mathlib.Core.Path.{_≡_}
 use mathlib.Core.Bool.{true}
 use mathlib.Core.List.{List}
 use Prim.Native.Nat.{ℕ, _≤_}
+use native.Mathlib.Omega.{arith}
 use lib.IntN.{ℤ}
 use lib.Signed.{leZ}
 use Rattle.places.specs.Places.{put}
@@ -56,3 +57,17 @@ pub record Ready (k : Kind) (t : List ℤ) (v n : ℕ) (r : Row) : Type 0 where
   pub least : (z : ℤ) → legal t v r z ≡ true → leZ (lowest k) z ≡ true
   pub most : (z : ℤ) → legal t v r z ≡ true → leZ z (highest k) ≡ true
   pub room : (z : ℤ) → legal t v r z ≡ true → need k z ≤ r .width
+
+-- a row of a well-formed table is ready, in a record of the least length or more
+pub ready : {t : List ℤ} {v len : ℕ} {r : Row} (n : ℕ) → RowFacts t v len r → len ≤ n → Ready (r .kind) t v n r
+ready n f h = record {
+  lines = f .lines;
+  from-one = f .position .from-one;
+  ordered = f .position .ordered;
+  inside = omega (arith, f .position .inside);
+  low = omega (arith, f .position .inside, f .position .low);
+  kind = f .kind;
+  least = f .least;
+  most = f .most;
+  room = f .fits;
+}
