@@ -1,12 +1,14 @@
 -- A test at every number below n, at some number below n, the first n of a row of numbers added up, and the largest of them:
 -- what a loop over 0..n computes.
 use mathlib.Core.Path.{_≡_, refl, sym, ap, _∙_}
-use mathlib.Core.Logic.{⊎-elim}
+use mathlib.Core.Logic.{_⊎_, inl, inr, ⊎-elim}
 use mathlib.Core.Bool.{Bool, true, false, cond, not, _&&_, _||_, and-false}
 use Prim.Native.Nat.{ℕ, zero, suc, _+_, _≤_, _<_, max}
 use native.Mathlib.Nat.{not-suc-le-zero, eq-or-lt-of-le, le-of-suc-le-suc}
 use native.Mathlib.Numerals.{add-one}
 use native.Mathlib.Omega.{arith}
+use borrow.Author.Tests.{ltb-true, ltb-false}
+use lib.Dec.{ltb}
 
 unfoldable pub allBelow : ℕ → (ℕ → Bool) → Bool
 allBelow zero f = true
@@ -38,6 +40,46 @@ and-both {a = false} e = (e, cc)
 pub both-and : {a b : Bool} → a ≡ true → b ≡ true → a and b ≡ true
 unfolding _and_
 both-and e f = rw (e, f)
+
+pub and-no : (a b : Bool) → a ≡ false → a and b ≡ false
+unfolding _and_
+and-no a b e = rw e
+
+pub and-nor : (a b : Bool) → b ≡ false → a and b ≡ false
+unfolding _and_
+and-nor true b e = e
+and-nor false b e = refl
+
+pub and-yes : (a b : Bool) → a ≡ true → a and b ≡ b
+unfolding _and_
+and-yes a b e = rw e
+
+-- the same of `&&` itself, where its parts are written out
+pub and-true : (a b : Bool) → a ≡ true → b ≡ true → (a && b) ≡ true
+and-true a b e g = rw (e, g)
+
+pub and-left : (a b : Bool) → (a && b) ≡ true → a ≡ true
+and-left true b e = refl
+and-left false b e = e
+
+pub and-right : (a b : Bool) → (a && b) ≡ true → b ≡ true
+and-right true b e = e
+and-right false b e = let z : _≡_ {A = ℕ} 0 1 = cc in absurd (omega arith)
+
+pub or-true : (b : Bool) → (b || true) ≡ true
+or-true true = refl
+or-true false = refl
+
+pub either-true : (a b : Bool) → (a || b) ≡ true → (a ≡ true) ⊎ (b ≡ true)
+either-true true b e = inl refl
+either-true false b e = inr e
+
+pub lt-or-le : (a b : ℕ) → (a < b) ⊎ (b ≤ a)
+lt-or-le a b = go (ltb a b) refl
+  where
+    go : (t : Bool) → ltb a b ≡ t → (a < b) ⊎ (b ≤ a)
+    go true e = inl (ltb-true a b e)
+    go false e = inr (ltb-false a b e)
 
 -- two tests that hold together are one test
 pub same-bool : (x y : Bool) → (x ≡ true → y ≡ true) → (y ≡ true → x ≡ true) → x ≡ y
@@ -89,6 +131,10 @@ module _ (f : ℕ → Bool) where
   all-of zero g = refl
   all-of (suc n) g = rw (all-of n (λ k h. g k (omega arith)), g n (omega arith))
 
+  -- true to n: true to any k that is not above
+  pub all-down : (n k : ℕ) → k ≤ n → allBelow n f ≡ true → allBelow k f ≡ true
+  all-down n k h e = all-of k (λ j l. all-at n j (omega arith) e)
+
   pub any-none : anyBelow 0 f ≡ false
   unfolding anyBelow
   any-none = refl
@@ -106,10 +152,12 @@ module _ (f : ℕ → Bool) where
       (λ q. let e′ : f n ≡ true = ap f (sym q) ∙ e in rw e′ (or-true (anyBelow n f)))
       (λ l. rw (any-holds n k l e))
       (eq-or-lt-of-le (le-of-suc-le-suc h))
-    where
-      or-true : (b : Bool) → b || true ≡ true
-      or-true true = refl
-      or-true false = refl
+
+  -- it holds somewhere below n: what follows wherever it may be, follows
+  pub any-some : {A : Type 0} (n : ℕ) → anyBelow n f ≡ true → ((k : ℕ) → k < n → f k ≡ true → A) → A
+  unfolding anyBelow
+  any-some zero e g = holds-not e refl
+  any-some (suc n) e g = ⊎-elim (λ p. any-some n p (λ k h. g k (omega arith))) (λ p. g n (omega arith) p) (either-true (anyBelow n f) (f n) e)
 
   -- it holds nowhere below n
   pub any-fails : (n : ℕ) → ((k : ℕ) → k < n → f k ≡ false) → anyBelow n f ≡ false

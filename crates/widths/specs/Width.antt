@@ -2,15 +2,16 @@
 -- width w of a row is the largest of these over its range ends and values.
 use mathlib.Core.Path.{_≡_, refl, sym, ap, _∙_}
 use mathlib.Core.Bool.{Bool, true, false, cond, _&&_}
-use Prim.Native.Nat.{ℕ, suc, _+_, _/_, _^_, _≤_, _<_, max}
-use native.Mathlib.Nat.{one-le-pow, le-div-iff-mul-le, div-mul-le-self, div-le-self, le-trans, lt-of-le-of-lt}
+use Prim.Native.Nat.{ℕ, suc, _+_, _-_, _*_, _/_, _^_, _≤_, _<_, max}
+use native.Mathlib.Nat.{one-le-pow, le-div-iff-mul-le, div-mul-le-self, div-le-self, le-trans, lt-of-le-of-lt, div-lt-iff-lt-mul}
 use native.Mathlib.Omega.{arith}
 use borrow.Author.Tests.{leb-true}
 use lib.Dec.{eqb}
 use lib.IntN.{ℤ, pos, negsuc}
 use lib.Signed.{leZ}
-use Rattle.ascii.specs.Tens.{digitsOf, digits-rise}
-use Rattle.below.specs.Below.{holds-not}
+use Rattle.ascii.specs.Tens.{digitsOf, digits-rise, digits-least, digits-some}
+use Rattle.below.specs.Below.{and-left, and-right, holds-not}
+use lib.Pow.{pow-add}
 use Rattle.cells.specs.Cell.{signedOf}
 use Rattle.cells.specs.declared.Signed.{Signed}
 use Rattle.layout.specs.declared.Format.{Format}
@@ -127,3 +128,96 @@ module _ (k : Kind) where
   need-between a (pos n) (negsuc m) h g p q = holds-not g refl
   need-between (pos m) (negsuc n) b h g p q = holds-not h refl
   need-between (negsuc m) (negsuc n) b h g p q = omega (arith, rises-down k n m (leb-true n m h) p)
+
+-- ---- a number within the limits of its kind has at most 15 digits
+up-small : (k : Kind) (n : ℕ) → leZ (pos n) (highest k) ≡ true → n ≤ 999999999999999
+unfolding highest
+up-small Single n e = omega (arith, leb-true n 9999 e)
+up-small (Multiple s) n e = omega (arith, leb-true n 9999 e)
+up-small (Quantity f) n e = leb-true n 999999999999999 e
+up-small Character n e = omega (arith, leb-true n 9999 e)
+up-small Logical n e = omega (arith, leb-true n 9999 e)
+
+down-small : (k : Kind) (n : ℕ) → leZ (lowest k) (negsuc n) ≡ true → suc n ≤ 999999999999999
+unfolding lowest
+down-small Single n e = holds-not e refl
+down-small (Multiple s) n e = holds-not e refl
+down-small (Quantity f) n e = omega (arith, leb-true n 999999999999998 e)
+down-small Character n e = holds-not e refl
+down-small Logical n e = holds-not e refl
+
+pub size-small : (k : Kind) (z : ℤ) → leZ (lowest k) z ≡ true → leZ z (highest k) ≡ true → sizeOf z ≤ 999999999999999
+unfolding signedOf
+size-small k (pos n) e g = up-small k n g
+size-small k (negsuc n) e g = down-small k n e
+
+-- ---- how wide a number of each kind may be: four digits of a category; 9,999; a minus, 15 digits and a point
+unfoldable pub mostWidth : Kind → ℕ
+mostWidth Single = 4
+mostWidth (Multiple Bits) = 9999
+mostWidth (Multiple (Fields n w)) = 4
+mostWidth (Quantity f) = 17
+mostWidth Character = 0
+mostWidth Logical = 0
+
+category-few : (z : ℤ) → leZ (pos 1) z ≡ true → leZ z (pos 9999) ≡ true → (1 ≤ sizeOf z) × (sizeOf z ≤ 9999)
+unfolding signedOf
+category-few (pos n) e g = (leb-true 1 n e, leb-true n 9999 g)
+category-few (negsuc n) e g = holds-not e refl
+
+digits-four : (z : ℤ) → leZ (pos 1) z ≡ true → leZ z (pos 9999) ≡ true → digitsOf (sizeOf z) ≤ 4
+digits-four z e g = digits-least (sizeOf z) 4 (omega arith) (omega (arith, category-few z e g .1))
+
+-- 15 digits of which so many are decimals
+whole-few : (f : Format) (n : ℕ) → f .decimals ≤ 9 → n ≤ 999999999999999 → wholeDigits f n + f .decimals ≤ 15
+unfolding wholeDigits
+whole-few f n d h =
+    let k = f .decimals in
+    let q : 15 - k + k ≡ 15 = omega arith in
+    let e : 10 ^ (15 - k) * 10 ^ k ≡ 10 ^ 15 = sym (pow-add 10 (15 - k) k) ∙ ap (λ (m : ℕ). 10 ^ m) q in
+    let l : n < 10 ^ (15 - k) * 10 ^ k = rw e (omega arith) in
+    omega (arith, digits-least (n / 10 ^ k) (15 - k) (omega arith) (div-lt-iff-lt-mul (ten-some k) .1 l))
+
+tail-upto : (f : Format) → tailOf f ≤ f .decimals + 1
+unfolding tailOf
+tail-upto f = go (eqb (f .point) 0)
+  where
+    go : (b : Bool) → cond b 0 (f .decimals + 1) ≤ f .decimals + 1
+    go true = omega arith
+    go false = omega arith
+
+minus-few : (b : Bool) → cond b 1 0 ≤ 1
+minus-few true = omega arith
+minus-few false = omega arith
+
+pub need-most : (k : Kind) (z : ℤ) → decimalsOf k ≤ 9 → fitsKind k z ≡ true → need k z ≤ mostWidth k
+unfolding need mostWidth decimalsOf quantityWidth lowest highest
+need-most Single z d e = digits-four z (and-left _ (leZ z (pos 9999)) e) (and-right (leZ (pos 1) z) _ e)
+need-most (Multiple Bits) z d e = category-few z (and-left _ (leZ z (pos 9999)) e) (and-right (leZ (pos 1) z) _ e) .1
+need-most (Multiple (Fields n w)) z d e = digits-four z (and-left _ (leZ z (pos 9999)) e) (and-right (leZ (pos 1) z) _ e)
+need-most (Quantity f) z d e =
+    omega (
+      arith,
+      whole-few f (sizeOf z) d (size-small (Quantity f) z (and-left _ (leZ z (pos 999999999999999)) e) (and-right (leZ (negsuc 999999999999998) z) _ e)),
+      tail-upto f,
+      minus-few (signedOf z .minus),
+    )
+need-most Character z d e = omega arith
+need-most Logical z d e = omega arith
+
+-- every kind that has values takes a byte at least
+abbrev pub Valued : Kind → Type 0
+Valued Single = Unit
+Valued (Multiple s) = Unit
+Valued (Quantity f) = Unit
+Valued Character = ⊥
+Valued Logical = ⊥
+
+pub need-some : (k : Kind) (z : ℤ) → Valued k → fitsKind k z ≡ true → 1 ≤ need k z
+unfolding need quantityWidth wholeDigits lowest highest
+need-some Single z v e = digits-some (sizeOf z)
+need-some (Multiple Bits) z v e = category-few z (and-left _ (leZ z (pos 9999)) e) (and-right (leZ (pos 1) z) _ e) .0
+need-some (Multiple (Fields n w)) z v e = digits-some (sizeOf z)
+need-some (Quantity f) z v e = omega (arith, digits-some (sizeOf z / 10 ^ f .decimals))
+need-some Character z v e = absurd v
+need-some Logical z v e = absurd v

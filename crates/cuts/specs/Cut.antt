@@ -1,0 +1,128 @@
+-- "Data files": "A terminator is CR LF, LF CR, CR or LF; the first one met (a pair if both bytes adjoin) holds for the file". 13 is CR,
+-- 10 is LF.
+use mathlib.Core.Path.{_≡_, refl, sym, ap, _∙_}
+use mathlib.Core.Bool.{Bool, true, false, cond, _&&_}
+use mathlib.Core.List.{List, [], _∷_, _++_}
+use Prim.Native.Nat.{ℕ, suc, _+_, _≤_, _<_}
+use native.Mathlib.Numerals.{add-one}
+use native.Mathlib.Omega.{arith}
+use borrow.Author.Tests.{eq-eqb, ne-eqb}
+use lib.Seq.{drop-cons}
+use lib.Dec.{eqb}
+use lib.ListN.{length, drop, getD, drop-of-length-le}
+use Rattle.cuts.specs.declared.Terminator.{Terminator}
+use Rattle.cuts.specs.declared.Next.{Next}
+use Rattle.cuts.specs.declared.Next.the-variants.{Ended, Unended, Nothing}
+
+abbrev pub single : ℕ → ℕ → Terminator
+single a b = record { first = a; second = b; size = 1 }
+
+abbrev pub pair : ℕ → ℕ → Terminator
+pair a b = record { first = a; second = b; size = 2 }
+
+abbrev pub none : Terminator
+none = record { first = 0; second = 0; size = 0 }
+
+-- s begins with the byte b
+unfoldable pub beginsWith : ℕ → List ℕ → Bool
+beginsWith b [] = false
+beginsWith b (c ∷ s) = eqb c b
+
+-- the terminator that begins with a, before s: a pair if b adjoins
+unfoldable pub terminatorAt : ℕ → ℕ → List ℕ → Terminator
+terminatorAt a b s = cond (beginsWith b s) (pair a b) (single a b)
+
+-- the first terminator met
+unfoldable pub terminatorOf : List ℕ → Terminator
+terminatorOf [] = none
+terminatorOf (b ∷ s) = cond (eqb b 13) (terminatorAt 13 10 s) (cond (eqb b 10) (terminatorAt 10 13 s) (terminatorOf s))
+
+-- the rest s of the data, after a terminator's first byte, goes on with the rest of it
+unfoldable pub wholeAt : Terminator → List ℕ → Bool
+wholeAt w s = cond (eqb (w .size) 2) (beginsWith (w .second) s) (eqb (w .size) 1)
+
+-- s begins with the whole terminator
+unfoldable pub beginsAt : Terminator → List ℕ → Bool
+beginsAt w [] = false
+beginsAt w (c ∷ s) = eqb c (w .first) && wholeAt w s
+
+-- the record that starts at `start`, read on at the place i, where s is left: it ends before the first whole terminator
+unfoldable pub endFrom : Terminator → ℕ → ℕ → List ℕ → Next
+endFrom w start i [] = Unended start i
+endFrom w start i (c ∷ s) = cond (beginsAt w (c ∷ s)) (Ended start i (i + w .size)) (endFrom w start (i + 1) s)
+
+-- the next record from a place on, where s is left; at the end there is none
+unfoldable pub nextFrom : Terminator → ℕ → List ℕ → Next
+nextFrom w from [] = Nothing
+nextFrom w from (c ∷ s) = endFrom w from from (c ∷ s)
+
+unfoldable pub nextOf : List ℕ → ℕ → Next
+nextOf d from = nextFrom (terminatorOf d) from (drop from d)
+
+-- the file's terminator, of two bytes at most
+pub record Found (d : List ℕ) (w : Terminator) : Type 0 where
+  pub is : w ≡ terminatorOf d
+  pub few : w .size ≤ 2
+
+-- ---- laws, place by place
+module _ (d : List ℕ) (i : ℕ) where
+  pub begins-here : (b : ℕ) → i < length d → beginsWith b (drop i d) ≡ eqb (getD d i 0) b
+  unfolding beginsWith
+  begins-here b h = rw (drop-cons d i 0 h)
+
+  pub begins-past : (b : ℕ) → length d ≤ i → beginsWith b (drop i d) ≡ false
+  unfolding beginsWith
+  begins-past b h = rw (drop-of-length-le d h)
+
+  pub found-cr : i < length d → getD d i 0 ≡ 13 → terminatorOf (drop i d) ≡ terminatorAt 13 10 (drop (i + 1) d)
+  unfolding terminatorOf
+  found-cr h e = rw (drop-cons d i 0 h, eq-eqb (getD d i 0) 13 e, add-one i)
+
+  pub found-lf : i < length d → (getD d i 0 ≡ 13 → ⊥) → getD d i 0 ≡ 10 → terminatorOf (drop i d) ≡ terminatorAt 10 13 (drop (i + 1) d)
+  unfolding terminatorOf
+  found-lf h n e = rw (drop-cons d i 0 h, ne-eqb (getD d i 0) 13 n, eq-eqb (getD d i 0) 10 e, add-one i)
+
+  pub found-on : i < length d → (getD d i 0 ≡ 13 → ⊥) → (getD d i 0 ≡ 10 → ⊥) → terminatorOf (drop i d) ≡ terminatorOf (drop (i + 1) d)
+  unfolding terminatorOf
+  found-on h n m = rw (drop-cons d i 0 h, ne-eqb (getD d i 0) 13 n, ne-eqb (getD d i 0) 10 m, add-one i)
+
+  pub found-none : length d ≤ i → terminatorOf (drop i d) ≡ none
+  unfolding terminatorOf
+  found-none h = rw (drop-of-length-le d h)
+
+  module _ (w : Terminator) where
+    pub stands-not : i < length d → (getD d i 0 ≡ w .first → ⊥) → beginsAt w (drop i d) ≡ false
+    unfolding beginsAt
+    stands-not h n = rw (drop-cons d i 0 h, ne-eqb (getD d i 0) (w .first) n)
+
+    pub stands-whole : i < length d → getD d i 0 ≡ w .first → beginsAt w (drop i d) ≡ wholeAt w (drop (i + 1) d)
+    unfolding beginsAt
+    stands-whole h e = rw (drop-cons d i 0 h, eq-eqb (getD d i 0) (w .first) e, add-one i)
+
+    pub end-here : (start : ℕ) → i < length d → beginsAt w (drop i d) ≡ true → endFrom w start i (drop i d) ≡ Ended start i (i + w .size)
+    unfolding endFrom
+    end-here start h e = let e′ = rw (drop-cons d i 0 h) at e in rw (drop-cons d i 0 h, e′)
+
+    pub end-on : (start : ℕ) → i < length d → beginsAt w (drop i d) ≡ false → endFrom w start i (drop i d) ≡ endFrom w start (i + 1) (drop (i + 1) d)
+    unfolding endFrom
+    end-on start h e = let e′ = rw (drop-cons d i 0 h) at e in rw (drop-cons d i 0 h, e′, add-one i)
+
+    pub end-none : (start : ℕ) → length d ≤ i → endFrom w start i (drop i d) ≡ Unended start i
+    unfolding endFrom
+    end-none start h = rw (drop-of-length-le d h)
+
+    pub next-some : i < length d → nextFrom w i (drop i d) ≡ endFrom w i i (drop i d)
+    unfolding nextFrom
+    next-some h = rw (drop-cons d i 0 h)
+
+    pub next-none : length d ≤ i → nextFrom w i (drop i d) ≡ Nothing
+    unfolding nextFrom
+    next-none h = rw (drop-of-length-le d h)
+
+pub at-few : (a b : ℕ) (s : List ℕ) → terminatorAt a b s .size ≤ 2
+unfolding terminatorAt
+at-few a b s = go (beginsWith b s)
+  where
+    go : (q : Bool) → cond q (pair a b) (single a b) .size ≤ 2
+    go true = omega arith
+    go false = omega arith

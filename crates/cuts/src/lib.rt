@@ -1,0 +1,125 @@
+// A data file cut into records: its terminator, and the next record from a place on. Above it stands the judge of a file.
+ghost use mathlib.Core.Path.{_≡_};
+ghost use Prim.Native.Nat.{_+_, _≤_, _<_};
+ghost use lib.ListN.{length, drop};
+ghost use Rattle.cuts.specs.Cut.{terminatorAt, terminatorOf, wholeAt, beginsAt, nextOf, nextFrom, Found};
+
+// A file's terminator: one byte or two, and how many; none where the file has no CR and no LF.
+pub struct Terminator {
+    pub first: u8,
+    pub second: u8,
+    pub size: usize,
+}
+
+// The next record: where it starts and ends, and where the one after it starts; a record with no terminator; or none.
+pub enum Next {
+    Ended {
+        start: usize,
+        end: usize,
+        next: usize,
+    },
+    Unended {
+        start: usize,
+        end: usize,
+    },
+    Nothing,
+}
+
+// The terminator that starts with the CR or LF at i: a pair if the other adjoins it.
+fn terminator_at(d: &[u8], i: usize, first: u8, second: u8) -> Terminator
+    requires { ⌜ i < length (now d) ⌝ }
+    ensures { λ r. ⌜ r ≡ terminatorAt first second (drop (i + 1) (now (d .entry))) ⌝ }
+{
+    let j = i + 1;
+    if j < d.len() {
+        if d[j] == second {
+            return Terminator {
+                first,
+                second,
+                size: 2,
+            };
+        }
+    }
+    Terminator {
+        first,
+        second,
+        size: 1,
+    }
+}
+
+// The file's terminator: the first one met.
+pub fn find_terminator(d: &[u8]) -> Terminator
+    ensures { λ r. ⌜ Found (now (d .entry)) r ⌝ }
+{
+    let mut i: usize = 0;
+    while i < d.len() {
+        let b = d[i];
+        if b == 13 {
+            return terminator_at(d, i, 13, 10);
+        }
+        if b == 10 {
+            return terminator_at(d, i, 10, 13);
+        }
+        i += 1;
+    }
+    Terminator {
+        first: 0,
+        second: 0,
+        size: 0,
+    }
+}
+
+// Does the terminator, whose first byte stands at i, stand there whole?
+fn whole_at(d: &[u8], w: Terminator, i: usize) -> bool
+    requires { ⌜ i < length (now d) ⌝ }
+    ensures { λ r. ⌜ r ≡ wholeAt w (drop (i + 1) (now (d .entry))) ⌝ }
+{
+    if w.size != 2 {
+        return w.size == 1;
+    }
+    let j = i + 1;
+    if j < d.len() { d[j] == w.second } else { false }
+}
+
+// Does the whole terminator stand at i?
+fn begins_at(d: &[u8], w: Terminator, i: usize) -> bool
+    requires { ⌜ i < length (now d) ⌝ }
+    ensures { λ r. ⌜ r ≡ beginsAt w (drop i (now (d .entry))) ⌝ }
+{
+    if d[i] != w.first {
+        return false;
+    }
+    whole_at(d, w, i)
+}
+
+// The next record from a place on, by a terminator that was found before.
+pub fn next_from(d: &[u8], w: Terminator, from: usize) -> Next
+    requires { ⌜ w .size ≤ 2 ⌝ }
+    ensures { λ r. ⌜ r ≡ nextFrom w from (drop from (now (d .entry))) ⌝ }
+{
+    if d.len() <= from {
+        return Next::Nothing;
+    }
+    let mut i = from;
+    while i < d.len() {
+        if begins_at(d, w, i) {
+            return Next::Ended {
+                start: from,
+                end: i,
+                next: i + w.size,
+            };
+        }
+        i += 1;
+    }
+    Next::Unended {
+        start: from,
+        end: i,
+    }
+}
+
+// The next record from a place on. The terminator is found from the start of the data, whatever the place.
+pub fn next_record(d: &[u8], from: usize) -> Next
+    ensures { λ r. ⌜ r ≡ nextOf (now (d .entry)) from ⌝ }
+{
+    next_from(d, find_terminator(d), from)
+}

@@ -1,0 +1,14 @@
+use Rattle.sound.specs.Block.{above}
+use mir.Facts.{toZ-ofZ}
+use borrow.Author.Needs.{needs, sfits-of}
+use Rattle.sound.proofs.above_last.Statement.{statement}
+use Rattle.sound.proofs.above_last.Tie as tie
+
+returns : tie.Need-returns
+unfolding above
+returns c =
+    rw (c .not-above .ensures, toZ-ofZ (sfits-of (c .before .before .value .ok)), c .before .before .value .ensures, toZ-ofZ (sfits-of (c .before .value2 .ok)), c .before .value2 .ensures)
+
+pub above-last-spec : {M : Type 1} → statement M
+above-last-spec =
+    tie.close (tie.spec (λ c κs. search needs) (λ c. search needs) (λ c κs. search needs) (λ c κs. search needs) returns)

@@ -1,0 +1,71 @@
+-- `sound::rows_good` meets its contract. The invariant: the rows are good as far as they were looked at, their lines added up to sum,
+-- the highestFinish finish is high.
+use mathlib.Core.Path.{_≡_, sym, ap, _∙_}
+use mathlib.Core.Bool.{true, _&&_}
+use Prim.Native.Nat.{_+_, _≤_, _<_, _-_, max}
+use native.Mathlib.Omega.{arith}
+use borrow.Author.Needs.{needs}
+use borrow.Author.Tests.{not-true, not-false}
+use Rattle.below.specs.Below.{_and_, and-no, and-yes, allBelow, all-none, all-more, all-fails, sum-none, sum-more, max-none, max-more}
+use Rattle.layout.specs.Layout.{columnsAt}
+use Rattle.sound.specs.Sound.{columnsOf, linesAt, finishAt, linesBefore, highestFinish, goodAt, rowGood, rowsGood}
+use Rattle.sound.specs.Given.{row-within}
+use Rattle.sound.proofs.rows_good.Statement.{statement}
+use Rattle.sound.proofs.rows_good.Tie as tie
+
+abbrev Inv-loop : tie.InvT-loop
+Inv-loop t powers h v e i₀ sum₀ high₀ i sum high =
+    (i ≤ v) × (sum ≤ e) × (sum ≡ linesBefore t i) × (high ≡ highestFinish t i) × (allBelow i (goodAt t v e) ≡ true)
+
+abbrev μ-loop : tie.MeasureT-loop
+μ-loop t powers h v e i₀ sum₀ high₀ i sum high = v - i
+
+loop-holds : tie.Need-loop-holds Inv-loop μ-loop
+loop-holds c = (omega arith, omega arith, sym (sum-none (linesAt (c .args .t .now))), sym (max-none (finishAt (c .args .t .now))), all-none _)
+
+-- the columns read are those of row i, and what is answered is whether it is good
+columns-here : (c : tie.After-read Inv-loop μ-loop) → c .read .result ≡ columnsOf (c .before .before .before .before .args .t .now) (c .before .before .before .loop .i)
+columns-here c = c .read .ensures ∙ ap (columnsAt (c .before .before .before .before .args .t .now)) (c .before .base .ensures)
+
+good-here : (c : tie.After-whole-row-good Inv-loop μ-loop) → c .whole-row-good .result ≡ goodAt (c .before .before .before .before .before .args .t .now) (c .before .before .before .before .before .args .h .rows) (c .before .before .before .before .before .args .h .lines) (c .before .before .before .before .loop .i)
+good-here c = c .whole-row-good .ensures ∙ rw (columns-here (c .before), c .before .before .before .before .loop .inv .2)
+
+whole-row-good-requires : tie.Need-whole-row-good-requires Inv-loop μ-loop
+whole-row-good-requires c κs = (c .before .before .before .before .pre .0, (c .before .before .before .before .pre .1, c .before .before .before .loop .inv .1))
+
+returns : tie.Need-returns Inv-loop μ-loop
+unfolding rowsGood
+returns c =
+    sym (and-no _ _ (and-no _ _ (all-fails _ _ (c .before .before .before .before .before .loop .i) (omega arith) (sym (good-here (c .before)) ∙ not-true _ (c .if1 .taken)))))
+
+-- the lines of a good row keep within the table's
+within-here : (c : tie.Else1 Inv-loop μ-loop) → c .before .before .before .before .before .loop .sum + c .before .before .read .result .lines ≤ c .before .before .before .before .before .before .args .h .lines
+within-here c =
+    row-within (c .before .before .before .before .before .before .args .t .now) (c .before .before .before .before .before .before .args .h .rows) (c .before .before .before .before .before .before .args .h .lines) (c .before .before .before .before .before .loop .sum) (c .before .before .read .result)
+    (sym (c .before .whole-row-good .ensures) ∙ not-false _ (c .if1 .left))
+
+add-sum : tie.Need-add-sum Inv-loop μ-loop
+add-sum c = omega (arith, within-here (c .before), c .before .before .before .before .before .before .before .pre .1 .few-lines)
+
+loop-again : tie.Need-loop-again Inv-loop μ-loop
+loop-again c =
+    let t = c .before .before .before .before .before .before .before .before .args .t .now in
+    let i = c .before .before .before .before .before .before .before .loop .i in (
+      omega arith,
+      within-here (c .before .before),
+      rw (c .before .before .before .before .before .before .before .loop .inv .2, columns-here (c .before .before .before .before)) (sym (sum-more (linesAt t) i)),
+      c .larger .ensures ∙ rw (c .before .before .before .before .before .before .before .loop .inv .3, columns-here (c .before .before .before .before)) (sym (max-more (finishAt t) i)),
+      all-more _ _ (c .before .before .before .before .before .before .before .loop .inv .4) (sym (good-here (c .before .before .before)) ∙ not-false _ (c .before .before .if1 .left)),
+    )
+
+returns-2 : tie.Need-returns-2 Inv-loop μ-loop
+unfolding rowsGood _and_
+returns-2 c =
+    let l = c .before .before .loop in
+    let h = c .before .before .before .args .h in
+    let e : l .i ≡ h .rows = omega arith in
+    rw (l .inv .2, l .inv .3, e, rw e at (l .inv .4))
+
+pub rows-good-spec : {M : Type 1} → statement M
+rows-good-spec =
+    tie.close (tie.spec Inv-loop μ-loop loop-holds (λ c κs. search needs) (λ c κs. search needs) whole-row-good-requires returns add-sum (λ c κs. search needs) (λ c. omega arith) (λ c. omega arith) loop-again returns-2)

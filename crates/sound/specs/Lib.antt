@@ -1,0 +1,4 @@
+pub mod Sound
+pub mod Block
+pub mod Given
+pub mod Rows

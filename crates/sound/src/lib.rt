@@ -1,0 +1,538 @@
+// The test behind refusal 20: is a table well formed? It asks nothing of the table. Above it stand all calls on records and files,
+// which test the table by it and then use what it gives.
+ghost use mathlib.Core.Path.{_≡_};
+ghost use Prim.Native.Nat.{_+_, _*_, _≤_, _<_, max};
+ghost use lib.Dec.{leb};
+ghost use lib.ListN.{length};
+ghost use lib.Signed.{leZ};
+ghost use mathlib.Core.Bool.{cond, true};
+ghost use Rattle.ascii.specs.Tens.{Tens};
+ghost use Rattle.below.specs.Below.{_and_};
+ghost use Rattle.widths.specs.Width.{need, fitsKind, FewDecimals};
+ghost use Rattle.sound.specs.Sound.{headCounts, headSums, typeKnown, decimalsFew, flagsPlain, lackedZero, rangeLacked, pointGiven, valuesGiven, identGood, positionGood, subfieldsGood, textsGood, countsGood, placesGood, linePlain, linesPlain, valueAt, valueNew, valuesDiffer, rangeGood, rangeWidth, widthGood, roomGood, valuesGood, widthsGood, columnsGood, rowGood, rowsGood, identAt, identNew, identsDiffer, wellFormed};
+ghost use Rattle.sound.specs.Block.{Standing, above, valuesRise, hullWith, Hulled, Blocked, hullFits, hullWidth, Placed, Ready, linedGood, identsRise};
+use layout::Columns;
+use layout::Header;
+use layout::Kind;
+use layout::Line;
+use layout::Row;
+use layout::Spread;
+
+// The least and the most of some numbers.
+pub struct Hull {
+    pub least: i64,
+    pub most: i64,
+}
+
+fn head_counts(h: Header) -> bool
+    ensures { λ b. ⌜ b ≡ headCounts h ⌝ }
+{
+    (h.mark == Header::MARK)
+        & (1 <= h.rows)
+        & (h.rows <= Header::MOST_ROWS)
+        & (h.lines <= Header::MOST_LINES)
+}
+
+fn head_sums(h: Header, length: usize) -> bool
+    requires { ⌜ (h .rows ≤ 512) × (h .lines ≤ 4096) ⌝ }
+    ensures { λ b. ⌜ b ≡ headSums h length ⌝ }
+{
+    (h.rows_at == Header::SIZE)
+        & (h.lines_at == Row::base(h.rows))
+        & (Line::base(h.rows, h.lines) <= length)
+}
+
+fn lacked_zero(c: Columns) -> bool
+    ensures { λ b. ⌜ b ≡ lackedZero c ⌝ }
+{
+    ((c.kind == 3) | ((c.decimals == 0) & (c.point == 0)))
+        & ((c.kind == 2) | ((c.subfields == 0) & (c.subwidth == 0)))
+        & ((c.kind <= 3) | ((c.range == 0) & (c.lines == 0)))
+}
+
+fn counts_good(c: Columns) -> bool
+    ensures { λ b. ⌜ b ≡ countsGood c ⌝ }
+{
+    ((1 <= c.kind) & (c.kind <= 5))
+        & (c.decimals <= 9)
+        & ((c.point <= 1) & (c.range <= 1))
+        & lacked_zero(c)
+        & ((c.decimals == 0) | (c.point == 1))
+        & ((4 <= c.kind) | ((c.range == 1) | (1 <= c.lines)))
+}
+
+fn texts_good(c: Columns) -> bool
+    ensures { λ b. ⌜ b ≡ textsGood c ⌝ }
+{
+    (c.name <= 1_048_576)
+        & (c.name_len <= 1_048_576)
+        & (c.label <= 1_048_576)
+        & (c.label_len <= 1_048_576)
+}
+
+fn places_good(c: Columns) -> bool
+    ensures { λ b. ⌜ b ≡ placesGood c ⌝ }
+{
+    ((1 <= c.ident) & (c.ident <= 9_999))
+        & ((1 <= c.start) & (c.start <= c.finish) & (c.finish <= 16_384))
+        & ((c.subfields == 0) == (c.subwidth == 0))
+        & texts_good(c)
+}
+
+fn range_lacked(c: Columns) -> bool
+    ensures { λ b. ⌜ b ≡ rangeLacked c ⌝ }
+{
+    let from = c.from;
+    let to = c.to;
+    (c.range == 1) | (cells::same(from, 0) & cells::same(to, 0))
+}
+
+fn line_plain(l: Line) -> bool
+    ensures { λ b. ⌜ b ≡ linePlain l ⌝ }
+{
+    (l.special <= 1) & (l.text <= 1_048_576) & (l.text_len <= 1_048_576)
+}
+
+// Are the flags and texts of the n lines from b on good?
+fn lines_plain(t: &[i64], v: usize, b: usize, n: usize) -> bool
+    requires { ⌜ Standing (now t) v b n ⌝ }
+    ensures { λ r. ⌜ r ≡ linesPlain (now (t .entry)) v b n ⌝ }
+{
+    let mut k: usize = 0;
+    while k < n {
+        if !line_plain(Line::read(t, Line::base(v, b + k))) {
+            return false;
+        }
+        k += 1;
+    }
+    true
+}
+
+// The value of line k of the n lines from b on.
+fn value(t: &[i64], v: usize, b: usize, n: usize, k: usize) -> i64
+    requires { ⌜ Standing (now t) v b n × (k < n) ⌝ }
+    ensures { λ r. ⌜ r ≡ valueAt (now (t .entry)) v b k ⌝ }
+{
+    t[Line::base(v, b + k)]
+}
+
+// Is the value of line k above that of the line before it?
+fn above_last(t: &[i64], v: usize, b: usize, n: usize, k: usize) -> bool
+    requires { ⌜ Standing (now t) v b n × (k < n) × (1 ≤ k) ⌝ }
+    ensures { λ r. ⌜ r ≡ above (valueAt (now (t .entry)) v b) k ⌝ }
+{
+    !cells::not_above(value(t, v, b, n, k), value(t, v, b, n, k - 1))
+}
+
+// Does each value rise above the one before it? The usual case, in which no two are equal.
+fn values_rise(t: &[i64], v: usize, b: usize, n: usize) -> bool
+    requires { ⌜ Standing (now t) v b n ⌝ }
+    ensures { λ r. ⌜ r ≡ valuesRise (valueAt (now (t .entry)) v b) n ⌝ }
+{
+    let mut k: usize = 1;
+    while k < n {
+        if !above_last(t, v, b, n, k) {
+            return false;
+        }
+        k += 1;
+    }
+    true
+}
+
+// Does the value of line k differ from those of the lines before it?
+fn value_new(t: &[i64], v: usize, b: usize, n: usize, k: usize) -> bool
+    requires { ⌜ Standing (now t) v b n × (k < n) ⌝ }
+    ensures { λ r. ⌜ r ≡ valueNew (valueAt (now (t .entry)) v b) k ⌝ }
+{
+    let x = value(t, v, b, n, k);
+    let mut j: usize = 0;
+    while j < k {
+        if cells::same(x, value(t, v, b, n, j)) {
+            return false;
+        }
+        j += 1;
+    }
+    true
+}
+
+// Are the values pairwise different?
+fn values_differ(t: &[i64], v: usize, b: usize, n: usize) -> bool
+    requires { ⌜ Standing (now t) v b n ⌝ }
+    ensures { λ r. ⌜ r ≡ valuesDiffer (valueAt (now (t .entry)) v b) n ⌝ }
+{
+    let mut k: usize = 0;
+    while k < n {
+        if !value_new(t, v, b, n, k) {
+            return false;
+        }
+        k += 1;
+    }
+    true
+}
+
+// The hull with one number more.
+fn hull_with(h: Hull, z: i64) -> Hull
+    ensures { λ r. ⌜ r ≡ hullWith h z ⌝ }
+{
+    let least = h.least;
+    let most = h.most;
+    Hull {
+        least: lesser(least, z),
+        most: greater(z, most),
+    }
+}
+
+// The first number where it is at most the second, else the second.
+fn lesser(a: i64, b: i64) -> i64
+    ensures { λ r. ⌜ r ≡ cond (leZ a b) a b ⌝ }
+{
+    if a <= b { a } else { b }
+}
+
+// The second number where the first is at most it, else the first.
+fn greater(a: i64, b: i64) -> i64
+    ensures { λ r. ⌜ r ≡ cond (leZ a b) b a ⌝ }
+{
+    if a <= b { b } else { a }
+}
+
+// The least and the most of the values of n lines.
+fn hull_of(t: &[i64], v: usize, b: usize, n: usize) -> Hull
+    requires { ⌜ Standing (now t) v b n × (1 ≤ n) ⌝ }
+    ensures { λ r. ⌜ Hulled (valueAt (now (t .entry)) v b) n r ⌝ }
+{
+    let first = value(t, v, b, n, 0);
+    let mut h = Hull {
+        least: first,
+        most: first,
+    };
+    let mut k: usize = 1;
+    while k < n {
+        h = hull_with(h, value(t, v, b, n, k));
+        k += 1;
+    }
+    h
+}
+
+// What is known of a row's lines: whether their values differ, and the least and the most of them.
+pub struct Block {
+    pub differ: bool,
+    pub hull: Hull,
+}
+
+fn block_of(t: &[i64], v: usize, b: usize, n: usize) -> Block
+    requires { ⌜ Standing (now t) v b n × (1 ≤ n) ⌝ }
+    ensures { λ r. ⌜ Blocked (valueAt (now (t .entry)) v b) n r ⌝ }
+{
+    if values_rise(t, v, b, n) {
+        let hull = Hull {
+            least: value(t, v, b, n, 0),
+            most: value(t, v, b, n, n - 1),
+        };
+        return Block { differ: true, hull };
+    }
+    let differ = values_differ(t, v, b, n);
+    let hull = hull_of(t, v, b, n);
+    Block { differ, hull }
+}
+
+fn fits_kind(kind: Kind, z: i64) -> bool
+    ensures { λ r. ⌜ r ≡ fitsKind kind z ⌝ }
+{
+    (widths::lowest_of(kind) <= z) & (z <= widths::highest_of(kind))
+}
+
+// Do the least and the most, and so all numbers between them, lie within the limits of their kind?
+fn hull_fits(kind: Kind, h: Hull) -> bool
+    ensures { λ r. ⌜ r ≡ hullFits kind h ⌝ }
+{
+    let least = h.least;
+    let most = h.most;
+    (widths::lowest_of(kind) <= least) & (most <= widths::highest_of(kind))
+}
+
+fn larger(a: usize, b: usize) -> usize
+    ensures { λ r. ⌜ r ≡ max a b ⌝ }
+{
+    if a <= b { b } else { a }
+}
+
+// The bytes that the wider of two numbers takes.
+fn wider(powers: &[u64; 16], kind: Kind, a: i64, b: i64) -> usize
+    requires { ⌜ Tens (now powers) ⌝ }
+    requires { ⌜ FewDecimals kind ⌝ }
+    ensures { λ r. ⌜ r ≡ max (need kind a) (need kind b) ⌝ }
+{
+    larger(
+        widths::needed(powers, kind, a),
+        widths::needed(powers, kind, b),
+    )
+}
+
+fn range_good(r: Row) -> bool
+    ensures { λ b. ⌜ b ≡ rangeGood r ⌝ }
+{
+    let kind = r.kind;
+    let from = r.from;
+    let to = r.to;
+    !r.range | (cells::not_above(from, to) & (fits_kind(kind, from) & fits_kind(kind, to)))
+}
+
+// The bytes that the range's ends take.
+fn range_width(powers: &[u64; 16], r: Row) -> usize
+    requires { ⌜ Tens (now powers) ⌝ }
+    requires { ⌜ FewDecimals (r .kind) ⌝ }
+    ensures { λ w. ⌜ w ≡ rangeWidth r ⌝ }
+{
+    let kind = r.kind;
+    let from = r.from;
+    let to = r.to;
+    if r.range {
+        wider(powers, kind, from, to)
+    } else {
+        0
+    }
+}
+
+// Is w the width that a row's numbers give, m being the widest of them?
+fn width_good(kind: Kind, w: usize, m: usize) -> bool
+    ensures { λ b. ⌜ b ≡ widthGood kind w m ⌝ }
+{
+    match kind {
+        Kind::Single => w == m,
+        Kind::Multiple(_) => w == m,
+        Kind::Quantity(_) => w == m,
+        Kind::Character => (1 <= w) & (w <= 4_096),
+        Kind::Logical => w == 1,
+    }
+}
+
+// Do n subfields of b bytes fit a position?
+fn subfields_fit(n: usize, b: usize, start: usize, finish: usize) -> bool
+    requires { ⌜ (1 ≤ n) × (1 ≤ b) ⌝ }
+    requires { ⌜ (1 ≤ start) × (start ≤ 16384) × (finish ≤ 16384) ⌝ }
+    ensures { λ r. ⌜ r ≡ leb (start + n * b) (finish + 1) ⌝ }
+{
+    if 16_384 < n {
+        return false;
+    }
+    if 16_384 < b {
+        return false;
+    }
+    start + n * b <= finish + 1
+}
+
+// Does the position hold the row's value?
+fn room_good(r: Row) -> bool
+    requires { ⌜ Placed r × (r .width ≤ 9999) ⌝ }
+    ensures { λ b. ⌜ b ≡ roomGood (r .kind) r ⌝ }
+{
+    let kind = r.kind;
+    let holds = r.start + r.width <= r.finish + 1;
+    match kind {
+        Kind::Multiple(s) => match s {
+            Spread::Fields { count, width } => {
+                (r.width <= width) & subfields_fit(count, width, r.start, r.finish)
+            }
+            Spread::Bits => holds,
+        },
+        Kind::Single => holds,
+        Kind::Quantity(_) => holds,
+        Kind::Character => holds,
+        Kind::Logical => holds,
+    }
+}
+
+// Is w as it should be, and does the position hold it?
+fn widths_good(r: Row, m: usize) -> bool
+    requires { ⌜ Placed r × (m ≤ 9999) ⌝ }
+    ensures { λ b. ⌜ b ≡ (widthGood (r .kind) (r .width) m and roomGood (r .kind) r) ⌝ }
+{
+    let kind = r.kind;
+    if !width_good(kind, r.width, m) {
+        return false;
+    }
+    room_good(r)
+}
+
+// The bytes that the widest number of a hull takes.
+fn hull_width(powers: &[u64; 16], kind: Kind, h: Hull) -> usize
+    requires { ⌜ Tens (now powers) ⌝ }
+    requires { ⌜ FewDecimals kind ⌝ }
+    ensures { λ r. ⌜ r ≡ hullWidth kind h ⌝ }
+{
+    let least = h.least;
+    let most = h.most;
+    wider(powers, kind, least, most)
+}
+
+// Are the numbers of a row that has lines good, and is its width theirs?
+fn lined_good(t: &[i64], powers: &[u64; 16], v: usize, r: Row) -> bool
+    requires { ⌜ Tens (now powers) ⌝ }
+    requires { ⌜ Ready (now t) v r ⌝ }
+    requires { ⌜ (1 ≤ r .lines) × (rangeGood r ≡ true) ⌝ }
+    ensures { λ g. ⌜ g ≡ linedGood (now (t .entry)) v r ⌝ }
+{
+    let kind = r.kind;
+    let b = r.before;
+    let n = r.lines;
+    if !lines_plain(t, v, b, n) {
+        return false;
+    }
+    let block = block_of(t, v, b, n);
+    let hull = block.hull;
+    if !hull_fits(kind, hull) {
+        return false;
+    }
+    if !block.differ {
+        return false;
+    }
+    widths_good(
+        r,
+        larger(range_width(powers, r), hull_width(powers, kind, hull)),
+    )
+}
+
+// Are the numbers of a row good, and is its width theirs?
+fn row_good(t: &[i64], powers: &[u64; 16], v: usize, r: Row) -> bool
+    requires { ⌜ Tens (now powers) ⌝ }
+    requires { ⌜ Ready (now t) v r ⌝ }
+    ensures { λ g. ⌜ g ≡ (valuesGood (now (t .entry)) v r and widthsGood (now (t .entry)) v r) ⌝ }
+{
+    if !range_good(r) {
+        return false;
+    }
+    if r.lines == 0 {
+        return widths_good(r, range_width(powers, r));
+    }
+    lined_good(t, powers, v, r)
+}
+
+// Are the columns of a row good by themselves, with `before` lines before its own, of the table's e?
+fn columns_good(e: usize, before: usize, c: Columns) -> bool
+    requires { ⌜ before ≤ e ⌝ }
+    ensures { λ r. ⌜ r ≡ columnsGood e before c ⌝ }
+{
+    counts_good(c)
+        & places_good(c)
+        & range_lacked(c)
+        & (c.before == before)
+        & (c.lines <= e - before)
+}
+
+// Is a row good, with `before` lines before its own?
+fn whole_row_good(
+    t: &[i64],
+    powers: &[u64; 16],
+    v: usize,
+    e: usize,
+    before: usize,
+    c: Columns,
+) -> bool
+    requires { ⌜ Tens (now powers) ⌝ }
+    requires { ⌜ Standing (now t) v 0 e × (before ≤ e) ⌝ }
+    ensures { λ r. ⌜ r ≡ rowGood (now (t .entry)) v e before c ⌝ }
+{
+    if !columns_good(e, before, c) {
+        return false;
+    }
+    row_good(t, powers, v, Row::of(c))
+}
+
+// Are all rows good, their lines counted up, and L the highest finish?
+fn rows_good(t: &[i64], powers: &[u64; 16], h: Header) -> bool
+    requires { ⌜ Tens (now powers) ⌝ }
+    requires { ⌜ Standing (now t) (h .rows) 0 (h .lines) ⌝ }
+    ensures { λ r. ⌜ r ≡ rowsGood (now (t .entry)) h ⌝ }
+{
+    let v = h.rows;
+    let e = h.lines;
+    let mut i: usize = 0;
+    let mut sum: usize = 0;
+    let mut high: usize = 0;
+    while i < v {
+        let c = Columns::read(t, Row::base(i));
+        if !whole_row_good(t, powers, v, e, sum, c) {
+            return false;
+        }
+        sum += c.lines;
+        high = larger(high, c.finish);
+        i += 1;
+    }
+    (sum == e) & (high == h.length)
+}
+
+// The ident of row i.
+fn ident(t: &[i64], v: usize, i: usize) -> usize
+    requires { ⌜ Standing (now t) v 0 0 × (i < v) ⌝ }
+    ensures { λ r. ⌜ r ≡ identAt (now (t .entry)) i ⌝ }
+{
+    cells::count_at(t, Row::base(i) + Row::IDENT)
+}
+
+// Does each ident rise above the one before it? The usual case, in which no two are equal.
+fn idents_rise(t: &[i64], v: usize) -> bool
+    requires { ⌜ Standing (now t) v 0 0 ⌝ }
+    ensures { λ r. ⌜ r ≡ identsRise (now (t .entry)) v ⌝ }
+{
+    let mut i: usize = 1;
+    while i < v {
+        if ident(t, v, i) <= ident(t, v, i - 1) {
+            return false;
+        }
+        i += 1;
+    }
+    true
+}
+
+// Is the ident of row i that of no earlier row?
+fn ident_new(t: &[i64], v: usize, i: usize) -> bool
+    requires { ⌜ Standing (now t) v 0 0 × (i < v) ⌝ }
+    ensures { λ r. ⌜ r ≡ identNew (now (t .entry)) i ⌝ }
+{
+    let x = ident(t, v, i);
+    let mut j: usize = 0;
+    while j < i {
+        if ident(t, v, j) == x {
+            return false;
+        }
+        j += 1;
+    }
+    true
+}
+
+// Are the idents pairwise different?
+fn idents_differ(t: &[i64], v: usize) -> bool
+    requires { ⌜ Standing (now t) v 0 0 ⌝ }
+    ensures { λ r. ⌜ r ≡ identsDiffer (now (t .entry)) v ⌝ }
+{
+    if idents_rise(t, v) {
+        return true;
+    }
+    let mut i: usize = 0;
+    while i < v {
+        if !ident_new(t, v, i) {
+            return false;
+        }
+        i += 1;
+    }
+    true
+}
+
+// Is the table well formed?
+pub fn well_formed(t: &[i64]) -> bool
+    ensures { λ r. ⌜ r ≡ wellFormed (now (t .entry)) ⌝ }
+{
+    let h = Header::read(t);
+    if !head_counts(h) {
+        return false;
+    }
+    if !head_sums(h, t.len()) {
+        return false;
+    }
+    let powers = ascii::powers();
+    if !rows_good(t, &powers, h) {
+        return false;
+    }
+    idents_differ(t, h.rows)
+}
