@@ -3,7 +3,9 @@
 ghost use mathlib.Core.Path.{_≡_};
 ghost use lib.ListN.{length};
 ghost use Rattle.ascii.specs.Tens.{Tens};
-ghost use Rattle.writes.specs.Write.{WrittenBy, Ready};
+ghost use Rattle.writes.specs.Write.{WrittenBy, Ready, valueOf};
+ghost use Rattle.writes.specs.Public.{Written};
+use layout::Header;
 use layout::Kind;
 use layout::Row;
 use layout::Spread;
@@ -71,4 +73,40 @@ pub fn write_row(
         Kind::Character => plain::write_character(t, rows, row, value, list, text, bytes),
         Kind::Logical => plain::write_logical(t, rows, row, value, list, text, bytes),
     }
+}
+
+// THE CALL that writes one row's value into a record. Refused by 20, 21, 22, 26, 27 or 28, the lowest that applies, it keeps the
+// record; else the row's value places hold the value's bytes, and every other byte is kept.
+pub fn write_value(
+    table: &[i64],
+    row: usize,
+    value: Value,
+    list: &[i64],
+    text: &[u8],
+    bytes: &mut [u8],
+) -> Wrote
+    ensures { λ r. ⌜ Written (now (table .entry)) row (valueOf value (now (list .entry)) (now (text .entry))) (now (bytes .entry)) (now (bytes .exit)) r ⌝ }
+{
+    if !sound::well_formed(table) {
+        return Wrote::NotWellFormed;
+    }
+    let h = Header::read(table);
+    let rows = h.rows;
+    if rows <= row {
+        return Wrote::NoRow;
+    }
+    if bytes.len() < h.length {
+        return Wrote::TooShort;
+    }
+    let powers = ascii::powers();
+    write_row(
+        &powers,
+        table,
+        rows,
+        Row::read(table, row),
+        value,
+        list,
+        text,
+        bytes,
+    )
 }
