@@ -90,6 +90,10 @@ module _ (t : List ℤ) (v : ℕ) (r : Row) where
         line-fits = λ j l. all-at (λ i. fitsKind (r .kind) (valueAt t v (r .before) i)) (r .lines) j l (b .1);
       }
 
+-- the value of a row's line is that of one of the lines from its first on
+pub line-value : (t : List ℤ) (v : ℕ) (r : Row) (j : ℕ) → lineValue t v r j ≡ valueAt t v (r .before) j
+line-value t v r j = let p : lineBase v (r .before + j) ≡ lineBase v (r .before) + lineSize * j = omega arith in ap (cell t) p
+
 -- ---- a legal number, by its range or its line
 module _ (t : List ℤ) (v : ℕ) (r : Row) (u : FitAs t v r (r .kind)) where
   -- in the range: between its ends
@@ -108,15 +112,12 @@ module _ (t : List ℤ) (v : ℕ) (r : Row) (u : FitAs t v r (r .kind)) where
         below = and-right (leZ (r .from) z) _ b;
       }
 
-  line-value : (j : ℕ) → lineValue t v r j ≡ valueAt t v (r .before) j
-  line-value j = let p : lineBase v (r .before + j) ≡ lineBase v (r .before) + lineSize * j = omega arith in ap (cell t) p
-
   -- what holds between the range's ends and at each line's value holds of each legal number
   pub legal-cases : {A : Type 0} (z : ℤ) → legal t v r z ≡ true → (Between z → A) → ((j : ℕ) → j < r .lines → valueAt t v (r .before) j ≡ z → A) → A
   unfolding legal onLine
   legal-cases z e f g =
       ⊎-elim (λ p. f (between z p))
-      (λ p. any-some (λ k. eqZ (lineValue t v r k) z) (r .lines) p (λ j l q. g j l (sym (line-value j) ∙ same-true (lineValue t v r j) z q)))
+      (λ p. any-some (λ k. eqZ (lineValue t v r k) z) (r .lines) p (λ j l q. g j l (sym (line-value t v r j) ∙ same-true (lineValue t v r j) z q)))
       (either-true (inRange r z) _ e)
 
   lower : (z : ℤ) → fitsKind (r .kind) z ≡ true → leZ (lowest (r .kind)) z ≡ true
