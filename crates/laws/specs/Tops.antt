@@ -21,8 +21,8 @@ use Rattle.fields.specs.Legal.{lineValue, inRange, onLine, legal}
 use Rattle.fields.specs.Facts.{RowFacts, KindFacts, WidthFacts}
 use Rattle.fieldlaws.specs.Tests.{both-left}
 use Rattle.fieldlaws.specs.BackLaws.{Topped}
-use Rattle.sound.specs.Sound.{wellFormed, rowsGood, rowGood, goodAt, columnsOf, linesBefore, valuesGood, widthsGood, rangeGood, rangeWidth, widest, widthGood}
-use Rattle.sound.specs.Rows.{rowsOf, lengthOf, parts, row-facts}
+use Rattle.sound.specs.Sound.{wellFormed, rowsGood, rowGood, goodAt, columnsOf, linesBefore, valuesGood, widthsGood, rangeGood, rangeWidth, widest, widthGood, valueAt}
+use Rattle.sound.specs.Rows.{rowsOf, lengthOf, parts, row-facts, line-value}
 
 -- the largest of some numbers is one of them
 data Attained (f : ℕ → ℕ) (n m : ℕ) : Type 0 where
@@ -111,21 +111,21 @@ module _ (t : List ℤ) (v : ℕ) (r : Row) where
             (leb (need (r .kind) (r .from)) (need (r .kind) (r .to))) refl m
         go false e m = absurd (omega (arith, some))
 
-    line-top : Attained (λ k. need (r .kind) (lineValue t v r k)) (r .lines) (r .width) → legal t v r (pos (r .width)) ≡ true
-    line-top (at k h q) = need-legal (lineValue t v r k) (line-legal k h) q
+    line-top : Attained (λ k. need (r .kind) (valueAt t v (r .before) k)) (r .lines) (r .width) → legal t v r (pos (r .width)) ≡ true
+    line-top (at k h q) = need-legal (valueAt t v (r .before) k) (rw (line-value t v r k) at (line-legal k h)) q
 
     top-legal : rangeGood r ≡ true → r .width ≡ widest t v r → legal t v r (pos (r .width)) ≡ true
     unfolding widest
     top-legal g e = go (leb lines (rangeWidth r)) refl
       where
         lines : ℕ
-        lines = maxBelow (r .lines) (λ k. need (r .kind) (lineValue t v r k))
+        lines = maxBelow (r .lines) (λ k. need (r .kind) (valueAt t v (r .before) k))
 
         go : (b : Bool) → leb lines (rangeWidth r) ≡ b → legal t v r (pos (r .width)) ≡ true
         go true l = let l′ : lines ≤ rangeWidth r = leb-true _ _ l in range-top g (omega arith)
         go false l =
             let l′ : rangeWidth r < lines = leb-false _ _ l in
-            line-top (is (omega arith) (attained (λ k. need (r .kind) (lineValue t v r k)) (r .lines) (omega arith)))
+            line-top (is (omega arith) (attained (λ k. need (r .kind) (valueAt t v (r .before) k)) (r .lines) (omega arith)))
 
 width-bits : (w m : ℕ) → widthGood (Multiple Bits) w m ≡ true → w ≡ m
 unfolding widthGood

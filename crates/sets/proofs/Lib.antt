@@ -1,3 +1,5 @@
 pub mod MarkLaws
 pub mod BitLaws
 pub mod FillLaws
+pub mod SpreadLaws
+pub mod SetLaws

@@ -2,11 +2,13 @@
 use mathlib.Core.Path.{_≡_}
 use mathlib.Core.Bool.{Bool, true, false, cond}
 use mathlib.Core.List.{List, _++_}
-use Prim.Native.Nat.{ℕ, _+_, _≤_}
+use Prim.Native.Nat.{ℕ, _+_, _*_, _≤_}
 use lib.Dec.{leb}
 use lib.IntN.{ℤ}
 use lib.ListN.{length, drop}
 use Rattle.fields.specs.Field.{Value, missing, number, members, text, truth, Field, holds, illegal, allBits, setBits}
+use Rattle.fields.specs.Facts.{LineFacts}
+use Rattle.layout.specs.declared.Row.{Row}
 use Rattle.sets.specs.declared.SetRead.{SetRead}
 use Rattle.sets.specs.declared.SetRead.the-variants.{Missing, Count, Illegal, Short}
 use Rattle.sets.specs.declared.Counted.{Counted}
@@ -50,3 +52,25 @@ isIllegal illegal = true
 pub record BitsRoom (at w len : ℕ) : Type 0 where
   pub few : w ≤ 9999
   pub inside : at + w ≤ len
+
+-- n subfields of b bytes, each of which holds w, lie in a record from a place on
+pub record SpreadRoom (at b w n len : ℕ) : Type 0 where
+  pub few : w ≤ 4
+  pub holds : w ≤ b
+  pub inside : at + n * b ≤ len
+
+-- what a bitstring's row must give to be read from a record of so many bytes
+pub record BitsFacts (t : List ℤ) (v : ℕ) (r : Row) (size : ℕ) : Type 0 where
+  pub lines : LineFacts t v r
+  pub from-one : 1 ≤ r .start
+  pub few : r .width ≤ 9999
+  pub inside : r .start + r .width ≤ size + 1
+
+-- and a spread's of n subfields of b bytes
+pub record FieldsFacts (t : List ℤ) (v : ℕ) (r : Row) (n b size : ℕ) : Type 0 where
+  pub lines : LineFacts t v r
+  pub from-one : 1 ≤ r .start
+  pub few : r .width ≤ 4
+  pub holds : r .width ≤ b
+  pub fields : n ≤ 16384
+  pub inside : r .start + n * b ≤ size + 1

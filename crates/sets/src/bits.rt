@@ -5,13 +5,15 @@ ghost use lib.ListN.{length};
 ghost use Rattle.places.specs.Places.{pick};
 ghost use Rattle.fields.specs.Legal.{legal};
 ghost use Rattle.fields.specs.Number.{allSpaces};
-ghost use Rattle.fields.specs.Field.{setBits};
+ghost use Rattle.fields.specs.Field.{setBits, bitsField};
 ghost use Rattle.fields.specs.Row.{defined, bitPlaces};
 ghost use Rattle.fields.specs.Facts.{LineFacts};
 ghost use Rattle.sets.specs.Marks.{Marks};
-ghost use Rattle.sets.specs.Sets.{bitsCounted, filledOf, BitsRoom};
+ghost use Rattle.sets.specs.Sets.{bitsCounted, filledOf, BitsRoom, ReadSet, isIllegal};
 use super::Counted;
+use super::SetRead;
 use super::marks::allows;
+use super::marks::mark_legal;
 use layout::Row;
 
 // Whether the bytes of the categories are all spaces.
@@ -105,4 +107,80 @@ pub fn bits_fill(
             }
         }
     }
+}
+
+// Whether the bitstring is illegal. The marks are room for those of the row.
+pub fn judge(
+    t: &[i64],
+    rows: usize,
+    row: Row,
+    marks: &mut [u8],
+    bytes: &[u8],
+    at: usize,
+    w: usize,
+) -> bool
+    requires { ⌜ LineFacts (now t) rows row ⌝ }
+    requires { ⌜ length (now marks) ≤ 10000 ⌝ }
+    requires { ⌜ BitsRoom at w (length (now bytes)) ⌝ }
+    ensures { λ r. ⌜ r ≡ isIllegal (bitsField (defined (legal (now (t .entry)) rows row) 1 w) (pick (now (bytes .entry)) (bitPlaces at (defined (legal (now (t .entry)) rows row) 1 w)))) ⌝ }
+{
+    mark_legal(t, rows, row, marks);
+    if bits_blank(t, rows, row, marks, bytes, at, w) {
+        return false;
+    }
+    match bits_counted(t, rows, row, marks, bytes, at, w) {
+        Counted::Members(_) => false,
+        Counted::Wrong => true,
+    }
+}
+
+// The bitstring as a set at the start of the list.
+pub fn list_set(
+    t: &[i64],
+    rows: usize,
+    row: Row,
+    marks: &[u8],
+    bytes: &[u8],
+    at: usize,
+    w: usize,
+    list: &mut [i64],
+) -> SetRead
+    requires { ⌜ LineFacts (now t) rows row ⌝ }
+    requires { ⌜ Marks (λ x. legal (now t) rows row x) (now marks) ⌝ }
+    requires { ⌜ BitsRoom at w (length (now bytes)) ⌝ }
+    ensures { λ r. ⌜ ReadSet (bitsField (defined (legal (now (t .entry)) rows row) 1 w) (pick (now (bytes .entry)) (bitPlaces at (defined (legal (now (t .entry)) rows row) 1 w)))) (now (list .entry)) (now (list .exit)) r ⌝ }
+{
+    if bits_blank(t, rows, row, marks, bytes, at, w) {
+        return SetRead::Missing;
+    }
+    match bits_counted(t, rows, row, marks, bytes, at, w) {
+        Counted::Members(n) => {
+            if n <= list.len() {
+                bits_fill(t, rows, row, marks, bytes, at, w, list);
+                return SetRead::Count(n);
+            }
+            SetRead::Short
+        }
+        Counted::Wrong => SetRead::Illegal,
+    }
+}
+
+// The same, with room for the marks of the row.
+pub fn mark_and_list(
+    t: &[i64],
+    rows: usize,
+    row: Row,
+    marks: &mut [u8],
+    bytes: &[u8],
+    at: usize,
+    w: usize,
+    list: &mut [i64],
+) -> SetRead
+    requires { ⌜ LineFacts (now t) rows row ⌝ }
+    requires { ⌜ length (now marks) ≤ 10000 ⌝ }
+    requires { ⌜ BitsRoom at w (length (now bytes)) ⌝ }
+    ensures { λ r. ⌜ ReadSet (bitsField (defined (legal (now (t .entry)) rows row) 1 w) (pick (now (bytes .entry)) (bitPlaces at (defined (legal (now (t .entry)) rows row) 1 w)))) (now (list .entry)) (now (list .exit)) r ⌝ }
+{
+    mark_legal(t, rows, row, marks);
+    list_set(t, rows, row, marks, bytes, at, w, list)
 }

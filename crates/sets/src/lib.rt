@@ -1,5 +1,17 @@
 // Both forms of a set, bitstring and spread: judged, counted, and filled into a lent list in rising order. A row's legal numbers are
 // marked once where that pays, so that no line is searched for each byte or subfield. Above it stand the calls on records.
+ghost use mathlib.Core.Path.{_≡_};
+ghost use Prim.Native.Nat.{_-_, _^_, _≤_};
+ghost use lib.ListN.{length, take};
+ghost use Rattle.places.specs.Places.{pick};
+ghost use Rattle.fields.specs.Legal.{legal};
+ghost use Rattle.fields.specs.Facts.{LineFacts};
+ghost use Rattle.fields.specs.Field.{holds, members, bitsField, spreadField};
+ghost use Rattle.fields.specs.Row.{categories, bitPlaces, spreadPlaces};
+ghost use Rattle.sets.specs.Marks.{Marks, markedOf};
+ghost use Rattle.sets.specs.Sets.{ReadSet, isIllegal, BitsFacts, FieldsFacts};
+use layout::Row;
+
 mod bits;
 pub mod marks;
 mod spread;
@@ -16,4 +28,100 @@ pub enum SetRead {
 pub enum Counted {
     Members(usize),
     Wrong,
+}
+
+// How many of the first `size` numbers to mark: none, where searching the lines at each of so many tests costs no more.
+fn marks_worth(lines: usize, tests: usize, size: usize) -> usize
+    requires { ⌜ lines ≤ 4096 ⌝ }
+    requires { ⌜ tests ≤ 16384 ⌝ }
+    ensures { λ r. ⌜ r ≤ size ⌝ }
+{
+    if lines * tests <= size { 0 } else { size }
+}
+
+// Whether the bitstring of a row is illegal.
+pub fn bits_illegal(t: &[i64], rows: usize, row: Row, bytes: &[u8], scratch: &mut [u8]) -> bool
+    requires { ⌜ BitsFacts (now t) rows row (length (now bytes)) ⌝ }
+    requires { ⌜ length (now scratch) ≡ 10000 ⌝ }
+    ensures { λ r. ⌜ r ≡ isIllegal (bitsField (categories (now (t .entry)) rows row) (pick (now (bytes .entry)) (bitPlaces (row .start - 1) (categories (now (t .entry)) rows row)))) ⌝ }
+{
+    let w = row.width;
+    let at = row.start - 1;
+    let n = marks_worth(row.lines, w, w + 1);
+    bits::judge(t, rows, row, &mut scratch[..n], bytes, at, w)
+}
+
+// The bitstring of a row, as a set at the start of the list.
+pub fn read_bits(
+    t: &[i64],
+    rows: usize,
+    row: Row,
+    bytes: &[u8],
+    list: &mut [i64],
+    scratch: &mut [u8],
+) -> SetRead
+    requires { ⌜ BitsFacts (now t) rows row (length (now bytes)) ⌝ }
+    requires { ⌜ length (now scratch) ≡ 10000 ⌝ }
+    ensures { λ r. ⌜ ReadSet (bitsField (categories (now (t .entry)) rows row) (pick (now (bytes .entry)) (bitPlaces (row .start - 1) (categories (now (t .entry)) rows row)))) (now (list .entry)) (now (list .exit)) r ⌝ }
+{
+    let w = row.width;
+    let at = row.start - 1;
+    let n = marks_worth(row.lines, w, w + 1);
+    bits::mark_and_list(t, rows, row, &mut scratch[..n], bytes, at, w, list)
+}
+
+// Ten to the power w: the numbers of w digits lie below it.
+fn reach(w: usize) -> usize
+    requires { ⌜ w ≤ 4 ⌝ }
+    ensures { λ r. ⌜ r ≡ 10 ^ w ⌝ }
+{
+    let powers = ascii::powers();
+    ascii::power(&powers, w) as usize
+}
+
+// Whether a spread of n subfields of b bytes is illegal.
+pub fn spread_illegal(
+    t: &[i64],
+    rows: usize,
+    row: Row,
+    n: usize,
+    b: usize,
+    bytes: &[u8],
+    scratch: &mut [u8],
+) -> bool
+    requires { ⌜ FieldsFacts (now t) rows row n b (length (now bytes)) ⌝ }
+    requires { ⌜ length (now scratch) ≡ 10000 ⌝ }
+    ensures { λ r. ⌜ r ≡ isIllegal (spreadField (legal (now (t .entry)) rows row) (row .width) n (pick (now (bytes .entry)) (spreadPlaces (row .start - 1) b (row .width) n))) ⌝ }
+{
+    let w = row.width;
+    let at = row.start - 1;
+    let k = marks_worth(row.lines, n, reach(w));
+    spread::judge(t, rows, row, &mut scratch[..k], bytes, at, b, w, n)
+}
+
+// A spread of n subfields of b bytes, as a set at the start of the list.
+pub fn read_spread(
+    t: &[i64],
+    rows: usize,
+    row: Row,
+    n: usize,
+    b: usize,
+    bytes: &[u8],
+    list: &mut [i64],
+    scratch: &mut [u8],
+) -> SetRead
+    requires { ⌜ FieldsFacts (now t) rows row n b (length (now bytes)) ⌝ }
+    requires { ⌜ length (now scratch) ≡ 10000 ⌝ }
+    ensures { λ r. ⌜ ReadSet (spreadField (legal (now (t .entry)) rows row) (row .width) n (pick (now (bytes .entry)) (spreadPlaces (row .start - 1) b (row .width) n))) (now (list .entry)) (now (list .exit)) r ⌝ }
+{
+    let w = row.width;
+    let at = row.start - 1;
+    if spread::spread_blank(bytes, at, b, w, n) {
+        return SetRead::Missing;
+    }
+    if spread_illegal(t, rows, row, n, b, bytes, scratch) {
+        return SetRead::Illegal;
+    }
+    let top = reach(w);
+    spread::gather(bytes, at, b, w, n, &mut scratch[..top], list)
 }

@@ -1,0 +1,38 @@
+-- `readings::number_answer` meets its contract: by the test.
+use mathlib.Core.Path.{_≡_, refl, sym, ap, _∙_}
+use mathlib.Core.Bool.{Bool, true, false, cond, _&&_, _||_}
+use mathlib.Core.List.{List, [], _∷_, _++_}
+use Prim.Native.Nat.{ℕ, zero, suc, _+_, _-_, _*_, _^_, _≤_, _<_}
+use native.Mathlib.Omega.{arith}
+use native.Mathlib.Numerals.{add-one}
+use borrow.Author.Needs.{needs, sfits-of}
+use borrow.Author.Tests.{eq-eqb, ne-eqb, lt-ltb, le-ltb, le-leb, lt-leb}
+use lib.IntN.{ℤ, pos}
+use lib.ListN.{length, getD, take, drop, set, length-set, length-drop, length-take}
+use mir.Syntax.{w64}
+use mir.Val.{toZ, ofZ}
+use mir.Facts.{toZ-ofZ}
+use Rattle.cells.specs.Cell.{eqZ}
+use Rattle.places.specs.Places.{pick, run}
+use Rattle.fields.specs.Legal.{legal}
+use Rattle.fields.specs.Number.{codeOf, quantityOf}
+use Rattle.fields.specs.Field.{numberField, singleField, quantityField, textField, truthField}
+use Rattle.numbers.specs.Numeral.{saidOf}
+use Rattle.readings.specs.Answer.{answerOf, setSaid, illegalAnswer}
+use Rattle.readings.specs.declared.Answer.the-variants.{Missing, Number, Set, Text, Truth, BadTable, NoRow, ShortRecord, Illegal, ShortList}
+use Rattle.readings.proofs.Laws.{number-said, number-not}
+use Rattle.readings.proofs.number_answer.Statement.{statement}
+use Rattle.readings.proofs.number_answer.Tie as tie
+
+-- the test, of the number itself
+test : (c : tie.After-is-legal) → c .is-legal .result ≡ legal (c .before .args .t .now) (c .before .args .rows) (c .before .args .row) (c .before .args .z)
+test c = c .is-legal .ensures ∙ ap (legal (c .before .args .t .now) (c .before .args .rows) (c .before .args .row)) (toZ-ofZ (c .before .fits .z))
+
+returns : tie.Need-returns
+returns c p n = ap Number (toZ-ofZ (c .before .before .fits .z)) ∙ number-said (legal (c .before .before .args .t .now) (c .before .before .args .rows) (c .before .before .args .row)) (c .before .before .args .z) p n (sym (test (c .before)) ∙ c .if1 .taken)
+
+returns-2 : tie.Need-returns-2
+returns-2 c p n = number-not (legal (c .before .before .args .t .now) (c .before .before .args .rows) (c .before .before .args .row)) (c .before .before .args .z) p n (sym (test (c .before)) ∙ c .if1 .left)
+
+pub number-answer-spec : {M : Type 1} → statement M
+number-answer-spec = tie.close (tie.spec (λ c κs. search needs) returns returns-2)

@@ -1,0 +1,57 @@
+-- `readings::text` meets its contract: by what the bytes say.
+use mathlib.Core.Path.{_≡_, refl, sym, ap, _∙_}
+use mathlib.Core.Bool.{Bool, true, false, cond, _&&_, _||_}
+use mathlib.Core.List.{List, [], _∷_, _++_}
+use Prim.Native.Nat.{ℕ, zero, suc, _+_, _-_, _*_, _^_, _≤_, _<_}
+use native.Mathlib.Omega.{arith}
+use native.Mathlib.Numerals.{add-one}
+use borrow.Author.Needs.{needs, sfits-of}
+use borrow.Author.Tests.{eq-eqb, ne-eqb, lt-ltb, le-ltb, le-leb, lt-leb}
+use lib.IntN.{ℤ, pos}
+use lib.ListN.{length, getD, take, drop, set, length-set, length-drop, length-take}
+use mir.Syntax.{w64}
+use mir.Val.{toZ, ofZ}
+use mir.Facts.{toZ-ofZ}
+use Rattle.cells.specs.Cell.{eqZ}
+use Rattle.places.specs.Places.{pick, run}
+use Rattle.fields.specs.Legal.{legal}
+use Rattle.fields.specs.Number.{codeOf, quantityOf}
+use Rattle.fields.specs.Field.{numberField, singleField, quantityField, textField, truthField}
+use Rattle.numbers.specs.Numeral.{saidOf}
+use Rattle.readings.specs.Answer.{answerOf, setSaid, illegalAnswer}
+use Rattle.readings.specs.declared.Answer.the-variants.{Missing, Number, Set, Text, Truth, BadTable, NoRow, ShortRecord, Illegal, ShortList}
+use Rattle.letters.specs.Letters.{textSaid}
+use Rattle.readings.proofs.Laws.{text-missing, text-length, text-wrong, first-bytes}
+use Rattle.readings.proofs.text.Statement.{statement}
+use Rattle.readings.proofs.text.Tie as tie
+
+said : (c : tie.After-read-text) → textSaid (textField (pick (c .before .before .before .args .bytes .now) (run (c .before .before .before .args .at) (c .before .before .before .args .w)))) ≡ c .read-text .result
+said c =
+    let a = c .before .before .before .args in
+    let h = c .before .before .before .pre .1 .1 in let g = c .before .before .before .pre .1 .0 in
+    ap (λ (s : List ℕ). textSaid (textField s)) (sym (first-bytes (a .bytes .now) (a .at) (a .w) (omega arith))) ∙ sym (c .read-text .ensures)
+
+returns : tie.Need-returns
+returns c n = text-missing _ n _ (said (c .before .before) ∙ c .enum-told .given .1)
+
+returns-2 : tie.Need-returns-2
+returns-2 c n = text-length _ n _ _ (said (c .before .before .before) ∙ c .before .n .given .1)
+
+returns-3 : tie.Need-returns-3
+returns-3 c n = text-wrong _ n _ (said (c .before .before) ∙ c .enum-told2 .given .1)
+
+pub text-spec : {M : Type 1} → statement M
+text-spec =
+    tie.close
+    (tie.spec
+    (λ c. omega arith)
+    (λ c. omega arith)
+    (λ c. omega arith)
+    (λ c. let h = c .before .pre .1 .1 in let g = c .before .pre .1 .0 in omega arith)
+    (λ c κs. tt)
+    (λ c. search needs)
+    (λ c. search needs)
+    (λ c. search needs)
+    returns
+    returns-2
+    returns-3)

@@ -1,0 +1,203 @@
+// What one row of a record says, by its kind, and whether it is illegal; the row's facts are given. Above it stand the public calls on
+// records, which test the table once, and every request that reads many rows of a tested table.
+ghost use mathlib.Core.Path.{_≡_};
+ghost use mathlib.Core.Bool.{cond};
+ghost use mathlib.Core.List.{[], _∷_};
+ghost use Prim.Native.Nat.{ℕ, _-_, _≤_, _<_};
+ghost use lib.ListN.{length, getD};
+ghost use Rattle.places.specs.Places.{pick, run};
+ghost use Rattle.fields.specs.Legal.{legal};
+ghost use Rattle.fields.specs.Facts.{LineFacts};
+ghost use Rattle.fields.specs.Field.{numberField, singleField, quantityField, bitsField, spreadField, textField, truthField};
+ghost use Rattle.fields.specs.Row.{categories, bitPlaces, spreadPlaces, readingOf};
+ghost use Rattle.numbers.specs.Numeral.{FormatFacts};
+ghost use Rattle.sets.specs.Sets.{BitsFacts, FieldsFacts, isIllegal};
+ghost use Rattle.readings.specs.Answer.{answerOf, setSaid, illegalAnswer, SetAnswered, RowRead};
+ghost use Rattle.readings.specs.Ready.{NumberFacts, RowReady};
+use layout::Format;
+use layout::Kind;
+use layout::Row;
+use layout::Spread;
+use letters::Text;
+use letters::Truth;
+use numbers::Numeral;
+use sets::SetRead;
+
+// A row's value: a scaled number, a set's count, a text's place and length, a truth; or why there is none.
+pub enum Answer {
+    Missing,
+    Number(i64),
+    Set(usize),
+    Text(usize, usize),
+    Truth(bool),
+    BadTable,
+    NoRow,
+    ShortRecord,
+    Illegal,
+    ShortList,
+}
+
+// A number that was said is the value if the row allows it.
+fn number_answer(t: &[i64], rows: usize, row: Row, z: i64) -> Answer
+    requires { ⌜ LineFacts (now t) rows row ⌝ }
+    ensures { λ r. ⌜ ((p n : ℕ) → r ≡ answerOf p n (numberField (legal (now (t .entry)) rows row) z)) ⌝ }
+{
+    if legal::is_legal(t, rows, row, z) {
+        return Answer::Number(z);
+    }
+    Answer::Illegal
+}
+
+fn single(t: &[i64], rows: usize, row: Row, bytes: &[u8]) -> Answer
+    requires { ⌜ NumberFacts 17 (now t) rows row (length (now bytes)) ⌝ }
+    ensures { λ r. ⌜ ((p n : ℕ) → r ≡ answerOf p n (singleField (legal (now (t .entry)) rows row) (pick (now (bytes .entry)) (run (row .finish - row .width) (row .width))))) ⌝ }
+{
+    let e = row.finish;
+    let a = e - row.width;
+    match numbers::code(&bytes[a..e]) {
+        Numeral::Blank => Answer::Missing,
+        Numeral::Says(z) => {
+            if cells::same(z, 0) {
+                return Answer::Missing;
+            }
+            number_answer(t, rows, row, z)
+        }
+        Numeral::Wrong => Answer::Illegal,
+    }
+}
+
+fn quantity(t: &[i64], rows: usize, row: Row, f: Format, bytes: &[u8]) -> Answer
+    requires { ⌜ NumberFacts 17 (now t) rows row (length (now bytes)) ⌝ }
+    requires { ⌜ FormatFacts f ⌝ }
+    ensures { λ r. ⌜ ((p n : ℕ) → r ≡ answerOf p n (quantityField f (legal (now (t .entry)) rows row) (pick (now (bytes .entry)) (run (row .finish - row .width) (row .width))))) ⌝ }
+{
+    let e = row.finish;
+    let a = e - row.width;
+    match numbers::quantity(f, &bytes[a..e]) {
+        Numeral::Blank => Answer::Missing,
+        Numeral::Says(z) => number_answer(t, rows, row, z),
+        Numeral::Wrong => Answer::Illegal,
+    }
+}
+
+// The text in the w bytes from the place at on.
+fn text(bytes: &[u8], at: usize, w: usize) -> Answer
+    requires { ⌜ w ≤ 4096 ⌝ }
+    requires { ⌜ at < length (now bytes) ⌝ }
+    requires { ⌜ w ≤ length (now bytes) - at ⌝ }
+    ensures { λ r. ⌜ ((n : ℕ) → r ≡ answerOf at n (textField (pick (now (bytes .entry)) (run at w)))) ⌝ }
+{
+    let e = at + w;
+    match letters::read_text(&bytes[at..e]) {
+        Text::Blank => Answer::Missing,
+        Text::Length(n) => Answer::Text(at, n),
+        Text::Wrong => Answer::Illegal,
+    }
+}
+
+fn truth(b: u8) -> Answer
+    ensures { λ r. ⌜ ((p n : ℕ) → r ≡ answerOf p n (truthField (b ∷ []))) ⌝ }
+{
+    match letters::read_truth(b) {
+        Truth::Blank => Answer::Missing,
+        Truth::Says(x) => Answer::Truth(x),
+        Truth::Wrong => Answer::Illegal,
+    }
+}
+
+fn set_answer(r: SetRead) -> Answer
+    ensures { λ a. ⌜ a ≡ setSaid r ⌝ }
+{
+    match r {
+        SetRead::Missing => Answer::Missing,
+        SetRead::Count(n) => Answer::Set(n),
+        SetRead::Illegal => Answer::Illegal,
+        SetRead::Short => Answer::ShortList,
+    }
+}
+
+fn bits(t: &[i64], rows: usize, row: Row, bytes: &[u8], list: &mut [i64]) -> Answer
+    requires { ⌜ BitsFacts (now t) rows row (length (now bytes)) ⌝ }
+    ensures { λ r. ⌜ SetAnswered (bitsField (categories (now (t .entry)) rows row) (pick (now (bytes .entry)) (bitPlaces (row .start - 1) (categories (now (t .entry)) rows row)))) (now (list .entry)) (now (list .exit)) r ⌝ }
+{
+    let mut scratch = [0u8; 10000];
+    set_answer(sets::read_bits(t, rows, row, bytes, list, &mut scratch))
+}
+
+fn spread(
+    t: &[i64],
+    rows: usize,
+    row: Row,
+    n: usize,
+    b: usize,
+    bytes: &[u8],
+    list: &mut [i64],
+) -> Answer
+    requires { ⌜ FieldsFacts (now t) rows row n b (length (now bytes)) ⌝ }
+    ensures { λ r. ⌜ SetAnswered (spreadField (legal (now (t .entry)) rows row) (row .width) n (pick (now (bytes .entry)) (spreadPlaces (row .start - 1) b (row .width) n))) (now (list .entry)) (now (list .exit)) r ⌝ }
+{
+    let mut scratch = [0u8; 10000];
+    set_answer(sets::read_spread(t, rows, row, n, b, bytes, list, &mut scratch))
+}
+
+// What the row says of a record that is long enough; a set fills the start of the list.
+pub fn read_row(t: &[i64], rows: usize, row: Row, bytes: &[u8], list: &mut [i64]) -> Answer
+    requires { ⌜ RowReady (now t) rows row (length (now bytes)) ⌝ }
+    ensures { λ r. ⌜ RowRead (row .start - 1) (readingOf (now (t .entry)) rows row (now (bytes .entry))) (now (list .entry)) (now (list .exit)) r ⌝ }
+{
+    let kind = row.kind;
+    match kind {
+        Kind::Single => single(t, rows, row, bytes),
+        Kind::Multiple(s) => match s {
+            Spread::Bits => bits(t, rows, row, bytes, list),
+            Spread::Fields { count, width } => spread(t, rows, row, count, width, bytes, list),
+        },
+        Kind::Quantity(f) => quantity(t, rows, row, f, bytes),
+        Kind::Character => text(bytes, row.start - 1, row.width),
+        Kind::Logical => {
+            let last = row.finish - 1;
+            truth(bytes[last])
+        }
+    }
+}
+
+fn is_illegal(a: Answer) -> bool
+    ensures { λ r. ⌜ r ≡ illegalAnswer a ⌝ }
+{
+    match a {
+        Answer::Illegal => true,
+        Answer::Missing => false,
+        Answer::Number(_) => false,
+        Answer::Set(_) => false,
+        Answer::Text(_, _) => false,
+        Answer::Truth(_) => false,
+        Answer::BadTable => false,
+        Answer::NoRow => false,
+        Answer::ShortRecord => false,
+        Answer::ShortList => false,
+    }
+}
+
+// Whether the row is illegal in a record that is long enough. The scratch is room for marks.
+pub fn row_illegal(t: &[i64], rows: usize, row: Row, bytes: &[u8], scratch: &mut [u8]) -> bool
+    requires { ⌜ RowReady (now t) rows row (length (now bytes)) ⌝ }
+    requires { ⌜ length (now scratch) ≡ 10000 ⌝ }
+    ensures { λ r. ⌜ r ≡ isIllegal (readingOf (now (t .entry)) rows row (now (bytes .entry))) ⌝ }
+{
+    let kind = row.kind;
+    match kind {
+        Kind::Single => is_illegal(single(t, rows, row, bytes)),
+        Kind::Multiple(s) => match s {
+            Spread::Bits => sets::bits_illegal(t, rows, row, bytes, scratch),
+            Spread::Fields { count, width } => {
+                sets::spread_illegal(t, rows, row, count, width, bytes, scratch)
+            }
+        },
+        Kind::Quantity(f) => is_illegal(quantity(t, rows, row, f, bytes)),
+        Kind::Character => is_illegal(text(bytes, row.start - 1, row.width)),
+        Kind::Logical => {
+            let last = row.finish - 1;
+            is_illegal(truth(bytes[last]))
+        }
+    }
+}

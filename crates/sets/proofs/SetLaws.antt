@@ -1,0 +1,113 @@
+-- A set's answer and the list after it, by what was found; and a field of either form by the tests on it.
+-- Assumes nothing.
+use mathlib.Core.Path.{_≡_, refl, sym, ap, subst, _∙_}
+use mathlib.Core.Bool.{Bool, true, false, cond}
+use mathlib.Core.List.{List}
+use Prim.Native.Nat.{ℕ, suc, _+_, _-_, _^_, _≤_, _<_}
+use native.Mathlib.Omega.{arith}
+use native.Mathlib.Nat.{one-le-pow}
+use borrow.Author.Tests.{le-leb, lt-leb}
+use lib.IntN.{ℤ}
+use lib.ListN.{length}
+use Rattle.below.specs.Below.{holds-not}
+use Rattle.fields.specs.Number.{allSpaces}
+use Rattle.fields.specs.Field.{Field, holds, illegal, missing, members, allBits, setBits, bitsField, allEntries, someEntry, spreadSet, spreadField}
+use Rattle.sets.specs.Marks.{Marks, markedOf}
+use Rattle.sets.specs.Sets.{bitsCounted, filledOf, setAnswer, listAfter, ReadSet, isIllegal}
+use Rattle.sets.specs.declared.SetRead.the-variants.{Missing, Count, Illegal, Short}
+use Rattle.sets.specs.declared.Counted.the-variants as counted
+use Rattle.sets.proofs.MarkLaws.{marked-pass}
+
+-- ---- answers
+pub read-missing : (f : Field) (list : List ℤ) → f ≡ holds missing → ReadSet f list list Missing
+unfolding setAnswer listAfter
+read-missing f list e = record { answer = rw e; leaves = rw e }
+
+pub read-illegal : (f : Field) (list : List ℤ) → f ≡ illegal → ReadSet f list list Illegal
+unfolding setAnswer listAfter
+read-illegal f list e = record { answer = rw e; leaves = rw e }
+
+module _ (f : Field) (ms list : List ℤ) (n : ℕ) (is : f ≡ holds (members ms)) (e : n ≡ length ms) where
+  pub read-room : (list′ : List ℤ) → n ≤ length list → list′ ≡ filledOf ms list → ReadSet f list list′ (Count n)
+  unfolding setAnswer listAfter
+  read-room list′ h q = let k : length ms ≤ length list = rw e at h in record { answer = rw (is, le-leb _ _ k, e); leaves = rw (is, le-leb _ _ k) q }
+
+  pub read-short : length list < n → ReadSet f list list Short
+  unfolding setAnswer listAfter
+  read-short h = let k : length list < length ms = rw e at h in record { answer = rw (is, lt-leb _ _ k); leaves = rw (is, lt-leb _ _ k) }
+
+pub as-read : {f g : Field} {list list′ : List ℤ} {r : _} → f ≡ g → ReadSet f list list′ r → ReadSet g list list′ r
+as-read {list} {list′} {r} e a = subst (λ (x : Field). ReadSet x list list′ r) e a
+
+-- ---- a field that is no illegal one
+pub illegal-is : (f : Field) → isIllegal f ≡ true → f ≡ illegal
+unfolding isIllegal
+illegal-is (holds v) e = holds-not e refl
+illegal-is illegal e = refl
+
+pub legal-not : (f : Field) (v : _) → f ≡ holds v → false ≡ isIllegal f
+unfolding isIllegal
+legal-not f v e = rw e
+
+pub illegal-so : (f : Field) → f ≡ illegal → true ≡ isIllegal f
+unfolding isIllegal
+illegal-so f e = rw e
+
+-- ---- a bitstring
+module _ (cs s : List ℕ) where
+  pub bits-missing : allSpaces s ≡ true → bitsField cs s ≡ holds missing
+  unfolding bitsField
+  bits-missing e = rw e
+
+  module _ (some : allSpaces s ≡ false) where
+    all-bits : (n : ℕ) → bitsCounted cs s ≡ counted.Members n → allBits s ≡ true
+    unfolding bitsCounted
+    all-bits n e = go (allBits s) e
+      where
+        go : (b : Bool) → cond b (counted.Members (length (setBits cs s))) counted.Wrong ≡ counted.Members n → b ≡ true
+        go true q = refl
+        go false q = let z : _≡_ {A = ℕ} 0 1 = cc in absurd (omega arith)
+
+    pub bits-members : (n : ℕ) → bitsCounted cs s ≡ counted.Members n → bitsField cs s ≡ holds (members (setBits cs s))
+    unfolding bitsField
+    bits-members n e = rw (some, all-bits n e)
+
+    pub bits-count : (n : ℕ) → bitsCounted cs s ≡ counted.Members n → n ≡ length (setBits cs s)
+    unfolding bitsCounted
+    bits-count n e = let q : counted.Members (length (setBits cs s)) ≡ counted.Members n = rw (all-bits n e) at e in cc
+
+    pub bits-wrong : bitsCounted cs s ≡ counted.Wrong → bitsField cs s ≡ illegal
+    unfolding bitsField bitsCounted
+    bits-wrong e = rw some (go (allBits s) e)
+      where
+        go : (b : Bool) → cond b (counted.Members (length (setBits cs s))) counted.Wrong ≡ counted.Wrong → cond b (holds (members (setBits cs s))) illegal ≡ illegal
+        go false q = refl
+        go true q = let z : _≡_ {A = ℕ} 0 1 = cc in absurd (omega arith)
+
+-- ---- a spread
+module _ (ok : ℤ → Bool) (w n : ℕ) (s : List ℕ) where
+  pub spread-missing : allSpaces s ≡ true → spreadField ok w n s ≡ holds missing
+  unfolding spreadField
+  spread-missing e = rw e
+
+  module _ (some : allSpaces s ≡ false) where
+    pub spread-members : allEntries ok w n s ≡ true → spreadField ok w n s ≡ holds (members (spreadSet w n s))
+    unfolding spreadField
+    spread-members e = rw (some, e)
+
+    pub spread-wrong : allEntries ok w n s ≡ false → spreadField ok w n s ≡ illegal
+    unfolding spreadField
+    spread-wrong e = rw (some, e)
+
+    pub spread-legal : isIllegal (spreadField ok w n s) ≡ false → spreadField ok w n s ≡ holds (members (spreadSet w n s))
+    spread-legal e = go (allEntries ok w n s) refl
+      where
+        go : (b : Bool) → allEntries ok w n s ≡ b → spreadField ok w n s ≡ holds (members (spreadSet w n s))
+        go true q = spread-members q
+        go false q = holds-not (sym (illegal-so _ (spread-wrong q))) e
+
+-- the marked numbers, where marks of all numbers of w digits say what the subfields hold
+pub marked-set : (w n : ℕ) (s m : List ℕ) → length m ≡ 10 ^ w → Marks (λ x. someEntry x w n s) m → markedOf m ≡ spreadSet w n s
+marked-set w n s m e a =
+    let p : 1 ≤ length m = rw e (one-le-pow w 10 (omega arith)) in
+    marked-pass (λ x. someEntry x w n s) m a (length m - 1) 1 (omega arith) ∙ rw e

@@ -1,0 +1,76 @@
+-- `sets::read_spread` meets its contract: spaces, an illegal spread, or the numbers that the subfields hold.
+use mathlib.Core.Path.{_≡_, refl, sym, ap, _∙_}
+use mathlib.Core.Bool.{Bool, true, false, cond, _&&_, _||_}
+use mathlib.Core.List.{List, [], _∷_, _++_}
+use Prim.Native.Nat.{ℕ, zero, suc, _+_, _-_, _*_, _^_, _≤_, _<_}
+use native.Mathlib.Omega.{arith}
+use native.Mathlib.Numerals.{add-one}
+use borrow.Author.Needs.{needs, sfits-of}
+use borrow.Author.Tests.{eq-eqb, ne-eqb, lt-ltb, le-ltb, le-leb, lt-leb}
+use lib.IntN.{ℤ, pos}
+use lib.ListN.{length, getD, take, drop, set, length-set, length-drop, length-take}
+use mir.Syntax.{w64}
+use mir.Val.{toZ, ofZ}
+use mir.Facts.{toZ-ofZ}
+use Rattle.places.specs.Places.{pick}
+use Rattle.fields.specs.Legal.{legal}
+use Rattle.fields.specs.Number.{allSpaces}
+use Rattle.fields.specs.Field.{holds, members, bitsField, spreadField, setBits, spreadSet, someEntry}
+use Rattle.fields.specs.Row.{defined, bitPlaces, spreadPlaces}
+use Rattle.sets.specs.Marks.{Marks, markedOf}
+use Rattle.sets.specs.Sets.{ReadSet, isIllegal, BitsRoom, SpreadRoom}
+use lib.Seq.{length-take-le}
+use native.Mathlib.Nat.{pow-le-pow-right}
+use Rattle.sets.proofs.SetLaws.{read-missing, read-illegal, as-read, illegal-is, spread-missing, spread-legal}
+use Rattle.sets.proofs.read_spread.Statement.{statement}
+use Rattle.sets.proofs.read_spread.Tie as tie
+
+-- the subfields lie in the record
+room : (c : tie.Start) → SpreadRoom (c .args .row .start - 1) (c .args .b) (c .args .row .width) (c .args .n) (length (c .args .bytes .now))
+room c = record { few = c .pre .0 .few; holds = c .pre .0 .holds; inside = let h = c .pre .0 .inside in let g = c .pre .0 .from-one in omega arith }
+
+returns : tie.Need-returns
+returns c = read-missing _ _ (spread-missing _ _ _ _ (sym (c .before .spread-blank .ensures) ∙ c .if1 .taken))
+
+returns-2 : tie.Need-returns-2
+returns-2 c = read-illegal _ _ (illegal-is _ (sym (c .before .before .before .spread-illegal .ensures) ∙ c .if2 .taken))
+
+-- the scratch keeps its length, and reaches all numbers of w digits
+kept : (c : tie.After-spread-illegal) → length (c .spread-illegal .last .1 .1 .1 .1 .1 .1 .0) ≡ 10000
+kept c = c .spread-illegal .kept .1 .1 .1 .1 .1 .1 .0 ∙ c .before .before .before .before .before .before .before .pre .1
+
+few : (c : tie.After-reach) → c .reach .result ≤ 10000
+few c = rw (c .reach .ensures) (pow-le-pow-right {n = 10} (omega arith) (c .before .before .before .before .before .before .before .before .before .before .before .pre .0 .few))
+
+reaches : (c : tie.After-reach) → c .reach .result ≤ length (c .before .before .before .before .spread-illegal .last .1 .1 .1 .1 .1 .1 .0)
+reaches c = let k = kept (c .before .before .before .before) in let f = few c in omega arith
+
+slice-aggregate-gather : tie.Need-slice-aggregate-gather
+slice-aggregate-gather c = sym (length-take-le _ _ (reaches (c .before)))
+
+gather-requires : tie.Need-gather-requires
+gather-requires c κs =
+    let e = length-take-le (c .before .before .reach .result) (c .before .before .before .before .before .before .spread-illegal .last .1 .1 .1 .1 .1 .1 .0) (reaches (c .before .before)) in
+    (room (c .before .before .before .before .before .before .before .before .before .before .before .before .before), (e ∙ c .before .before .reach .ensures, rw e (few (c .before .before))))
+
+returns-3 : tie.Need-returns-3
+returns-3 c =
+    as-read (sym (spread-legal _ _ _ _ (sym (c .before .before .before .before .before .before .before .before .before .before .before .before .before .spread-blank .ensures) ∙ c .before .before .before .before .before .before .before .before .before .before .before .before .if1 .left) (sym (c .before .before .before .before .before .before .before .before .before .before .spread-illegal .ensures) ∙ c .before .before .before .before .before .before .before .if2 .left))) (c .before .before .before .gather .ensures)
+
+pub read-spread-spec : {M : Type 1} → statement M
+read-spread-spec =
+    tie.close
+    (tie.spec
+    (λ c. let h = c .before .before .before .pre .0 .from-one in omega arith)
+    (λ c κs. room (c .before .before .before))
+    returns
+    (λ c κs. (c .before .before .before .before .before .before .pre .0, c .before .before .before .before .before .before .pre .1))
+    (λ c. search needs)
+    returns-2
+    (λ c κs. c .before .before .before .before .before .before .before .before .before .before .pre .0 .few)
+    (λ c. reaches c)
+    slice-aggregate-gather
+    gather-requires
+    (λ c. search needs)
+    (λ c. search needs)
+    returns-3)
