@@ -83,11 +83,11 @@ pub fn blank_bits(
     requires { ⌜ Bitstring at w (length (now bytes)) ⌝ }
     ensures { λ _. ⌜ now (bytes .exit) ≡ put (now (bytes .entry)) (bitPlaces at (defined (legal (now (t .entry)) rows row) 1 w)) (spaces (length (bitPlaces at (defined (legal (now (t .entry)) rows row) 1 w)))) ⌝ }
 {
-    let mut i: usize = 0;
-    while i < w {
-        let k = i;
-        i += 1;
-        if allows(t, rows, row, marks, i) {
+    let mut c: usize = 0;
+    while c < w {
+        let k = c;
+        c += 1;
+        if allows(t, rows, row, marks, c) {
             bytes[at + k] = 32;
         }
     }

@@ -16,13 +16,13 @@ use Rattle.setbytes.proofs.bits.blank_bits.Statement.{statement}
 use Rattle.setbytes.proofs.bits.blank_bits.Tie as tie
 
 abbrev Inv-loop : tie.InvT-loop
-Inv-loop t rows row marks bytes₀ at w i₀ bytes i =
-    (i ≤ w) × (length bytes ≡ length bytes₀)
-    × (restBlank (legal t rows row) at w bytes i
+Inv-loop t rows row marks bytes₀ at w c₀ bytes c =
+    (c ≤ w) × (length bytes ≡ length bytes₀)
+    × (restBlank (legal t rows row) at w bytes c
     ≡ put bytes₀ (bitPlaces at (defined (legal t rows row) 1 w)) (spaces (length (bitPlaces at (defined (legal t rows row) 1 w)))))
 
 abbrev μ-loop : tie.MeasureT-loop
-μ-loop t rows row marks bytes₀ at w i₀ bytes i = w - i
+μ-loop t rows row marks bytes₀ at w c₀ bytes c = w - c
 
 loop-again : tie.Need-loop-again Inv-loop μ-loop
 loop-again c =
@@ -30,10 +30,10 @@ loop-again c =
     let l = n .before .loop in
     let a = n .before .before .before .before .args in
     let ok = legal (a .t .now) (a .rows) (a .row) in
-    let yes : ok (pos (l .i + 1)) ≡ true = sym (c .before .allows .ensures) ∙ c .if1 .taken in (
+    let yes : ok (pos (l .c + 1)) ≡ true = sym (c .before .allows .ensures) ∙ c .if1 .taken in (
       omega arith,
       simp length-set (l .inv .1),
-      blank-taken ok (a .at) (a .w) (l .bytes) (l .i) (n .loop-test .taken) yes ∙ l .inv .2,
+      blank-taken ok (a .at) (a .w) (l .bytes) (l .c) (n .loop-test .taken) yes ∙ l .inv .2,
     )
 
 loop-again-2 : tie.Need-loop-again-2 Inv-loop μ-loop
@@ -42,8 +42,8 @@ loop-again-2 c =
     let l = n .before .loop in
     let a = n .before .before .before .before .args in
     let ok = legal (a .t .now) (a .rows) (a .row) in
-    let no : ok (pos (l .i + 1)) ≡ false = sym (c .before .allows .ensures) ∙ c .if1 .left in
-    (omega arith, l .inv .1, blank-passed ok (a .at) (a .w) (l .bytes) (l .i) (n .loop-test .taken) no ∙ l .inv .2)
+    let no : ok (pos (l .c + 1)) ≡ false = sym (c .before .allows .ensures) ∙ c .if1 .left in
+    (omega arith, l .inv .1, blank-passed ok (a .at) (a .w) (l .bytes) (l .c) (n .loop-test .taken) no ∙ l .inv .2)
 
 returns : tie.Need-returns Inv-loop μ-loop
 returns c = sym (done _ _ _ _ _ _ (c .loop-test .left)) ∙ c .before .loop .inv .2
