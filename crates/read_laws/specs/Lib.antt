@@ -2,3 +2,4 @@ pub mod Proved
 pub mod Settled
 pub mod Alone
 pub mod Refused
+pub mod Forms
