@@ -94,12 +94,12 @@ digits-say end = refl
 digits-say (digit {m} {d} h r) = let e : 48 + d - 48 ≡ d = omega arith in rw e (digits-say r)
 
 -- ---- spaces
-spaces-all : {s : List ℕ} → Spaces s → allSpaces s ≡ true
+pub spaces-all : {s : List ℕ} → Spaces s → allSpaces s ≡ true
 unfolding allSpaces
 spaces-all none = refl
 spaces-all (space r) = spaces-all r
 
-all-spaces : (s : List ℕ) → allSpaces s ≡ true → Spaces s
+pub all-spaces : (s : List ℕ) → allSpaces s ≡ true → Spaces s
 unfolding allSpaces _and_
 all-spaces [] e = none
 all-spaces (b ∷ s) e =

@@ -3,3 +3,4 @@ pub mod Settled
 pub mod Alone
 pub mod Refused
 pub mod Forms
+pub mod Kinds
