@@ -4,3 +4,4 @@ pub mod Alone
 pub mod Refused
 pub mod Forms
 pub mod Kinds
+pub mod Others
