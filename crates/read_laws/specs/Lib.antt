@@ -2,3 +2,6 @@ pub mod Proved
 pub mod Settled
 pub mod Alone
 pub mod Refused
+pub mod Forms
+pub mod Kinds
+pub mod Others

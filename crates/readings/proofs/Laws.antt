@@ -1,13 +1,14 @@
 -- A row's reading by its kind, and its answer by what was said.
 -- Assumes nothing.
 use mathlib.Core.Path.{_≡_, refl, sym, ap, _∙_}
-use mathlib.Core.Bool.{Bool, true, false, cond}
+use mathlib.Core.Bool.{Bool, true, false, cond, _&&_}
 use mathlib.Core.List.{List, [], _∷_}
 use Prim.Native.Nat.{ℕ, _+_, _-_, _≤_, _<_}
 use native.Mathlib.Omega.{arith}
 use lib.Dec.{leb, eqb}
 use lib.IntN.{ℤ, pos}
 use lib.ListN.{length, getD, take, drop}
+use Rattle.below.specs.Below.{holds-not}
 use Rattle.cells.specs.Cell.{eqZ}
 use Rattle.layout.specs.declared.Format.{Format}
 use Rattle.layout.specs.declared.Spread.{Spread}
@@ -26,7 +27,7 @@ use Rattle.letters.specs.declared.Truth.the-variants as b
 use Rattle.sets.specs.declared.SetRead.{SetRead}
 use Rattle.sets.specs.declared.SetRead.the-variants as set
 use Rattle.sets.specs.Sets.{setAnswer, listAfter, ReadSet, isIllegal}
-use Rattle.readings.specs.Answer.{answerOf, setSaid, illegalAnswer, SetAnswered, RowRead}
+use Rattle.readings.specs.Answer.{answerOf, numeralField, setSaid, illegalAnswer, SetAnswered, RowRead}
 use Rattle.readings.specs.declared.Answer.{Answer}
 use Rattle.readings.specs.declared.Answer.the-variants.{Missing, Number, Set, Text, Truth, BadTable, NoRow, ShortRecord, Illegal, ShortList}
 
@@ -162,36 +163,46 @@ illegal-back p n (holds (truth x)) = refl
 illegal-back p n illegal = refl
 
 -- ---- answers of numbers, by what was said
-module _ (ok : ℤ → Bool) (s : List ℕ) (p n : ℕ) where
-  pub single-missing : codeOf s ≡ blank → Missing ≡ answerOf p n (singleField ok s)
-  unfolding answerOf singleSays
-  single-missing e = rw e
+module _ (zero : Bool) (ok : ℤ → Bool) (p n : ℕ) where
+  pub numeral-missing : Missing ≡ answerOf p n (numeralField zero ok blank)
+  unfolding answerOf numeralField singleSays quantitySays
+  numeral-missing = go zero
+    where
+      go : (z : Bool) → Missing ≡ answerOf p n (numeralField z ok blank)
+      go true = refl
+      go false = refl
 
-  pub single-wrong : codeOf s ≡ wrong → Illegal ≡ answerOf p n (singleField ok s)
-  unfolding answerOf singleSays
-  single-wrong e = rw e
+  pub numeral-wrong : Illegal ≡ answerOf p n (numeralField zero ok wrong)
+  unfolding answerOf numeralField singleSays quantitySays
+  numeral-wrong = go zero
+    where
+      go : (z : Bool) → Illegal ≡ answerOf p n (numeralField z ok wrong)
+      go true = refl
+      go false = refl
 
-  module _ (z : ℤ) (e : codeOf s ≡ says z) where
-    pub single-zero : eqZ z (pos 0) ≡ true → Missing ≡ answerOf p n (singleField ok s)
-    unfolding answerOf singleSays
-    single-zero q = rw (e, q)
+  pub numeral-zero : (z : ℤ) → zero && eqZ z (pos 0) ≡ true → Missing ≡ answerOf p n (numeralField zero ok (says z))
+  unfolding answerOf numeralField singleSays
+  numeral-zero z e = go zero e
+    where
+      go : (b : Bool) → b && eqZ z (pos 0) ≡ true → Missing ≡ answerOf p n (numeralField b ok (says z))
+      go true q = rw q
+      go false q = holds-not q refl
 
-    pub single-number : eqZ z (pos 0) ≡ false → answerOf p n (numberField ok z) ≡ answerOf p n (singleField ok s)
-    unfolding singleSays
-    single-number q = rw (e, q)
+  pub numeral-number : (z : ℤ) → zero && eqZ z (pos 0) ≡ false → answerOf p n (numberField ok z) ≡ answerOf p n (numeralField zero ok (says z))
+  unfolding numeralField singleSays quantitySays
+  numeral-number z e = go zero e
+    where
+      go : (b : Bool) → b && eqZ z (pos 0) ≡ false → answerOf p n (numberField ok z) ≡ answerOf p n (numeralField b ok (says z))
+      go true q = rw q
+      go false q = refl
 
-  module _ (f : Format) where
-    pub quantity-missing : quantityOf f s ≡ blank → Missing ≡ answerOf p n (quantityField f ok s)
-    unfolding answerOf quantitySays
-    quantity-missing e = rw e
+pub as-single-says : (ok : ℤ → Bool) (s : List ℕ) (x : Said) (p n : ℕ) → x ≡ codeOf s → answerOf p n (numeralField true ok x) ≡ answerOf p n (singleField ok s)
+unfolding numeralField
+as-single-says ok s x p n e = rw e
 
-    pub quantity-wrong : quantityOf f s ≡ wrong → Illegal ≡ answerOf p n (quantityField f ok s)
-    unfolding answerOf quantitySays
-    quantity-wrong e = rw e
-
-    pub quantity-number : (z : ℤ) → quantityOf f s ≡ says z → answerOf p n (numberField ok z) ≡ answerOf p n (quantityField f ok s)
-    unfolding quantitySays
-    quantity-number z e = rw e
+pub as-quantity-says : (f : Format) (ok : ℤ → Bool) (s : List ℕ) (x : Said) (p n : ℕ) → x ≡ quantityOf f s → answerOf p n (numeralField false ok x) ≡ answerOf p n (quantityField f ok s)
+unfolding numeralField
+as-quantity-says f ok s x p n e = rw e
 
 -- ---- the part of the record that the code lends
 pub last-bytes : (bytes : List ℕ) (e w : ℕ) → w ≤ e → e ≤ length bytes → take (e - (e - w)) (drop (e - w) bytes) ≡ pick bytes (run (e - w) w)

@@ -6,7 +6,8 @@ use Prim.Native.Nat.{ℕ}
 use lib.Dec.{leb}
 use lib.IntN.{ℤ}
 use lib.ListN.{length}
-use Rattle.fields.specs.Field.{Value, missing, number, members, text, truth, Field, holds, illegal}
+use Rattle.fields.specs.Field.{Value, missing, number, members, text, truth, Field, holds, illegal, singleSays, quantitySays}
+use Rattle.fields.specs.Number.{Said}
 use Rattle.sets.specs.Sets.{listAfter}
 use Rattle.sets.specs.declared.SetRead.{SetRead}
 use Rattle.sets.specs.declared.SetRead.the-variants as set
@@ -21,6 +22,11 @@ answerOf p n (holds (members ms)) = cond (leb (length ms) n) (Set (length ms)) S
 answerOf p n (holds (text s)) = Text p (length s)
 answerOf p n (holds (truth b)) = Truth b
 answerOf p n illegal = Illegal
+
+-- a number field by what its bytes say, where zero is missing (SINGLE) and where it is not (QUANTITY)
+unfoldable pub numeralField : Bool → (ℤ → Bool) → Said → Field
+numeralField true ok s = singleSays ok s
+numeralField false ok s = quantitySays ok s
 
 unfoldable pub setSaid : SetRead → Answer
 setSaid set.Missing = Missing

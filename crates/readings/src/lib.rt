@@ -10,9 +10,9 @@ ghost use Rattle.fields.specs.Legal.{legal};
 ghost use Rattle.fields.specs.Facts.{LineFacts};
 ghost use Rattle.fields.specs.Field.{numberField, singleField, quantityField, bitsField, spreadField, textField, truthField};
 ghost use Rattle.fields.specs.Row.{categories, bitPlaces, spreadPlaces, readingOf};
-ghost use Rattle.numbers.specs.Numeral.{FormatFacts};
+ghost use Rattle.numbers.specs.Numeral.{FormatFacts, saidOf};
 ghost use Rattle.sets.specs.Sets.{BitsFacts, FieldsFacts, isIllegal};
-ghost use Rattle.readings.specs.Answer.{answerOf, setSaid, illegalAnswer, SetAnswered, RowRead};
+ghost use Rattle.readings.specs.Answer.{answerOf, numeralField, setSaid, illegalAnswer, SetAnswered, RowRead};
 ghost use Rattle.readings.specs.Ready.{NumberFacts, RowReady};
 use layout::Format;
 use layout::Kind;
@@ -48,22 +48,30 @@ fn number_answer(t: &[i64], rows: usize, row: Row, z: i64) -> Answer
     Answer::Illegal
 }
 
-fn single(t: &[i64], rows: usize, row: Row, bytes: &[u8]) -> Answer
-    requires { ⌜ NumberFacts 17 (now t) rows row (length (now bytes)) ⌝ }
-    ensures { λ r. ⌜ ((p n : ℕ) → r ≡ answerOf p n (singleField (legal (now (t .entry)) rows row) (pick (now (bytes .entry)) (run (row .finish - row .width) (row .width))))) ⌝ }
+// What a number field's bytes say: zero is missing for a SINGLE and a number for a quantity.
+fn numeral_answer(t: &[i64], rows: usize, row: Row, said: Numeral, zero_is_missing: bool) -> Answer
+    requires { ⌜ LineFacts (now t) rows row ⌝ }
+    ensures { λ r. ⌜ ((p n : ℕ) → r ≡ answerOf p n (numeralField «zero_is_missing» (legal (now (t .entry)) rows row) (saidOf said))) ⌝ }
 {
-    let e = row.finish;
-    let a = e - row.width;
-    match numbers::code(&bytes[a..e]) {
+    match said {
         Numeral::Blank => Answer::Missing,
         Numeral::Says(z) => {
-            if cells::same(z, 0) {
+            if zero_is_missing & cells::same(z, 0) {
                 return Answer::Missing;
             }
             number_answer(t, rows, row, z)
         }
         Numeral::Wrong => Answer::Illegal,
     }
+}
+
+fn single(t: &[i64], rows: usize, row: Row, bytes: &[u8]) -> Answer
+    requires { ⌜ NumberFacts 17 (now t) rows row (length (now bytes)) ⌝ }
+    ensures { λ r. ⌜ ((p n : ℕ) → r ≡ answerOf p n (singleField (legal (now (t .entry)) rows row) (pick (now (bytes .entry)) (run (row .finish - row .width) (row .width))))) ⌝ }
+{
+    let e = row.finish;
+    let a = e - row.width;
+    numeral_answer(t, rows, row, numbers::code(&bytes[a..e]), true)
 }
 
 fn quantity(t: &[i64], rows: usize, row: Row, f: Format, bytes: &[u8]) -> Answer
@@ -73,11 +81,7 @@ fn quantity(t: &[i64], rows: usize, row: Row, f: Format, bytes: &[u8]) -> Answer
 {
     let e = row.finish;
     let a = e - row.width;
-    match numbers::quantity(f, &bytes[a..e]) {
-        Numeral::Blank => Answer::Missing,
-        Numeral::Says(z) => number_answer(t, rows, row, z),
-        Numeral::Wrong => Answer::Illegal,
-    }
+    numeral_answer(t, rows, row, numbers::quantity(f, &bytes[a..e]), false)
 }
 
 // The text in the w bytes from the place at on.

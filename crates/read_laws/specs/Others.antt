@@ -1,0 +1,278 @@
+-- CHARACTER, LOGICAL and spreads in the paper's own words, both ways.
+use mathlib.Core.Path.{_≡_, refl, sym, ap, subst, _∙_}
+use mathlib.Core.Logic.{_⊎_, inl, inr, ⊎-elim}
+use mathlib.Core.Bool.{Bool, true, false, cond, _&&_, _||_}
+use mathlib.Core.List.{List, [], _∷_, _++_, append-assoc, append-nil}
+use Prim.Native.Nat.{ℕ, zero, suc, _+_, _-_, _^_, _≤_, _<_}
+use native.Mathlib.Nat.{eq-or-lt-of-le}
+use native.Mathlib.Omega.{arith}
+use borrow.Author.Tests.{eqb-true, eqb-false, eq-eqb, ne-eqb, le-leb, leb-true, lt-ltb}
+use lib.Dec.{eqb, leb, ltb}
+use lib.IntN.{ℤ, pos}
+use lib.ListN.{length, take, drop}
+use lib.Signed.{ltZ}
+use Rattle.below.specs.Below.{holds-not, same-bool}
+use Rattle.cells.specs.Cell.{eqZ, same-true, same-self}
+use Rattle.fields.specs.Number.{Said, blank, says, wrong, allSpaces, codeOf}
+use Rattle.fields.specs.Field.{Value, missing, number, members, text, truth, Field, holds, illegal, allPlain, unended, textField, truthField, entryGood, entryIs, allEntries, someEntry, passing, spreadSet, spreadField, isMember, risingFrom}
+use Rattle.read_laws.specs.Forms.{Spaces, none, space, CodeForm, code-exactly, code-blank-exactly, spaces-all, all-spaces}
+
+-- ---- CHARACTER
+-- a text's bytes: the text, which ends in no space, and spaces
+pub record TextForm (s x : List ℕ) : Type 0 where
+  pub front : List ℕ
+  pub last : ℕ
+  pub gap : List ℕ
+  pub ends : x ≡ front ++ (last ∷ [])
+  pub made : s ≡ x ++ gap
+  pub no-space : last ≡ 32 → ⊥
+  pub blank-gap : Spaces gap
+
+none-left : (s : List ℕ) → allSpaces s ≡ true → unended s ≡ []
+unfolding unended
+none-left [] e = refl
+none-left (b ∷ s) e = rw e
+
+more-left : (b : ℕ) (s : List ℕ) → allSpaces (b ∷ s) ≡ false → unended (b ∷ s) ≡ b ∷ unended s
+unfolding unended
+more-left b s e = rw e
+
+head-not : (b : ℕ) (s : List ℕ) → allSpaces (b ∷ s) ≡ false → allSpaces s ≡ true → b ≡ 32 → ⊥
+unfolding allSpaces
+head-not b s e f q = holds-not (rw (eq-eqb b 32 q) f) e
+
+not-all : (b : ℕ) (s : List ℕ) → allSpaces s ≡ false → allSpaces (b ∷ s) ≡ false
+unfolding allSpaces
+not-all b s e = rw e (go (eqb b 32))
+  where
+    go : (c : Bool) → c && false ≡ false
+    go true = refl
+    go false = refl
+
+text-split : (s : List ℕ) → allSpaces s ≡ false → TextForm s (unended s)
+unfolding allSpaces
+text-split [] e = holds-not refl e
+text-split (b ∷ s) e = go (allSpaces s) refl (λ q. text-split s q)
+  where
+    go : (c : Bool) → allSpaces s ≡ c → (allSpaces s ≡ false → TextForm s (unended s)) → TextForm (b ∷ s) (unended (b ∷ s))
+    go true a ih = record {
+      front = [];
+      last = b;
+      gap = s;
+      ends = more-left b s e ∙ rw (none-left s a);
+      made = rw (more-left b s e, none-left s a);
+      no-space = head-not b s e a;
+      blank-gap = all-spaces s a;
+    }
+    go false a ih =
+        let f = ih a in
+        record {
+          front = b ∷ f .front;
+          last = f .last;
+          gap = f .gap;
+          ends = more-left b s e ∙ ap (λ (l : List ℕ). b ∷ l) (f .ends);
+          made = ap (λ (l : List ℕ). b ∷ l) (f .made) ∙ rw (more-left b s e);
+          no-space = f .no-space;
+          blank-gap = f .blank-gap;
+        }
+
+one-not : (b : ℕ) (s : List ℕ) → (b ≡ 32 → ⊥) → allSpaces (b ∷ s) ≡ false
+unfolding allSpaces
+one-not b s h = rw (ne-eqb b 32 h)
+
+text-joined : (front : List ℕ) (last : ℕ) (gap : List ℕ) → (last ≡ 32 → ⊥) → Spaces gap
+    → (allSpaces (front ++ (last ∷ gap)) ≡ false) × (unended (front ++ (last ∷ gap)) ≡ front ++ (last ∷ []))
+text-joined [] last gap h g =
+    let n = one-not last gap h in
+    (n, more-left last gap n ∙ rw (none-left gap (spaces-all g)))
+text-joined (b ∷ front) last gap h g =
+    let r = text-joined front last gap h g in
+    let n = not-all b (front ++ (last ∷ gap)) (r .0) in
+    (n, more-left b (front ++ (last ∷ gap)) n ∙ rw (r .1))
+
+module _ (s x : List ℕ) where
+  text-by : (c d : Bool) → allSpaces s ≡ c → allPlain s ≡ d → cond c (holds missing) (cond d (holds (text (unended s))) illegal) ≡ holds (text x)
+      → TextForm s x × (allPlain s ≡ true)
+  text-by true d a b e = let k : _≡_ {A = ℕ} 0 1 = cc in absurd (omega arith)
+  text-by false false a b e = let k : _≡_ {A = ℕ} 0 1 = cc in absurd (omega arith)
+  text-by false true a b e = let w : unended s ≡ x = cc in (rw w at (text-split s a), b)
+
+  text-of : TextForm s x → allPlain s ≡ true → textField s ≡ holds (text x)
+  unfolding textField
+  text-of f p =
+      let m : s ≡ f .front ++ (f .last ∷ f .gap) = f .made ∙ rw (f .ends, append-assoc) in
+      let r = text-joined (f .front) (f .last) (f .gap) (f .no-space) (f .blank-gap) in
+      let a : allSpaces s ≡ false = rw m (r .0) in
+      let u : unended s ≡ x = rw (m, f .ends) (r .1) in
+      rw (a, p, u)
+
+  -- A TEXT reads as x exactly when its bytes are x, which ends in no space, and spaces, and none is below 32
+  pub text-exactly : (textField s ≡ holds (text x) → TextForm s x × (allPlain s ≡ true)) × (TextForm s x → allPlain s ≡ true → textField s ≡ holds (text x))
+  unfolding textField
+  text-exactly = (λ e. text-by (allSpaces s) (allPlain s) refl refl e, text-of)
+
+-- ---- LOGICAL: one byte
+pub truth-exactly :
+    (truthField (49 ∷ []) ≡ holds (truth true)) × (truthField (48 ∷ []) ≡ holds (truth false)) × (truthField (32 ∷ []) ≡ holds missing)
+    × ((b : ℕ) → (b ≡ 49 → ⊥) → (b ≡ 48 → ⊥) → (b ≡ 32 → ⊥) → truthField (b ∷ []) ≡ illegal)
+unfolding truthField allSpaces
+truth-exactly = (refl, refl, refl, λ b p q r. rw (ne-eqb b 32 r, ne-eqb b 49 p, ne-eqb b 48 q))
+
+-- ---- a spread
+-- a subfield is spaces, or says zero, or says a legal number
+pub data EntryForm (ok : ℤ → Bool) (x : List ℕ) : Type 0 where
+  unused : Spaces x → EntryForm ok x
+  zero-entry : CodeForm x (pos 0) → EntryForm ok x
+  entry : (z : ℤ) → CodeForm x z → ok z ≡ true → EntryForm ok x
+
+module _ (ok : ℤ → Bool) (x : List ℕ) where
+  entry-by : (y : Said) → codeOf x ≡ y → entryGood ok y ≡ true → EntryForm ok x
+  unfolding entryGood
+  entry-by blank u e = unused (code-blank-exactly x .0 u)
+  entry-by wrong u e = holds-not e refl
+  entry-by (says z) u e = go (eqZ z (pos 0)) refl e
+    where
+      go : (c : Bool) → eqZ z (pos 0) ≡ c → c || ok z ≡ true → EntryForm ok x
+      go true a q = zero-entry (code-exactly x (pos 0) .0 (u ∙ ap says (same-true z (pos 0) a)))
+      go false a q = entry z (code-exactly x z .0 u) q
+
+  entry-of : EntryForm ok x → entryGood ok (codeOf x) ≡ true
+  unfolding entryGood
+  entry-of (unused r) = rw (code-blank-exactly x .1 r)
+  entry-of (zero-entry f) = rw (code-exactly x (pos 0) .1 f, same-self (pos 0))
+  entry-of (entry z f l) = rw (code-exactly x z .1 f, l) (or-true (eqZ z (pos 0)))
+    where
+      or-true : (c : Bool) → c || true ≡ true
+      or-true true = refl
+      or-true false = refl
+
+-- each of n subfields of w bytes
+pub data Entries (ok : ℤ → Bool) (w : ℕ) : ℕ → List ℕ → Type 0 where
+  done : {s : List ℕ} → Entries ok w 0 s
+  next : {n : ℕ} {s : List ℕ} → EntryForm ok (take w s) → Entries ok w n (drop w s) → Entries ok w (suc n) s
+
+-- some of them says c
+pub data SomeSays (c : ℤ) (w : ℕ) : ℕ → List ℕ → Type 0 where
+  here : {n : ℕ} {s : List ℕ} → CodeForm (take w s) c → SomeSays c w (suc n) s
+  there : {n : ℕ} {s : List ℕ} → SomeSays c w n (drop w s) → SomeSays c w (suc n) s
+
+both-true : (a b : Bool) → a && b ≡ true → (a ≡ true) × (b ≡ true)
+both-true true b e = (refl, e)
+both-true false b e = holds-not e refl
+
+either-true : {A : Type 0} (a b : Bool) → a || b ≡ true → (a ≡ true → A) → (b ≡ true → A) → A
+either-true true b e f g = f refl
+either-true false b e f g = g e
+
+module _ (ok : ℤ → Bool) (w : ℕ) where
+  entries-from : (n : ℕ) (s : List ℕ) → allEntries ok w n s ≡ true → Entries ok w n s
+  unfolding allEntries
+  entries-from zero s e = done
+  entries-from (suc n) s e =
+      let p = both-true (entryGood ok (codeOf (take w s))) (allEntries ok w n (drop w s)) e in
+      next (entry-by ok (take w s) (codeOf (take w s)) refl (p .0)) (entries-from n (drop w s) (p .1))
+
+  entries-to : {n : ℕ} {s : List ℕ} → Entries ok w n s → allEntries ok w n s ≡ true
+  unfolding allEntries
+  entries-to done = refl
+  entries-to (next {s} e r) = rw (entry-of ok (take w s) e, entries-to r)
+
+module _ (c : ℤ) (w : ℕ) where
+  says-by : (x : List ℕ) (y : Said) → codeOf x ≡ y → entryIs c y ≡ true → CodeForm x c
+  unfolding entryIs
+  says-by x blank u e = holds-not e refl
+  says-by x wrong u e = holds-not e refl
+  says-by x (says z) u e = code-exactly x c .0 (u ∙ ap says (same-true z c e))
+
+  says-of : (x : List ℕ) → CodeForm x c → entryIs c (codeOf x) ≡ true
+  unfolding entryIs
+  says-of x f = rw (code-exactly x c .1 f, same-self c)
+
+  some-from : (n : ℕ) (s : List ℕ) → someEntry c w n s ≡ true → SomeSays c w n s
+  unfolding someEntry
+  some-from zero s e = holds-not e refl
+  some-from (suc n) s e =
+      either-true (entryIs c (codeOf (take w s))) (someEntry c w n (drop w s)) e
+      (λ q. here (says-by (take w s) (codeOf (take w s)) refl q)) (λ q. there (some-from n (drop w s) q))
+
+  some-to : {n : ℕ} {s : List ℕ} → SomeSays c w n s → someEntry c w n s ≡ true
+  unfolding someEntry
+  some-to (here {s} f) = rw (says-of (take w s) f)
+  some-to (there {n} {s} r) = rw (some-to r) (or-true (entryIs c (codeOf (take w s))))
+    where
+      or-true : (b : Bool) → b || true ≡ true
+      or-true true = refl
+      or-true false = refl
+
+or-true : (b : Bool) → b || true ≡ true
+or-true true = refl
+or-true false = refl
+
+pos-same : (c k : ℕ) → eqZ (pos c) (pos k) ≡ true → c ≡ k
+unfolding eqZ
+pos-same c k e = eqb-true c k e
+
+-- ---- the numbers that pass: rising, none twice, and no others
+module _ (f : ℤ → Bool) where
+  pub passing-rises : (n c : ℕ) (a : ℕ) → a < c → risingFrom (pos a) (passing f c n) ≡ true
+  unfolding risingFrom passing
+  passing-rises zero c a h = refl
+  passing-rises (suc n) c a h = go (f (pos c)) (passing-rises n (suc c) c (omega arith)) (passing-rises n (suc c) a (omega arith))
+    where
+      go : (b : Bool) → risingFrom (pos c) (passing f (suc c) n) ≡ true → risingFrom (pos a) (passing f (suc c) n) ≡ true
+          → risingFrom (pos a) (cond b (pos c ∷ passing f (suc c) n) (passing f (suc c) n)) ≡ true
+      go true r s = rw (lt-ltb a c h) r
+      go false r s = s
+
+  -- a number is among them exactly when it lies there and passes
+  pub passing-has : (n c k : ℕ) → isMember (passing f c n) (pos k) ≡ true → (c ≤ k) × (k < c + n) × (f (pos k) ≡ true)
+  unfolding isMember passing
+  passing-has zero c k e = holds-not e refl
+  passing-has (suc n) c k e = go (f (pos c)) refl e (λ q. passing-has n (suc c) k q)
+    where
+      go : (b : Bool) → f (pos c) ≡ b → isMember (cond b (pos c ∷ passing f (suc c) n) (passing f (suc c) n)) (pos k) ≡ true
+          → (isMember (passing f (suc c) n) (pos k) ≡ true → (suc c ≤ k) × (k < suc c + n) × (f (pos k) ≡ true)) → (c ≤ k) × (k < c + suc n) × (f (pos k) ≡ true)
+      go true p q ih =
+          either-true (eqZ (pos c) (pos k)) (isMember (passing f (suc c) n) (pos k)) q
+          (λ a. let w : c ≡ k = pos-same c k a in (omega arith, omega arith, rw w at p))
+          (λ a. let r = ih a in (omega (arith, r .0), omega (arith, r .1), r .2))
+      go false p q ih = let r = ih q in (omega (arith, r .0), omega (arith, r .1), r .2)
+
+  pub passing-of : (n c k : ℕ) → c ≤ k → k < c + n → f (pos k) ≡ true → isMember (passing f c n) (pos k) ≡ true
+  unfolding isMember passing
+  passing-of zero c k a b e = absurd (omega arith)
+  passing-of (suc n) c k a b e =
+      ⊎-elim
+      (λ q. let p : f (pos c) ≡ true = rw (← q) at e in rw (p, ← q, same-self (pos c)))
+      (λ l. go (f (pos c)) (passing-of n (suc c) k l (omega arith) e))
+      (eq-or-lt-of-le a)
+    where
+      go : (b : Bool) → isMember (passing f (suc c) n) (pos k) ≡ true → isMember (cond b (pos c ∷ passing f (suc c) n) (passing f (suc c) n)) (pos k) ≡ true
+      go true r = rw r (or-true (eqZ (pos c) (pos k)))
+      go false r = r
+
+-- A SPREAD'S SET: a number is a member exactly when it has at most w digits, is above 0, and some subfield says it; the set rises
+module _ (w n : ℕ) (s : List ℕ) where
+  pub spread-has : (k : ℕ) → isMember (spreadSet w n s) (pos k) ≡ true → (1 ≤ k) × (k < 1 + (10 ^ w - 1)) × SomeSays (pos k) w n s
+  spread-has k e = let r = passing-has (λ c. someEntry c w n s) (10 ^ w - 1) 1 k e in (r .0, r .1, some-from (pos k) w n s (r .2))
+
+  pub has-spread : (k : ℕ) → 1 ≤ k → k < 1 + (10 ^ w - 1) → SomeSays (pos k) w n s → isMember (spreadSet w n s) (pos k) ≡ true
+  has-spread k a b r = passing-of (λ c. someEntry c w n s) (10 ^ w - 1) 1 k a b (some-to (pos k) w r)
+
+  pub spread-rises : risingFrom (pos 0) (spreadSet w n s) ≡ true
+  spread-rises = passing-rises (λ c. someEntry c w n s) (10 ^ w - 1) 1 0 (omega arith)
+
+module _ (ok : ℤ → Bool) (w n : ℕ) (s : List ℕ) (ms : List ℤ) where
+  spread-by : (c d : Bool) → allSpaces s ≡ c → allEntries ok w n s ≡ d → cond c (holds missing) (cond d (holds (members (spreadSet w n s))) illegal) ≡ holds (members ms)
+      → (allSpaces s ≡ false) × Entries ok w n s × (ms ≡ spreadSet w n s)
+  spread-by true d a b e = let k : _≡_ {A = ℕ} 0 1 = cc in absurd (omega arith)
+  spread-by false false a b e = let k : _≡_ {A = ℕ} 0 1 = cc in absurd (omega arith)
+  spread-by false true a b e = let q : ms ≡ spreadSet w n s = cc in (a, entries-from ok w n s b, q)
+
+  -- A SPREAD reads as this set exactly when each subfield is unused or says a legal number, not all are spaces, and the set is that of the
+  -- numbers from 1 on that some subfield says
+  pub spread-exactly :
+      (spreadField ok w n s ≡ holds (members ms) → (allSpaces s ≡ false) × Entries ok w n s × (ms ≡ spreadSet w n s))
+      × (allSpaces s ≡ false → Entries ok w n s → ms ≡ spreadSet w n s → spreadField ok w n s ≡ holds (members ms))
+  unfolding spreadField
+  spread-exactly = (λ e. spread-by (allSpaces s) (allEntries ok w n s) refl refl e, λ a b q. rw (a, entries-to ok w b, q))

@@ -1,0 +1,419 @@
+// The tables of source document 003 for SINGLE, both forms of MULTIPLE, QUANTITY, CHARACTER and LOGICAL, run through the public call that
+// reads one row and compared with the document's column of data values. A line a case: what the document has, and whether the call
+// says the same. `x` stands in the bytes that are ignored, and all round the field.
+use readings::Answer;
+
+// A table of one row whose position starts at 21, with up to four lines.
+fn table(
+    kind: i64,
+    finish: i64,
+    w: i64,
+    f: [i64; 4],
+    range: [i64; 3],
+    lines: [i64; 5],
+) -> [i64; 40] {
+    [
+        11,
+        1,
+        lines[0],
+        finish,
+        6,
+        24,
+        1,
+        kind,
+        21,
+        finish,
+        w,
+        f[0],
+        f[1],
+        f[2],
+        f[3],
+        range[0],
+        range[1],
+        range[2],
+        0,
+        lines[0],
+        0,
+        0,
+        0,
+        0,
+        lines[1],
+        0,
+        0,
+        0,
+        lines[2],
+        0,
+        0,
+        0,
+        lines[3],
+        0,
+        0,
+        0,
+        lines[4],
+        0,
+        0,
+        0,
+    ]
+}
+
+// A record with the data from byte 21 on.
+fn record_of(data: &[u8]) -> [u8; 40] {
+    let mut r = [120u8; 40];
+    let mut i: usize = 0;
+    while i < 20 {
+        if i < data.len() {
+            r[20 + i] = data[i];
+        }
+        i += 1;
+    }
+    r
+}
+
+fn say(label: &[u8], same: bool) {
+    io::write_all(1, label);
+    if same {
+        io::write_all(1, b": as the document\n");
+    } else {
+        io::write_all(1, b": DIFFERS\n");
+    }
+}
+
+fn number(label: &[u8], t: &[i64; 40], data: &[u8], want: i64) {
+    let r = record_of(data);
+    let mut list = [0i64; 4];
+    match records::read_value(t, 0, &r, &mut list) {
+        Answer::Number(z) => say(label, z == want),
+        _ => say(label, false),
+    }
+}
+
+fn missing(label: &[u8], t: &[i64; 40], data: &[u8]) {
+    let r = record_of(data);
+    let mut list = [0i64; 4];
+    match records::read_value(t, 0, &r, &mut list) {
+        Answer::Missing => say(label, true),
+        _ => say(label, false),
+    }
+}
+
+// A position too narrow for its values: no record is read by such a table.
+fn refused(label: &[u8], t: &[i64; 40], data: &[u8]) {
+    let r = record_of(data);
+    let mut list = [0i64; 4];
+    match records::read_value(t, 0, &r, &mut list) {
+        Answer::BadTable => say(label, true),
+        _ => say(label, false),
+    }
+}
+
+// The members, of which there are n, and 0 behind them.
+fn members(label: &[u8], t: &[i64; 40], data: &[u8], n: usize, want: [i64; 2]) {
+    let r = record_of(data);
+    let mut list = [0i64; 4];
+    match records::read_value(t, 0, &r, &mut list) {
+        Answer::Set(k) => {
+            let a = list[0];
+            let b = list[1];
+            say(label, (k == n) & (a == want[0]) & (b == want[1]))
+        }
+        _ => say(label, false),
+    }
+}
+
+fn singles() {
+    let to9 = [1, 1, 9];
+    let to20 = [1, 1, 20];
+    let none = [0i64; 4];
+    let no_lines = [0i64; 5];
+    number(
+        b"single 7 of 9, 21 to 21, 7",
+        &table(1, 21, 1, none, to9, no_lines),
+        b"7",
+        7,
+    );
+    number(
+        b"single 7 of 9, 21 to 22, x7",
+        &table(1, 22, 1, none, to9, no_lines),
+        b"x7",
+        7,
+    );
+    number(
+        b"single 7 of 20, 21 to 22, 07",
+        &table(1, 22, 2, none, to20, no_lines),
+        b"07",
+        7,
+    );
+    number(
+        b"single 7 of 20, 21 to 22, b7",
+        &table(1, 22, 2, none, to20, no_lines),
+        b" 7",
+        7,
+    );
+    refused(
+        b"single 7 of 20, 21, illegal",
+        &table(1, 21, 2, none, to20, no_lines),
+        b"7",
+    );
+    number(
+        b"single 7 of 20, 21 to 24, xx07",
+        &table(1, 24, 2, none, to20, no_lines),
+        b"xx07",
+        7,
+    );
+    number(
+        b"single 7 of 20, 21 to 24, xxb7",
+        &table(1, 24, 2, none, to20, no_lines),
+        b"xx 7",
+        7,
+    );
+    number(
+        b"single 17 of 20, 21 to 22, 17",
+        &table(1, 22, 2, none, to20, no_lines),
+        b"17",
+        17,
+    );
+    number(
+        b"single 17 of 20, 21 to 24, xx17",
+        &table(1, 24, 2, none, to20, no_lines),
+        b"xx17",
+        17,
+    );
+}
+
+fn large_singles() {
+    let t = table(1, 24, 4, [0i64; 4], [1, 1, 9999], [0i64; 5]);
+    number(b"single 142 of 9999, 21 to 24, 0142", &t, b"0142", 142);
+    number(b"single 142 of 9999, 21 to 24, b142", &t, b" 142", 142);
+    missing(b"single missing of 9999, 21 to 24, bbbb", &t, b"    ");
+}
+
+fn bitstrings() {
+    let none = [0i64; 4];
+    let nine = table(2, 29, 9, none, [1, 1, 9], [0i64; 5]);
+    let wide = table(2, 30, 9, none, [1, 1, 9], [0i64; 5]);
+    let four = table(2, 29, 9, none, [0i64; 3], [4, 1, 2, 3, 9]);
+    let narrow = table(2, 24, 9, none, [0i64; 3], [4, 1, 2, 3, 9]);
+    members(
+        b"bits 1 of 1 to 9, 100000000",
+        &nine,
+        b"100000000",
+        1,
+        [1, 0],
+    );
+    members(
+        b"bits 1 of 1, 2, 3 and 9, 100xxxxx0",
+        &four,
+        b"100xxxxx0",
+        1,
+        [1, 0],
+    );
+    members(
+        b"bits 1, 3 of 1 to 9, 101000000",
+        &nine,
+        b"101000000",
+        2,
+        [1, 3],
+    );
+    members(
+        b"bits none of 1 to 9, 000000000",
+        &nine,
+        b"000000000",
+        0,
+        [0, 0],
+    );
+    members(
+        b"bits 2, 8 of 1 to 9, 21 to 30, 010000010x",
+        &wide,
+        b"010000010x",
+        2,
+        [2, 8],
+    );
+    refused(
+        b"bits 2 of 1, 2, 3 and 9, 21 to 24, illegal",
+        &narrow,
+        b"010x",
+    );
+    missing(b"bits missing of 1 to 9, bbbbbbbbb", &nine, b"         ");
+    missing(
+        b"bits missing of 1, 2, 3 and 9, bbbxxxxxb",
+        &four,
+        b"   xxxxx ",
+    );
+}
+
+fn spreads() {
+    let of1 = [0, 0, 2, 1];
+    let nine = table(2, 22, 1, of1, [1, 1, 9], [0i64; 5]);
+    let four = table(2, 22, 1, of1, [0i64; 3], [4, 1, 2, 3, 9]);
+    members(b"spread 1 of 1 to 9, 2 of 1, 10", &nine, b"10", 1, [1, 0]);
+    members(b"spread 1 of 1 to 9, 2 of 1, 01", &nine, b"01", 1, [1, 0]);
+    members(
+        b"spread 1 of 1, 2, 3 and 9, 2 of 1, 10",
+        &four,
+        b"10",
+        1,
+        [1, 0],
+    );
+    members(
+        b"spread 1 of 1, 2, 3 and 9, 2 of 1, 01",
+        &four,
+        b"01",
+        1,
+        [1, 0],
+    );
+    members(
+        b"spread 1, 3 of 1 to 9, 2 of 1, 13",
+        &nine,
+        b"13",
+        2,
+        [1, 3],
+    );
+    members(
+        b"spread none of 1 to 9, 2 of 1, 00",
+        &nine,
+        b"00",
+        0,
+        [0, 0],
+    );
+}
+
+fn wide_spreads() {
+    let two = table(2, 24, 1, [0, 0, 2, 2], [1, 1, 9], [0i64; 5]);
+    let four = table(2, 24, 1, [0, 0, 2, 1], [0i64; 3], [4, 1, 2, 3, 9]);
+    let large = table(2, 26, 3, [0, 0, 2, 3], [1, 1, 999], [0i64; 5]);
+    members(
+        b"spread 1 of 1 to 9, 2 of 2, x1x0",
+        &two,
+        b"x1x0",
+        1,
+        [1, 0],
+    );
+    members(
+        b"spread 1 of 1 to 9, 2 of 2, x0x1",
+        &two,
+        b"x0x1",
+        1,
+        [1, 0],
+    );
+    members(
+        b"spread 2 of 1, 2, 3 and 9, 2 of 1, 21 to 24, 20xx",
+        &four,
+        b"20xx",
+        1,
+        [2, 0],
+    );
+    members(
+        b"spread 2 of 1, 2, 3 and 9, 2 of 1, 21 to 24, 02xx",
+        &four,
+        b"02xx",
+        1,
+        [2, 0],
+    );
+    members(
+        b"spread 1, 42 of 1 to 999, 2 of 3, 001042",
+        &large,
+        b"001042",
+        2,
+        [1, 42],
+    );
+    missing(
+        b"spread missing of 1 to 999, 2 of 3, bbbbbb",
+        &large,
+        b"      ",
+    );
+}
+
+fn quantities() {
+    let whole = [0i64; 4];
+    let no_lines = [0i64; 5];
+    let plain = table(3, 22, 2, whole, [1, 0, 99], no_lines);
+    let cents = table(3, 25, 5, [2, 1, 0, 0], [1, 0, 9999], no_lines);
+    let signed = table(3, 23, 3, whole, [1, -99, 99], no_lines);
+    number(b"quantity 7 of 0 to 99, b7", &plain, b" 7", 7);
+    number(b"quantity 7 of 0 to 99, 07", &plain, b"07", 7);
+    number(
+        b"quantity 7.00 of 0.00 to 99.99, b7.00",
+        &cents,
+        b" 7.00",
+        700,
+    );
+    number(
+        b"quantity 7.00 of 0.00 to 99.99, 07.00",
+        &cents,
+        b"07.00",
+        700,
+    );
+    number(b"quantity -7 of -99 to 99, b-7", &signed, b" -7", -7);
+    number(b"quantity -7 of -99 to 99, -07", &signed, b"-07", -7);
+}
+
+fn more_quantities() {
+    let whole = [0i64; 4];
+    let no_lines = [0i64; 5];
+    let minus_one = table(3, 22, 2, whole, [1, -1, 99], no_lines);
+    let wide = table(3, 23, 2, whole, [1, -1, 99], no_lines);
+    let cents = table(3, 26, 5, [2, 1, 0, 0], [1, -100, 9999], no_lines);
+    number(
+        b"quantity 7 of -1 to 99, 21 to 22, b7",
+        &minus_one,
+        b" 7",
+        7,
+    );
+    number(
+        b"quantity 7 of -1 to 99, 21 to 22, 07",
+        &minus_one,
+        b"07",
+        7,
+    );
+    number(b"quantity 7 of -1 to 99, 21 to 23, xb7", &wide, b"x 7", 7);
+    number(b"quantity 7 of -1 to 99, 21 to 23, x07", &wide, b"x07", 7);
+    number(
+        b"quantity -1.00 of -1.00 to 99.99, 21 to 26, x-1.00",
+        &cents,
+        b"x-1.00",
+        -100,
+    );
+    refused(
+        b"quantity 17 of 0 to 999, 21 to 22, illegal",
+        &table(3, 22, 3, whole, [1, 0, 999], no_lines),
+        b"17",
+    );
+    number(
+        b"quantity 99 of 0 to 50 and 99, 21 to 22, 99",
+        &table(3, 22, 2, whole, [1, 0, 50], [1, 99, 0, 0, 0]),
+        b"99",
+        99,
+    );
+    missing(
+        b"quantity missing of 0 to 999, 21 to 23, bbb",
+        &table(3, 23, 3, whole, [1, 0, 999], no_lines),
+        b"   ",
+    );
+}
+
+fn others() {
+    let text = table(4, 30, 10, [0i64; 4], [0i64; 3], [0i64; 5]);
+    let truth = table(5, 21, 1, [0i64; 4], [0i64; 3], [0i64; 5]);
+    let r = record_of(b"CHARACTER ");
+    let one = record_of(b"1");
+    let mut list = [0i64; 4];
+    match records::read_value(&text, 0, &r, &mut list) {
+        Answer::Text(p, n) => say(b"character CHARACTER of size 10", (p == 20) & (n == 9)),
+        _ => say(b"character CHARACTER of size 10", false),
+    }
+    match records::read_value(&truth, 0, &one, &mut list) {
+        Answer::Truth(b) => say(b"logical true, 1", b),
+        _ => say(b"logical true, 1", false),
+    }
+}
+
+fn main() {
+    singles();
+    large_singles();
+    bitstrings();
+    spreads();
+    wide_spreads();
+    quantities();
+    more_quantities();
+    others();
+}
