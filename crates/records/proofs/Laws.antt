@@ -1,0 +1,107 @@
+-- The answers of the public calls, by the tests that led to them.
+-- Assumes nothing.
+use mathlib.Core.Path.{_≡_, refl, sym, ap, subst, _∙_}
+use mathlib.Core.Bool.{Bool, true, false, cond}
+use mathlib.Core.List.{List}
+use Prim.Native.Nat.{ℕ, zero, suc, _+_, _-_, _≤_, _<_}
+use native.Mathlib.Numerals.{add-one}
+use native.Mathlib.Nat.{sub-zero}
+use native.Mathlib.Omega.{arith}
+use borrow.Author.Tests.{lt-ltb, le-ltb, le-leb, lt-leb}
+use lib.IntN.{ℤ}
+use lib.ListN.{length}
+use Rattle.layout.specs.Layout.{headerOf}
+use Rattle.layout.specs.Row.{rowAt}
+use Rattle.layout.specs.declared.Header.{Header}
+use Rattle.layout.specs.declared.Row.{Row}
+use Rattle.fields.specs.Row.{readingOf}
+use Rattle.readings.specs.Answer.{RowRead}
+use Rattle.readings.specs.Ready.{RowReady}
+use Rattle.readings.specs.declared.Answer.{Answer}
+use Rattle.readings.specs.declared.Answer.the-variants as answer
+use Rattle.sound.specs.Sound.{wellFormed}
+use Rattle.sound.specs.Rows.{rowsOf, lengthOf}
+use Rattle.records.specs.First.{firstFrom, lowAt, badRow}
+use Rattle.records.specs.Value.{said, readAs, listAs, readingAt, ValueRead, said-answer}
+use Rattle.records.specs.Verdict.{judgedAs, rowsVerdict, verdictOf, rowVerdict, byteVerdict, refused}
+use Rattle.records.specs.Tables.{TableReady, table-ready}
+use Rattle.records.specs.declared.Found.the-variants.{At, Nothing}
+
+-- ---- the first number that passes
+module _ (f : ℕ → Bool) (n i : ℕ) (h : i < n) where
+  more : n - i ≡ suc (n - (i + 1))
+  more = omega arith
+
+  pub first-here : f i ≡ true → firstFrom f i (n - i) ≡ At i
+  unfolding firstFrom
+  first-here e = rw (more, e)
+
+  pub first-on : f i ≡ false → firstFrom f i (n - i) ≡ firstFrom f (i + 1) (n - (i + 1))
+  unfolding firstFrom
+  first-on e = rw (more, e, add-one i)
+
+nothing-left : (n i : ℕ) → n ≤ i → n - i ≡ 0
+nothing-left n i h = omega arith
+
+pub first-none : (f : ℕ → Bool) (n i : ℕ) → n ≤ i → firstFrom f i (n - i) ≡ Nothing
+unfolding firstFrom
+first-none f n i h = rw (nothing-left n i h)
+
+-- ---- reading one row
+module _ (t : List ℤ) (i : ℕ) (bytes : List ℕ) (list : List ℤ) where
+  pub value-table : wellFormed t ≡ false → ValueRead t i bytes list list answer.BadTable
+  unfolding said readAs listAs
+  value-table e = record { says = rw e; leaves = rw e }
+
+  module _ (good : wellFormed t ≡ true) (h : Header) (head : h ≡ headerOf t) where
+    pub value-row : h .rows ≤ i → ValueRead t i bytes list list answer.NoRow
+    unfolding said readAs listAs
+    value-row l = let k : rowsOf t ≤ i = rw head at l in record { says = rw (good, le-ltb _ _ k); leaves = rw (good, le-ltb _ _ k) }
+
+    module _ (low : i < h .rows) where
+      low-is : i < rowsOf t
+      low-is = rw head at low
+
+      pub value-short : length bytes < h .length → ValueRead t i bytes list list answer.ShortRecord
+      unfolding said readAs listAs
+      value-short l =
+          let k : length bytes < lengthOf t = rw head at l in
+          record { says = rw (good, lt-ltb _ _ low-is, lt-leb _ _ k); leaves = rw (good, lt-ltb _ _ low-is, lt-leb _ _ k) }
+
+      module _ (long : h .length ≤ length bytes) (row : Row) (is : row ≡ rowAt t i) where
+        long-is : lengthOf t ≤ length bytes
+        long-is = rw head at long
+
+        pub row-ready : RowReady t (h .rows) row (length bytes)
+        row-ready = rw (head, is) (table-ready t good (length bytes) long-is .row i low-is)
+
+        pub value-read : (list′ : List ℤ) (r : Answer) → RowRead (row .start - 1) (readingOf t (h .rows) row bytes) list list′ r → ValueRead t i bytes list list′ r
+        unfolding readAs listAs
+        value-read list′ r a =
+            let b : RowRead (rowAt t i .start - 1) (readingAt t i bytes) list list′ r = rw (head, is) at a in
+            record {
+              says = rw (good, lt-ltb _ _ low-is, le-leb _ _ long-is) (ap said (b .answer) ∙ said-answer _ _ _);
+              leaves = rw (good, lt-ltb _ _ low-is, le-leb _ _ long-is) (b .leaves);
+            }
+
+-- ---- judging a record
+module _ (t : List ℤ) (bytes : List ℕ) where
+  pub verdict-table : wellFormed t ≡ false → refused 20 ≡ verdictOf t bytes
+  unfolding verdictOf
+  verdict-table e = rw e
+
+  module _ (good : wellFormed t ≡ true) (h : Header) (head : h ≡ headerOf t) where
+    pub verdict-short : length bytes < h .length → refused 22 ≡ verdictOf t bytes
+    unfolding verdictOf
+    verdict-short l = let k : length bytes < lengthOf t = rw head at l in rw (good, lt-leb _ _ k)
+
+    module _ (long : h .length ≤ length bytes) where
+      reaches : lengthOf t ≤ length bytes
+      reaches = rw head at long
+
+      pub rows-ready : TableReady t (h .rows) (length bytes)
+      rows-ready = rw head (table-ready t good (length bytes) reaches)
+
+      pub verdict-rows : rowsVerdict t (h .rows) bytes ≡ verdictOf t bytes
+      unfolding verdictOf
+      verdict-rows = rw (head, good, le-leb _ _ reaches)

@@ -1,0 +1,76 @@
+-- `records::illegal_row` meets its contract. The invariant: the first from here is the first of all.
+use mathlib.Core.Path.{_≡_, refl, sym, ap, _∙_}
+use mathlib.Core.Bool.{Bool, true, false, cond, _&&_, _||_}
+use mathlib.Core.List.{List, [], _∷_, _++_}
+use Prim.Native.Nat.{ℕ, zero, suc, _+_, _-_, _*_, _^_, _≤_, _<_}
+use native.Mathlib.Omega.{arith}
+use native.Mathlib.Numerals.{add-one}
+use borrow.Author.Needs.{needs, sfits-of}
+use borrow.Author.Tests.{eq-eqb, ne-eqb, lt-ltb, le-ltb, le-leb, lt-leb}
+use lib.IntN.{ℤ, pos}
+use lib.ListN.{length, getD, take, drop, set, length-set, length-drop, length-take}
+use mir.Syntax.{w64}
+use mir.Val.{toZ, ofZ}
+use mir.Facts.{toZ-ofZ}
+use native.Mathlib.Nat.{sub-zero}
+use lib.Dec.{ltb}
+use Rattle.layout.specs.Layout.{headerOf, rowBase, rowSize}
+use Rattle.layout.specs.Row.{rowAt}
+use Rattle.fields.specs.Row.{readingOf}
+use Rattle.sets.specs.Sets.{isIllegal}
+use Rattle.records.specs.First.{firstFrom, lowAt, badRow}
+use Rattle.records.specs.Value.{said, ValueRead}
+use Rattle.records.specs.Verdict.{judgedAs, rowsVerdict, verdictOf, rowVerdict, byteVerdict}
+use Rattle.records.specs.Tables.{TableReady}
+use Rattle.records.proofs.Laws.{first-here, first-on, first-none}
+use Rattle.records.proofs.illegal_row.Statement.{statement}
+use Rattle.records.proofs.illegal_row.Tie as tie
+
+abbrev Inv-loop : tie.InvT-loop
+Inv-loop t rows bytes scratch₀ i₀ scratch i =
+    (i ≤ rows) × (length scratch ≡ 10000) × (firstFrom (badRow t rows bytes) i (rows - i) ≡ firstFrom (badRow t rows bytes) 0 rows)
+
+abbrev μ-loop : tie.MeasureT-loop
+μ-loop t rows bytes scratch₀ i₀ scratch i = rows - i
+
+-- row i stands in the table
+read-requires : tie.Need-read-requires Inv-loop μ-loop
+read-requires c κs = let f = c .before .before .before .before .pre .0 .few in let s = c .before .before .before .before .pre .0 .stand in (omega arith, omega arith)
+
+row-illegal-requires : tie.Need-row-illegal-requires Inv-loop μ-loop
+row-illegal-requires c κs = (rw (c .before .read .ensures) (c .before .before .before .before .before .before .pre .0 .row (c .before .before .before .loop .i) (c .before .before .loop-test .taken)), c .before .before .before .loop .inv .1)
+
+-- the test of row i
+test : (c : tie.After-row-illegal Inv-loop μ-loop) → c .row-illegal .result ≡ badRow (c .before .before .before .before .before .before .before .args .t .now) (c .before .before .before .before .before .before .before .args .rows) (c .before .before .before .before .before .before .before .args .bytes .now) (c .before .before .before .before .loop .i)
+test c = let a = c .before .before .before .before .before .before .before .args in c .row-illegal .ensures ∙ ap (λ (r : _). isIllegal (readingOf (a .t .now) (a .rows) r (a .bytes .now))) (c .before .before .read .ensures)
+
+returns : tie.Need-returns Inv-loop μ-loop
+returns c = let a = c .before .before .before .before .before .before .before .before .before .before .args in sym (first-here (badRow (a .t .now) (a .rows) (a .bytes .now)) _ _ (c .before .before .before .before .before .before .loop-test .taken) (sym (test (c .before .before .before)) ∙ c .if1 .taken)) ∙ c .before .before .before .before .before .before .before .loop .inv .2
+
+loop-again : tie.Need-loop-again Inv-loop μ-loop
+loop-again c =
+    let a = c .before .before .before .before .before .before .before .before .before .before .args in (
+      omega arith,
+      c .before .before .before .row-illegal .kept .1 .1 .1 .1 .0 ∙ c .before .before .before .before .before .before .before .loop .inv .1,
+      sym (first-on (badRow (a .t .now) (a .rows) (a .bytes .now)) _ _ (c .before .before .before .before .before .before .loop-test .taken) (sym (test (c .before .before .before)) ∙ c .if1 .left)) ∙ c .before .before .before .before .before .before .before .loop .inv .2,
+    )
+
+returns-2 : tie.Need-returns-2 Inv-loop μ-loop
+returns-2 c = let a = c .before .before .before .before .args in sym (first-none (badRow (a .t .now) (a .rows) (a .bytes .now)) _ _ (c .loop-test .left)) ∙ c .before .loop .inv .2
+
+pub illegal-row-spec : {M : Type 1} → statement M
+illegal-row-spec =
+    tie.close
+    (tie.spec
+    Inv-loop
+    μ-loop
+    (λ c. (omega arith, c .before .before .pre .1, rw sub-zero))
+    read-requires
+    row-illegal-requires
+    (λ c. c .before .before .before .row-illegal .kept .1 .1 .1 .1 .0 ∙ c .before .before .before .before .before .before .before .loop .inv .1 ∙ sym (c .before .before .before .before .before .before .before .before .before .before .pre .1))
+    returns
+    (λ c. omega arith)
+    (λ c. omega arith)
+    loop-again
+    (λ c. c .before .loop .inv .1 ∙ sym (c .before .before .before .before .pre .1))
+    returns-2)

@@ -1,0 +1,4 @@
+pub mod First
+pub mod Value
+pub mod Verdict
+pub mod Tables

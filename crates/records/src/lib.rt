@@ -1,0 +1,104 @@
+// The public calls that read a record: one row's value, and a whole record judged. Each tests the table (refusal 20) and then calls an
+// inner function, which whoever has tested a table may call many times. Above it stand files, the lister and the face.
+ghost use mathlib.Core.Path.{_≡_};
+ghost use Prim.Native.Nat.{_-_, _≤_, _<_};
+ghost use lib.ListN.{length};
+ghost use Rattle.layout.specs.Row.{rowAt};
+ghost use Rattle.records.specs.First.{firstFrom, lowAt, badRow};
+ghost use Rattle.records.specs.Value.{ValueRead};
+ghost use Rattle.records.specs.Verdict.{judgedAs, rowsVerdict, verdictOf};
+ghost use Rattle.records.specs.Tables.{TableReady};
+use layout::Header;
+use layout::Row;
+use readings::Answer;
+
+// What a record is judged to be: sound; or the test that it fails, with the place of the first byte below 32, or the lowest illegal row.
+pub enum Judged {
+    Sound,
+    BadTable,
+    ShortRecord,
+    LowByte(usize),
+    Illegal(usize),
+}
+
+pub enum Found {
+    At(usize),
+    Nothing,
+}
+
+// The first byte below 32.
+fn low_byte(bytes: &[u8]) -> Found
+    ensures { λ r. ⌜ r ≡ firstFrom (lowAt (now (bytes .entry))) 0 (length (now (bytes .entry))) ⌝ }
+{
+    let mut i: usize = 0;
+    while i < bytes.len() {
+        if bytes[i] < 32 {
+            return Found::At(i);
+        }
+        i += 1;
+    }
+    Found::Nothing
+}
+
+// The lowest row that is illegal.
+fn illegal_row(t: &[i64], rows: usize, bytes: &[u8], scratch: &mut [u8]) -> Found
+    requires { ⌜ TableReady (now t) rows (length (now bytes)) ⌝ }
+    requires { ⌜ length (now scratch) ≡ 10000 ⌝ }
+    ensures { λ r. ⌜ r ≡ firstFrom (badRow (now (t .entry)) rows (now (bytes .entry))) 0 rows ⌝ }
+{
+    let mut i: usize = 0;
+    while i < rows {
+        if readings::row_illegal(t, rows, Row::read(t, i), bytes, scratch) {
+            return Found::At(i);
+        }
+        i += 1;
+    }
+    Found::Nothing
+}
+
+// A record that is long enough, by a table that was tested: refusals 23 and 24. The scratch is room for marks.
+pub fn judge_rows(t: &[i64], rows: usize, bytes: &[u8], scratch: &mut [u8]) -> Judged
+    requires { ⌜ TableReady (now t) rows (length (now bytes)) ⌝ }
+    requires { ⌜ length (now scratch) ≡ 10000 ⌝ }
+    ensures { λ r. ⌜ judgedAs r ≡ rowsVerdict (now (t .entry)) rows (now (bytes .entry)) ⌝ }
+{
+    match low_byte(bytes) {
+        Found::At(p) => Judged::LowByte(p),
+        Found::Nothing => match illegal_row(t, rows, bytes, scratch) {
+            Found::At(i) => Judged::Illegal(i),
+            Found::Nothing => Judged::Sound,
+        },
+    }
+}
+
+// Judges a whole record by a table.
+pub fn judge_record(t: &[i64], bytes: &[u8]) -> Judged
+    ensures { λ r. ⌜ judgedAs r ≡ verdictOf (now (t .entry)) (now (bytes .entry)) ⌝ }
+{
+    if sound::well_formed(t) {
+        let h = Header::read(t);
+        if bytes.len() < h.length {
+            return Judged::ShortRecord;
+        }
+        let mut scratch = [0u8; 10000];
+        return judge_rows(t, h.rows, bytes, &mut scratch);
+    }
+    Judged::BadTable
+}
+
+// Reads row i of a record by a table. A set fills the start of the list; on every other answer the list is as it was.
+pub fn read_value(t: &[i64], i: usize, bytes: &[u8], list: &mut [i64]) -> Answer
+    ensures { λ r. ⌜ ValueRead (now (t .entry)) i (now (bytes .entry)) (now (list .entry)) (now (list .exit)) r ⌝ }
+{
+    if sound::well_formed(t) {
+        let h = Header::read(t);
+        if h.rows <= i {
+            return Answer::NoRow;
+        }
+        if bytes.len() < h.length {
+            return Answer::ShortRecord;
+        }
+        return readings::read_row(t, h.rows, Row::read(t, i), bytes, list);
+    }
+    Answer::BadTable
+}
