@@ -13,7 +13,7 @@ use super::Value;
 use super::Wrote;
 use layout::Row;
 
-// As many members as pay for marks of all categories.
+// So many members, and so many lines to search for each, pay for marks of all categories.
 const MANY: usize = 16;
 
 fn bits_missing(t: &[i64], rows: usize, row: Row, marks: &mut [u8], bytes: &mut [u8]) -> Wrote
@@ -121,7 +121,8 @@ fn spread_written(
     requires { ⌜ Ready (kind.Multiple (spread.Fields count width)) (now t) rows (length (now bytes)) row ⌝ }
     ensures { λ r. ⌜ WrittenBy (kind.Multiple (spread.Fields count width)) (now (t .entry)) rows row given.Set (now (list .entry)) [] (now (bytes .entry)) (now (bytes .exit)) r ⌝ }
 {
-    if list.len() < MANY {
+    let lines = row.lines;
+    if (list.len() < MANY) | (lines < MANY) {
         let mut none = [0; 1];
         return spread_set(powers, t, rows, row, count, width, list, &mut none, bytes);
     }
