@@ -3,22 +3,22 @@
 use mathlib.Core.Path.{_≡_, refl, sym, ap, _∙_}
 use mathlib.Core.Bool.{Bool, true, false, cond}
 use mathlib.Core.List.{List, [], _∷_}
-use Prim.Native.Nat.{ℕ, suc, _+_, _-_, _≤_, _<_}
+use Prim.Native.Nat.{ℕ, suc, _-_, _≤_}
 use native.Mathlib.Omega.{arith}
 use borrow.Author.Tests.{eqb-true}
 use lib.Dec.{eqb}
 use lib.IntN.{ℤ}
-use lib.ListN.{length, getD, set}
+use lib.ListN.{length, getD}
 use lib.Seq.{set-getD}
-use Rattle.places.specs.Places.{pick, put, Out, Apart, Once, Below}
+use Rattle.places.specs.Places.{pick, put, Out, Apart, Below}
 use Rattle.places.specs.Laws.{length-put, keeps, last, commute, back, apart, length-run}
-use Rattle.layout.specs.declared.Spread.the-variants.{Bits, Fields}
+use Rattle.layout.specs.declared.Spread.the-variants.{Bits}
 use Rattle.layout.specs.declared.Kind.{Kind}
-use Rattle.layout.specs.declared.Kind.the-variants.{Single, Multiple, Quantity, Character, Logical}
+use Rattle.layout.specs.declared.Kind.the-variants.{Multiple, Character, Logical}
 use Rattle.layout.specs.declared.Row.{Row}
 use Rattle.fields.specs.Legal.{legal}
 use Rattle.fields.specs.Number.{allSpaces}
-use Rattle.fields.specs.Field.{Value, missing, number, members, text, truth, Field, holds, illegal, allBits, setBits, bitsField, bitBytes, allPlain, unended, textField, truthField, spaces}
+use Rattle.fields.specs.Field.{Value, missing, members, text, truth, holds, illegal, allBits, setBits, bitsField, allPlain, unended, textField, truthField}
 use Rattle.fields.specs.Row.{categories, placesBy, placesOf, fieldBy, fieldOf, readingOf, fits, fitOf, bytesBy, bytesOf, writtenOf}
 use Rattle.fields.specs.Facts.{RowFacts}
 use Rattle.fieldlaws.specs.PlaceLaws.{places-once, places-inside, length-bits}

@@ -1,8 +1,8 @@
 -- READ-BACK by the public call that reads one row: after an accepted write it answers the value that was written. A set fills the
 -- start of a list with room for it, and is refused by 25 otherwise; a text is found where the answer says.
 use mathlib.Core.Path.{_≡_, refl, sym, ap, _∙_}
-use mathlib.Core.Bool.{Bool, true, false}
-use mathlib.Core.List.{List, _++_}
+use mathlib.Core.Bool.{Bool, true}
+use mathlib.Core.List.{List}
 use Prim.Native.Nat.{ℕ, _+_, _-_, _≤_, _<_}
 use native.Mathlib.Omega.{arith}
 use borrow.Author.Tests.{lt-ltb, le-leb, lt-leb}
@@ -15,18 +15,18 @@ use Rattle.layout.specs.Row.{rowAt}
 use Rattle.layout.specs.declared.Row.{Row}
 use Rattle.layout.specs.declared.Kind.{Kind}
 use Rattle.layout.specs.declared.Kind.the-variants.{Single, Multiple, Quantity, Character, Logical}
-use Rattle.fields.specs.Field.{Value, missing, number, members, text, truth, Field, holds, spaces, textBytes, textFits}
-use Rattle.fields.specs.Row.{readingOf, Fit, fits, placesBy, fitsBy, bytesBy}
+use Rattle.fields.specs.Field.{Value, missing, number, members, text, truth, holds, spaces, textBytes, textFits}
+use Rattle.fields.specs.Row.{fits, placesBy, fitsBy, bytesBy}
 use Rattle.fields.specs.Facts.{KindFacts, WidthFacts}
 use Rattle.fieldlaws.specs.BackLaws.{fit-legal}
 use Rattle.fieldlaws.specs.TextLaws.{fitting}
 use Rattle.sound.specs.Rows.{rowsOf, lengthOf, row-facts}
 use Rattle.sets.specs.Sets.{filledOf, listAfter}
 use Rattle.readings.specs.declared.Answer.{Answer}
-use Rattle.records.specs.Value.{Outcome, nothing, numberIs, setOf, textAt, truthIs, refused, said, outcomeOf, readAs, listAs, ValueRead}
+use Rattle.records.specs.Value.{nothing, numberIs, setOf, textAt, truthIs, refused, said, outcomeOf, readAs, listAs, ValueRead}
 use Rattle.writes.specs.declared.Wrote.the-variants.{Done}
 use Rattle.writes.specs.Public.{Written}
-use Rattle.laws.specs.Writing.{Accepted, Sound, done-accepted, keeps-length, read-back, bytes-put}
+use Rattle.laws.specs.Writing.{done-accepted, keeps-length, read-back, bytes-put}
 
 module _ {t : List ℤ} {i : ℕ} {x : Value} {old new : List ℕ} (w : Written t i x old new Done) {list list′ : List ℤ} {r : Answer} (read : ValueRead t i new list list′ r) where
   long : lengthOf t ≤ length new

@@ -11,8 +11,7 @@ use lib.IntN.{ℤ}
 use lib.ListN.{length, getD}
 use Rattle.places.specs.Places.{pick, put, Out, Apart}
 use Rattle.layout.specs.Row.{rowAt}
-use Rattle.layout.specs.declared.Row.{Row}
-use Rattle.fields.specs.Field.{Value, missing, Field, holds, illegal}
+use Rattle.fields.specs.Field.{Value, holds}
 use Rattle.fields.specs.Row.{Fit, fits, otherType, notLegal, tooMany, placesOf, readingOf, fitOf, bytesOf, writtenOf}
 use Rattle.fields.specs.Facts.{RowFacts}
 use Rattle.fieldlaws.specs.Corrections.{written-length, written-keeps, others-read, either-order, last-counts, written-bytes, reads-back, read-fits, Plain, writes-back-bytes}
