@@ -98,7 +98,7 @@ unfolding signedOf
 top-digits w (count n some few) h = le-leb n (10 ^ w - 1) (omega (arith, within-digits n w few h))
 
 -- ---- missing
-missing-back : (k : Kind) (t : List ℤ) (v : ℕ) (r : Row) (n : ℕ) → fieldBy k t v r (spaces n) ≡ holds missing
+pub missing-back : (k : Kind) (t : List ℤ) (v : ℕ) (r : Row) (n : ℕ) → fieldBy k t v r (spaces n) ≡ holds missing
 unfolding fieldBy singleSays quantitySays codeOf codeAfter quantityOf quantityAfter bitsField spreadField textField truthField
 missing-back Single t v r n = rw (spaces-nothing n)
 missing-back (Multiple Bits) t v r n = rw (spaces-blank n)

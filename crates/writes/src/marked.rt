@@ -16,6 +16,9 @@ use layout::Row;
 // So many members, and so many lines to search for each, pay for marks of all categories.
 const MANY: usize = 16;
 
+// Marks of 0 to the highest category.
+const MARKS: usize = 10_000;
+
 fn bits_missing(t: &[i64], rows: usize, row: Row, marks: &mut [u8], bytes: &mut [u8]) -> Wrote
     requires { ⌜ Ready (kind.Multiple spread.Bits) (now t) rows (length (now bytes)) row ⌝ }
     requires { ⌜ length (now marks) ≤ 10000 ⌝ }
@@ -65,11 +68,11 @@ pub fn write_bits(
     let k = row.width + 1;
     match value {
         Value::Missing => {
-            let mut marks = [0; 10000];
+            let mut marks = [0; MARKS];
             bits_missing(t, rows, row, &mut marks[..k], bytes)
         }
         Value::Set => {
-            let mut marks = [0; 10000];
+            let mut marks = [0; MARKS];
             bits_set(t, rows, row, list, &mut marks[..k], bytes)
         }
         Value::Number(_) => Wrote::OtherType,
@@ -126,7 +129,7 @@ fn spread_written(
         let mut none = [0; 1];
         return spread_set(powers, t, rows, row, count, width, list, &mut none, bytes);
     }
-    let mut marks = [0; 10000];
+    let mut marks = [0; MARKS];
     spread_set(powers, t, rows, row, count, width, list, &mut marks, bytes)
 }
 
