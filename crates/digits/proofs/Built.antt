@@ -1,7 +1,7 @@
 -- The parts of a number, put one after the other, are the number's bytes.
-use mathlib.Core.Path.{_≡_, refl, sym, ap, _∙_}
-use mathlib.Core.List.{List, [], _∷_, _++_, append-nil}
-use Prim.Native.Nat.{ℕ, suc, _+_, _-_, _/_, _^_, _≤_, _<_}
+use mathlib.Core.Path.{_≡_, sym, ap, _∙_}
+use mathlib.Core.List.{List, _∷_, _++_, append-nil}
+use Prim.Native.Nat.{ℕ, suc, _+_, _-_, _/_, _^_, _≤_}
 use native.Mathlib.Nat.{sub-zero, zero-add}
 use native.Mathlib.Numerals.{add-one}
 use native.Mathlib.Omega.{arith}
@@ -11,7 +11,7 @@ use mathlib.Core.Bool.{true, false}
 use lib.IntN.{ℤ}
 use Rattle.cells.specs.Cell.{signedOf}
 use Rattle.cells.specs.declared.Signed.{Signed}
-use Rattle.places.specs.Places.{pick, put, run}
+use Rattle.places.specs.Places.{put, run}
 use Rattle.places.specs.Laws.{put-run-append, back, once-run, below-run, length-run, pick-run, length-put}
 use Rattle.layout.specs.declared.Format.{Format}
 use Rattle.widths.specs.Width.{tailOf, minusOf}

@@ -11,7 +11,7 @@ ghost use Rattle.digits.specs.Room.{Room, Wide};
 use layout::Format;
 
 // The bytes of the small array in which a number is built.
-pub const ROOM: usize = 20;
+const ROOM: usize = 20;
 
 // The digit of n at a power of ten; n has at most 16.
 fn digit(powers: &[u64; 16], n: u64, j: usize) -> u8
@@ -27,7 +27,7 @@ fn digit(powers: &[u64; 16], n: u64, j: usize) -> u8
 }
 
 // The last k digits of n, from the place at of the small array on.
-fn build(powers: &[u64; 16], room: &mut [u8; 20], at: usize, k: usize, n: u64)
+fn build(powers: &[u64; 16], room: &mut [u8; ROOM], at: usize, k: usize, n: u64)
     requires { ⌜ Tens (now powers) ⌝ }
     requires { ⌜ (n < 10 ^ 16) × (at + k ≤ 20) ⌝ }
     ensures { λ _. ⌜ now (room .exit) ≡ put (now (room .entry)) (run at k) (padded k n) ⌝ }
@@ -42,7 +42,7 @@ fn build(powers: &[u64; 16], room: &mut [u8; 20], at: usize, k: usize, n: u64)
 }
 
 // A size in w bytes: zeros in front, the point, where there is one, in its place.
-fn build_amount(powers: &[u64; 16], room: &mut [u8; 20], at: usize, w: usize, f: Format, n: u64)
+fn build_amount(powers: &[u64; 16], room: &mut [u8; ROOM], at: usize, w: usize, f: Format, n: u64)
     requires { ⌜ Tens (now powers) ⌝ }
     requires { ⌜ Room f at w n ⌝ }
     ensures { λ _. ⌜ now (room .exit) ≡ put (now (room .entry)) (run at w) (amountBytes f w n) ⌝ }
@@ -58,7 +58,7 @@ fn build_amount(powers: &[u64; 16], room: &mut [u8; 20], at: usize, w: usize, f:
 }
 
 // A quantity in w bytes: zeros after any minus.
-fn build_quantity(powers: &[u64; 16], room: &mut [u8; 20], w: usize, f: Format, z: i64)
+fn build_quantity(powers: &[u64; 16], room: &mut [u8; ROOM], w: usize, f: Format, z: i64)
     requires { ⌜ Tens (now powers) ⌝ }
     requires { ⌜ Wide f w z ⌝ }
     ensures { λ _. ⌜ now (room .exit) ≡ put (now (room .entry)) (run 0 w) (quantityBytes f w z) ⌝ }
@@ -79,7 +79,7 @@ pub fn put_code(powers: &[u64; 16], out: &mut [u8], at: usize, w: usize, z: i64)
     requires { ⌜ (sizeOf z < 10 ^ 16) × (w ≤ 20) × (at + w ≤ length (now out)) ⌝ }
     ensures { λ _. ⌜ now (out .exit) ≡ put (now (out .entry)) (run at w) (codeBytes w z) ⌝ }
 {
-    let mut room = [48; 20];
+    let mut room = [48; ROOM];
     build(powers, &mut room, 0, w, cells::signed_of(z).size);
     runs::copy_in(out, at, &room, w);
 }
@@ -90,7 +90,7 @@ pub fn put_quantity(powers: &[u64; 16], out: &mut [u8], at: usize, w: usize, f: 
     requires { ⌜ Wide f w z × (at + w ≤ length (now out)) ⌝ }
     ensures { λ _. ⌜ now (out .exit) ≡ put (now (out .entry)) (run at w) (quantityBytes f w z) ⌝ }
 {
-    let mut room = [48; 20];
+    let mut room = [48; ROOM];
     build_quantity(powers, &mut room, w, f, z);
     runs::copy_in(out, at, &room, w);
 }

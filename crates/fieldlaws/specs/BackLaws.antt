@@ -1,9 +1,9 @@
 -- Every kind of row: a value that fits has as many bytes as the row has value places, its bytes read back as the value, and what
 -- a field holds fits.
-use mathlib.Core.Path.{_≡_, refl, sym, ap, _∙_}
+use mathlib.Core.Path.{_≡_, refl, sym, _∙_}
 use mathlib.Core.Bool.{Bool, true, false, cond}
-use mathlib.Core.List.{List, [], _∷_}
-use Prim.Native.Nat.{ℕ, zero, suc, _+_, _-_, _*_, _^_, _≤_, _<_}
+use mathlib.Core.List.{List}
+use Prim.Native.Nat.{ℕ, _-_, _^_, _≤_, _<_}
 use native.Mathlib.Nat.{lt-of-lt-of-le, pow-le-pow-right}
 use native.Mathlib.Omega.{arith}
 use borrow.Author.Tests.{le-leb, leb-true, ltb-false, le-ltb}
@@ -14,7 +14,7 @@ use lib.ListN.{length, getD}
 use Rattle.below.specs.Below.{holds-not}
 use Rattle.ascii.specs.Tens.{digitsOf, digits-hold}
 use Rattle.cells.specs.Cell.{eqZ, signedOf}
-use Rattle.widths.specs.Width.{need, lowest, highest, sizeOf, quantityWidth}
+use Rattle.widths.specs.Width.{need, lowest, highest, sizeOf}
 use Rattle.places.specs.Laws.{length-run}
 use Rattle.layout.specs.declared.Format.{Format}
 use Rattle.layout.specs.declared.Spread.the-variants.{Bits, Fields}
@@ -22,9 +22,9 @@ use Rattle.layout.specs.declared.Kind.{Kind}
 use Rattle.layout.specs.declared.Kind.the-variants.{Single, Multiple, Quantity, Character, Logical}
 use Rattle.layout.specs.declared.Row.{Row}
 use Rattle.fields.specs.Legal.{legal}
-use Rattle.fields.specs.Number.{allSpaces, Said, blank, says, wrong, codeOf, codeAfter, codeBytes, quantityOf, quantityAfter, quantityBytes}
-use Rattle.fields.specs.Field.{Value, missing, number, members, text, truth, Field, holds, illegal, numberField, singleSays, singleField, quantitySays, quantityField, setBits, allBits, bitsField, allEntries, spreadSet, spreadField, allPlain, unended, textField, truthField, spaces, bitBytes, spreadBytes, textBytes, truthBytes, setFits, textFits}
-use Rattle.fields.specs.Row.{categories, placesBy, placesOf, fieldBy, fieldOf, Fit, fits, otherType, notLegal, tooMany, legalFit, fitsBy, fitOf, bytesBy, bytesOf}
+use Rattle.fields.specs.Number.{allSpaces, Said, blank, says, wrong, codeOf, codeAfter, codeBytes, quantityOf, quantityAfter}
+use Rattle.fields.specs.Field.{Value, missing, number, members, text, truth, holds, illegal, numberField, singleSays, singleField, quantitySays, setBits, allBits, bitsField, allEntries, spreadSet, spreadField, allPlain, unended, textField, truthField, spaces, setFits, textFits}
+use Rattle.fields.specs.Row.{categories, placesBy, placesOf, fieldBy, fieldOf, fits, otherType, notLegal, tooMany, legalFit, fitsBy, fitOf, bytesBy, bytesOf}
 use Rattle.fields.specs.Facts.{KindFacts, RowFacts}
 use Rattle.fieldlaws.specs.Tests.{counts-differ}
 use Rattle.fieldlaws.specs.PlaceLaws.{length-bits, length-spread}
@@ -32,7 +32,7 @@ use Rattle.fieldlaws.specs.NumberLaws.{code-back, length-code, quantity-
 use Rattle.fieldlaws.specs.RisingLaws.{Rising, rising-of, legal-of}
 use Rattle.fieldlaws.specs.BitLaws.{length-bit-bytes, some-defined, bits-back, bits-fit}
 use Rattle.fieldlaws.specs.SpreadLaws.{length-spread-bytes, spread-back, spread-few, spread-fit}
-use Rattle.fieldlaws.specs.TextLaws.{length-spaces, spaces-blank, spaces-nothing, Fitting, fitting, text-back, text-fit, length-text, truth-back, length-truth}
+use Rattle.fieldlaws.specs.TextLaws.{length-spaces, spaces-blank, spaces-nothing, fitting, text-back, text-fit, length-text, truth-back, length-truth}
 
 -- a bitstring has a category: its width is the largest
 pub record Topped (k : Kind) (t : List ℤ) (v : ℕ) (r : Row) : Type 0 where
@@ -98,7 +98,7 @@ unfolding signedOf
 top-digits w (count n some few) h = le-leb n (10 ^ w - 1) (omega (arith, within-digits n w few h))
 
 -- ---- missing
-missing-back : (k : Kind) (t : List ℤ) (v : ℕ) (r : Row) (n : ℕ) → fieldBy k t v r (spaces n) ≡ holds missing
+pub missing-back : (k : Kind) (t : List ℤ) (v : ℕ) (r : Row) (n : ℕ) → fieldBy k t v r (spaces n) ≡ holds missing
 unfolding fieldBy singleSays quantitySays codeOf codeAfter quantityOf quantityAfter bitsField spreadField textField truthField
 missing-back Single t v r n = rw (spaces-nothing n)
 missing-back (Multiple Bits) t v r n = rw (spaces-blank n)

@@ -11,10 +11,10 @@ use lib.IntN.{ℤ, pos}
 use lib.ListN.{length}
 use Rattle.below.specs.Below.{holds-not}
 use Rattle.fields.specs.Number.{allSpaces}
-use Rattle.fields.specs.Field.{members, Field, holds, illegal, allBits, setBits, bitsField, bitBytes, isMember, passing, allLegal, setFits}
+use Rattle.fields.specs.Field.{members, holds, allBits, setBits, bitsField, bitBytes, isMember, passing, allLegal, setFits}
 use Rattle.fields.specs.Row.{defined}
 use Rattle.fieldlaws.specs.Tests.{either, both-true}
-use Rattle.fieldlaws.specs.RisingLaws.{Rising, none, skip, keep, rising-empty, fits-of, members-back, not-member, legal-both}
+use Rattle.fieldlaws.specs.RisingLaws.{Rising, none, skip, keep, rising-empty, fits-of, members-back, not-member}
 
 pub length-bit-bytes : (ms : List ℤ) (cs : List ℕ) → length (bitBytes ms cs) ≡ length cs
 unfolding bitBytes

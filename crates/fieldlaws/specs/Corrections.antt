@@ -3,26 +3,26 @@
 use mathlib.Core.Path.{_≡_, refl, sym, ap, _∙_}
 use mathlib.Core.Bool.{Bool, true, false, cond}
 use mathlib.Core.List.{List, [], _∷_}
-use Prim.Native.Nat.{ℕ, suc, _+_, _-_, _≤_, _<_}
+use Prim.Native.Nat.{ℕ, suc, _-_, _≤_}
 use native.Mathlib.Omega.{arith}
 use borrow.Author.Tests.{eqb-true}
 use lib.Dec.{eqb}
 use lib.IntN.{ℤ}
-use lib.ListN.{length, getD, set}
+use lib.ListN.{length, getD}
 use lib.Seq.{set-getD}
-use Rattle.places.specs.Places.{pick, put, Out, Apart, Once, Below}
+use Rattle.places.specs.Places.{pick, put, Out, Apart, Below}
 use Rattle.places.specs.Laws.{length-put, keeps, last, commute, back, apart, length-run}
-use Rattle.layout.specs.declared.Spread.the-variants.{Bits, Fields}
+use Rattle.layout.specs.declared.Spread.the-variants.{Bits}
 use Rattle.layout.specs.declared.Kind.{Kind}
-use Rattle.layout.specs.declared.Kind.the-variants.{Single, Multiple, Quantity, Character, Logical}
+use Rattle.layout.specs.declared.Kind.the-variants.{Multiple, Character, Logical}
 use Rattle.layout.specs.declared.Row.{Row}
 use Rattle.fields.specs.Legal.{legal}
 use Rattle.fields.specs.Number.{allSpaces}
-use Rattle.fields.specs.Field.{Value, missing, number, members, text, truth, Field, holds, illegal, allBits, setBits, bitsField, bitBytes, allPlain, unended, textField, truthField, spaces}
+use Rattle.fields.specs.Field.{Value, missing, members, text, truth, holds, illegal, allBits, setBits, bitsField, allPlain, unended, textField, truthField, spaces}
 use Rattle.fields.specs.Row.{categories, placesBy, placesOf, fieldBy, fieldOf, readingOf, fits, fitOf, bytesBy, bytesOf, writtenOf}
 use Rattle.fields.specs.Facts.{RowFacts}
 use Rattle.fieldlaws.specs.PlaceLaws.{places-once, places-inside, length-bits}
-use Rattle.fieldlaws.specs.BackLaws.{Topped, bytes-many, bytes-say, held-fits, held, illegal-holds}
+use Rattle.fieldlaws.specs.BackLaws.{Topped, bytes-many, bytes-say, missing-back, held-fits, held, illegal-holds}
 use Rattle.fieldlaws.specs.KeptLaws.{spaces-kept, text-kept, bits-kept, truth-kept}
 
 pub length-pick : (r ps : List ℕ) → length (pick r ps) ≡ length ps
@@ -88,6 +88,21 @@ read-fits t v r x old e = held-fits t v r x (pick old (placesOf t v r)) (length-
 pub writes-back : {t : List ℤ} {v len : ℕ} (r : Row) (facts : RowFacts t v len r) (old : List ℕ) → Topped (r .kind) t v r → (x : Value)
     → len ≤ length old → readingOf t v r old ≡ holds x → readingOf t v r (writtenOf t v r x old) ≡ readingOf t v r old
 writes-back {t} {v} r facts old top x h e = reads-back r facts old top x h (read-fits t v r x old e) ∙ sym e
+
+-- ---- value places that are all spaces read as missing, and missing written back keeps every byte, for every kind
+module _ (t : List ℤ) (v : ℕ) (r : Row) (old : List ℕ) (blank : allSpaces (pick old (placesOf t v r)) ≡ true) where
+  pub blank-reads : readingOf t v r old ≡ holds missing
+  unfolding readingOf
+  blank-reads =
+      let s = pick old (placesOf t v r) in
+      rw (← spaces-kept s blank) (missing-back (r .kind) t v r (length s))
+
+  pub blank-kept : writtenOf t v r missing old ≡ old
+  unfolding writtenOf bytesBy
+  blank-kept =
+      let ps = placesOf t v r in
+      let e : spaces (length ps) ≡ pick old ps = ap spaces (sym (length-pick old ps)) ∙ spaces-kept (pick old ps) blank in
+      rw e (put-picked old ps)
 
 -- ---- and keeps the very bytes of a bitstring, a text or a truth
 pub data Plain : Kind → Type 0 where

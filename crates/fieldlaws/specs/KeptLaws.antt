@@ -1,24 +1,22 @@
 -- Which fields keep their very bytes when what was read is written back: bitstrings, texts, truths and fields of spaces. (A number
 -- may stand there as `  7` or `-0`, a spread with repeats, gaps or another order: those bytes become the value's own.)
-use mathlib.Core.Path.{_≡_, refl, sym, ap, _∙_}
-use mathlib.Core.Bool.{Bool, true, false, cond, _&&_, _||_}
+use mathlib.Core.Path.{_≡_, refl, ap}
+use mathlib.Core.Bool.{Bool, true, false, cond, _||_}
 use mathlib.Core.List.{List, [], _∷_, _++_}
 use Prim.Native.Nat.{ℕ, zero, suc, _+_, _-_, _≤_, _<_}
 use native.Mathlib.Nat.{sub-zero}
 use native.Mathlib.Omega.{arith}
-use borrow.Author.Tests.{eqb-true, eq-eqb}
-use lib.Dec.{eqb, leb}
+use borrow.Author.Tests.{eqb-true}
+use lib.Dec.{eqb}
 use lib.IntN.{ℤ, pos}
 use lib.ListN.{length, getD}
-use Rattle.below.specs.Below.{holds-not}
-use Rattle.cells.specs.Cell.{eqZ, same-self}
+use Rattle.cells.specs.Cell.{same-self}
 use Rattle.fields.specs.Number.{allSpaces}
-use Rattle.fields.specs.Field.{isMember, allBits, setBits, bitBytes, allPlain, unended, spaces, textBytes, truthBytes}
+use Rattle.fields.specs.Field.{isMember, allBits, setBits, bitBytes, unended, spaces, textBytes, truthBytes}
 use Rattle.fields.specs.Row.{defined}
 use Rattle.fieldlaws.specs.Tests.{both-left, both-right, or-left, counts-differ}
 use Rattle.fieldlaws.specs.RisingLaws.{not-below}
 use Rattle.fieldlaws.specs.BitLaws.{set-rising}
-use Rattle.fieldlaws.specs.TextLaws.{unended-blank}
 
 -- spaces are spaces
 pub spaces-kept : (s : List ℕ) → allSpaces s ≡ true → spaces (length s) ≡ s

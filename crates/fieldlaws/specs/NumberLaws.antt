@@ -1,23 +1,21 @@
 -- The bytes of a number: how many there are, and that they read back as the number.
 use mathlib.Core.Path.{_≡_, refl, sym, ap, _∙_}
-use mathlib.Core.Bool.{Bool, true, false, cond, _&&_}
+use mathlib.Core.Bool.{Bool, true, false, cond}
 use mathlib.Core.List.{List, [], _∷_, _++_, append-nil}
 use Prim.Native.Nat.{ℕ, zero, suc, _+_, _-_, _*_, _/_, _%_, _^_, _≤_, _<_}
-use native.Mathlib.Nat.{pow-succ', pow-zero, add-mul, mul-assoc, add-assoc, mod-lt, mod-eq-of-lt, div-add-mod', div-one, lt-of-lt-of-le, lt-of-le-of-lt, div-le-self, pow-le-pow-right, zero-mul, zero-add, sub-zero}
+use native.Mathlib.Nat.{pow-succ', add-mul, mul-assoc, add-assoc, mod-lt, mod-eq-of-lt, div-add-mod', div-one, lt-of-lt-of-le, lt-of-le-of-lt, div-le-self, pow-le-pow-right, zero-mul, zero-add, sub-zero}
 use native.Mathlib.Omega.{arith}
-use borrow.Author.Tests.{lt-ltb, ne-eqb, eq-eqb, eqb-true, le-leb}
+use borrow.Author.Tests.{lt-ltb, ne-eqb, eqb-true, le-leb}
 use lib.Arith.{mod-mul}
-use lib.Dec.{eqb, leb, ltb, lit<}
+use lib.Dec.{eqb, lit<}
 use lib.IntN.{ℤ, pos, negsuc}
 use lib.ListN.{length, take, drop, getD, length-append}
-use lib.Seq.{take-at, drop-at, getD-at, drop-append-add, take-length, drop-length}
-use Rattle.ascii.specs.Class.{within}
+use lib.Seq.{take-at, getD-at, drop-append-add, take-length, drop-length}
 use Rattle.ascii.specs.Tens.{digitsOf, digits-hold, digits-some}
 use Rattle.cells.specs.Cell.{numberOf, signedOf}
 use Rattle.widths.specs.Width.{tailOf, ten-some, wholeDigits, quantityWidth, sizeOf, minusOf}
 use Rattle.layout.specs.declared.Format.{Format}
-use Rattle.fields.specs.Number.{unspaced, digitsOnly, decimalFrom, decimal, Said, blank, says, wrong, codeAfter, codeOf, wholePart, decimalPart, pointStands, amountForm, amountSize, amountOf, quantityAfter, quantityOf, padded, amountBytes, quantityBytes, codeBytes}
-use Rattle.fieldlaws.specs.Tests.{both-true}
+use Rattle.fields.specs.Number.{unspaced, digitsOnly, decimalFrom, decimal, says, codeAfter, codeOf, amountForm, amountSize, amountOf, quantityAfter, quantityOf, padded, amountBytes, quantityBytes, codeBytes}
 
 -- ---- digits
 pub length-padded : (k n : ℕ) → length (padded k n) ≡ k

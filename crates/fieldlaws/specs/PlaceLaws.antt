@@ -1,6 +1,6 @@
 -- The value places of a row: once each, inside the position, and as many as a bitstring's categories or a spread's bytes.
-use mathlib.Core.Path.{_≡_, refl, sym, ap, _∙_}
-use mathlib.Core.Bool.{Bool, true, false, cond}
+use mathlib.Core.Path.{_≡_, refl, sym, ap}
+use mathlib.Core.Bool.{Bool}
 use mathlib.Core.List.{List, [], _∷_, _++_}
 use Prim.Native.Nat.{ℕ, zero, suc, _+_, _-_, _*_, _≤_, _<_}
 use native.Mathlib.Nat.{zero-mul, suc-mul}
@@ -13,7 +13,7 @@ use Rattle.layout.specs.declared.Row.{Row}
 use Rattle.layout.specs.declared.Kind.{Kind}
 use Rattle.layout.specs.declared.Kind.the-variants.{Single, Multiple, Quantity, Character, Logical}
 use Rattle.layout.specs.declared.Spread.the-variants.{Bits, Fields}
-use Rattle.fields.specs.Row.{defined, categories, bitPlaces, spreadPlaces, placesBy, placesOf}
+use Rattle.fields.specs.Row.{defined, bitPlaces, spreadPlaces, placesBy, placesOf}
 use Rattle.fields.specs.Facts.{KindFacts, PositionFacts, RowFacts}
 use Rattle.fieldlaws.specs.Tests.{either}
 

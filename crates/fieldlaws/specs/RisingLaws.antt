@@ -1,19 +1,18 @@
 -- Sets in rising order: of the n numbers from c on, some, none twice.
-use mathlib.Core.Path.{_≡_, refl, sym, ap, _∙_}
+use mathlib.Core.Path.{_≡_, refl, ap, _∙_}
 use mathlib.Core.Logic.{⊎-elim}
-use mathlib.Core.Bool.{Bool, true, false, cond, _&&_, _||_}
+use mathlib.Core.Bool.{Bool, true, false, cond, _||_}
 use mathlib.Core.List.{List, [], _∷_}
 use Prim.Native.Nat.{ℕ, zero, suc, _+_, _-_, _≤_, _<_}
-use native.Mathlib.Nat.{add-zero, add-suc, suc-add, eq-or-lt-of-le}
+use native.Mathlib.Nat.{eq-or-lt-of-le}
 use native.Mathlib.Omega.{arith}
 use borrow.Author.Tests.{eq-eqb, ne-eqb, ltb-true, lt-ltb, leb-true}
 use lib.IntN.{ℤ, pos, negsuc}
 use lib.Signed.{ltZ, leZ}
-use lib.ListN.{length}
 use Rattle.below.specs.Below.{holds-not}
 use Rattle.cells.specs.Cell.{eqZ, same-true}
 use Rattle.fields.specs.Field.{passing, isMember, risingFrom, allLegal, setFits}
-use Rattle.fieldlaws.specs.Tests.{both-left, both-right, both-true, or-right}
+use Rattle.fieldlaws.specs.Tests.{both-left, both-right, both-true}
 
 pub data Rising : ℕ → ℕ → List ℤ → Type 0 where
   none : {c : ℕ} → Rising c zero []

@@ -1,19 +1,19 @@
 -- A spread: a set that may be written reads back, and what is read may be written.
 use mathlib.Core.Path.{_≡_, refl, sym, ap, _∙_}
-use mathlib.Core.Bool.{Bool, true, false, cond, _&&_, _||_}
+use mathlib.Core.Bool.{Bool, true, false, cond, _||_}
 use mathlib.Core.List.{List, [], _∷_, _++_}
-use Prim.Native.Nat.{ℕ, zero, suc, _+_, _-_, _*_, _/_, _%_, _^_, _≤_, _<_}
+use Prim.Native.Nat.{ℕ, zero, suc, _+_, _-_, _*_, _/_, _%_, _^_, _≤_}
 use native.Mathlib.Nat.{zero-mul, suc-mul}
 use native.Mathlib.Omega.{arith}
 use borrow.Author.Tests.{ne-eqb}
-use lib.IntN.{ℤ, pos, negsuc}
+use lib.IntN.{ℤ, pos}
 use lib.ListN.{length, take, drop, length-append}
 use lib.Seq.{take-at, drop-at}
 use Rattle.below.specs.Below.{holds-not}
 use Rattle.cells.specs.Cell.{eqZ, same-true, signedOf}
 use Rattle.widths.specs.Width.{ten-some}
 use Rattle.fields.specs.Number.{Said, blank, says, wrong, allSpaces, codeOf, padded, codeBytes}
-use Rattle.fields.specs.Field.{members, Field, holds, illegal, entryGood, entryIs, allEntries, someEntry, spreadSet, spreadField, spreadBytes, isMember, passing, allLegal, setFits}
+use Rattle.fields.specs.Field.{members, holds, entryGood, entryIs, allEntries, someEntry, spreadSet, spreadField, spreadBytes, isMember, passing, allLegal, setFits}
 use Rattle.fieldlaws.specs.Tests.{both-left, both-right, or-right, counts-differ}
 use Rattle.fieldlaws.specs.NumberLaws.{length-code, code-back}
 use Rattle.fieldlaws.specs.RisingLaws.{Rising, fits-of, members-back, passing-same, passing-rises, passing-legal, legal-here, legal-next}

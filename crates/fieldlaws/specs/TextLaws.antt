@@ -1,15 +1,15 @@
 -- Texts, truths and missing values: what is written reads back, and what is read may be written.
-use mathlib.Core.Path.{_≡_, refl, sym, ap, _∙_}
+use mathlib.Core.Path.{_≡_, refl, ap, _∙_}
 use mathlib.Core.Bool.{Bool, true, false, cond, _&&_, and-false}
 use mathlib.Core.List.{List, [], _∷_, _++_}
 use Prim.Native.Nat.{ℕ, zero, suc, _+_, _-_, _≤_, _<_}
 use native.Mathlib.Omega.{arith}
-use borrow.Author.Tests.{ne-eqb, eqb-false, eq-eqb, le-leb, leb-true, lt-ltb, ltb-true}
+use borrow.Author.Tests.{ne-eqb, eqb-false, le-leb, leb-true, lt-ltb, ltb-true}
 use lib.Dec.{eqb, leb, ltb}
 use lib.ListN.{length, getD, length-append}
-use Rattle.below.specs.Below.{holds-not, decided}
+use Rattle.below.specs.Below.{holds-not}
 use Rattle.fields.specs.Number.{allSpaces, unspaced}
-use Rattle.fields.specs.Field.{text, truth, Field, holds, illegal, allPlain, unended, textField, truthField, spaces, textBytes, truthBytes, textFits}
+use Rattle.fields.specs.Field.{text, truth, holds, allPlain, unended, textField, truthField, spaces, textBytes, truthBytes, textFits}
 use Rattle.fieldlaws.specs.Tests.{both-left, both-right, both-true}
 
 -- ---- spaces

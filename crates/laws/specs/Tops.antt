@@ -2,17 +2,17 @@
 use mathlib.Core.Path.{_≡_, refl, sym, ap, _∙_}
 use mathlib.Core.Bool.{Bool, true, false, cond, not, _&&_, _||_}
 use mathlib.Core.List.{List}
-use Prim.Native.Nat.{ℕ, zero, suc, _+_, _≤_, _<_, max}
+use Prim.Native.Nat.{ℕ, zero, suc, _≤_, _<_, max}
 use native.Mathlib.Omega.{arith}
 use borrow.Author.Tests.{leb-true, leb-false, le-leb, eqb-true}
-use lib.Dec.{leb, eqb}
+use lib.Dec.{leb}
 use lib.IntN.{ℤ, pos, negsuc}
 use lib.Signed.{leZ}
-use Rattle.below.specs.Below.{maxBelow, anyBelow, any-holds, all-at, and-both, holds-not}
+use Rattle.below.specs.Below.{maxBelow, any-holds, all-at, and-both, holds-not}
 use Rattle.cells.specs.Cell.{eqZ, same-self, signedOf}
 use Rattle.widths.specs.Width.{need, sizeOf, lowest, fitsKind}
 use Rattle.layout.specs.Layout.{headerOf}
-use Rattle.layout.specs.Row.{rowAt, rowOf, kindOf}
+use Rattle.layout.specs.Row.{rowAt}
 use Rattle.layout.specs.declared.Row.{Row}
 use Rattle.layout.specs.declared.Kind.{Kind}
 use Rattle.layout.specs.declared.Kind.the-variants.{Multiple}
@@ -22,7 +22,7 @@ use Rattle.fields.specs.Facts.{RowFacts, KindFacts, WidthFacts}
 use Rattle.fieldlaws.specs.Tests.{both-left}
 use Rattle.fieldlaws.specs.BackLaws.{Topped}
 use Rattle.sound.specs.Sound.{wellFormed, rowsGood, rowGood, goodAt, columnsOf, linesBefore, valuesGood, widthsGood, rangeGood, rangeWidth, widest, widthGood, valueAt}
-use Rattle.sound.specs.Rows.{rowsOf, lengthOf, parts, row-facts, line-value}
+use Rattle.sound.specs.Rows.{rowsOf, parts, row-facts, line-value}
 
 -- the largest of some numbers is one of them
 data Attained (f : ℕ → ℕ) (n m : ℕ) : Type 0 where

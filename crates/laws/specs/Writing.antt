@@ -11,11 +11,11 @@ use lib.IntN.{ℤ}
 use lib.ListN.{length, getD}
 use Rattle.places.specs.Places.{pick, put, Out, Apart}
 use Rattle.layout.specs.Row.{rowAt}
-use Rattle.layout.specs.declared.Row.{Row}
-use Rattle.fields.specs.Field.{Value, missing, Field, holds, illegal}
+use Rattle.fields.specs.Field.{Value, missing, holds}
+use Rattle.fields.specs.Number.{allSpaces}
 use Rattle.fields.specs.Row.{Fit, fits, otherType, notLegal, tooMany, placesOf, readingOf, fitOf, bytesOf, writtenOf}
 use Rattle.fields.specs.Facts.{RowFacts}
-use Rattle.fieldlaws.specs.Corrections.{written-length, written-keeps, others-read, either-order, last-counts, written-bytes, reads-back, read-fits, Plain, writes-back-bytes}
+use Rattle.fieldlaws.specs.Corrections.{written-length, written-keeps, others-read, either-order, last-counts, written-bytes, reads-back, read-fits, Plain, writes-back-bytes, blank-reads, blank-kept}
 use Rattle.sound.specs.Sound.{wellFormed}
 use Rattle.sound.specs.Rows.{rowsOf, lengthOf, row-facts}
 use Rattle.writes.specs.declared.Wrote.{Wrote}
@@ -216,3 +216,9 @@ write-back e w = read-back w ∙ sym e
 pub write-back-bytes : {t : List ℤ} {i : ℕ} {x : Value} {old new : List ℕ} → Plain (rowAt t i .kind) → readingOf t (rowsOf t) (rowAt t i) old ≡ holds x
     → Written t i x old new Done → new ≡ old
 write-back-bytes {t} {i} {x} {old} p e w = done-written w ∙ writes-back-bytes t (rowsOf t) (rowAt t i) x old p e
+
+-- spaces at all value places read as missing, and missing written back keeps every byte, in every kind
+pub blank-back : {t : List ℤ} {i : ℕ} {old new : List ℕ} → allSpaces (pick old (placesOf t (rowsOf t) (rowAt t i))) ≡ true → Written t i missing old new Done
+    → (readingOf t (rowsOf t) (rowAt t i) old ≡ holds missing) × (new ≡ old)
+blank-back {t} {i} {old} b w =
+    (blank-reads t (rowsOf t) (rowAt t i) old b, done-written w ∙ blank-kept t (rowsOf t) (rowAt t i) old b)

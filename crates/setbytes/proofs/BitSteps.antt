@@ -1,14 +1,14 @@
 -- One category more: what is left to put gives the whole.
-use mathlib.Core.Path.{_≡_, refl, sym, ap, _∙_}
-use mathlib.Core.Bool.{Bool, true, false, cond, _||_}
-use mathlib.Core.List.{List, [], _∷_}
-use Prim.Native.Nat.{ℕ, zero, suc, _+_, _-_, _≤_, _<_}
+use mathlib.Core.Path.{_≡_, refl, sym, _∙_}
+use mathlib.Core.Bool.{Bool, true, false, cond}
+use mathlib.Core.List.{List}
+use Prim.Native.Nat.{ℕ, suc, _+_, _-_, _≤_, _<_}
 use native.Mathlib.Numerals.{add-one}
 use native.Mathlib.Omega.{arith}
 use lib.IntN.{ℤ, pos}
 use lib.ListN.{length, set, drop}
 use lib.Seq.{drop-drop}
-use Rattle.cells.specs.Cell.{eqZ, same-self}
+use Rattle.cells.specs.Cell.{same-self}
 use Rattle.places.specs.Places.{put}
 use Rattle.fields.specs.Field.{spaces, isMember, bitBytes}
 use Rattle.fields.specs.Row.{defined, bitPlaces}

@@ -2,24 +2,23 @@
 use mathlib.Core.Path.{_≡_, refl, sym, ap, _∙_}
 use mathlib.Core.Bool.{true, false, cond}
 use mathlib.Core.List.{List}
-use Prim.Native.Nat.{ℕ, _+_, _*_, _≤_, _<_}
+use Prim.Native.Nat.{ℕ, _+_, _≤_, _<_}
 use native.Mathlib.Omega.{arith}
 use borrow.Author.Tests.{le-leb, lt-leb, lt-ltb, le-ltb}
 use lib.Dec.{eqb}
 use lib.IntN.{ℤ}
 use lib.ListN.{length}
-use Rattle.places.specs.Places.{put}
 use Rattle.layout.specs.Layout.{headerOf, mostRows, rowBase, rowSize}
 use Rattle.layout.specs.Row.{rowAt}
 use Rattle.layout.specs.declared.Header.{Header}
 use Rattle.layout.specs.declared.Row.{Row}
 use Rattle.fields.specs.Field as field
-use Rattle.fields.specs.Row.{Fit, fits, otherType, notLegal, tooMany, fitOf, fitsBy, bytesBy, placesBy, writtenOf}
+use Rattle.fields.specs.Row.{Fit, fits, otherType, notLegal, tooMany, fitOf, writtenOf}
 use Rattle.sound.specs.Sound.{wellFormed}
 use Rattle.sound.specs.Rows.{rowsOf, lengthOf, row-facts}
 use Rattle.writes.specs.declared.Value.{Value}
 use Rattle.writes.specs.declared.Wrote.{Wrote}
-use Rattle.writes.specs.declared.Wrote.the-variants.{Done, NotWellFormed, NoRow, TooShort, OtherType, NotLegal, TooMany}
+use Rattle.writes.specs.declared.Wrote.the-variants.{NotWellFormed, NoRow, TooShort}
 use Rattle.writes.specs.Write.{valueOf, WrittenBy, Ready, ready, answerBy, leftBy}
 use Rattle.writes.specs.Public.{numberOf, fitNumber, refusalOf, recordAfter, Written}
 

@@ -17,7 +17,7 @@ use Rattle.fields.specs.Facts.{LineFacts, KindFacts, RowFacts}
 use Rattle.writes.specs.declared.Value.{Value}
 use Rattle.writes.specs.declared.Value.the-variants.{Missing, Number, Set, Text, Truth}
 use Rattle.writes.specs.declared.Wrote.{Wrote}
-use Rattle.writes.specs.declared.Wrote.the-variants.{Done, NotWellFormed, NoRow, TooShort, OtherType, NotLegal, TooMany}
+use Rattle.writes.specs.declared.Wrote.the-variants.{Done, OtherType, NotLegal, TooMany}
 
 -- what is given: a set is the list beside it, a text the bytes beside it
 unfoldable pub valueOf : Value → List ℤ → List ℕ → field.Value

@@ -13,8 +13,11 @@ use super::Value;
 use super::Wrote;
 use layout::Row;
 
-// As many members as pay for marks of all categories.
+// So many members, and so many lines to search for each, pay for marks of all categories.
 const MANY: usize = 16;
+
+// Marks of 0 to the highest category.
+const MARKS: usize = 10_000;
 
 fn bits_missing(t: &[i64], rows: usize, row: Row, marks: &mut [u8], bytes: &mut [u8]) -> Wrote
     requires { ⌜ Ready (kind.Multiple spread.Bits) (now t) rows (length (now bytes)) row ⌝ }
@@ -65,11 +68,11 @@ pub fn write_bits(
     let k = row.width + 1;
     match value {
         Value::Missing => {
-            let mut marks = [0; 10000];
+            let mut marks = [0; MARKS];
             bits_missing(t, rows, row, &mut marks[..k], bytes)
         }
         Value::Set => {
-            let mut marks = [0; 10000];
+            let mut marks = [0; MARKS];
             bits_set(t, rows, row, list, &mut marks[..k], bytes)
         }
         Value::Number(_) => Wrote::OtherType,
@@ -121,11 +124,12 @@ fn spread_written(
     requires { ⌜ Ready (kind.Multiple (spread.Fields count width)) (now t) rows (length (now bytes)) row ⌝ }
     ensures { λ r. ⌜ WrittenBy (kind.Multiple (spread.Fields count width)) (now (t .entry)) rows row given.Set (now (list .entry)) [] (now (bytes .entry)) (now (bytes .exit)) r ⌝ }
 {
-    if list.len() < MANY {
+    let lines = row.lines;
+    if (list.len() < MANY) | (lines < MANY) {
         let mut none = [0; 1];
         return spread_set(powers, t, rows, row, count, width, list, &mut none, bytes);
     }
-    let mut marks = [0; 10000];
+    let mut marks = [0; MARKS];
     spread_set(powers, t, rows, row, count, width, list, &mut marks, bytes)
 }
 

@@ -1,10 +1,10 @@
 -- `digits::build_amount` meets its contract: the digits, the point and the decimals are one run of places.
-use mathlib.Core.Path.{_≡_, _∙_}
-use Prim.Native.Nat.{_+_, _-_, _/_, _^_, _≤_, _<_}
+use mathlib.Core.Path.{_∙_}
+use Prim.Native.Nat.{_-_}
 use native.Mathlib.Nat.{lt-of-le-of-lt, div-le-self}
 use native.Mathlib.Omega.{arith}
 use borrow.Author.Needs.{needs}
-use Rattle.widths.specs.Width.{tailOf, ten-some}
+use Rattle.widths.specs.Width.{ten-some}
 use Rattle.digits.proofs.Built.{tail-pointed, built-plain, built-pointed}
 use Rattle.digits.proofs.build_amount.Statement.{statement}
 use Rattle.digits.proofs.build_amount.Tie as tie

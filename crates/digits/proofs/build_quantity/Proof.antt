@@ -1,7 +1,6 @@
 -- `digits::build_quantity` meets its contract: a minus, where there is one, and the amount are one run of places.
 use mathlib.Core.Path.{_≡_, ap, _∙_}
-use Prim.Native.Nat.{_+_, _-_, _≤_}
-use native.Mathlib.Omega.{arith}
+use Prim.Native.Nat.{_-_}
 use borrow.Author.Needs.{needs}
 use mir.Facts.{toZ-ofZ}
 use Rattle.cells.specs.Cell.{signedOf}

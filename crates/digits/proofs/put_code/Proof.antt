@@ -1,13 +1,10 @@
 -- `digits::put_code` meets its contract: the digits built in the small array are those copied.
 use mathlib.Core.Path.{_≡_, sym, ap, _∙_}
-use Prim.Native.Nat.{ℕ, _+_, _^_, _≤_, _<_}
 use native.Mathlib.Omega.{arith}
 use borrow.Author.Needs.{needs}
 use mir.Facts.{toZ-ofZ}
-use lib.ListN.{length, take}
-use Rattle.places.specs.Places.{put, run}
 use Rattle.cells.specs.Cell.{signedOf}
-use Rattle.fields.specs.Number.{padded, codeBytes}
+use Rattle.fields.specs.Number.{codeBytes}
 use Rattle.fieldlaws.specs.NumberLaws.{length-code}
 use Rattle.digits.proofs.Built.{Ready, kept, copied}
 use Rattle.digits.proofs.put_code.Statement.{statement}

@@ -1,11 +1,8 @@
 -- `digits::put_quantity` meets its contract: the bytes built in the small array are those copied.
-use mathlib.Core.Path.{_≡_, sym, _∙_}
-use Prim.Native.Nat.{_+_, _≤_, _<_}
+use mathlib.Core.Path.{sym, _∙_}
 use native.Mathlib.Omega.{arith}
 use borrow.Author.Needs.{needs}
 use mir.Facts.{toZ-ofZ}
-use lib.ListN.{length, take}
-use Rattle.places.specs.Places.{put, run}
 use Rattle.fields.specs.Number.{quantityBytes}
 use Rattle.fieldlaws.specs.NumberLaws.{quantity-length}
 use Rattle.digits.proofs.Built.{Ready, kept, copied}

@@ -1,5 +1,5 @@
 -- `writes::write_row` meets its contract: each arm has what the kind is there.
-use mathlib.Core.Path.{_≡_, ap, _∙_}
+use mathlib.Core.Path.{ap, _∙_}
 use borrow.Author.Needs.{needs}
 use Rattle.layout.specs.declared.Kind.the-variants.{Multiple}
 use Rattle.writes.proofs.Cases.{ready-as, written-as}

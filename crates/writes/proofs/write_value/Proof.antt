@@ -1,12 +1,8 @@
 -- `writes::write_value` meets its contract: the tests in their order, and then the write to the row.
-use mathlib.Core.Path.{_≡_, refl, sym, ap, _∙_}
-use mathlib.Core.Bool.{true, false}
-use Prim.Native.Nat.{_≤_, _<_}
-use native.Mathlib.Omega.{arith}
+use mathlib.Core.Path.{_≡_, sym, _∙_}
+use mathlib.Core.Bool.{true}
 use borrow.Author.Needs.{needs}
 use borrow.Author.Tests.{not-true, not-false}
-use lib.ListN.{length}
-use Rattle.layout.specs.Layout.{headerOf}
 use Rattle.sound.specs.Sound.{wellFormed}
 use Rattle.writes.proofs.Whole.{not-formed, no-row, too-short, row-stands, row-ready, row-written}
 use Rattle.writes.proofs.write_value.Statement.{statement}

@@ -1,12 +1,11 @@
 -- `setbytes::bits::blank_bits` meets its contract. The invariant: what is left to put gives the whole.
-use mathlib.Core.Path.{_≡_, refl, sym, ap, _∙_}
+use mathlib.Core.Path.{_≡_, refl, sym, _∙_}
 use mathlib.Core.Bool.{true, false}
-use Prim.Native.Nat.{ℕ, suc, _+_, _-_, _≤_, _<_}
+use Prim.Native.Nat.{_+_, _-_, _≤_}
 use native.Mathlib.Nat.{sub-zero}
 use native.Mathlib.Omega.{arith}
-use borrow.Author.Needs.{needs}
 use lib.IntN.{pos}
-use lib.ListN.{length, set, length-set}
+use lib.ListN.{length, length-set}
 use Rattle.fields.specs.Legal.{legal}
 use Rattle.fields.specs.Row.{defined, bitPlaces}
 use Rattle.fields.specs.Field.{spaces}

@@ -1,13 +1,13 @@
 -- `setbytes::bits::put_bits` meets its contract. The invariant: what is left to put, after i categories and j members, gives the whole,
 -- and the members that are left are some of the categories that are left.
-use mathlib.Core.Path.{_≡_, refl, sym, ap, _∙_}
+use mathlib.Core.Path.{_≡_, refl, sym, _∙_}
 use mathlib.Core.Bool.{Bool, true, false, cond}
-use Prim.Native.Nat.{ℕ, suc, _+_, _-_, _≤_, _<_}
-use native.Mathlib.Nat.{sub-zero, zero-add}
+use Prim.Native.Nat.{_+_, _-_, _≤_, _<_}
+use native.Mathlib.Nat.{sub-zero}
 use native.Mathlib.Omega.{arith}
 use borrow.Author.Needs.{needs}
 use lib.IntN.{pos}
-use lib.ListN.{length, set, drop, length-set}
+use lib.ListN.{length, drop, length-set}
 use Rattle.fields.specs.Legal.{legal}
 use Rattle.fields.specs.Row.{defined, bitPlaces}
 use Rattle.fields.specs.Field.{bitBytes}

@@ -1,11 +1,9 @@
 -- `setbytes::judge::next_good` meets its contract.
-use mathlib.Core.Path.{_≡_, refl, sym, ap, _∙_}
-use mathlib.Core.Bool.{true, false}
-use Prim.Native.Nat.{ℕ, _+_, _-_, _≤_, _<_}
-use native.Mathlib.Omega.{arith}
+use mathlib.Core.Path.{_≡_, sym, _∙_}
+use Prim.Native.Nat.{_-_}
 use borrow.Author.Needs.{needs, sfits-of}
 use mir.Facts.{toZ-ofZ}
-use lib.Signed.{leZ, ltZ}
+use lib.Signed.{leZ}
 use Rattle.cells.specs.Cell.{cell}
 use Rattle.setbytes.proofs.JudgeSteps.{not-good, is-good}
 use Rattle.setbytes.proofs.judge.next_good.Statement.{statement}

@@ -1,8 +1,7 @@
 -- `setbytes::spread::blank_spread` meets its contract. The invariant: what is left to put gives the whole.
 use mathlib.Core.Path.{_≡_, refl, sym, _∙_}
-use Prim.Native.Nat.{ℕ, suc, _+_, _-_, _*_, _≤_, _<_}
+use Prim.Native.Nat.{suc, _+_, _-_, _*_, _≤_}
 use native.Mathlib.Omega.{arith}
-use borrow.Author.Needs.{needs}
 use lib.ListN.{length}
 use Rattle.places.specs.Places.{put}
 use Rattle.fields.specs.Field.{spaces}

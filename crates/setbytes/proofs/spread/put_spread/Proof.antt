@@ -1,12 +1,10 @@
 -- `setbytes::spread::put_spread` meets its contract. The invariant: what is left to put gives the whole.
 use mathlib.Core.Path.{_≡_, refl, sym, _∙_}
-use Prim.Native.Nat.{ℕ, suc, _+_, _-_, _*_, _^_, _≤_, _<_}
+use Prim.Native.Nat.{suc, _+_, _-_, _*_, _≤_}
 use native.Mathlib.Omega.{arith}
 use borrow.Author.Needs.{needs, sfits-of}
 use mir.Facts.{toZ-ofZ}
-use lib.IntN.{pos}
-use lib.ListN.{length, getD, drop}
-use Rattle.widths.specs.Width.{sizeOf}
+use lib.ListN.{length, drop}
 use Rattle.places.specs.Places.{put}
 use Rattle.fields.specs.Field.{spreadBytes}
 use Rattle.fields.specs.Row.{spreadPlaces}

@@ -1,13 +1,9 @@
 -- `writes::marked::bits_missing` meets its contract.
-use mathlib.Core.Path.{_≡_, refl, sym, ap, _∙_}
-use mathlib.Core.Bool.{true, false}
-use Prim.Native.Nat.{ℕ, _+_, _-_, _*_, _≤_, _<_}
+use mathlib.Core.Path.{refl}
+use Prim.Native.Nat.{_-_}
 use native.Mathlib.Omega.{arith}
 use borrow.Author.Needs.{needs}
-use borrow.Author.Tests.{not-true, not-false, lt-ltb, le-ltb}
-use lib.ListN.{length}
-use Rattle.fields.specs.Row.{fitsBy, bytesBy, placesBy}
-use Rattle.writes.specs.Write.{valueOf}
+use Rattle.fields.specs.Row.{placesBy}
 use Rattle.writes.proofs.Cases.{blanked}
 use Rattle.writes.proofs.marked.bits_missing.Statement.{statement}
 use Rattle.writes.proofs.marked.bits_missing.Tie as tie

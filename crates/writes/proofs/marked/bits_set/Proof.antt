@@ -1,11 +1,9 @@
 -- `writes::marked::bits_set` meets its contract.
-use mathlib.Core.Path.{_≡_, refl, sym, ap, _∙_}
-use mathlib.Core.Bool.{true, false}
-use Prim.Native.Nat.{ℕ, _+_, _-_, _*_, _≤_, _<_}
+use mathlib.Core.Path.{refl, sym, _∙_}
+use Prim.Native.Nat.{_-_}
 use native.Mathlib.Omega.{arith}
 use borrow.Author.Needs.{needs}
-use borrow.Author.Tests.{not-true, not-false, lt-ltb, le-ltb}
-use lib.ListN.{length}
+use borrow.Author.Tests.{not-true, not-false}
 use Rattle.fields.specs.Row.{fitsBy, bytesBy, placesBy}
 use Rattle.writes.specs.Write.{valueOf}
 use Rattle.writes.proofs.Cases.{accepted, illegal, legal-fits, legal-not, bits-rising}

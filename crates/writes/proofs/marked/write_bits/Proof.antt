@@ -1,11 +1,11 @@
 -- `writes::marked::write_bits` meets its contract: each arm has what the value is there.
-use mathlib.Core.Path.{_≡_, refl, sym, ap, _∙_}
-use Prim.Native.Nat.{ℕ, _+_, _-_, _*_, _≤_, _<_}
+use mathlib.Core.Path.{_≡_, refl, sym}
+use Prim.Native.Nat.{ℕ, _+_, _-_, _≤_}
 use native.Mathlib.Omega.{arith}
 use borrow.Author.Needs.{needs}
 use lib.ListN.{length, take, replicate, length-replicate}
 use lib.Seq.{length-take-le}
-use Rattle.fields.specs.Row.{fitsBy, placesBy}
+use Rattle.fields.specs.Row.{fitsBy}
 use Rattle.writes.specs.Write.{valueOf}
 use Rattle.writes.proofs.Cases.{other, as-missing, as-set}
 use Rattle.writes.proofs.marked.write_bits.Statement.{statement}

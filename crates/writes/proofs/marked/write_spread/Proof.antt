@@ -1,10 +1,8 @@
 -- `writes::marked::write_spread` meets its contract: each arm has what the value is there.
-use mathlib.Core.Path.{_≡_, refl, sym, ap, _∙_}
-use Prim.Native.Nat.{ℕ, _+_, _-_, _*_, _≤_, _<_}
+use mathlib.Core.Path.{refl}
+use Prim.Native.Nat.{_-_}
 use native.Mathlib.Omega.{arith}
 use borrow.Author.Needs.{needs}
-use lib.ListN.{length, replicate, length-replicate}
-use lib.Seq.{length-take-le}
 use Rattle.fields.specs.Row.{fitsBy, placesBy}
 use Rattle.writes.specs.Write.{valueOf}
 use Rattle.writes.proofs.Cases.{other, blanked, as-set}

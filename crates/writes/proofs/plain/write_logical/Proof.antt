@@ -1,10 +1,7 @@
 -- `writes::plain::write_logical` meets its contract: each arm has what the value is there.
-use mathlib.Core.Path.{_≡_, refl, sym, ap, _∙_}
-use mathlib.Core.List.{List, [], _∷_}
-use Prim.Native.Nat.{ℕ, _+_, _-_, _≤_, _<_}
-use native.Mathlib.Omega.{arith}
+use mathlib.Core.Path.{refl}
+use Prim.Native.Nat.{_-_}
 use borrow.Author.Needs.{needs}
-use lib.ListN.{length, set}
 use Rattle.fields.specs.Row.{fitsBy, bytesBy, placesBy}
 use Rattle.fields.specs.Field.{spaces, truthBytes}
 use Rattle.writes.specs.Write.{valueOf}
