@@ -1,0 +1,409 @@
+//! The scanner: blanks, comments, strings, words and numbers of a definition.
+
+use crate::MAX_LEVEL;
+
+/// A refusal: its number and its place.
+#[derive(Clone, Copy, Debug, PartialEq, Eq)]
+pub(crate) struct Fault {
+    pub number: u8,
+    pub place: usize,
+}
+
+pub(crate) type Outcome<T> = Result<T, Fault>;
+
+#[cold]
+pub(crate) fn fault<T>(number: u8, place: usize) -> Outcome<T> {
+    Err(Fault { number, place })
+}
+
+/// What a byte is outside strings and comments, as far as numbers ask.
+#[derive(Clone, Copy, PartialEq, Eq)]
+#[repr(u8)]
+enum Class {
+    Dropped,
+    Digit,
+    Point,
+    Minus,
+    Plus,
+    Other,
+}
+
+static CLASSES: [Class; 256] = {
+    let mut t = [Class::Other; 256];
+    let mut b = 0;
+    while b < 32 {
+        t[b] = Class::Dropped;
+        b += 1;
+    }
+    let mut b = b'0';
+    while b <= b'9' {
+        t[b as usize] = Class::Digit;
+        b += 1;
+    }
+    t[b'.' as usize] = Class::Point;
+    t[b'-' as usize] = Class::Minus;
+    t[b'+' as usize] = Class::Plus;
+    t
+};
+
+/// The first place from `from` on where `stop` holds, or the length. Looks at sixteen bytes at a time.
+#[inline(always)]
+pub(crate) fn find(b: &[u8], from: usize, stop: impl Fn(u8) -> bool) -> usize {
+    let mut p = from;
+    while let Some(chunk) = b.get(p..).and_then(|rest| rest.first_chunk::<16>()) {
+        if chunk.iter().fold(false, |hit, &x| hit | stop(x)) {
+            break;
+        }
+        p += 16;
+    }
+    while p < b.len() && !stop(b[p]) {
+        p += 1;
+    }
+    p
+}
+
+/// A run of digits. Its true value may be of any length; `value` holds it up to eighteen significant digits.
+#[derive(Clone, Copy)]
+pub(crate) struct Number {
+    pub place: usize,
+    end: usize,
+    /// Digits as written.
+    pub count: usize,
+    /// Digits without the zeros in front.
+    significant: usize,
+    value: u64,
+}
+
+impl Number {
+    /// The true value, or the greatest u64 where it has more than eighteen digits.
+    pub fn capped(&self) -> u64 {
+        if self.significant > 18 { u64::MAX } else { self.value }
+    }
+}
+
+/// A run of digits, points, `+` and `-`.
+#[derive(Clone, Copy)]
+pub(crate) struct Figure {
+    pub place: usize,
+    end: usize,
+    /// Digits only.
+    pub plain: bool,
+    /// An optional `-`, digits, an optional point, at least one digit.
+    pub form: bool,
+    pub point: bool,
+    /// Digits behind the point.
+    pub decimals: usize,
+    minus: bool,
+    significant: usize,
+    value: u64,
+}
+
+impl Figure {
+    /// The scaled magnitude, or the greatest u64 where it has more than eighteen digits.
+    pub fn capped(&self) -> u64 {
+        if self.significant > 18 { u64::MAX } else { self.value }
+    }
+
+    /// The scaled value; only for magnitudes that fit.
+    pub fn scaled(&self) -> i64 {
+        let m = self.value as i64;
+        if self.minus { -m } else { m }
+    }
+
+    fn negative(&self) -> bool {
+        self.minus && self.significant > 0
+    }
+}
+
+pub(crate) struct Scan<'a> {
+    pub bytes: &'a [u8],
+    pub at: usize,
+}
+
+impl Scan<'_> {
+    /// Past spaces and dropped bytes.
+    #[inline]
+    pub fn blank(&mut self) {
+        let start = self.at;
+        while self.at < self.bytes.len() && self.bytes[self.at] <= 32 {
+            self.at += 1;
+            if self.at - start == 16 {
+                self.at = find(self.bytes, self.at, |x| x > 32);
+                return;
+            }
+        }
+    }
+
+    /// Past spaces, dropped bytes and comments.
+    #[inline]
+    pub fn gap(&mut self) -> Outcome<()> {
+        self.blank();
+        while self.bytes.get(self.at) == Some(&b'<') {
+            self.comment()?;
+            self.blank();
+        }
+        Ok(())
+    }
+
+    fn comment(&mut self) -> Outcome<()> {
+        let outer = self.at;
+        let mut level = 1;
+        self.at += 1;
+        loop {
+            self.at = find(self.bytes, self.at, |x| x == b'<' || x == b'>' || x == b'"');
+            match self.bytes.get(self.at) {
+                None => return fault(3, outer),
+                Some(b'"') => {
+                    self.at += 1;
+                    self.string(outer)?;
+                }
+                Some(b'<') => {
+                    if level == MAX_LEVEL {
+                        return fault(3, self.at);
+                    }
+                    level += 1;
+                    self.at += 1;
+                }
+                Some(_) => {
+                    level -= 1;
+                    self.at += 1;
+                    if level == 0 {
+                        return Ok(());
+                    }
+                }
+            }
+        }
+    }
+
+    /// The rest of a string, from behind its opening quote to behind its closing one. `outer` is the outermost open mark.
+    fn string(&mut self, outer: usize) -> Outcome<()> {
+        loop {
+            self.at = find(self.bytes, self.at, |x| x == b'"' || x == b'{');
+            match self.bytes.get(self.at) {
+                None => return fault(3, outer),
+                Some(b'"') => {
+                    self.at += 1;
+                    return Ok(());
+                }
+                Some(_) => self.brace(outer)?,
+            }
+        }
+    }
+
+    fn brace(&mut self, outer: usize) -> Outcome<()> {
+        let open = self.at;
+        self.at += 1;
+        match self.kept(outer)? {
+            b'"' | b'{' => {
+                if self.kept(outer)? != b'}' {
+                    return fault(3, open);
+                }
+            }
+            b'N' => {
+                if self.kept(outer)? != b'L' || self.kept(outer)? != b'}' {
+                    return fault(3, open);
+                }
+            }
+            first => {
+                let mut x = first;
+                loop {
+                    if !x.is_ascii_hexdigit() || !self.kept(outer)?.is_ascii_hexdigit() {
+                        return fault(3, open);
+                    }
+                    x = self.kept(outer)?;
+                    if x == b'}' {
+                        break;
+                    }
+                }
+            }
+        }
+        Ok(())
+    }
+
+    /// The next byte that isn't dropped.
+    fn kept(&mut self, outer: usize) -> Outcome<u8> {
+        while let Some(&x) = self.bytes.get(self.at) {
+            self.at += 1;
+            if x >= 32 {
+                return Ok(x);
+            }
+        }
+        fault(3, outer)
+    }
+
+    /// A string that is due: its text's place and length.
+    #[inline]
+    pub fn text(&mut self) -> Outcome<(usize, usize)> {
+        self.gap()?;
+        if self.bytes.get(self.at) != Some(&b'"') {
+            return fault(2, self.at);
+        }
+        let open = self.at;
+        self.at += 1;
+        self.string(open)?;
+        Ok((open + 1, self.at - open - 2))
+    }
+
+    /// Whether this word stands here; if so, past it. The word is in capitals.
+    #[inline]
+    pub fn word<const N: usize>(&mut self, word: &[u8; N]) -> bool {
+        let Some(rest) = self.bytes.get(self.at..) else { return false };
+        if let Some(here) = rest.first_chunk::<N>() {
+            let mut unlike = 0;
+            for i in 0..N {
+                unlike |= (here[i] & 0xdf) ^ word[i];
+            }
+            if unlike == 0 {
+                self.at += N;
+                return true;
+            }
+        }
+        match rest.first() {
+            Some(x) if x & 0xdf == word[0] => self.word_with_dropped(word),
+            _ => false,
+        }
+    }
+
+    fn word_with_dropped(&mut self, word: &[u8]) -> bool {
+        let mut p = self.at;
+        for &c in word {
+            while p < self.bytes.len() && self.bytes[p] < 32 {
+                p += 1;
+            }
+            if p == self.bytes.len() || self.bytes[p] & 0xdf != c {
+                return false;
+            }
+            p += 1;
+        }
+        self.at = p;
+        true
+    }
+
+    /// A word that is due, after blanks and comments.
+    #[inline]
+    pub fn due<const N: usize>(&mut self, word: &[u8; N]) -> Outcome<()> {
+        self.gap()?;
+        if self.word(word) { Ok(()) } else { fault(2, self.at) }
+    }
+
+    /// A number that is due, after blanks and comments.
+    #[inline]
+    pub fn number(&mut self) -> Outcome<Number> {
+        self.gap()?;
+        let mut n = Number { place: self.at, end: 0, count: 0, significant: 0, value: 0 };
+        while let Some(&x) = self.bytes.get(self.at) {
+            match CLASSES[x as usize] {
+                Class::Digit => {
+                    n.count += 1;
+                    n.significant += (n.significant > 0 || x != b'0') as usize;
+                    if n.significant <= 18 {
+                        n.value = n.value * 10 + (x - b'0') as u64;
+                    }
+                }
+                Class::Dropped => {}
+                _ => break,
+            }
+            self.at += 1;
+        }
+        n.end = self.at;
+        if n.count == 0 { fault(2, n.place) } else { Ok(n) }
+    }
+
+    /// The run of digits, points, `+` and `-` that stands here, if there is one.
+    #[inline]
+    pub fn figure(&mut self) -> Option<Figure> {
+        let mut f = Figure {
+            place: self.at,
+            end: 0,
+            plain: true,
+            form: true,
+            point: false,
+            decimals: 0,
+            minus: false,
+            significant: 0,
+            value: 0,
+        };
+        let mut digits = 0usize;
+        let mut count = 0usize;
+        while let Some(&x) = self.bytes.get(self.at) {
+            match CLASSES[x as usize] {
+                Class::Digit => {
+                    digits += 1;
+                    f.decimals += f.point as usize;
+                    f.significant += (f.significant > 0 || x != b'0') as usize;
+                    if f.significant <= 18 {
+                        f.value = f.value * 10 + (x - b'0') as u64;
+                    }
+                }
+                Class::Dropped => {
+                    self.at += 1;
+                    continue;
+                }
+                Class::Point => {
+                    f.form &= !f.point;
+                    f.point = true;
+                    f.plain = false;
+                }
+                Class::Minus => {
+                    f.form &= count == 0;
+                    f.minus = true;
+                    f.plain = false;
+                }
+                Class::Plus => {
+                    f.form = false;
+                    f.plain = false;
+                }
+                Class::Other => break,
+            }
+            count += 1;
+            self.at += 1;
+        }
+        f.end = self.at;
+        f.form &= digits > 0;
+        if count == 0 { None } else { Some(f) }
+    }
+
+    /// A figure that is due, after blanks and comments.
+    #[inline]
+    pub fn figure_due(&mut self) -> Outcome<Figure> {
+        self.gap()?;
+        let place = self.at;
+        match self.figure() {
+            Some(f) => Ok(f),
+            None => fault(2, place),
+        }
+    }
+
+    /// Whether number a is above number b, by their true values.
+    pub fn above(&self, a: &Number, b: &Number) -> bool {
+        self.magnitude_above((a.place, a.end, a.significant, a.value), (b.place, b.end, b.significant, b.value))
+    }
+
+    /// Whether figure a is above figure b, by their true values. Both have form and as many decimals.
+    pub fn figure_above(&self, a: &Figure, b: &Figure) -> bool {
+        let x = (a.place, a.end, a.significant, a.value);
+        let y = (b.place, b.end, b.significant, b.value);
+        match (a.negative(), b.negative()) {
+            (false, false) => self.magnitude_above(x, y),
+            (true, true) => self.magnitude_above(y, x),
+            (negative, _) => !negative,
+        }
+    }
+
+    fn magnitude_above(&self, a: (usize, usize, usize, u64), b: (usize, usize, usize, u64)) -> bool {
+        if a.2 != b.2 {
+            return a.2 > b.2;
+        }
+        if a.2 <= 18 {
+            return a.3 > b.3;
+        }
+        let x = self.bytes[a.0..a.1].iter().filter(|x| x.is_ascii_digit()).skip_while(|&&x| x == b'0');
+        let y = self.bytes[b.0..b.1].iter().filter(|x| x.is_ascii_digit()).skip_while(|&&x| x == b'0');
+        x.gt(y)
+    }
+
+    /// Whether the kept bytes from place `from` to here are these.
+    pub fn reads(&self, from: usize, text: &[u8]) -> bool {
+        self.bytes[from..self.at].iter().filter(|&&x| x >= 32).eq(text.iter())
+    }
+}
