@@ -305,8 +305,10 @@ fn well_formed_clauses() {
     assert!(!with(&[(row(2, 10), -100)]));
     assert!(with(&[(row(2, 10), -100), (row(2, 4), 5)]));
     assert!(!with(&[(row(2, 6), 0)]));
-    assert!(!with(&[(row(2, 5), 0)]));
-    assert!(with(&[(row(2, 5), 0), (row(2, 4), 4)]));
+    // With no decimals but a point: `-10.` and `70.`.
+    assert!(with(&[(row(2, 5), 0)]));
+    assert!(!with(&[(row(2, 5), 0), (row(2, 6), 0)]));
+    assert!(with(&[(row(2, 5), 0), (row(2, 6), 0), (row(2, 4), 3)]));
     assert!(!with(&[(row(2, 5), 10), (row(2, 4), 13), (row(2, 3), 30)]));
     assert!(with(&[(line(4, 0), -5)]));
     // The text and the logical.
