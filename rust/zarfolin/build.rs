@@ -19,5 +19,5 @@ fn main() {
         std::process::exit(1);
     }
     println!("cargo:rustc-link-search=native={}", folder.canonicalize().unwrap().display());
-    println!("cargo:rustc-link-lib=static=zarfolin");
+    println!("cargo:rustc-link-lib=static:-bundle=zarfolin");
 }

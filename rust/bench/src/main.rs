@@ -1,1 +1,399 @@
-fn main() {}
+//! Measurements: the linked library (feature `ffi`) against the plain Rust, same input, same buffers, interleaved in one
+//! run. Without the feature the plain Rust stands on both sides, which shows the noise.
+//!
+//!     cargo run --release --offline -p zarfolin-bench [--features zarfolin-bench/ffi] [-- [--quick] [--callgrind] [PART..]]
+//!
+//! PART: only cases whose name holds one of these. `--callgrind` counts instructions with valgrind instead of time.
+
+use std::hint::black_box;
+use std::process::Command;
+use std::time::{Duration, Instant};
+use zarfolin_compare::face::{Face, Plain, other};
+use zarfolin_compare::rng::Rng;
+
+type Step = Box<dyn FnMut(&dyn Face) -> u64>;
+
+/// One thing to measure: a call, the bytes it goes through (0 where that says nothing), the number it must answer.
+struct Case {
+    name: String,
+    bytes: usize,
+    number: u64,
+    step: Step,
+}
+
+fn main() {
+    let args: Vec<String> = std::env::args().skip(1).collect();
+    if args.first().is_some_and(|a| a == "--one") {
+        one(&args[1], args[2] == "other");
+        return;
+    }
+    let quick = args.iter().any(|a| a == "--quick");
+    let callgrind = args.iter().any(|a| a == "--callgrind");
+    let parts: Vec<&String> = args.iter().filter(|a| !a.starts_with("--")).collect();
+    let other = other();
+    println!("ours: {}    plain: {}", other.name(), Plain.name());
+    println!("buffers: the same for both, warm (in cache as far as they fit); calls interleaved in one run");
+    if callgrind {
+        println!("\n{:<44} {:>14} {:>14} {:>7}", "instructions of one call", "ours", "plain", "ratio");
+    } else {
+        println!(
+            "\n{:<44} {:>12} {:>12} {:>7} {:>10} {:>10}",
+            "median of one call", "ours ns", "plain ns", "ratio", "ours MB/s", "plain MB/s"
+        );
+    }
+    let mut worst = (0.0, String::new());
+    for mut case in cases() {
+        if !parts.is_empty() && !parts.iter().any(|p| case.name.contains(*p)) {
+            continue;
+        }
+        for face in [&other as &dyn Face, &Plain] {
+            let number = (case.step)(face);
+            assert_eq!(number, case.number, "{}: {} answered {number}", case.name, face.name());
+        }
+        let ratio = if callgrind {
+            let count = |side: &str| instructions(&case.name, side);
+            let (ours, plain) = (count("other"), count("plain"));
+            let ratio = ours as f64 / plain as f64;
+            println!("{:<44} {ours:>14} {plain:>14} {ratio:>7.2}", case.name);
+            ratio
+        } else {
+            let (ours, plain) = time(&mut case, &other, quick);
+            let ratio = ours / plain;
+            let speed = |ns: f64| match case.bytes {
+                0 => "-".to_string(),
+                bytes => format!("{:.0}", bytes as f64 * 1e3 / ns),
+            };
+            println!(
+                "{:<44} {ours:>12.1} {plain:>12.1} {ratio:>7.2} {:>10} {:>10}",
+                case.name,
+                speed(ours),
+                speed(plain)
+            );
+            ratio
+        };
+        if ratio > worst.0 {
+            worst = (ratio, case.name);
+        }
+    }
+    println!("\nhighest ratio: {:.2} ({})", worst.0, worst.1);
+}
+
+/// Median nanoseconds of one call on both sides, from interleaved samples.
+fn time(case: &mut Case, other: &dyn Face, quick: bool) -> (f64, f64) {
+    let (samples, length) = if quick { (9, Duration::from_micros(500)) } else { (41, Duration::from_millis(2)) };
+    let sample = |case: &mut Case, face: &dyn Face, rounds: u32| {
+        let start = Instant::now();
+        for _ in 0..rounds {
+            black_box((case.step)(face));
+        }
+        start.elapsed().as_nanos() as f64 / rounds as f64
+    };
+    let once = sample(case, &Plain, 1).max(sample(case, &Plain, 3));
+    let rounds = ((length.as_nanos() as f64 / once) as u32).clamp(1, 1_000_000);
+    let (mut ours, mut plain) = (vec![], vec![]);
+    for i in 0..samples {
+        // Who comes first changes from sample to sample.
+        if i % 2 == 0 {
+            ours.push(sample(case, other, rounds));
+            plain.push(sample(case, &Plain, rounds));
+        } else {
+            plain.push(sample(case, &Plain, rounds));
+            ours.push(sample(case, other, rounds));
+        }
+    }
+    (median(ours), median(plain))
+}
+
+fn median(mut samples: Vec<f64>) -> f64 {
+    samples.sort_by(f64::total_cmp);
+    samples[samples.len() / 2]
+}
+
+/// One call of one case under valgrind, which collects only inside this function.
+#[unsafe(no_mangle)]
+#[inline(never)]
+pub extern "C" fn zarfolin_bench_measured(case: *mut std::ffi::c_void, other_side: bool) -> u64 {
+    // SAFETY: only `one` calls this, with a case of its own.
+    let case = unsafe { &mut *case.cast::<Case>() };
+    if other_side { (case.step)(&other()) } else { (case.step)(&Plain) }
+}
+
+fn one(name: &str, other_side: bool) {
+    let mut case = cases().into_iter().find(|c| c.name == name).expect("a case of this name");
+    black_box(zarfolin_bench_measured((&raw mut case).cast(), other_side));
+}
+
+/// Instructions of one call, by callgrind.
+fn instructions(name: &str, side: &str) -> u64 {
+    let output = Command::new("valgrind")
+        .args(["--tool=callgrind", "--callgrind-out-file=/dev/null", "--toggle-collect=zarfolin_bench_measured"])
+        .arg(std::env::current_exe().unwrap())
+        .args(["--one", name, side])
+        .output()
+        .expect("valgrind runs");
+    let text = String::from_utf8_lossy(&output.stderr);
+    assert!(output.status.success(), "valgrind failed: {text}");
+    text.lines()
+        .find_map(|line| line.split("Collected :").nth(1))
+        .and_then(|n| n.trim().parse().ok())
+        .unwrap_or_else(|| panic!("no count from callgrind: {text}"))
+}
+
+/// A survey of this many variables of all types in turn, with lines and texts of these sizes.
+struct Survey {
+    variables: usize,
+    lines: usize,
+    text: usize,
+    /// Spread out with indents and comments, or close together.
+    roomy: bool,
+    standard: bool,
+}
+
+impl Survey {
+    fn text(&self) -> Vec<u8> {
+        let pad = |what: &str| format!("{what:.<0$}", self.text);
+        let (nl, tab) = if self.roomy { ("\r\n", "\t    ") } else { ("\n", "") };
+        let mut t = format!("SSS{nl}VERSION 1.1{nl}DATE \"1998\"{nl}");
+        if self.standard {
+            t += &format!("STANDARD NAMES{nl}");
+        }
+        t += &format!("SURVEY{nl}TITLE \"{}\"{nl}RECORD A{nl}", pad("A survey"));
+        let mut at = 1;
+        for i in 0..self.variables {
+            let comment = if self.roomy { " <as asked \"<in>\" 1997>" } else { "" };
+            t += &format!("VARIABLE {}{nl}{tab}NAME \"v{i}\"{nl}{tab}LABEL \"{}\"{comment}{nl}{tab}TYPE ", i + 1, pad("Question"));
+            let lines = || {
+                let mut t = String::new();
+                for c in 1..=self.lines {
+                    let special = if c == self.lines { " SPECIAL" } else { "" };
+                    t += &format!("{tab}{tab}{c} \"{}\"{special}{nl}", pad("Answer"));
+                }
+                t
+            };
+            let digits = self.lines.max(1).to_string().len();
+            let (kind, width, rest) = match i % 5 {
+                0 => ("SINGLE", digits, format!("VALUES{nl}{}END VALUES", lines())),
+                1 => ("MULTIPLE", self.lines, format!("VALUES{nl}{}END VALUES", lines())),
+                2 => ("QUANTITY", 7, format!("VALUES{nl}{tab}-99.50 TO 999.99{nl}{tab}END VALUES")),
+                3 => ("CHARACTER", 12, "SIZE 10".to_string()),
+                _ if self.lines > 0 && i % 2 == 0 => ("MULTIPLE", 3 * digits, format!("SPREAD 3 OF {digits}{nl}VALUES{nl}{}END VALUES", lines())),
+                _ => ("LOGICAL", 1, String::new()),
+            };
+            // The records are laid out again and again from location 1 when the last one is reached.
+            if at + width > 16_000 {
+                at = 1;
+            }
+            t += &format!("{kind}{nl}{tab}POSITION {at} TO {}{nl}{tab}{rest}{nl}END VARIABLE{nl}", at + width - 1);
+            at += width;
+        }
+        t += &format!("END RECORD{nl}END SURVEY{nl}END SSS{nl}");
+        t.into_bytes()
+    }
+
+    fn table(&self) -> Vec<i64> {
+        table(&self.text())
+    }
+}
+
+fn table(def: &[u8]) -> Vec<i64> {
+    let mut table = vec![0; 30_000];
+    let mut answer = [0; 4];
+    let number = Plain.read_definition(def, &mut table, &mut answer);
+    assert_eq!(number, 0, "at {}: {:?}", answer[1], String::from_utf8_lossy(&def[answer[1] as usize..][..40.min(def.len() - answer[1] as usize)]));
+    table.truncate((6 + 18 * answer[2] + 4 * answer[3]) as usize);
+    table
+}
+
+/// A sound record for the table, by ordinary writes over filler.
+fn record(table: &[i64], seed: u64) -> Vec<u8> {
+    let mut r = Rng::new(seed);
+    let mut record = vec![b'x'; table[3] as usize];
+    for row in 0..table[1] as u64 {
+        let cells = &table[6 + 18 * row as usize..][..18];
+        let number = match cells[1] {
+            1 => Plain.write_number(table, row, r.range(1, cells[13]), &mut record),
+            2 => {
+                let most = cells[13].min(if cells[7] > 0 { cells[7] } else { 1000 });
+                let set: Vec<i64> = (1..=most).filter(|_| r.once_in(2)).collect();
+                Plain.write_set(table, row, &set, &mut record)
+            }
+            3 => Plain.write_number(table, row, r.range(cells[10], cells[11]), &mut record),
+            4 => Plain.write_text(table, row, b"Some text", &mut record),
+            _ => Plain.write_truth(table, row, r.below(2) as u8, &mut record),
+        };
+        assert_eq!(number, 0);
+    }
+    record
+}
+
+fn cases() -> Vec<Case> {
+    let mut cases = vec![];
+    let mut add = |name: &str, bytes: usize, number: u64, step: Step| {
+        cases.push(Case { name: name.to_string(), bytes, number, step });
+    };
+
+    // Definitions.
+    let read = |def: Vec<u8>| -> Step {
+        let mut lent = vec![0i64; 30_000];
+        let mut answer = [0; 4];
+        Box::new(move |face| face.read_definition(black_box(&def), &mut lent, &mut answer))
+    };
+    let surveys = [
+        ("1 KiB", Survey { variables: 5, lines: 4, text: 10, roomy: false, standard: false }),
+        ("16 KiB", Survey { variables: 50, lines: 6, text: 24, roomy: true, standard: false }),
+        ("128 KiB, 512 variables", Survey { variables: 512, lines: 6, text: 12, roomy: false, standard: true }),
+        ("256 KiB, 512 variables, roomy", Survey { variables: 512, lines: 6, text: 40, roomy: true, standard: true }),
+        ("1 MiB, 512 variables, long texts", Survey { variables: 512, lines: 10, text: 215, roomy: true, standard: true }),
+    ];
+    for (name, survey) in surveys {
+        let def = survey.text();
+        assert!(def.len() <= 1_048_576, "{}", def.len());
+        add(&format!("definition {name}"), def.len(), 0, read(def));
+    }
+    let sample = Survey { variables: 5, lines: 4, text: 10, roomy: false, standard: false }.text();
+    let widened = |what: String| {
+        let mut def = sample.clone();
+        let at = def.windows(6).position(|w| w == b"SURVEY").unwrap();
+        def.splice(at..at, what.into_bytes());
+        def
+    };
+    let million = 1_040_000;
+    for (name, what) in [
+        ("1 MiB, one note", format!("NOTE \"{}\" ", "x".repeat(million))),
+        ("1 MiB, spaces", " ".repeat(million)),
+        ("1 MiB, one comment", format!("<{}>", "x".repeat(million))),
+        ("1 MiB, small comments", "<a>".repeat(million / 3)),
+        ("1 MiB, brace forms", format!("NOTE \"{}\" ", "{0D0A}".repeat(million / 6))),
+        ("1 MiB, dropped bytes", "\r\n".repeat(million / 2)),
+    ] {
+        let def = widened(what);
+        add(&format!("definition {name}"), def.len(), 0, read(def));
+    }
+    let mixed = |step: usize| {
+        let lines: String = (0..4096).map(|i| format!("{} \"\"\n", i * step % 8192)).collect();
+        format!("SSS VERSION 1.1 SURVEY RECORD R VARIABLE 1 NAME \"\" LABEL \"\" TYPE QUANTITY POSITION 1 TO 4 VALUES {lines} END VALUES END VARIABLE END RECORD END SURVEY END SSS").into_bytes()
+    };
+    let def = mixed(1);
+    add("definition 4,096 lines in one block, rising", def.len(), 0, read(def));
+    let def = mixed(4099);
+    add("definition 4,096 lines in one block, mixed", def.len(), 0, read(def));
+    let def = Survey { variables: 512, lines: 6, text: 12, roomy: false, standard: false }.text();
+    let half = def.len() / 2;
+    let mut lent = vec![0i64; 30_000];
+    let mut answer = [0; 4];
+    let mut cut = def[..half].to_vec();
+    cut.push(b'<');
+    let number = Plain.read_definition(&cut, &mut lent, &mut answer);
+    add("definition 64 KiB, refused at its end", half, number, read(cut));
+
+    // The test behind 20: an empty record is 22 right after it.
+    let test = |table: Vec<i64>| -> Step {
+        let mut answer = [0; 4];
+        Box::new(move |face| face.judge_record(black_box(&table), b"", &mut answer))
+    };
+    let short = Survey { variables: 5, lines: 4, text: 4, roomy: false, standard: false }.table();
+    let long = Survey { variables: 512, lines: 6, text: 4, roomy: false, standard: false }.table();
+    let one = Survey { variables: 1, lines: 4, text: 4, roomy: false, standard: false }.table();
+    for (name, t) in [
+        ("1 row, 4 lines", one.clone()),
+        ("5 rows, 12 lines", short.clone()),
+        ("512 rows, 1,500 lines", long.clone()),
+        ("1 row, 4,096 lines, rising", table(&mixed(1))),
+        ("1 row, 4,096 lines, mixed", table(&mixed(4099))),
+    ] {
+        add(&format!("well-formed {name}"), t.len() * 8, 22, test(t));
+    }
+
+    // Reading one row.
+    let value = |table: Vec<i64>, row: u64| -> Step {
+        let record = record(&table, 7);
+        let mut list = vec![0i64; 10_000];
+        let mut answer = [0; 4];
+        Box::new(move |face| face.read_value(black_box(&table), row, black_box(&record), &mut list, &mut answer))
+    };
+    for (row, kind) in ["SINGLE", "MULTIPLE bits", "QUANTITY", "CHARACTER"].iter().enumerate() {
+        add(&format!("read {kind}, 5 rows"), 0, 0, value(short.clone(), row as u64));
+    }
+    add("read MULTIPLE spread, 5 rows", 0, 0, value(short.clone(), 4));
+    add("read last row, 512 rows", 0, 0, value(long.clone(), 511));
+    let bits = table(b"SSS VERSION 1.1 SURVEY RECORD R VARIABLE 1 NAME \"\" LABEL \"\" TYPE MULTIPLE POSITION 1 TO 9999 VALUES 1 TO 9999 END VALUES END VARIABLE END RECORD END SURVEY END SSS");
+    let spread = table(b"SSS VERSION 1.1 SURVEY RECORD R VARIABLE 1 NAME \"\" LABEL \"\" TYPE MULTIPLE POSITION 1 TO 16000 SPREAD 4000 OF 4 VALUES 1 TO 9999 END VALUES END VARIABLE END RECORD END SURVEY END SSS");
+    let large = |table: Vec<i64>| -> Step {
+        let set: Vec<i64> = (1..=4000).map(|i| 2 * i).collect();
+        let mut record = vec![b'x'; table[3] as usize];
+        assert_eq!(Plain.write_set(&table, 0, &set, &mut record), 0);
+        let mut list = vec![0i64; 10_000];
+        let mut answer = [0; 4];
+        Box::new(move |face| face.read_value(black_box(&table), 0, black_box(&record), &mut list, &mut answer))
+    };
+    add("read bitstring of 9,999", 9999, 0, large(bits.clone()));
+    add("read spread of 4,000", 16000, 0, large(spread.clone()));
+
+    // Judging a record.
+    let judge = |table: Vec<i64>, more: usize, mend: fn(&mut Vec<u8>)| -> (usize, Step) {
+        let mut record = record(&table, 7);
+        record.resize(record.len() + more, b'y');
+        mend(&mut record);
+        let mut answer = [0; 4];
+        (record.len(), Box::new(move |face| face.judge_record(black_box(&table), black_box(&record), &mut answer)))
+    };
+    let (n, step) = judge(short.clone(), 0, |_| {});
+    add("judge record, 5 rows", n, 0, step);
+    let (n, step) = judge(short.clone(), 16_384, |_| {});
+    add("judge record, 5 rows, 16 KiB long", n, 0, step);
+    let (n, step) = judge(long.clone(), 0, |_| {});
+    add("judge record, 512 rows", n, 0, step);
+    let (n, step) = judge(long.clone(), 0, |r| *r.last_mut().unwrap() = 1);
+    add("judge record, 512 rows, 23 at its end", n, 23, step);
+
+    // Writes.
+    let mut lent = record(&short, 7);
+    let t = short.clone();
+    add("write missing, 5 rows", 0, 0, Box::new(move |f| f.write_missing(black_box(&t), 2, &mut lent)));
+    let mut lent = record(&short, 7);
+    let t = short.clone();
+    add("write number, 5 rows", 0, 0, Box::new(move |f| f.write_number(black_box(&t), 2, 12345, &mut lent)));
+    let mut lent = record(&short, 7);
+    let t = short.clone();
+    add("write set, 5 rows", 0, 0, Box::new(move |f| f.write_set(black_box(&t), 1, &[1, 3], &mut lent)));
+    let mut lent = record(&short, 7);
+    let t = short.clone();
+    add("write text, 5 rows", 0, 0, Box::new(move |f| f.write_text(black_box(&t), 3, b"Some text", &mut lent)));
+    let mut lent = record(&long, 7);
+    let t = long.clone();
+    add("write truth, 512 rows", 0, 0, Box::new(move |f| f.write_truth(black_box(&t), 9, 1, &mut lent)));
+    for (name, t) in [("write bitstring of 9,999", bits), ("write spread of 4,000", spread)] {
+        let mut lent = vec![b'x'; t[3] as usize];
+        let set: Vec<i64> = (1..=4000).map(|i| 2 * i).collect();
+        add(name, lent.len(), 0, Box::new(move |f| f.write_set(black_box(&t), 0, &set, &mut lent)));
+    }
+
+    // Files.
+    let file = |table: Vec<i64>, bytes: usize, end: &str, fault: bool| -> (usize, Step) {
+        let mut data = vec![];
+        let mut seed = 0;
+        while data.len() < bytes {
+            data.extend(record(&table, seed % 50));
+            data.extend(end.bytes());
+            seed += 1;
+        }
+        if fault {
+            data.pop();
+        }
+        let mut answer = [0; 4];
+        (data.len(), Box::new(move |face| face.judge_file(black_box(&table), black_box(&data), &mut answer)))
+    };
+    let (n, step) = file(one, 1 << 18, "\n", false);
+    add("judge file 256 KiB, 1 row, LF", n, 0, step);
+    let (n, step) = file(short.clone(), 1 << 20, "\r\n", false);
+    add("judge file 1 MiB, 5 rows, CR LF", n, 0, step);
+    let (n, step) = file(long.clone(), 1 << 20, "\r\n", false);
+    add("judge file 1 MiB, 512 rows, CR LF", n, 0, step);
+    let (n, step) = file(long, 1 << 20, "\n", true);
+    add("judge file 1 MiB, 512 rows, 30 at its end", n, 30, step);
+    let mut data = vec![b'x'; 16_384];
+    data.extend(b"\r\n");
+    let mut answer = [0; 4];
+    add("next record of 16 KiB", data.len(), 1, Box::new(move |f| f.next_record(black_box(&data), 0, &mut answer)));
+    cases
+}

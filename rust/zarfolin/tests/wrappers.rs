@@ -52,7 +52,7 @@ fn read_judge_write() {
     }
     assert_eq!(&record, b"    x x          ");
 
-    let refused = read_definition(&SAMPLE[..40], &mut table).unwrap_err();
+    let refused = read_definition(&SAMPLE[..39], &mut table).unwrap_err();
     assert_eq!(refused, DefinitionRefused { number: 2, place: 32 });
 }
 
