@@ -7,7 +7,7 @@
 
 use std::hint::black_box;
 use std::process::Command;
-use std::time::{Duration, Instant};
+use std::time::Duration;
 use zarfolin_compare::face::{Face, Plain, other};
 use zarfolin_compare::rng::Rng;
 
@@ -32,7 +32,8 @@ fn main() {
     let parts: Vec<&String> = args.iter().filter(|a| !a.starts_with("--")).collect();
     let other = other();
     println!("ours: {}    plain: {}", other.name(), Plain.name());
-    println!("buffers: the same for both, warm (in cache as far as they fit); calls interleaved in one run");
+    println!("buffers: the same for both, warm (in cache as far as they fit); calls interleaved in one run, pair by pair;");
+    println!("time is the thread's time on a processor; the ratio is the median over the pairs");
     if callgrind {
         println!("\n{:<44} {:>14} {:>14} {:>7}", "instructions of one call", "ours", "plain", "ratio");
     } else {
@@ -57,8 +58,7 @@ fn main() {
             println!("{:<44} {ours:>14} {plain:>14} {ratio:>7.2}", case.name);
             ratio
         } else {
-            let (ours, plain) = time(&mut case, &other, quick);
-            let ratio = ours / plain;
+            let (ours, plain, ratio) = time(&mut case, &other, quick);
             let speed = |ns: f64| match case.bytes {
                 0 => "-".to_string(),
                 bytes => format!("{:.0}", bytes as f64 * 1e3 / ns),
@@ -78,15 +78,16 @@ fn main() {
     println!("\nhighest ratio: {:.2} ({})", worst.0, worst.1);
 }
 
-/// Median nanoseconds of one call on both sides, from interleaved samples.
-fn time(case: &mut Case, other: &dyn Face, quick: bool) -> (f64, f64) {
-    let (samples, length) = if quick { (9, Duration::from_micros(500)) } else { (41, Duration::from_millis(2)) };
+/// Median nanoseconds of one call on both sides, and the median of their ratios, pair by pair.
+fn time(case: &mut Case, other: &dyn Face, quick: bool) -> (f64, f64, f64) {
+    // Short samples and many: on a shared machine few of them are disturbed.
+    let (samples, length) = if quick { (15, Duration::from_micros(200)) } else { (151, Duration::from_micros(400)) };
     let sample = |case: &mut Case, face: &dyn Face, rounds: u32| {
-        let start = Instant::now();
+        let start = cpu_time();
         for _ in 0..rounds {
             black_box((case.step)(face));
         }
-        start.elapsed().as_nanos() as f64 / rounds as f64
+        (cpu_time() - start).as_nanos() as f64 / rounds as f64
     };
     let once = sample(case, &Plain, 1).max(sample(case, &Plain, 3));
     let rounds = ((length.as_nanos() as f64 / once) as u32).clamp(1, 1_000_000);
@@ -101,7 +102,26 @@ fn time(case: &mut Case, other: &dyn Face, quick: bool) -> (f64, f64) {
             ours.push(sample(case, other, rounds));
         }
     }
-    (median(ours), median(plain))
+    let ratios = ours.iter().zip(&plain).map(|(a, b)| a / b).collect();
+    (median(ours), median(plain), median(ratios))
+}
+
+/// This thread's time on a processor: what others run at the same time doesn't count.
+fn cpu_time() -> Duration {
+    #[repr(C)]
+    struct Timespec {
+        seconds: i64,
+        nanoseconds: i64,
+    }
+    unsafe extern "C" {
+        fn clock_gettime(clock: i32, time: *mut Timespec) -> i32;
+    }
+    const THREAD_CPU_TIME: i32 = 3;
+    let mut time = Timespec { seconds: 0, nanoseconds: 0 };
+    // SAFETY: the C library's call (x86-64 Linux), with room for its answer.
+    let status = unsafe { clock_gettime(THREAD_CPU_TIME, &mut time) };
+    assert_eq!(status, 0);
+    Duration::new(time.seconds as u64, time.nanoseconds as u32)
 }
 
 fn median(mut samples: Vec<f64>) -> f64 {

@@ -1,6 +1,6 @@
 //! Value places and readings: one row's value, and the judgement of a whole record.
 
-use crate::scan::find;
+use crate::scan::{find, lanes};
 use crate::table::{Table, view};
 use crate::*;
 
@@ -86,7 +86,7 @@ pub fn judge_record(table: &[i64], record: &[u8]) -> Judgement {
     if record.len() < t.least {
         return Judgement { number: 22, place: 0 };
     }
-    let place = find(record, 0, |x| x < 32);
+    let place = find(record, 0, lanes::below_32);
     if place < record.len() {
         return Judgement { number: 23, place };
     }
@@ -141,7 +141,7 @@ fn spread_legal(row: &Row, record: &[u8], mut defined: impl FnMut(i64) -> bool) 
 /// Whether a byte below 32 is among these.
 #[inline]
 fn controls(bytes: &[u8]) -> bool {
-    find(bytes, 0, |x| x < 32) < bytes.len()
+    find(bytes, 0, lanes::below_32) < bytes.len()
 }
 
 /// Whether the number lies in the row's range or on one of its lines.
@@ -225,7 +225,18 @@ enum Category {
 /// Spaces, then digits; at most four bytes.
 #[inline]
 fn category(places: &[u8]) -> Category {
+    // Mostly digits throughout.
     let mut value = 0i64;
+    let mut plain = true;
+    for &x in places {
+        let d = x.wrapping_sub(b'0');
+        plain &= d < 10;
+        value = value * 10 + d as i64;
+    }
+    if plain {
+        return Category::Number(value);
+    }
+    value = 0;
     let mut digits = false;
     for &x in places {
         let d = x.wrapping_sub(b'0');
@@ -354,9 +365,14 @@ fn list_bits(row: &Row, lines: &[Line], record: &[u8], rising: bool, list: &mut 
                 put(line[0]);
             }
         }
-        for c in from..=to {
-            if set(c) {
-                put(c);
+        // The low bit of `0` and `1` is all that differs.
+        for (i, eight) in bytes[from as usize - 1..to as usize].chunks(8).enumerate() {
+            let mut word = [0; 8];
+            word[..eight.len()].copy_from_slice(eight);
+            let mut ones = u64::from_le_bytes(word) & 0x0101_0101_0101_0101;
+            while ones != 0 {
+                put(from + 8 * i as i64 + ones.trailing_zeros() as i64 / 8);
+                ones &= ones - 1;
             }
         }
         for line in &lines[below..] {

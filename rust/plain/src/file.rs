@@ -1,7 +1,7 @@
 //! Data files: the next record, and the judgement of a whole file.
 
 use crate::field::first_illegal;
-use crate::scan::find;
+use crate::scan::{find, lanes};
 use crate::table::view;
 
 /// The next record of a file.
@@ -34,7 +34,7 @@ struct Terminator {
 
 impl Terminator {
     fn of(data: &[u8], from: usize) -> Option<(usize, Terminator)> {
-        let at = find(data, from, |x| x == b'\r' || x == b'\n');
+        let at = find(data, from, |v| lanes::equal(v, b'\r') | lanes::equal(v, b'\n'));
         let &first = data.get(at)?;
         let other = first ^ b'\r' ^ b'\n';
         let second = (data.get(at + 1) == Some(&other)).then_some(other);
@@ -55,7 +55,7 @@ impl Terminator {
     fn next(self, data: &[u8], from: usize) -> Option<usize> {
         let mut place = from;
         loop {
-            place = find(data, place, |x| x == self.first);
+            place = find(data, place, |v| lanes::equal(v, self.first));
             if place >= data.len() {
                 return None;
             }
@@ -94,7 +94,7 @@ pub fn judge_file(table: &[i64], data: &[u8]) -> FileJudgement {
         count += 1;
         // The first byte below 32 is the record's end, or a byte that mustn't be there.
         let mut low = None;
-        let mut place = find(data, start, |x| x < 32);
+        let mut place = find(data, start, lanes::below_32);
         if place < data.len() && !terminator.at(data, place) {
             low = Some(place - start);
             place = terminator.next(data, place + 1).unwrap_or(data.len());

@@ -46,20 +46,74 @@ static CLASSES: [Class; 256] = {
     t
 };
 
-/// The first place from `from` on where `stop` holds, or the length. Looks at sixteen bytes at a time.
+/// Eight bytes at once: what a search asks of a word. The lowest flagged byte of an answer is one that was looked for.
+pub(crate) mod lanes {
+    const LOW: u64 = 0x0101_0101_0101_0101;
+    const HIGH: u64 = 0x8080_8080_8080_8080;
+
+    #[inline(always)]
+    fn zero(v: u64) -> u64 {
+        v.wrapping_sub(LOW) & !v & HIGH
+    }
+
+    /// Bytes equal to x.
+    #[inline(always)]
+    pub fn equal(v: u64, x: u8) -> u64 {
+        zero(v ^ (LOW * x as u64))
+    }
+
+    /// Bytes below 32.
+    #[inline(always)]
+    pub fn below_32(v: u64) -> u64 {
+        zero(v & (LOW * 0xe0))
+    }
+
+    /// Bytes above 32.
+    #[inline(always)]
+    pub fn above_32(v: u64) -> u64 {
+        (((v & (LOW * 0x7f)) + LOW * 0x5f) | v) & HIGH
+    }
+}
+
+/// The first place from `from` on that `flags` flags, or the length.
 #[inline(always)]
-pub(crate) fn find(b: &[u8], from: usize, stop: impl Fn(u8) -> bool) -> usize {
+pub(crate) fn find(b: &[u8], from: usize, flags: impl Fn(u64) -> u64) -> usize {
     let mut p = from;
-    while let Some(chunk) = b.get(p..).and_then(|rest| rest.first_chunk::<16>()) {
-        if chunk.iter().fold(false, |hit, &x| hit | stop(x)) {
-            break;
+    // Most runs are short: word by word first, then four words at a time.
+    let mut short = 3;
+    loop {
+        let Some(rest) = b.get(p..) else { return b.len() };
+        if short == 0 {
+            let Some(chunk) = rest.first_chunk::<32>() else {
+                short = 4;
+                continue;
+            };
+            let words = chunk.as_chunks::<8>().0;
+            let mut any = 0;
+            for word in words {
+                any |= flags(u64::from_le_bytes(*word));
+            }
+            if any == 0 {
+                p += 32;
+            } else {
+                short = 4;
+            }
+            continue;
         }
-        p += 16;
+        short -= 1;
+        let Some(word) = rest.first_chunk::<8>() else {
+            // The last bytes, filled up with nothing that counts.
+            let mut last = [0; 8];
+            last[..rest.len()].copy_from_slice(rest);
+            let met = flags(u64::from_le_bytes(last)).trailing_zeros() as usize / 8;
+            return p + met.min(rest.len());
+        };
+        let met = flags(u64::from_le_bytes(*word));
+        if met != 0 {
+            return p + met.trailing_zeros() as usize / 8;
+        }
+        p += 8;
     }
-    while p < b.len() && !stop(b[p]) {
-        p += 1;
-    }
-    p
 }
 
 /// A run of digits. Its true value may be of any length; `value` holds it up to eighteen significant digits.
@@ -124,20 +178,24 @@ impl Scan<'_> {
     /// Past spaces and dropped bytes.
     #[inline]
     pub fn blank(&mut self) {
-        let start = self.at;
-        while self.at < self.bytes.len() && self.bytes[self.at] <= 32 {
-            self.at += 1;
-            if self.at - start == 16 {
-                self.at = find(self.bytes, self.at, |x| x > 32);
-                return;
+        // Often none, or one.
+        for _ in 0..2 {
+            match self.bytes.get(self.at) {
+                Some(&x) if x <= 32 => self.at += 1,
+                _ => return,
             }
         }
+        self.at = find(self.bytes, self.at, lanes::above_32);
     }
 
     /// Past spaces, dropped bytes and comments.
     #[inline]
     pub fn gap(&mut self) -> Outcome<()> {
         self.blank();
+        if self.bytes.get(self.at) == Some(&b'<') { self.comments() } else { Ok(()) }
+    }
+
+    fn comments(&mut self) -> Outcome<()> {
         while self.bytes.get(self.at) == Some(&b'<') {
             self.comment()?;
             self.blank();
@@ -150,7 +208,9 @@ impl Scan<'_> {
         let mut level = 1;
         self.at += 1;
         loop {
-            self.at = find(self.bytes, self.at, |x| x == b'<' || x == b'>' || x == b'"');
+            self.at = find(self.bytes, self.at, |v| {
+                lanes::equal(v, b'<') | lanes::equal(v, b'>') | lanes::equal(v, b'"')
+            });
             match self.bytes.get(self.at) {
                 None => return fault(3, outer),
                 Some(b'"') => {
@@ -178,7 +238,7 @@ impl Scan<'_> {
     /// The rest of a string, from behind its opening quote to behind its closing one. `outer` is the outermost open mark.
     fn string(&mut self, outer: usize) -> Outcome<()> {
         loop {
-            self.at = find(self.bytes, self.at, |x| x == b'"' || x == b'{');
+            self.at = find(self.bytes, self.at, |v| lanes::equal(v, b'"') | lanes::equal(v, b'{'));
             match self.bytes.get(self.at) {
                 None => return fault(3, outer),
                 Some(b'"') => {
@@ -245,10 +305,17 @@ impl Scan<'_> {
     }
 
     /// Whether this word stands here; if so, past it. The word is in capitals.
-    #[inline]
+    #[inline(always)]
     pub fn word<const N: usize>(&mut self, word: &[u8; N]) -> bool {
-        let Some(rest) = self.bytes.get(self.at..) else { return false };
-        if let Some(here) = rest.first_chunk::<N>() {
+        match self.bytes.get(self.at) {
+            Some(x) if x & 0xdf == word[0] => self.rest_of_word(word),
+            _ => false,
+        }
+    }
+
+    #[inline]
+    fn rest_of_word<const N: usize>(&mut self, word: &[u8; N]) -> bool {
+        if let Some(here) = self.bytes[self.at..].first_chunk::<N>() {
             let mut unlike = 0;
             for i in 0..N {
                 unlike |= (here[i] & 0xdf) ^ word[i];
@@ -258,10 +325,7 @@ impl Scan<'_> {
                 return true;
             }
         }
-        match rest.first() {
-            Some(x) if x & 0xdf == word[0] => self.word_with_dropped(word),
-            _ => false,
-        }
+        self.word_with_dropped(word)
     }
 
     fn word_with_dropped(&mut self, word: &[u8]) -> bool {
