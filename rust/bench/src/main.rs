@@ -8,18 +8,20 @@
 use std::hint::black_box;
 use std::process::Command;
 use std::time::Duration;
-use zarfolin_compare::face::{Face, Plain, other};
+use zarfolin_compare::face::{Face, Plain, measured};
 use zarfolin_compare::rng::Rng;
 
 type Step = Box<dyn FnMut(&dyn Face) -> u64>;
 
 /// One thing to measure: a call, the bytes it goes through (0 where that says nothing), the number it must answer.
 struct Case {
-    name: String,
     bytes: usize,
     number: u64,
     step: Step,
 }
+
+/// A case's name, and how it is made: only when its turn comes.
+type Maker = (String, Box<dyn FnOnce() -> Case>);
 
 fn main() {
     let args: Vec<String> = std::env::args().skip(1).collect();
@@ -30,7 +32,7 @@ fn main() {
     let quick = args.iter().any(|a| a == "--quick");
     let callgrind = args.iter().any(|a| a == "--callgrind");
     let parts: Vec<&String> = args.iter().filter(|a| !a.starts_with("--")).collect();
-    let other = other();
+    let other = measured();
     println!("ours: {}    plain: {}", other.name(), Plain.name());
     println!("buffers: the same for both, warm (in cache as far as they fit); calls interleaved in one run, pair by pair;");
     println!("time is the thread's time on a processor; the ratio is the median over the pairs");
@@ -43,19 +45,20 @@ fn main() {
         );
     }
     let mut worst = (0.0, String::new());
-    for mut case in cases() {
-        if !parts.is_empty() && !parts.iter().any(|p| case.name.contains(*p)) {
+    for (name, make) in cases() {
+        if !parts.is_empty() && !parts.iter().any(|p| name.contains(*p)) {
             continue;
         }
+        let mut case = make();
         for face in [&other as &dyn Face, &Plain] {
             let number = (case.step)(face);
-            assert_eq!(number, case.number, "{}: {} answered {number}", case.name, face.name());
+            assert_eq!(number, case.number, "{name}: {} answered {number}", face.name());
         }
         let ratio = if callgrind {
-            let count = |side: &str| instructions(&case.name, side);
+            let count = |side: &str| instructions(&name, side);
             let (ours, plain) = (count("other"), count("plain"));
             let ratio = ours as f64 / plain as f64;
-            println!("{:<44} {ours:>14} {plain:>14} {ratio:>7.2}", case.name);
+            println!("{name:<44} {ours:>14} {plain:>14} {ratio:>7.2}");
             ratio
         } else {
             let (ours, plain, ratio) = time(&mut case, &other, quick);
@@ -64,15 +67,14 @@ fn main() {
                 bytes => format!("{:.0}", bytes as f64 * 1e3 / ns),
             };
             println!(
-                "{:<44} {ours:>12.1} {plain:>12.1} {ratio:>7.2} {:>10} {:>10}",
-                case.name,
+                "{name:<44} {ours:>12.1} {plain:>12.1} {ratio:>7.2} {:>10} {:>10}",
                 speed(ours),
                 speed(plain)
             );
             ratio
         };
         if ratio > worst.0 {
-            worst = (ratio, case.name);
+            worst = (ratio, name);
         }
     }
     println!("\nhighest ratio: {:.2} ({})", worst.0, worst.1);
@@ -135,11 +137,14 @@ fn median(mut samples: Vec<f64>) -> f64 {
 pub extern "C" fn zarfolin_bench_measured(case: *mut std::ffi::c_void, other_side: bool) -> u64 {
     // SAFETY: only `one` calls this, with a case of its own.
     let case = unsafe { &mut *case.cast::<Case>() };
-    if other_side { (case.step)(&other()) } else { (case.step)(&Plain) }
+    if other_side { (case.step)(&measured()) } else { (case.step)(&Plain) }
 }
 
 fn one(name: &str, other_side: bool) {
-    let mut case = cases().into_iter().find(|c| c.name == name).expect("a case of this name");
+    let (_, make) = cases().into_iter().find(|(n, _)| n == name).expect("a case of this name");
+    let mut case = make();
+    // Once before, so that what is set up at the first call doesn't count.
+    black_box(if other_side { (case.step)(&measured()) } else { (case.step)(&Plain) });
     black_box(zarfolin_bench_measured((&raw mut case).cast(), other_side));
 }
 
@@ -246,174 +251,209 @@ fn record(table: &[i64], seed: u64) -> Vec<u8> {
     record
 }
 
-fn cases() -> Vec<Case> {
-    let mut cases = vec![];
-    let mut add = |name: &str, bytes: usize, number: u64, step: Step| {
-        cases.push(Case { name: name.to_string(), bytes, number, step });
-    };
+fn small() -> Survey {
+    Survey { variables: 5, lines: 4, text: 10, roomy: false, standard: false }
+}
 
-    // Definitions.
-    let read = |def: Vec<u8>| -> Step {
-        let mut lent = vec![0i64; 30_000];
-        let mut answer = [0; 4];
-        Box::new(move |face| face.read_definition(black_box(&def), &mut lent, &mut answer))
-    };
-    let surveys = [
-        ("1 KiB", Survey { variables: 5, lines: 4, text: 10, roomy: false, standard: false }),
-        ("16 KiB", Survey { variables: 50, lines: 6, text: 24, roomy: true, standard: false }),
-        ("128 KiB, 512 variables", Survey { variables: 512, lines: 6, text: 12, roomy: false, standard: true }),
-        ("256 KiB, 512 variables, roomy", Survey { variables: 512, lines: 6, text: 40, roomy: true, standard: true }),
-        ("1 MiB, 512 variables, long texts", Survey { variables: 512, lines: 10, text: 215, roomy: true, standard: true }),
-    ];
-    for (name, survey) in surveys {
-        let def = survey.text();
-        assert!(def.len() <= 1_048_576, "{}", def.len());
-        add(&format!("definition {name}"), def.len(), 0, read(def));
-    }
-    let sample = Survey { variables: 5, lines: 4, text: 10, roomy: false, standard: false }.text();
-    let widened = |what: String| {
-        let mut def = sample.clone();
-        let at = def.windows(6).position(|w| w == b"SURVEY").unwrap();
-        def.splice(at..at, what.into_bytes());
-        def
-    };
-    let million = 1_040_000;
-    for (name, what) in [
-        ("1 MiB, one note", format!("NOTE \"{}\" ", "x".repeat(million))),
-        ("1 MiB, spaces", " ".repeat(million)),
-        ("1 MiB, one comment", format!("<{}>", "x".repeat(million))),
-        ("1 MiB, small comments", "<a>".repeat(million / 3)),
-        ("1 MiB, brace forms", format!("NOTE \"{}\" ", "{0D0A}".repeat(million / 6))),
-        ("1 MiB, dropped bytes", "\r\n".repeat(million / 2)),
-    ] {
-        let def = widened(what);
-        add(&format!("definition {name}"), def.len(), 0, read(def));
-    }
-    let mixed = |step: usize| {
-        let lines: String = (0..4096).map(|i| format!("{} \"\"\n", i * step % 8192)).collect();
-        format!("SSS VERSION 1.1 SURVEY RECORD R VARIABLE 1 NAME \"\" LABEL \"\" TYPE QUANTITY POSITION 1 TO 4 VALUES {lines} END VALUES END VARIABLE END RECORD END SURVEY END SSS").into_bytes()
-    };
-    let def = mixed(1);
-    add("definition 4,096 lines in one block, rising", def.len(), 0, read(def));
-    let def = mixed(4099);
-    add("definition 4,096 lines in one block, mixed", def.len(), 0, read(def));
-    let def = Survey { variables: 512, lines: 6, text: 12, roomy: false, standard: false }.text();
-    let half = def.len() / 2;
+fn short() -> Vec<i64> {
+    Survey { text: 4, ..small() }.table()
+}
+
+fn long() -> Vec<i64> {
+    Survey { variables: 512, lines: 6, text: 4, ..small() }.table()
+}
+
+fn single() -> Vec<i64> {
+    Survey { variables: 1, text: 4, ..small() }.table()
+}
+
+fn one_variable(rest: &str) -> Vec<u8> {
+    format!("SSS VERSION 1.1 SURVEY RECORD R VARIABLE 1 NAME \"\" LABEL \"\" TYPE {rest} END VALUES END VARIABLE END RECORD END SURVEY END SSS").into_bytes()
+}
+
+/// One block of 4,096 lines, their values in steps.
+fn block(step: usize) -> Vec<u8> {
+    let lines: String = (0..4096).map(|i| format!("{} \"\"\n", i * step % 8192)).collect();
+    one_variable(&format!("QUANTITY POSITION 1 TO 4 VALUES {lines}"))
+}
+
+fn bits() -> Vec<i64> {
+    table(&one_variable("MULTIPLE POSITION 1 TO 9999 VALUES 1 TO 9999"))
+}
+
+fn spread() -> Vec<i64> {
+    table(&one_variable("MULTIPLE POSITION 1 TO 16000 SPREAD 4000 OF 4 VALUES 1 TO 9999"))
+}
+
+fn evens() -> Vec<i64> {
+    (1..=4000).map(|i| 2 * i).collect()
+}
+
+fn definition(def: Vec<u8>, number: u64) -> Case {
+    let bytes = def.len();
+    assert!(bytes <= 1_048_576, "{bytes}");
     let mut lent = vec![0i64; 30_000];
     let mut answer = [0; 4];
-    let mut cut = def[..half].to_vec();
-    cut.push(b'<');
-    let number = Plain.read_definition(&cut, &mut lent, &mut answer);
-    add("definition 64 KiB, refused at its end", half, number, read(cut));
+    Case { bytes, number, step: Box::new(move |face| face.read_definition(black_box(&def), &mut lent, &mut answer)) }
+}
 
-    // The test behind 20: an empty record is 22 right after it.
-    let test = |table: Vec<i64>| -> Step {
-        let mut answer = [0; 4];
-        Box::new(move |face| face.judge_record(black_box(&table), b"", &mut answer))
-    };
-    let short = Survey { variables: 5, lines: 4, text: 4, roomy: false, standard: false }.table();
-    let long = Survey { variables: 512, lines: 6, text: 4, roomy: false, standard: false }.table();
-    let one = Survey { variables: 1, lines: 4, text: 4, roomy: false, standard: false }.table();
-    for (name, t) in [
-        ("1 row, 4 lines", one.clone()),
-        ("5 rows, 12 lines", short.clone()),
-        ("512 rows, 1,500 lines", long.clone()),
-        ("1 row, 4,096 lines, rising", table(&mixed(1))),
-        ("1 row, 4,096 lines, mixed", table(&mixed(4099))),
-    ] {
-        add(&format!("well-formed {name}"), t.len() * 8, 22, test(t));
+/// The test behind 20: an empty record is 22 right after it.
+fn test(table: Vec<i64>) -> Case {
+    let mut answer = [0; 4];
+    Case {
+        bytes: table.len() * 8,
+        number: 22,
+        step: Box::new(move |face| face.judge_record(black_box(&table), b"", &mut answer)),
     }
+}
+
+fn read(table: Vec<i64>, row: u64, record: Vec<u8>, bytes: usize) -> Case {
+    let mut list = vec![0i64; 10_000];
+    let mut answer = [0; 4];
+    let step: Step =
+        Box::new(move |face| face.read_value(black_box(&table), row, black_box(&record), &mut list, &mut answer));
+    Case { bytes, number: 0, step }
+}
+
+fn read_set(table: Vec<i64>) -> Case {
+    let mut record = vec![b'x'; table[3] as usize];
+    assert_eq!(Plain.write_set(&table, 0, &evens(), &mut record), 0);
+    let bytes = record.len();
+    read(table, 0, record, bytes)
+}
+
+fn judge(table: Vec<i64>, more: usize, fault: bool) -> Case {
+    let mut record = record(&table, 7);
+    record.resize(record.len() + more, b'y');
+    if fault {
+        *record.last_mut().unwrap() = 1;
+    }
+    let mut answer = [0; 4];
+    Case {
+        bytes: record.len(),
+        number: if fault { 23 } else { 0 },
+        step: Box::new(move |face| face.judge_record(black_box(&table), black_box(&record), &mut answer)),
+    }
+}
+
+fn write_set(table: Vec<i64>, set: Vec<i64>, row: u64, bytes: usize) -> Case {
+    let mut lent = vec![b'x'; table[3] as usize];
+    Case { bytes, number: 0, step: Box::new(move |f| f.write_set(black_box(&table), row, black_box(&set), &mut lent)) }
+}
+
+fn file(table: Vec<i64>, bytes: usize, end: &str, fault: bool) -> Case {
+    let few: Vec<Vec<u8>> = (0..if table[1] > 100 { 4 } else { 40 }).map(|seed| record(&table, seed)).collect();
+    let mut data = vec![];
+    for record in few.iter().cycle() {
+        if data.len() >= bytes {
+            break;
+        }
+        data.extend(record);
+        data.extend(end.bytes());
+    }
+    if fault {
+        data.pop();
+    }
+    let mut answer = [0; 4];
+    Case {
+        bytes: data.len(),
+        number: if fault { 30 } else { 0 },
+        step: Box::new(move |face| face.judge_file(black_box(&table), black_box(&data), &mut answer)),
+    }
+}
+
+fn cases() -> Vec<Maker> {
+    let mut cases: Vec<Maker> = vec![];
+    let mut add = |name: &str, make: Box<dyn FnOnce() -> Case>| cases.push((name.to_string(), make));
+
+    // Definitions.
+    for (name, survey) in [
+        ("definition 1 KiB", small()),
+        ("definition 16 KiB", Survey { variables: 50, lines: 6, text: 24, roomy: true, standard: false }),
+        ("definition 86 KB, 512 variables", Survey { variables: 512, lines: 6, text: 12, roomy: false, standard: true }),
+        ("definition 190 KB, 512 variables, roomy", Survey { variables: 512, lines: 6, text: 40, roomy: true, standard: true }),
+        ("definition 0.8 MB, 512 variables, long texts", Survey { variables: 512, lines: 10, text: 215, roomy: true, standard: true }),
+    ] {
+        add(name, Box::new(move || definition(survey.text(), 0)));
+    }
+    let million = 1_040_000;
+    let wide: [(&str, fn(usize) -> String); 6] = [
+        ("definition 1 MiB, one note", |n| format!("NOTE \"{}\" ", "x".repeat(n))),
+        ("definition 1 MiB, spaces", |n| " ".repeat(n)),
+        ("definition 1 MiB, one comment", |n| format!("<{}>", "x".repeat(n))),
+        ("definition 1 MiB, small comments", |n| "<a>".repeat(n / 3)),
+        ("definition 1 MiB, brace forms", |n| format!("NOTE \"{}\" ", "{0D0A}".repeat(n / 6))),
+        ("definition 1 MiB, dropped bytes", |n| "\r\n".repeat(n / 2)),
+    ];
+    for (name, what) in wide {
+        let make = move || {
+            let mut def = small().text();
+            let at = def.windows(6).position(|w| w == b"SURVEY").unwrap();
+            def.splice(at..at, what(million).into_bytes());
+            definition(def, 0)
+        };
+        add(name, Box::new(make));
+    }
+    add("definition 4,096 lines, rising", Box::new(|| definition(block(1), 0)));
+    add("definition 4,096 lines, mixed", Box::new(|| definition(block(4099), 0)));
+    let cut = || {
+        let mut def = Survey { variables: 512, lines: 6, text: 12, ..small() }.text();
+        let half = def.len() / 2;
+        let end = half + def[half..].windows(12).position(|w| w == b"END VARIABLE").unwrap();
+        def.truncate(end + 12);
+        def.push(b'<');
+        definition(def, 3)
+    };
+    add("definition 43 KB, refused at its end", Box::new(cut));
+
+    add("well-formed 1 row, 4 lines", Box::new(|| test(single())));
+    add("well-formed 5 rows, 12 lines", Box::new(|| test(short())));
+    add("well-formed 512 rows, 1,536 lines", Box::new(|| test(long())));
+    add("well-formed 1 row, 4,096 lines, rising", Box::new(|| test(table(&block(1)))));
+    add("well-formed 1 row, 4,096 lines, mixed", Box::new(|| test(table(&block(4099)))));
 
     // Reading one row.
-    let value = |table: Vec<i64>, row: u64| -> Step {
-        let record = record(&table, 7);
-        let mut list = vec![0i64; 10_000];
-        let mut answer = [0; 4];
-        Box::new(move |face| face.read_value(black_box(&table), row, black_box(&record), &mut list, &mut answer))
-    };
-    for (row, kind) in ["SINGLE", "MULTIPLE bits", "QUANTITY", "CHARACTER"].iter().enumerate() {
-        add(&format!("read {kind}, 5 rows"), 0, 0, value(short.clone(), row as u64));
+    let kinds = ["read SINGLE, 5 rows", "read bitstring, 5 rows", "read QUANTITY, 5 rows", "read CHARACTER, 5 rows", "read spread, 5 rows"];
+    for (row, kind) in kinds.iter().enumerate() {
+        add(kind, Box::new(move || read(short(), row as u64, record(&short(), 7), 0)));
     }
-    add("read MULTIPLE spread, 5 rows", 0, 0, value(short.clone(), 4));
-    add("read last row, 512 rows", 0, 0, value(long.clone(), 511));
-    let bits = table(b"SSS VERSION 1.1 SURVEY RECORD R VARIABLE 1 NAME \"\" LABEL \"\" TYPE MULTIPLE POSITION 1 TO 9999 VALUES 1 TO 9999 END VALUES END VARIABLE END RECORD END SURVEY END SSS");
-    let spread = table(b"SSS VERSION 1.1 SURVEY RECORD R VARIABLE 1 NAME \"\" LABEL \"\" TYPE MULTIPLE POSITION 1 TO 16000 SPREAD 4000 OF 4 VALUES 1 TO 9999 END VALUES END VARIABLE END RECORD END SURVEY END SSS");
-    let large = |table: Vec<i64>| -> Step {
-        let set: Vec<i64> = (1..=4000).map(|i| 2 * i).collect();
-        let mut record = vec![b'x'; table[3] as usize];
-        assert_eq!(Plain.write_set(&table, 0, &set, &mut record), 0);
-        let mut list = vec![0i64; 10_000];
-        let mut answer = [0; 4];
-        Box::new(move |face| face.read_value(black_box(&table), 0, black_box(&record), &mut list, &mut answer))
-    };
-    add("read bitstring of 9,999", 9999, 0, large(bits.clone()));
-    add("read spread of 4,000", 16000, 0, large(spread.clone()));
+    add("read last row, 512 rows", Box::new(|| read(long(), 511, record(&long(), 7), 0)));
+    add("read bitstring of 9,999", Box::new(|| read_set(bits())));
+    add("read spread of 4,000", Box::new(|| read_set(spread())));
 
     // Judging a record.
-    let judge = |table: Vec<i64>, more: usize, mend: fn(&mut Vec<u8>)| -> (usize, Step) {
-        let mut record = record(&table, 7);
-        record.resize(record.len() + more, b'y');
-        mend(&mut record);
-        let mut answer = [0; 4];
-        (record.len(), Box::new(move |face| face.judge_record(black_box(&table), black_box(&record), &mut answer)))
-    };
-    let (n, step) = judge(short.clone(), 0, |_| {});
-    add("judge record, 5 rows", n, 0, step);
-    let (n, step) = judge(short.clone(), 16_384, |_| {});
-    add("judge record, 5 rows, 16 KiB long", n, 0, step);
-    let (n, step) = judge(long.clone(), 0, |_| {});
-    add("judge record, 512 rows", n, 0, step);
-    let (n, step) = judge(long.clone(), 0, |r| *r.last_mut().unwrap() = 1);
-    add("judge record, 512 rows, 23 at its end", n, 23, step);
+    add("judge record, 5 rows", Box::new(|| judge(short(), 0, false)));
+    add("judge record, 5 rows, 16 KiB long", Box::new(|| judge(short(), 16_384, false)));
+    add("judge record, 512 rows", Box::new(|| judge(long(), 0, false)));
+    add("judge record, 512 rows, 23 at its end", Box::new(|| judge(long(), 0, true)));
 
     // Writes.
-    let mut lent = record(&short, 7);
-    let t = short.clone();
-    add("write missing, 5 rows", 0, 0, Box::new(move |f| f.write_missing(black_box(&t), 2, &mut lent)));
-    let mut lent = record(&short, 7);
-    let t = short.clone();
-    add("write number, 5 rows", 0, 0, Box::new(move |f| f.write_number(black_box(&t), 2, 12345, &mut lent)));
-    let mut lent = record(&short, 7);
-    let t = short.clone();
-    add("write set, 5 rows", 0, 0, Box::new(move |f| f.write_set(black_box(&t), 1, &[1, 3], &mut lent)));
-    let mut lent = record(&short, 7);
-    let t = short.clone();
-    add("write text, 5 rows", 0, 0, Box::new(move |f| f.write_text(black_box(&t), 3, b"Some text", &mut lent)));
-    let mut lent = record(&long, 7);
-    let t = long.clone();
-    add("write truth, 512 rows", 0, 0, Box::new(move |f| f.write_truth(black_box(&t), 9, 1, &mut lent)));
-    for (name, t) in [("write bitstring of 9,999", bits), ("write spread of 4,000", spread)] {
-        let mut lent = vec![b'x'; t[3] as usize];
-        let set: Vec<i64> = (1..=4000).map(|i| 2 * i).collect();
-        add(name, lent.len(), 0, Box::new(move |f| f.write_set(black_box(&t), 0, &set, &mut lent)));
-    }
+    let write = |table: fn() -> Vec<i64>, call: fn(&dyn Face, &[i64], &mut [u8]) -> u64| -> Box<dyn FnOnce() -> Case> {
+        Box::new(move || {
+            let table = table();
+            let mut lent = vec![b'x'; table[3] as usize];
+            Case { bytes: 0, number: 0, step: Box::new(move |face| call(face, black_box(&table), &mut lent)) }
+        })
+    };
+    add("write missing, 5 rows", write(short, |f, t, r| f.write_missing(t, 2, r)));
+    add("write number, 5 rows", write(short, |f, t, r| f.write_number(t, 2, black_box(12345), r)));
+    add("write text, 5 rows", write(short, |f, t, r| f.write_text(t, 3, black_box(b"Some text"), r)));
+    add("write set, 5 rows", Box::new(|| write_set(short(), vec![1, 3], 1, 0)));
+    add("write truth, 512 rows", write(long, |f, t, r| f.write_truth(t, 9, black_box(1), r)));
+    add("write bitstring of 9,999", Box::new(|| write_set(bits(), evens(), 0, 9_999)));
+    add("write spread of 4,000", Box::new(|| write_set(spread(), evens(), 0, 16_000)));
 
     // Files.
-    let file = |table: Vec<i64>, bytes: usize, end: &str, fault: bool| -> (usize, Step) {
-        let mut data = vec![];
-        let mut seed = 0;
-        while data.len() < bytes {
-            data.extend(record(&table, seed % 50));
-            data.extend(end.bytes());
-            seed += 1;
-        }
-        if fault {
-            data.pop();
-        }
+    add("judge file 256 KiB, 1 row, LF", Box::new(|| file(single(), 1 << 18, "\n", false)));
+    add("judge file 1 MiB, 5 rows, CR LF", Box::new(|| file(short(), 1 << 20, "\r\n", false)));
+    add("judge file 1 MiB, 512 rows, CR LF", Box::new(|| file(long(), 1 << 20, "\r\n", false)));
+    add("judge file 1 MiB, 512 rows, 30 at its end", Box::new(|| file(long(), 1 << 20, "\n", true)));
+    let next = || {
+        let mut data = vec![b'x'; 16_384];
+        data.extend(b"\r\n");
         let mut answer = [0; 4];
-        (data.len(), Box::new(move |face| face.judge_file(black_box(&table), black_box(&data), &mut answer)))
+        Case { bytes: data.len(), number: 1, step: Box::new(move |f| f.next_record(black_box(&data), 0, &mut answer)) }
     };
-    let (n, step) = file(one, 1 << 18, "\n", false);
-    add("judge file 256 KiB, 1 row, LF", n, 0, step);
-    let (n, step) = file(short.clone(), 1 << 20, "\r\n", false);
-    add("judge file 1 MiB, 5 rows, CR LF", n, 0, step);
-    let (n, step) = file(long.clone(), 1 << 20, "\r\n", false);
-    add("judge file 1 MiB, 512 rows, CR LF", n, 0, step);
-    let (n, step) = file(long, 1 << 20, "\n", true);
-    add("judge file 1 MiB, 512 rows, 30 at its end", n, 30, step);
-    let mut data = vec![b'x'; 16_384];
-    data.extend(b"\r\n");
-    let mut answer = [0; 4];
-    add("next record of 16 KiB", data.len(), 1, Box::new(move |f| f.next_record(black_box(&data), 0, &mut answer)));
+    add("next record of 16 KiB", Box::new(next));
     cases
 }

@@ -2,9 +2,10 @@
 
 use crate::face::Face;
 
+/// The calls, in the order in which the bridge numbers them.
 #[derive(Clone, Copy, Debug, PartialEq, Eq)]
 pub enum Call {
-    ReadDefinition,
+    ReadDefinition = 0,
     ReadValue,
     JudgeRecord,
     WriteMissing,
@@ -70,7 +71,7 @@ impl<T: Copy> Guarded<T> {
 const ANSWER: i64 = 0x7a61_7266_6f6c_696e;
 
 /// Runs the case. Every buffer stands between guards, and all of it is in the outcome.
-pub fn run(face: &impl Face, case: &Case) -> Outcome {
+pub fn run(face: &dyn Face, case: &Case) -> Outcome {
     let mut table = Guarded::new(&case.table, -0x5a5a_5a5a);
     let mut list = Guarded::new(&case.list, -0x3c3c_3c3c);
     let mut bytes = Guarded::new(&case.bytes, 0x7e);
@@ -116,7 +117,7 @@ pub fn keeps(case: &Case, outcome: &Outcome) -> bool {
 }
 
 /// Compares the two on the case. A difference panics with the seed, the case cut down, and both outcomes.
-pub fn compare(a: &impl Face, b: &impl Face, seed: u64, case: &Case) -> Outcome {
+pub fn compare(a: &dyn Face, b: &dyn Face, seed: u64, case: &Case) -> Outcome {
     let x = run(a, case);
     let y = run(b, case);
     if x != y {
@@ -127,7 +128,7 @@ pub fn compare(a: &impl Face, b: &impl Face, seed: u64, case: &Case) -> Outcome 
 }
 
 #[cold]
-fn report(a: &impl Face, b: &impl Face, seed: u64, case: &Case) -> ! {
+fn report(a: &dyn Face, b: &dyn Face, seed: u64, case: &Case) -> ! {
     let small = shrink(case.clone(), 20_000, |c| run(a, c) != run(b, c));
     let (x, y) = (run(a, &small), run(b, &small));
     let mut unlike = String::new();

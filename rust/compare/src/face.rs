@@ -220,13 +220,25 @@ impl Face for Library {
     }
 }
 
-/// What the plain Rust is held against: the linked library, or itself through the trait where none is linked.
+/// What the plain Rust is held against: the library in a process of its own (the command ZARFOLIN_BRIDGE), or the linked
+/// library (feature `ffi`), or the naive Rust where there is neither.
+pub fn other() -> Box<dyn Face> {
+    if let Ok(command) = std::env::var("ZARFOLIN_BRIDGE") {
+        return Box::new(crate::bridge::Bridge::start(&command));
+    }
+    #[cfg(feature = "ffi")]
+    return Box::new(Library);
+    #[cfg(not(feature = "ffi"))]
+    return Box::new(crate::naive::Naive);
+}
+
+/// What the plain Rust is measured against: the linked library, or itself where none is linked.
 #[cfg(feature = "ffi")]
-pub fn other() -> impl Face {
+pub fn measured() -> impl Face {
     Library
 }
 
 #[cfg(not(feature = "ffi"))]
-pub fn other() -> impl Face {
+pub fn measured() -> impl Face {
     Plain
 }

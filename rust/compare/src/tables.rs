@@ -74,6 +74,9 @@ pub fn changed(r: &mut Rng, table: &mut Vec<i64>) {
     }
     let rows = table[1].clamp(0, 512) as usize;
     for _ in 0..if r.once_in(3) { 1 + r.below(3) } else { 1 } {
+        if r.once_in(12) {
+            continue;
+        }
         let at = match r.below(10) {
             0 => r.below(6),
             1..7 => 6 + 18 * r.below(rows) + r.below(18),
@@ -88,6 +91,19 @@ pub fn changed(r: &mut Rng, table: &mut Vec<i64>) {
             4 => old.wrapping_mul(10),
             _ => r.pick(ODD),
         };
+    }
+    if r.once_in(8) {
+        // Two lines of one row with the same value, or nearly.
+        let row = 6 + 18 * r.below(rows);
+        let (before, lines) = (table[row + 12], table[row + 13]);
+        let lines_at = 6 + 18 * rows;
+        if (0..5000).contains(&before) && (2..5000).contains(&lines) {
+            let mut line = || lines_at + 4 * (before as usize + r.below(lines as usize));
+            let (a, b) = (line(), line());
+            if a != b && a.max(b) < used {
+                table[a] = table[b].wrapping_add(if r.once_in(4) { 1 } else { 0 });
+            }
+        }
     }
     if r.once_in(2) {
         mend(r, table);

@@ -375,7 +375,7 @@ impl Reader<'_> {
             if !lines_follow {
                 return fault(2, self.s.at);
             }
-            let figure = self.s.figure_due()?;
+            let Some(figure) = self.s.figure() else { return fault(2, self.s.at) };
             self.line(&mut block, figure)?;
         }
         if let Some((from, to)) = block.range {
@@ -413,6 +413,7 @@ impl Reader<'_> {
     }
 
     /// From behind the value of a line.
+    #[inline]
     fn line(&mut self, block: &mut Block, figure: Figure) -> Outcome<()> {
         let (place, length) = self.s.text()?;
         self.s.gap()?;

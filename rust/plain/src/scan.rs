@@ -16,36 +16,6 @@ pub(crate) fn fault<T>(number: u8, place: usize) -> Outcome<T> {
     Err(Fault { number, place })
 }
 
-/// What a byte is outside strings and comments, as far as numbers ask.
-#[derive(Clone, Copy, PartialEq, Eq)]
-#[repr(u8)]
-enum Class {
-    Dropped,
-    Digit,
-    Point,
-    Minus,
-    Plus,
-    Other,
-}
-
-static CLASSES: [Class; 256] = {
-    let mut t = [Class::Other; 256];
-    let mut b = 0;
-    while b < 32 {
-        t[b] = Class::Dropped;
-        b += 1;
-    }
-    let mut b = b'0';
-    while b <= b'9' {
-        t[b as usize] = Class::Digit;
-        b += 1;
-    }
-    t[b'.' as usize] = Class::Point;
-    t[b'-' as usize] = Class::Minus;
-    t[b'+' as usize] = Class::Plus;
-    t
-};
-
 /// Eight bytes at once: what a search asks of a word. The lowest flagged byte of an answer is one that was looked for.
 pub(crate) mod lanes {
     const LOW: u64 = 0x0101_0101_0101_0101;
@@ -189,13 +159,17 @@ impl Scan<'_> {
     }
 
     /// Past spaces, dropped bytes and comments.
-    #[inline]
+    #[inline(always)]
     pub fn gap(&mut self) -> Outcome<()> {
-        self.blank();
-        if self.bytes.get(self.at) == Some(&b'<') { self.comments() } else { Ok(()) }
+        match self.bytes.get(self.at) {
+            Some(&x) if x > 32 && x != b'<' => Ok(()),
+            _ => self.longer_gap(),
+        }
     }
 
-    fn comments(&mut self) -> Outcome<()> {
+    #[inline(never)]
+    fn longer_gap(&mut self) -> Outcome<()> {
+        self.blank();
         while self.bytes.get(self.at) == Some(&b'<') {
             self.comment()?;
             self.blank();
@@ -356,16 +330,15 @@ impl Scan<'_> {
         self.gap()?;
         let mut n = Number { place: self.at, end: 0, count: 0, significant: 0, value: 0 };
         while let Some(&x) = self.bytes.get(self.at) {
-            match CLASSES[x as usize] {
-                Class::Digit => {
-                    n.count += 1;
-                    n.significant += (n.significant > 0 || x != b'0') as usize;
-                    if n.significant <= 18 {
-                        n.value = n.value * 10 + (x - b'0') as u64;
-                    }
+            let d = x.wrapping_sub(b'0');
+            if d < 10 {
+                n.count += 1;
+                n.significant += (n.significant > 0 || d != 0) as usize;
+                if n.significant <= 18 {
+                    n.value = n.value * 10 + d as u64;
                 }
-                Class::Dropped => {}
-                _ => break,
+            } else if x >= 32 {
+                break;
             }
             self.at += 1;
         }
@@ -390,34 +363,31 @@ impl Scan<'_> {
         let mut digits = 0usize;
         let mut count = 0usize;
         while let Some(&x) = self.bytes.get(self.at) {
-            match CLASSES[x as usize] {
-                Class::Digit => {
-                    digits += 1;
-                    f.decimals += f.point as usize;
-                    f.significant += (f.significant > 0 || x != b'0') as usize;
-                    if f.significant <= 18 {
-                        f.value = f.value * 10 + (x - b'0') as u64;
+            let d = x.wrapping_sub(b'0');
+            if d < 10 {
+                digits += 1;
+                f.decimals += f.point as usize;
+                f.significant += (f.significant > 0 || d != 0) as usize;
+                if f.significant <= 18 {
+                    f.value = f.value * 10 + d as u64;
+                }
+            } else if x >= 32 {
+                match x {
+                    b'.' => {
+                        f.form &= !f.point;
+                        f.point = true;
                     }
+                    b'-' => {
+                        f.form &= count == 0;
+                        f.minus = true;
+                    }
+                    b'+' => f.form = false,
+                    _ => break,
                 }
-                Class::Dropped => {
-                    self.at += 1;
-                    continue;
-                }
-                Class::Point => {
-                    f.form &= !f.point;
-                    f.point = true;
-                    f.plain = false;
-                }
-                Class::Minus => {
-                    f.form &= count == 0;
-                    f.minus = true;
-                    f.plain = false;
-                }
-                Class::Plus => {
-                    f.form = false;
-                    f.plain = false;
-                }
-                Class::Other => break,
+                f.plain = false;
+            } else {
+                self.at += 1;
+                continue;
             }
             count += 1;
             self.at += 1;
