@@ -1,0 +1,139 @@
+/* The library behind two pipes, for comparing where it can't be linked: the archive is for x86-64, and on another machine
+ * this program runs under an emulator while the tests run outside it.
+ *
+ * A request: eight 64-bit numbers (call, row or from, number, then the lengths of table, list, bytes and text, then 0), then
+ * the table, the list, the bytes and the text themselves. A reply: the number returned, the four answers, 1 if anything
+ * changed that the call may not change (an input, or a byte around a buffer), then the buffer that the call may
+ * change. All numbers as this machine lays them out: little-endian. Ends when its input ends. */
+#include "zarfolin.h"
+
+#include <stdio.h>
+#include <stdlib.h>
+#include <string.h>
+
+#define AROUND 64
+#define ANSWER INT64_C(0x7a6172666f6c696e)
+
+enum { READ_DEFINITION, READ_VALUE, JUDGE_RECORD, WRITE_MISSING, WRITE_NUMBER, WRITE_TRUTH, WRITE_SET, WRITE_TEXT, JUDGE_FILE, NEXT_RECORD };
+
+static int take(void *to, size_t length) { return length == 0 || fread(to, 1, length, stdin) == length; }
+
+static void give(const void *from, size_t length) {
+    if (length != 0 && fwrite(from, 1, length, stdout) != length) {
+        exit(3);
+    }
+}
+
+/* A buffer with bytes around it, and a copy of how it was. */
+struct lent {
+    uint8_t *all;
+    uint8_t *copy;
+    size_t room;
+    size_t length;
+};
+
+static int fill(struct lent *b, size_t length) {
+    const size_t need = length + 2 * AROUND;
+    if (b->room < need) {
+        free(b->all);
+        free(b->copy);
+        b->room = 2 * need;
+        b->all = malloc(b->room);
+        b->copy = malloc(b->room);
+        if (b->all == NULL || b->copy == NULL) {
+            exit(4);
+        }
+    }
+    b->length = length;
+    memset(b->all, 0xa5, AROUND);
+    memset(b->all + AROUND + length, 0xa5, AROUND);
+    if (!take(b->all + AROUND, length)) {
+        return 0;
+    }
+    memcpy(b->copy, b->all, need);
+    return 1;
+}
+
+static uint8_t *inner(const struct lent *b) { return b->all + AROUND; }
+
+/* Whether the bytes around it are as they were, and unless it may change the buffer too. */
+static int kept(const struct lent *b, int may_change) {
+    if (!may_change) {
+        return memcmp(b->all, b->copy, b->length + 2 * AROUND) == 0;
+    }
+    return memcmp(b->all, b->copy, AROUND) == 0 &&
+           memcmp(b->all + AROUND + b->length, b->copy + AROUND + b->length, AROUND) == 0;
+}
+
+int main(void) {
+    static struct lent table, list, bytes, text;
+    uint64_t head[8];
+    while (take(head, sizeof head)) {
+        if (!fill(&table, head[3] * 8) || !fill(&list, head[4] * 8) || !fill(&bytes, head[5]) || !fill(&text, head[6])) {
+            return 2;
+        }
+        int64_t answer[4 + 2] = {ANSWER, ANSWER, ANSWER, ANSWER, ANSWER, ANSWER};
+        int64_t *a = answer + 1;
+        int64_t *t = (int64_t *)(void *)inner(&table);
+        int64_t *l = (int64_t *)(void *)inner(&list);
+        uint8_t *b = inner(&bytes);
+        const uint64_t row = head[1];
+        struct lent *may_change = NULL;
+        zarfolin_number number;
+        switch (head[0]) {
+        case READ_DEFINITION:
+            may_change = &table;
+            number = zarfolin_read_definition(b, head[5], t, head[3], a);
+            break;
+        case READ_VALUE:
+            may_change = &list;
+            number = zarfolin_read_value(t, head[3], row, b, head[5], l, head[4], a);
+            break;
+        case JUDGE_RECORD:
+            number = zarfolin_judge_record(t, head[3], b, head[5], a);
+            break;
+        case WRITE_MISSING:
+            may_change = &bytes;
+            number = zarfolin_write_missing(t, head[3], row, b, head[5]);
+            break;
+        case WRITE_NUMBER:
+            may_change = &bytes;
+            number = zarfolin_write_number(t, head[3], row, (int64_t)head[2], b, head[5]);
+            break;
+        case WRITE_TRUTH:
+            may_change = &bytes;
+            number = zarfolin_write_truth(t, head[3], row, (uint8_t)head[2], b, head[5]);
+            break;
+        case WRITE_SET:
+            may_change = &bytes;
+            number = zarfolin_write_set(t, head[3], row, l, head[4], b, head[5]);
+            break;
+        case WRITE_TEXT:
+            may_change = &bytes;
+            number = zarfolin_write_text(t, head[3], row, inner(&text), head[6], b, head[5]);
+            break;
+        case JUDGE_FILE:
+            number = zarfolin_judge_file(t, head[3], b, head[5], a);
+            break;
+        case NEXT_RECORD:
+            number = zarfolin_next_record(b, head[5], row, a);
+            break;
+        default:
+            return 2;
+        }
+        const uint64_t returned = number;
+        const uint64_t touched = !kept(&table, may_change == &table) || !kept(&list, may_change == &list) ||
+                                 !kept(&bytes, may_change == &bytes) || !kept(&text, 0) || answer[0] != ANSWER ||
+                                 answer[5] != ANSWER;
+        give(&returned, 8);
+        give(a, 32);
+        give(&touched, 8);
+        if (may_change != NULL) {
+            give(inner(may_change), may_change->length);
+        }
+        if (fflush(stdout) != 0) {
+            return 3;
+        }
+    }
+    return 0;
+}

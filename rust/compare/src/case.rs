@@ -1,0 +1,261 @@
+//! One call with its inputs, what two implementations leave behind, and how a case that differs is cut down.
+
+use crate::face::Face;
+
+/// The calls, in the order in which the bridge numbers them.
+#[derive(Clone, Copy, Debug, PartialEq, Eq)]
+pub enum Call {
+    ReadDefinition = 0,
+    ReadValue,
+    JudgeRecord,
+    WriteMissing,
+    WriteNumber,
+    WriteTruth,
+    WriteSet,
+    WriteText,
+    JudgeFile,
+    NextRecord,
+}
+
+/// A call and its inputs; those that the call doesn't take are empty or 0.
+#[derive(Clone, Debug)]
+pub struct Case {
+    pub call: Call,
+    pub table: Vec<i64>,
+    pub row: u64,
+    pub number: i64,
+    pub list: Vec<i64>,
+    /// Definition, record or data.
+    pub bytes: Vec<u8>,
+    pub text: Vec<u8>,
+}
+
+impl Case {
+    pub fn new(call: Call) -> Case {
+        Case { call, table: vec![], row: 0, number: 0, list: vec![], bytes: vec![], text: vec![] }
+    }
+}
+
+/// All that a call leaves: its number, its answer and every buffer, with the guards around them.
+#[derive(Clone, Debug, PartialEq, Eq)]
+pub struct Outcome {
+    pub number: u64,
+    pub answer: [i64; 4],
+    pub table: Vec<i64>,
+    pub list: Vec<i64>,
+    pub bytes: Vec<u8>,
+    pub text: Vec<u8>,
+}
+
+const GUARD: usize = 8;
+
+struct Guarded<T> {
+    all: Vec<T>,
+    length: usize,
+}
+
+impl<T: Copy> Guarded<T> {
+    fn new(inner: &[T], guard: T) -> Guarded<T> {
+        let mut all = Vec::with_capacity(inner.len() + 2 * GUARD);
+        all.resize(GUARD, guard);
+        all.extend_from_slice(inner);
+        all.resize(GUARD + inner.len() + GUARD, guard);
+        Guarded { all, length: inner.len() }
+    }
+
+    fn inner(&mut self) -> &mut [T] {
+        &mut self.all[GUARD..GUARD + self.length]
+    }
+}
+
+const ANSWER: i64 = 0x7a61_7266_6f6c_696e;
+
+/// Runs the case. Every buffer stands between guards, and all of it is in the outcome.
+pub fn run(face: &dyn Face, case: &Case) -> Outcome {
+    let mut table = Guarded::new(&case.table, -0x5a5a_5a5a);
+    let mut list = Guarded::new(&case.list, -0x3c3c_3c3c);
+    let mut bytes = Guarded::new(&case.bytes, 0x7e);
+    let mut text = Guarded::new(&case.text, 0x31);
+    let mut answer = [ANSWER; 4];
+    let (t, l, b, x) = (table.inner(), list.inner(), bytes.inner(), text.inner());
+    let a = &mut answer;
+    let number = match case.call {
+        Call::ReadDefinition => face.read_definition(b, t, a),
+        Call::ReadValue => face.read_value(t, case.row, b, l, a),
+        Call::JudgeRecord => face.judge_record(t, b, a),
+        Call::WriteMissing => face.write_missing(t, case.row, b),
+        Call::WriteNumber => face.write_number(t, case.row, case.number, b),
+        Call::WriteTruth => face.write_truth(t, case.row, case.number as u8, b),
+        Call::WriteSet => face.write_set(t, case.row, l, b),
+        Call::WriteText => face.write_text(t, case.row, x, b),
+        Call::JudgeFile => face.judge_file(t, b, a),
+        Call::NextRecord => face.next_record(b, case.row, a),
+    };
+    Outcome { number, answer, table: table.all, list: list.all, bytes: bytes.all, text: text.all }
+}
+
+/// What a case may change, held against its inputs: a refusal changes nothing, and a call only what is lent to it.
+pub fn keeps(case: &Case, outcome: &Outcome) -> bool {
+    let same = |all: &[u8], input: &[u8]| all[GUARD..all.len() - GUARD] == *input;
+    let same_numbers = |all: &[i64], input: &[i64]| all[GUARD..all.len() - GUARD] == *input;
+    let refused = outcome.number != 0;
+    let table = same_numbers(&outcome.table, &case.table);
+    let list = same_numbers(&outcome.list, &case.list);
+    let bytes = same(&outcome.bytes, &case.bytes);
+    let text = same(&outcome.text, &case.text);
+    let guards = outcome.table[..GUARD].iter().chain(&outcome.table[outcome.table.len() - GUARD..]).all(|&x| x == -0x5a5a_5a5a)
+        && outcome.list[..GUARD].iter().chain(&outcome.list[outcome.list.len() - GUARD..]).all(|&x| x == -0x3c3c_3c3c)
+        && outcome.bytes[..GUARD].iter().chain(&outcome.bytes[outcome.bytes.len() - GUARD..]).all(|&x| x == 0x7e)
+        && outcome.text[..GUARD].iter().chain(&outcome.text[outcome.text.len() - GUARD..]).all(|&x| x == 0x31);
+    let (table_lent, list_lent, bytes_lent) = match case.call {
+        Call::ReadDefinition => (!refused, false, false),
+        Call::ReadValue => (false, !refused, false),
+        Call::JudgeRecord | Call::JudgeFile | Call::NextRecord => (false, false, false),
+        _ => (false, false, !refused),
+    };
+    guards && text && (table || table_lent) && (list || list_lent) && (bytes || bytes_lent)
+}
+
+/// Compares the two on the case. A difference panics with the seed, the case cut down, and both outcomes.
+pub fn compare(a: &dyn Face, b: &dyn Face, seed: u64, case: &Case) -> Outcome {
+    let x = run(a, case);
+    let y = run(b, case);
+    if x != y {
+        report(a, b, seed, case);
+    }
+    assert!(keeps(case, &x), "seed {seed}: a call changed what it must keep: {}", show(case));
+    x
+}
+
+#[cold]
+fn report(a: &dyn Face, b: &dyn Face, seed: u64, case: &Case) -> ! {
+    let small = shrink(case.clone(), 20_000, |c| run(a, c) != run(b, c));
+    let (x, y) = (run(a, &small), run(b, &small));
+    let mut unlike = String::new();
+    if (x.number, x.answer) != (y.number, y.answer) {
+        unlike += &format!("  {}: {} {:?}\n  {}: {} {:?}\n", a.name(), x.number, x.answer, b.name(), y.number, y.answer);
+    }
+    for (what, p, q) in [("table", &x.table, &y.table), ("list", &x.list, &y.list)] {
+        if let Some(i) = (0..p.len()).find(|&i| p[i] != q[i]) {
+            unlike += &format!("  {what}[{}]: {} has {}, {} has {}\n", i as i64 - GUARD as i64, a.name(), p[i], b.name(), q[i]);
+        }
+    }
+    for (what, p, q) in [("bytes", &x.bytes, &y.bytes), ("text", &x.text, &y.text)] {
+        if let Some(i) = (0..p.len()).find(|&i| p[i] != q[i]) {
+            unlike += &format!("  {what}[{}]: {} has {}, {} has {}\n", i as i64 - GUARD as i64, a.name(), p[i], b.name(), q[i]);
+        }
+    }
+    panic!("\nDIFFERENCE, seed {seed} (try again with ZARFOLIN_SEED={seed}), cut down to\n{}\n{unlike}", show(&small));
+}
+
+/// The case in a form to paste into a test.
+pub fn show(case: &Case) -> String {
+    let mut text = format!("  call {:?}, row/from {}, number {}\n", case.call, case.row, case.number);
+    text += &format!("  bytes ({}) b\"{}\"\n", case.bytes.len(), cut(case.bytes.escape_ascii().to_string()));
+    if !case.text.is_empty() {
+        text += &format!("  text b\"{}\"\n", cut(case.text.escape_ascii().to_string()));
+    }
+    if case.call == Call::ReadDefinition {
+        return text + &format!("  table: room for {} numbers", case.table.len());
+    }
+    if !case.table.is_empty() {
+        text += &format!("  table header {:?}\n", &case.table[..case.table.len().min(6)]);
+        let rows = case.table.get(1).map_or(0, |&v| v.clamp(0, 512) as usize);
+        let rest = case.table.get(6..).unwrap_or(&[]);
+        for row in rest.chunks(18).take(rows.min(8)) {
+            text += &format!("  row {row:?}\n");
+        }
+        let lines = rest.get(18 * rows..).unwrap_or(&[]);
+        text += &format!("  lines {}\n", cut(format!("{:?}", lines)));
+    }
+    text + &format!("  list {}", cut(format!("{:?}", case.list)))
+}
+
+fn cut(text: String) -> String {
+    match text.char_indices().nth(3000) {
+        Some((at, _)) => format!("{}.. ({} more)", &text[..at], text.len() - at),
+        None => text,
+    }
+}
+
+/// Cuts a case down as long as `differs` holds, with at most `tries` tries.
+pub fn shrink(mut case: Case, tries: usize, differs: impl Fn(&Case) -> bool) -> Case {
+    let mut left = tries;
+    let mut attempt = |case: &mut Case, next: Case| {
+        if left == 0 {
+            return false;
+        }
+        left -= 1;
+        let better = differs(&next);
+        if better {
+            *case = next;
+        }
+        better
+    };
+    loop {
+        let mut changed = false;
+        for which in 0..4 {
+            // Parts out, halves first.
+            let length = |c: &Case| [c.bytes.len(), c.text.len(), c.list.len(), c.table.len()][which];
+            let mut size = length(&case).next_power_of_two();
+            while size > 0 {
+                let mut at = 0;
+                while at < length(&case) {
+                    let end = (at + size).min(length(&case));
+                    let mut next = case.clone();
+                    match which {
+                        0 => drop(next.bytes.drain(at..end)),
+                        1 => drop(next.text.drain(at..end)),
+                        2 => drop(next.list.drain(at..end)),
+                        _ => drop(next.table.drain(at..end)),
+                    }
+                    if attempt(&mut case, next) {
+                        changed = true;
+                    } else {
+                        at += size;
+                    }
+                }
+                size /= 2;
+            }
+        }
+        // Plainer bytes and numbers.
+        for at in 0..case.bytes.len() {
+            for plain in [b' ', b'0', b'x'] {
+                if case.bytes[at] == plain {
+                    break;
+                }
+                let mut next = case.clone();
+                next.bytes[at] = plain;
+                if attempt(&mut case, next) {
+                    changed = true;
+                    break;
+                }
+            }
+        }
+        if case.call != Call::ReadDefinition {
+            for at in 0..case.table.len() {
+                for plain in [0, 1] {
+                    if case.table[at] == plain {
+                        break;
+                    }
+                    let mut next = case.clone();
+                    next.table[at] = plain;
+                    if attempt(&mut case, next) {
+                        changed = true;
+                        break;
+                    }
+                }
+            }
+        }
+        for row in [0, case.row / 2] {
+            if row < case.row {
+                let mut next = case.clone();
+                next.row = row;
+                changed |= attempt(&mut case, next);
+            }
+        }
+        if !changed {
+            return case;
+        }
+    }
+}

@@ -1,0 +1,954 @@
+//! A third implementation, for checking the plain Rust where no library is linked: slow and literal, with strings, lists and
+//! sets in place of scans, bits and arithmetic. Nothing is measured against it.
+
+use crate::face::Face;
+use std::collections::{BTreeSet, HashSet};
+
+pub struct Naive;
+
+/// A refusal: number and place.
+type Fault = (i64, usize);
+
+// ---------------------------------------------------------------------------------------------- definitions
+
+struct Reader {
+    /// The bytes that aren't dropped, with their places.
+    kept: Vec<(u8, usize)>,
+    at: usize,
+    length: usize,
+}
+
+#[derive(Clone)]
+struct Run {
+    text: String,
+    place: usize,
+}
+
+/// A value of a block that has form: sign, digits without zeros in front, decimals, point.
+struct Number {
+    minus: bool,
+    digits: String,
+    decimals: usize,
+    point: bool,
+}
+
+impl Number {
+    fn scaled(&self) -> i64 {
+        let m: i64 = if self.digits.is_empty() { 0 } else { self.digits.parse().unwrap() };
+        if self.minus { -m } else { m }
+    }
+}
+
+/// Whether the digits a are above the digits b, both without zeros in front.
+fn above(a: &str, b: &str) -> bool {
+    (a.len(), a) > (b.len(), b)
+}
+
+fn stripped(digits: &str) -> String {
+    digits.trim_start_matches('0').to_string()
+}
+
+impl Reader {
+    fn peek(&self) -> Option<u8> {
+        self.kept.get(self.at).map(|k| k.0)
+    }
+
+    fn place(&self) -> usize {
+        self.kept.get(self.at).map_or(self.length, |k| k.1)
+    }
+
+    fn due<T>(&self) -> Result<T, Fault> {
+        Err((2, self.place()))
+    }
+
+    fn spaces(&mut self) {
+        while self.peek() == Some(b' ') {
+            self.at += 1;
+        }
+    }
+
+    fn gap(&mut self) -> Result<(), Fault> {
+        self.spaces();
+        while self.peek() == Some(b'<') {
+            let outermost = self.place();
+            self.comment(1, outermost)?;
+            self.spaces();
+        }
+        Ok(())
+    }
+
+    fn comment(&mut self, level: usize, outermost: usize) -> Result<(), Fault> {
+        if level == 33 {
+            return Err((3, self.place()));
+        }
+        self.at += 1;
+        loop {
+            match self.peek() {
+                None => return Err((3, outermost)),
+                Some(b'>') => {
+                    self.at += 1;
+                    return Ok(());
+                }
+                Some(b'<') => self.comment(level + 1, outermost)?,
+                Some(b'"') => {
+                    self.string(outermost)?;
+                }
+                Some(_) => self.at += 1,
+            }
+        }
+    }
+
+    /// A string from its opening quote on: the text's place and length in the file.
+    fn string(&mut self, outermost: usize) -> Result<(usize, usize), Fault> {
+        let open = self.place();
+        self.at += 1;
+        loop {
+            match self.peek() {
+                None => return Err((3, outermost)),
+                Some(b'"') => {
+                    let close = self.place();
+                    self.at += 1;
+                    return Ok((open + 1, close - open - 1));
+                }
+                Some(b'{') => {
+                    let brace = self.place();
+                    let mut form = String::new();
+                    self.at += 1;
+                    loop {
+                        let Some(x) = self.peek() else { return Err((3, outermost)) };
+                        self.at += 1;
+                        form.push(x as char);
+                        if whole_form(&form) {
+                            break;
+                        }
+                        if !could_become_a_form(&form) {
+                            return Err((3, brace));
+                        }
+                    }
+                }
+                Some(_) => self.at += 1,
+            }
+        }
+    }
+
+    fn word(&mut self, word: &str) -> bool {
+        let here: Vec<u8> = self.kept[self.at..].iter().take(word.len()).map(|k| k.0.to_ascii_uppercase()).collect();
+        let stands = here == word.as_bytes();
+        if stands {
+            self.at += word.len();
+        }
+        stands
+    }
+
+    fn need(&mut self, word: &str) -> Result<(), Fault> {
+        self.gap()?;
+        if self.word(word) { Ok(()) } else { self.due() }
+    }
+
+    fn text(&mut self) -> Result<(usize, usize), Fault> {
+        self.gap()?;
+        if self.peek() != Some(b'"') {
+            return self.due();
+        }
+        let open = self.place();
+        self.string(open)
+    }
+
+    fn run(&mut self, bytes: &str) -> Result<Run, Fault> {
+        let place = self.place();
+        let mut text = String::new();
+        while let Some(x) = self.peek().filter(|&x| bytes.contains(x as char)) {
+            text.push(x as char);
+            self.at += 1;
+        }
+        if text.is_empty() { self.due() } else { Ok(Run { text, place }) }
+    }
+
+    fn number(&mut self) -> Result<Run, Fault> {
+        self.gap()?;
+        self.run("0123456789")
+    }
+
+    fn figure(&mut self) -> Result<Run, Fault> {
+        self.gap()?;
+        self.run("0123456789.+-")
+    }
+
+    fn notes(&mut self) -> Result<(), Fault> {
+        self.gap()?;
+        while self.word("NOTE") {
+            self.text()?;
+            self.gap()?;
+        }
+        Ok(())
+    }
+
+    fn statement(&mut self, word: &str) -> Result<(), Fault> {
+        self.notes()?;
+        if self.word(word) { Ok(()) } else { self.due() }
+    }
+}
+
+fn whole_form(form: &str) -> bool {
+    let Some(inner) = form.strip_suffix('}') else { return false };
+    ["\"", "{", "NL"].contains(&inner)
+        || (!inner.is_empty() && inner.len().is_multiple_of(2) && inner.chars().all(|c| c.is_ascii_hexdigit()))
+}
+
+fn could_become_a_form(form: &str) -> bool {
+    ["\"", "{", "N", "NL"].contains(&form) || form.chars().all(|c| c.is_ascii_hexdigit())
+}
+
+/// The lowest number, among equal ones the earliest place.
+fn judged(faults: &[(bool, i64, usize)]) -> Result<(), Fault> {
+    let met = faults.iter().filter(|f| f.0).map(|f| (f.1, f.2)).min();
+    met.map_or(Ok(()), Err)
+}
+
+fn parsed(run: &Run, quantity: bool) -> Option<Number> {
+    let (minus, rest) = match run.text.strip_prefix('-') {
+        Some(rest) => (true, rest),
+        None => (false, run.text.as_str()),
+    };
+    let parts: Vec<&str> = rest.split('.').collect();
+    let digits: String = parts.concat();
+    let good = parts.len() <= 2 && !digits.is_empty() && digits.chars().all(|c| c.is_ascii_digit());
+    let number = Number {
+        minus: minus && !stripped(&digits).is_empty(),
+        digits: stripped(&digits),
+        decimals: parts.get(1).map_or(0, |p| p.len()),
+        point: parts.len() == 2,
+    };
+    let category = good && !minus && parts.len() == 1 && !number.digits.is_empty();
+    (if quantity { good } else { category }).then_some(number)
+}
+
+fn beyond(n: &Number, quantity: bool) -> bool {
+    if quantity { n.decimals > 9 || n.digits.len() > 15 } else { n.digits.len() > 4 }
+}
+
+fn reversed(a: &Number, b: &Number) -> bool {
+    match (a.minus, b.minus) {
+        (false, true) => true,
+        (true, false) => false,
+        (false, false) => above(&a.digits, &b.digits),
+        (true, true) => above(&b.digits, &a.digits),
+    }
+}
+
+fn canonical_length(v: i64, decimals: usize, point: bool) -> usize {
+    let digits = format!("{:0>1$}", v.unsigned_abs(), decimals + 1);
+    digits.len() + point as usize + (v < 0) as usize
+}
+
+fn decoded(def: &[u8], place: usize, length: usize) -> Vec<u8> {
+    let text: Vec<u8> = def[place..place + length].iter().copied().filter(|&x| x >= 32).collect();
+    let mut out = vec![];
+    let mut i = 0;
+    while i < text.len() {
+        if text[i] != b'{' {
+            out.push(text[i]);
+            i += 1;
+            continue;
+        }
+        // A brace form ends at its first closing brace.
+        let end = i + text[i..].iter().position(|&x| x == b'}').unwrap();
+        let inner = String::from_utf8(text[i + 1..end].to_vec()).unwrap();
+        match inner.as_str() {
+            "\"" => out.push(b'"'),
+            "{" => out.push(b'{'),
+            "NL" => out.push(10),
+            hex => {
+                for j in (0..hex.len()).step_by(2) {
+                    out.push(u8::from_str_radix(&hex[j..j + 2], 16).unwrap());
+                }
+            }
+        }
+        i = end + 1;
+    }
+    out
+}
+
+fn read(def: &[u8], room: usize) -> Result<Vec<i64>, Fault> {
+    if def.len() > 1_048_576 {
+        return Err((1, 0));
+    }
+    let kept = def.iter().enumerate().filter(|(_, x)| **x >= 32).map(|(i, x)| (*x, i)).collect();
+    let mut r = Reader { kept, at: 0, length: def.len() };
+    if !r.word("SSS") {
+        return r.due();
+    }
+    r.spaces();
+    if !r.word("VERSION") {
+        return r.due();
+    }
+    r.spaces();
+    let version = r.run("0123456789.+-")?;
+    judged(&[(version.text != "1.1", 4, version.place)])?;
+    let mut met: Vec<&str> = vec![];
+    'head: loop {
+        r.notes()?;
+        let place = r.place();
+        if r.word("SURVEY") {
+            break;
+        }
+        for word in ["DATE", "TIME", "ORIGIN", "USER", "STANDARD"] {
+            if r.word(word) {
+                if met.contains(&word) {
+                    return Err((2, place));
+                }
+                met.push(word);
+                if word == "STANDARD" {
+                    r.need("NAMES")?;
+                } else {
+                    r.text()?;
+                }
+                continue 'head;
+            }
+        }
+        return r.due();
+    }
+    r.notes()?;
+    if r.word("TITLE") {
+        r.text()?;
+    }
+    r.statement("RECORD")?;
+    r.gap()?;
+    match r.peek() {
+        Some(x) if x.is_ascii_alphabetic() => r.at += 1,
+        _ => return r.due(),
+    }
+    let mut rows: Vec<Vec<i64>> = vec![];
+    let mut lines: Vec<Vec<i64>> = vec![];
+    r.statement("VARIABLE")?;
+    loop {
+        let row = variable(&mut r, &rows, &mut lines)?;
+        rows.push(row);
+        r.notes()?;
+        if !r.word("VARIABLE") {
+            break;
+        }
+    }
+    if !r.word("END") {
+        return r.due();
+    }
+    r.need("RECORD")?;
+    r.statement("END")?;
+    r.need("SURVEY")?;
+    r.statement("END")?;
+    r.need("SSS")?;
+    if met.contains(&"STANDARD") {
+        let mut names: Vec<Vec<u8>> = vec![];
+        for row in &rows {
+            let name = decoded(def, row[14] as usize, row[15] as usize).to_ascii_lowercase();
+            let good = (1..=8).contains(&name.len())
+                && name[0].is_ascii_alphabetic()
+                && name.iter().all(|x| x.is_ascii_alphanumeric())
+                && !names.contains(&name);
+            if !good {
+                return Err((9, row[14] as usize - 1));
+            }
+            names.push(name);
+        }
+    }
+    let least = rows.iter().map(|row| row[3]).max().unwrap();
+    let mut table = vec![11, rows.len() as i64, lines.len() as i64, least, 6, 6 + 18 * rows.len() as i64];
+    table.extend(rows.concat());
+    table.extend(lines.concat());
+    if room < table.len() { Err((10, 0)) } else { Ok(table) }
+}
+
+fn variable(r: &mut Reader, rows: &[Vec<i64>], lines: &mut Vec<Vec<i64>>) -> Result<Vec<i64>, Fault> {
+    let ident = r.number()?;
+    let id = stripped(&ident.text);
+    let repeated = rows.iter().any(|row| row[0].to_string() == id);
+    judged(&[
+        (id.is_empty() || ident.text.len() > 4 || repeated, 5, ident.place),
+        (rows.len() == 512, 8, ident.place),
+    ])?;
+    let mut row = vec![0i64; 18];
+    row[0] = id.parse().unwrap();
+    row[12] = lines.len() as i64;
+    for (word, column) in [("NAME", 14), ("LABEL", 16)] {
+        r.statement(word)?;
+        let (place, length) = r.text()?;
+        row[column] = place as i64;
+        row[column + 1] = length as i64;
+    }
+    r.statement("TYPE")?;
+    r.gap()?;
+    let types = ["SINGLE", "MULTIPLE", "QUANTITY", "CHARACTER", "LOGICAL"];
+    let Some(kind) = types.iter().position(|word| r.word(word)) else { return r.due() };
+    let kind = kind as i64 + 1;
+    row[1] = kind;
+
+    r.statement("POSITION")?;
+    let start = r.number()?;
+    r.gap()?;
+    let finish = if r.word("TO") { r.number()? } else { start.clone() };
+    let (a, b) = (stripped(&start.text), stripped(&finish.text));
+    judged(&[
+        (a.is_empty(), 7, start.place),
+        (above(&a, &b), 7, finish.place),
+        (above(&a, "16384"), 8, start.place),
+        (above(&b, "16384"), 8, finish.place),
+    ])?;
+    row[2] = a.parse().unwrap();
+    row[3] = b.parse().unwrap();
+    let room = row[3] - row[2] + 1;
+
+    let mut narrow = false;
+    if kind == 2 {
+        r.notes()?;
+        if r.word("SPREAD") {
+            let count = r.number()?;
+            r.gap()?;
+            let width = if r.word("OF") { Some(r.number()?) } else { None };
+            let n = stripped(&count.text);
+            let small: Option<i64> = if n.len() <= 5 { n.parse().ok() } else { None };
+            match width {
+                Some(width) => {
+                    let w = stripped(&width.text);
+                    judged(&[(n.is_empty(), 7, count.place), (w.is_empty(), 7, width.place)])?;
+                    let product = small.and_then(|n| if w.len() <= 5 { Some(n * w.parse::<i64>().unwrap()) } else { None });
+                    narrow = product.is_none_or(|p| p > room);
+                    row[7] = small.unwrap_or(0);
+                    row[8] = if w.len() <= 5 { w.parse().unwrap() } else { 0 };
+                }
+                None => {
+                    let inexact = small.is_none_or(|n| n == 0 || room % n != 0);
+                    judged(&[(inexact, 7, count.place)])?;
+                    row[7] = small.unwrap();
+                    row[8] = room / row[7];
+                }
+            }
+        }
+    }
+    match kind {
+        1..=3 => {
+            let numbers = values(r, kind == 3, &mut row, lines)?;
+            let most = *numbers.iter().max().unwrap();
+            row[4] = match kind {
+                2 if row[7] == 0 && !narrow => most,
+                1 | 2 => most.to_string().len() as i64,
+                _ => numbers.iter().map(|&v| canonical_length(v, row[5] as usize, row[6] == 1)).max().unwrap() as i64,
+            };
+            if row[7] > 0 {
+                narrow |= row[8] < row[4];
+            } else {
+                narrow |= row[4] > room;
+            }
+        }
+        4 => {
+            r.statement("SIZE")?;
+            let size = r.number()?;
+            let n = stripped(&size.text);
+            judged(&[(n.is_empty(), 7, size.place), (above(&n, "4096"), 8, size.place)])?;
+            row[4] = n.parse().unwrap();
+            narrow = row[4] > room;
+        }
+        _ => row[4] = 1,
+    }
+    r.statement("END")?;
+    r.need("VARIABLE")?;
+    judged(&[(narrow, 7, start.place)])?;
+    Ok(row)
+}
+
+/// A VALUES block: all its numbers.
+fn values(r: &mut Reader, quantity: bool, row: &mut [i64], lines: &mut Vec<Vec<i64>>) -> Result<Vec<i64>, Fault> {
+    r.statement("VALUES")?;
+    let mut numbers = vec![];
+    let mut decimals: Option<usize> = None;
+    let mut points = vec![];
+    let mut own: Vec<i64> = vec![];
+    r.notes()?;
+    let mut next = Some(r.figure()?);
+    r.gap()?;
+    let mut lines_follow = true;
+    if r.word("TO") {
+        let from = next.take().unwrap();
+        let to = r.figure()?;
+        r.gap()?;
+        lines_follow = r.word("WITH");
+        let (a, b) = (parsed(&from, quantity), parsed(&to, quantity));
+        let mut faults = vec![(a.is_none(), 6, from.place), (b.is_none(), 6, to.place)];
+        if let (Some(a), Some(b)) = (&a, &b) {
+            faults.push((a.decimals != b.decimals || reversed(a, b), 6, to.place));
+            faults.push((beyond(a, quantity), 8, from.place));
+            faults.push((beyond(b, quantity), 8, to.place));
+        }
+        judged(&faults)?;
+        let (a, b) = (a.unwrap(), b.unwrap());
+        row[9] = 1;
+        row[10] = a.scaled();
+        row[11] = b.scaled();
+        numbers.extend([a.scaled(), b.scaled()]);
+        decimals = Some(a.decimals);
+        points.extend([a.point, b.point]);
+        if lines_follow {
+            r.notes()?;
+            next = Some(r.figure()?);
+        }
+    }
+    loop {
+        if let Some(figure) = next.take() {
+            let (place, length) = r.text()?;
+            r.gap()?;
+            let special = r.word("SPECIAL");
+            let n = parsed(&figure, quantity);
+            let mut faults = vec![(n.is_none(), 6, figure.place), (lines.len() == 4096, 8, figure.place)];
+            if let Some(n) = &n {
+                let over = beyond(n, quantity);
+                faults.push((decimals.is_some_and(|d| d != n.decimals), 6, figure.place));
+                faults.push((over, 8, figure.place));
+                faults.push((!over && own.contains(&n.scaled()), 6, figure.place));
+            }
+            judged(&faults)?;
+            let n = n.unwrap();
+            decimals = Some(n.decimals);
+            points.push(n.point);
+            numbers.push(n.scaled());
+            own.push(n.scaled());
+            lines.push(vec![n.scaled(), special as i64, place as i64, length as i64]);
+        }
+        r.notes()?;
+        if r.word("END") {
+            r.need("VALUES")?;
+            break;
+        }
+        if !lines_follow {
+            return r.due();
+        }
+        next = Some(r.figure()?);
+    }
+    row[13] = own.len() as i64;
+    if quantity {
+        row[5] = decimals.unwrap_or(0) as i64;
+        row[6] = points.contains(&true) as i64;
+    }
+    Ok(numbers)
+}
+
+// ------------------------------------------------------------------------------------------------- tables
+
+struct Row {
+    cells: Vec<i64>,
+    lines: Vec<Vec<i64>>,
+}
+
+struct Table {
+    rows: Vec<Row>,
+    least: usize,
+}
+
+fn understood(t: &[i64]) -> Option<Table> {
+    if t.len() < 6 || !(1..=512).contains(&t[1]) || !(0..=4096).contains(&t[2]) {
+        return None;
+    }
+    let (v, e) = (t[1] as usize, t[2] as usize);
+    let all = 6 + 18 * v + 4 * e;
+    if t[0] != 11 || t[4] != 6 || t[5] != 6 + 18 * t[1] || t.len() < all {
+        return None;
+    }
+    let mut rows = vec![];
+    let mut before = 0i64;
+    for i in 0..v {
+        let cells = t[6 + 18 * i..6 + 18 * (i + 1)].to_vec();
+        if cells[12] != before || cells[13] < 0 || cells[13] > e as i64 - before {
+            return None;
+        }
+        let first = 6 + 18 * v + 4 * before as usize;
+        let lines = t[first..first + 4 * cells[13] as usize].chunks(4).map(<[i64]>::to_vec).collect();
+        before += cells[13];
+        rows.push(Row { cells, lines });
+    }
+    let least = rows.iter().map(|row| row.cells[3]).max().unwrap();
+    let idents: HashSet<i64> = rows.iter().map(|row| row.cells[0]).collect();
+    let sound = before == e as i64 && t[3] == least && idents.len() == v && rows.iter().all(row_sound);
+    sound.then_some(Table { rows, least: least as usize })
+}
+
+fn row_sound(row: &Row) -> bool {
+    let c = &row.cells;
+    let kind = c[1];
+    let quantity = kind == 3;
+    // Nothing is negative but a quantity's from, to and line values.
+    if c.iter().enumerate().any(|(i, &x)| x < 0 && !(quantity && (i == 10 || i == 11))) {
+        return false;
+    }
+    if row.lines.iter().any(|line| line.iter().enumerate().any(|(i, &x)| x < 0 && !(quantity && i == 0))) {
+        return false;
+    }
+    if !(1..=9999).contains(&c[0]) || !(1..=5).contains(&kind) || c[5] > 9 || c[6] > 1 || c[9] > 1 {
+        return false;
+    }
+    if row.lines.iter().any(|line| line[1] > 1 || line[2] > 1_048_576 || line[3] > 1_048_576) || c[14..].iter().any(|&x| x > 1_048_576) {
+        return false;
+    }
+    // Columns a type lacks.
+    let lacked: Vec<usize> = match kind {
+        1 => vec![5, 6, 7, 8],
+        2 => vec![5, 6],
+        3 => vec![7, 8],
+        _ => vec![5, 6, 7, 8, 9, 10, 11, 13],
+    };
+    if lacked.iter().any(|&i| c[i] != 0) || (c[9] == 0 && (c[10] != 0 || c[11] != 0)) || (c[5] > 0 && c[6] == 0) {
+        return false;
+    }
+    if (kind <= 3 && c[9] == 0 && row.lines.is_empty()) || (c[7] == 0) != (c[8] == 0) {
+        return false;
+    }
+    // The tests of 6 and 8.
+    let mut numbers: Vec<i64> = row.lines.iter().map(|line| line[0]).collect();
+    if numbers.iter().collect::<HashSet<_>>().len() != numbers.len() || c[10] > c[11] {
+        return false;
+    }
+    if c[9] == 1 {
+        numbers.extend([c[10], c[11]]);
+    }
+    let legal = if quantity { -999_999_999_999_999..=999_999_999_999_999 } else { 1..=9999 };
+    if numbers.iter().any(|v| !legal.contains(v)) || c[3] > 16_384 {
+        return false;
+    }
+    // The test of 7.
+    if c[2] == 0 || c[3] < c[2] {
+        return false;
+    }
+    let room = c[3] - c[2] + 1;
+    let most = numbers.iter().copied().max().unwrap_or(0);
+    let w = match kind {
+        2 if c[7] == 0 => most,
+        1 | 2 => most.to_string().len() as i64,
+        3 => numbers.iter().map(|&v| canonical_length(v, c[5] as usize, c[6] == 1)).max().unwrap() as i64,
+        4 if (1..=4096).contains(&c[4]) => c[4],
+        4 => return false,
+        _ => 1,
+    };
+    if c[7] > 0 {
+        c[4] == w && c[8] >= w && c[7] as i128 * c[8] as i128 <= room as i128
+    } else {
+        c[4] == w && room >= w
+    }
+}
+
+// ------------------------------------------------------------------------------------------------ records
+
+#[derive(Debug, PartialEq)]
+enum Value {
+    Missing,
+    Number(i64),
+    Set(BTreeSet<i64>),
+    Text(usize, usize),
+    Truth(i64),
+}
+
+impl Row {
+    fn legal(&self, v: i64) -> bool {
+        (self.cells[9] == 1 && (self.cells[10]..=self.cells[11]).contains(&v)) || self.lines.iter().any(|line| line[0] == v)
+    }
+
+    fn defined(&self) -> BTreeSet<i64> {
+        let mut all: BTreeSet<i64> = self.lines.iter().map(|line| line[0]).collect();
+        if self.cells[9] == 1 {
+            all.extend(self.cells[10]..=self.cells[11]);
+        }
+        all
+    }
+
+    /// The places of the value in a record, field by field.
+    fn places(&self) -> Vec<Vec<usize>> {
+        let c = &self.cells;
+        let (start, finish, w) = (c[2] as usize - 1, c[3] as usize, c[4] as usize);
+        match c[1] {
+            2 if c[7] == 0 => self.defined().iter().map(|&c| vec![start + c as usize - 1]).collect(),
+            2 => (1..=c[7] as usize)
+                .map(|k| {
+                    let end = start + k * c[8] as usize;
+                    (end - w..end).collect()
+                })
+                .collect(),
+            4 => vec![(start..start + w).collect()],
+            _ => vec![(finish - w..finish).collect()],
+        }
+    }
+
+    /// The value, or None for an illegal field.
+    fn value(&self, record: &[u8]) -> Option<Value> {
+        let fields: Vec<Vec<u8>> = self.places().iter().map(|f| f.iter().map(|&p| record[p]).collect()).collect();
+        if fields.concat().iter().all(|&x| x == b' ') {
+            return Some(Value::Missing);
+        }
+        match self.cells[1] {
+            1 => match category(&fields[0])? {
+                0 => Some(Value::Missing),
+                c => self.legal(c).then_some(Value::Number(c)),
+            },
+            2 if self.cells[7] == 0 => {
+                let mut set = BTreeSet::new();
+                for (c, field) in self.defined().into_iter().zip(&fields) {
+                    match field[0] {
+                        b'0' => {}
+                        b'1' => drop(set.insert(c)),
+                        _ => return None,
+                    }
+                }
+                Some(Value::Set(set))
+            }
+            2 => {
+                let mut set = BTreeSet::new();
+                for field in &fields {
+                    let c = if field.iter().all(|&x| x == b' ') { 0 } else { category(field)? };
+                    if c != 0 {
+                        if !self.legal(c) {
+                            return None;
+                        }
+                        set.insert(c);
+                    }
+                }
+                Some(Value::Set(set))
+            }
+            3 => {
+                let text: String = fields[0].iter().map(|&x| x as char).collect();
+                let text = text.trim_start_matches(' ');
+                let (minus, text) = text.strip_prefix('-').map_or((false, text), |rest| (true, rest));
+                let (whole, rest) = if self.cells[6] == 1 { text.split_once('.')? } else { (text, "") };
+                let digits = format!("{whole}{rest}");
+                if whole.is_empty() || rest.len() != self.cells[5] as usize || !digits.bytes().all(|x| x.is_ascii_digit()) {
+                    return None;
+                }
+                let m: i64 = digits.parse().unwrap();
+                let v = if minus { -m } else { m };
+                self.legal(v).then_some(Value::Number(v))
+            }
+            4 => {
+                if fields[0].iter().any(|&x| x < 32) {
+                    return None;
+                }
+                let mut length = fields[0].len();
+                while fields[0][length - 1] == b' ' {
+                    length -= 1;
+                }
+                Some(Value::Text(self.cells[2] as usize - 1, length))
+            }
+            _ => match fields[0][0] {
+                b'0' => Some(Value::Truth(0)),
+                b'1' => Some(Value::Truth(1)),
+                _ => None,
+            },
+        }
+    }
+}
+
+fn category(field: &[u8]) -> Option<i64> {
+    let text: String = field.iter().map(|&x| x as char).collect();
+    let digits = text.trim_start_matches(' ');
+    (!digits.is_empty() && digits.bytes().all(|x| x.is_ascii_digit())).then(|| digits.parse().unwrap())
+}
+
+fn row_of(t: &Table, row: u64) -> Option<&Row> {
+    usize::try_from(row).ok().and_then(|row| t.rows.get(row))
+}
+
+fn judge(t: &Table, record: &[u8]) -> (i64, i64) {
+    if record.len() < t.least {
+        return (22, 0);
+    }
+    if let Some(place) = record.iter().position(|&x| x < 32) {
+        return (23, place as i64);
+    }
+    match t.rows.iter().position(|row| row.value(record).is_none()) {
+        Some(row) => (24, row as i64),
+        None => (0, 0),
+    }
+}
+
+/// The shared part of the writes: `fits` says whether the type fits, `bytes` gives the bytes of each field or the refusal.
+fn write(
+    table: &[i64],
+    row: u64,
+    record: &mut [u8],
+    fits: impl Fn(i64) -> bool,
+    bytes: impl Fn(&Row) -> Result<Vec<Vec<u8>>, u64>,
+) -> u64 {
+    let Some(t) = understood(table) else { return 20 };
+    let Some(row) = row_of(&t, row) else { return 21 };
+    if record.len() < t.least {
+        return 22;
+    }
+    if !fits(row.cells[1]) {
+        return 26;
+    }
+    match bytes(row) {
+        Err(number) => number,
+        Ok(fields) => {
+            for (places, bytes) in row.places().iter().zip(fields) {
+                assert_eq!(places.len(), bytes.len());
+                for (&p, x) in places.iter().zip(bytes) {
+                    record[p] = x;
+                }
+            }
+            0
+        }
+    }
+}
+
+// --------------------------------------------------------------------------------------------------- files
+
+fn terminator(data: &[u8]) -> Option<&[u8]> {
+    let at = data.iter().position(|&x| x == 13 || x == 10)?;
+    let pair = data.get(at..at + 2).filter(|p| p[0] != p[1] && (p[1] == 13 || p[1] == 10));
+    Some(pair.unwrap_or(&data[at..at + 1]))
+}
+
+/// Start, end and next start of the record at `from`; None for the end where it has no terminator.
+fn cut(data: &[u8], from: usize) -> (usize, Option<(usize, usize)>) {
+    let Some(end) = terminator(data) else { return (from, None) };
+    let at = (from..data.len()).find(|&p| data[p..].starts_with(end));
+    (from, at.map(|at| (at, at + end.len())))
+}
+
+fn give(answer: &mut [i64; 4], numbers: [i64; 4]) -> u64 {
+    *answer = numbers;
+    numbers[0] as u64
+}
+
+impl Face for Naive {
+    fn name(&self) -> &'static str {
+        "naive Rust"
+    }
+
+    fn read_definition(&self, def: &[u8], table: &mut [i64], answer: &mut [i64; 4]) -> u64 {
+        match read(def, table.len()) {
+            Err((number, place)) => give(answer, [number, place as i64, 0, 0]),
+            Ok(t) => {
+                table[..t.len()].copy_from_slice(&t);
+                give(answer, [0, 0, t[1], t[2]])
+            }
+        }
+    }
+
+    fn read_value(&self, table: &[i64], row: u64, record: &[u8], list: &mut [i64], answer: &mut [i64; 4]) -> u64 {
+        let Some(t) = understood(table) else { return give(answer, [20, 0, 0, 0]) };
+        let Some(row) = row_of(&t, row) else { return give(answer, [21, 0, 0, 0]) };
+        if record.len() < t.least {
+            return give(answer, [22, 0, 0, 0]);
+        }
+        let numbers = match row.value(record) {
+            None => [24, 0, 0, 0],
+            Some(Value::Missing) => [0, 0, 0, 0],
+            Some(Value::Number(n)) => [0, 1, n, 0],
+            Some(Value::Text(place, length)) => [0, 3, place as i64, length as i64],
+            Some(Value::Truth(t)) => [0, 4, t, 0],
+            Some(Value::Set(set)) if set.len() > list.len() => [25, 0, 0, 0],
+            Some(Value::Set(set)) => {
+                for (slot, c) in list.iter_mut().zip(&set) {
+                    *slot = *c;
+                }
+                [0, 2, set.len() as i64, 0]
+            }
+        };
+        give(answer, numbers)
+    }
+
+    fn judge_record(&self, table: &[i64], record: &[u8], answer: &mut [i64; 4]) -> u64 {
+        let Some(t) = understood(table) else { return give(answer, [20, 0, 0, 0]) };
+        let (number, place) = judge(&t, record);
+        give(answer, [number, place, 0, 0])
+    }
+
+    fn write_missing(&self, table: &[i64], row: u64, record: &mut [u8]) -> u64 {
+        write(table, row, record, |_| true, |row| Ok(row.places().iter().map(|f| vec![b' '; f.len()]).collect()))
+    }
+
+    fn write_number(&self, table: &[i64], row: u64, number: i64, record: &mut [u8]) -> u64 {
+        let fits = |kind| kind == 1 || kind == 3;
+        write(table, row, record, fits, |row| {
+            if !row.legal(number) {
+                return Err(27);
+            }
+            let (w, decimals, point) = (row.cells[4] as usize, row.cells[5] as usize, row.cells[6] == 1);
+            let digits = w - point as usize - (number < 0) as usize;
+            let mut text = format!("{:0>1$}", number.unsigned_abs(), digits);
+            if point {
+                text.insert(text.len() - decimals, '.');
+            }
+            if number < 0 {
+                text.insert(0, '-');
+            }
+            Ok(vec![text.into_bytes()])
+        })
+    }
+
+    fn write_truth(&self, table: &[i64], row: u64, truth: u8, record: &mut [u8]) -> u64 {
+        write(table, row, record, |kind| kind == 5, |_| match truth {
+            0 => Ok(vec![b"0".to_vec()]),
+            1 => Ok(vec![b"1".to_vec()]),
+            _ => Err(27),
+        })
+    }
+
+    fn write_set(&self, table: &[i64], row: u64, list: &[i64], record: &mut [u8]) -> u64 {
+        write(table, row, record, |kind| kind == 2, |row| {
+            let defined = row.defined();
+            let members: BTreeSet<i64> = list.iter().copied().collect();
+            if !members.iter().eq(list.iter()) || !members.is_subset(&defined) {
+                return Err(27);
+            }
+            let (n, w) = (row.cells[7] as usize, row.cells[4] as usize);
+            if n == 0 {
+                return Ok(defined.iter().map(|c| vec![b'0' + members.contains(c) as u8]).collect());
+            }
+            if list.len() > n {
+                return Err(28);
+            }
+            let all = list.iter().copied().chain(std::iter::repeat(0)).take(n);
+            Ok(all.map(|c| format!("{c:0>w$}").into_bytes()).collect())
+        })
+    }
+
+    fn write_text(&self, table: &[i64], row: u64, text: &[u8], record: &mut [u8]) -> u64 {
+        write(table, row, record, |kind| kind == 4, |row| {
+            let w = row.cells[4] as usize;
+            if text.is_empty() || text.len() > w || text.ends_with(b" ") || text.iter().any(|&x| x < 32) {
+                return Err(27);
+            }
+            let mut field = text.to_vec();
+            field.resize(w, b' ');
+            Ok(vec![field])
+        })
+    }
+
+    fn judge_file(&self, table: &[i64], data: &[u8], answer: &mut [i64; 4]) -> u64 {
+        let Some(t) = understood(table) else { return give(answer, [20, 0, 0, 0]) };
+        let mut from = 0;
+        let mut count = 0;
+        let mut first = None;
+        while from < data.len() {
+            count += 1;
+            let (start, Some((end, next))) = cut(data, from) else { return give(answer, [30, count, 0, 0]) };
+            let record = &data[start..end];
+            if record.len() != *first.get_or_insert(record.len()) {
+                return give(answer, [31, count, 0, 0]);
+            }
+            match judge(&t, record) {
+                (0, _) => {}
+                (23, place) => return give(answer, [23, count, 0, place]),
+                (24, row) => return give(answer, [24, count, row, 0]),
+                (number, _) => return give(answer, [number, count, 0, 0]),
+            }
+            from = next;
+        }
+        give(answer, [0, count, 0, 0])
+    }
+
+    fn next_record(&self, data: &[u8], from: u64, answer: &mut [i64; 4]) -> u64 {
+        if from >= data.len() as u64 {
+            return give(answer, [0, 0, 0, 0]);
+        }
+        match cut(data, from as usize) {
+            (start, Some((end, next))) => give(answer, [1, start as i64, end as i64, next as i64]),
+            (start, None) => give(answer, [2, start as i64, data.len() as i64, data.len() as i64]),
+        }
+    }
+}

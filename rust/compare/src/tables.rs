@@ -1,0 +1,153 @@
+//! Tables: sound ones, and ones with single cells changed.
+
+use crate::definitions::{Size, Style, model, sound};
+use crate::rng::Rng;
+
+const ODD: &[i64] = &[
+    0,
+    0,
+    1,
+    1,
+    -1,
+    -1,
+    2,
+    3,
+    4,
+    5,
+    6,
+    7,
+    8,
+    9,
+    10,
+    11,
+    12,
+    99,
+    100,
+    511,
+    512,
+    513,
+    999,
+    1000,
+    4095,
+    4096,
+    4097,
+    9998,
+    9999,
+    10000,
+    16383,
+    16384,
+    16385,
+    1_048_575,
+    1_048_576,
+    1_048_577,
+    i32::MAX as i64,
+    1 << 31,
+    1 << 32,
+    (1 << 32) + 1,
+    999_999_999_999_999,
+    1_000_000_000_000_000,
+    -999_999_999_999_999,
+    -1_000_000_000_000_000,
+    i64::MAX,
+    i64::MAX - 1,
+    i64::MIN,
+    i64::MIN + 1,
+];
+
+/// A sound table, now and then with numbers beyond it.
+pub fn sound_table(r: &mut Rng, size: Size) -> Vec<i64> {
+    let m = model(r, size);
+    let (_, mut table) = sound(r, Style::PLAIN, &m);
+    if r.once_in(3) {
+        for _ in 0..r.below(5) {
+            table.push(r.pick(ODD));
+        }
+    }
+    table
+}
+
+/// One cell or a few changed; then, half of the time, w and L mended, so that more of them stay well formed.
+pub fn changed(r: &mut Rng, table: &mut Vec<i64>) {
+    let used = table.len();
+    if used < 24 {
+        return;
+    }
+    let rows = table[1].clamp(0, 512) as usize;
+    for _ in 0..if r.once_in(3) { 1 + r.below(3) } else { 1 } {
+        if r.once_in(12) {
+            continue;
+        }
+        let at = match r.below(10) {
+            0 => r.below(6),
+            1..7 => 6 + 18 * r.below(rows) + r.below(18),
+            _ => r.below(used),
+        };
+        let old = table[at];
+        table[at] = match r.below(8) {
+            0 => old.wrapping_add(1),
+            1 => old.wrapping_sub(1),
+            2 => old.wrapping_neg(),
+            3 => table[r.below(used)],
+            4 => old.wrapping_mul(10),
+            _ => r.pick(ODD),
+        };
+    }
+    if r.once_in(8) {
+        // Two lines of one row with the same value, or nearly.
+        let row = 6 + 18 * r.below(rows);
+        let (before, lines) = (table[row + 12], table[row + 13]);
+        let lines_at = 6 + 18 * rows;
+        if (0..5000).contains(&before) && (2..5000).contains(&lines) {
+            let mut line = || lines_at + 4 * (before as usize + r.below(lines as usize));
+            let (a, b) = (line(), line());
+            if a != b && a.max(b) < used {
+                table[a] = table[b].wrapping_add(if r.once_in(4) { 1 } else { 0 });
+            }
+        }
+    }
+    if r.once_in(2) {
+        mend(r, table);
+    }
+    if r.once_in(20) {
+        table.truncate(r.below(used + 1));
+    }
+}
+
+/// Sets w and L to what they would have to be, as far as the row can be understood.
+fn mend(r: &mut Rng, table: &mut [i64]) {
+    let rows = table[1].clamp(0, 512) as usize;
+    if table.len() < 6 + 18 * rows {
+        return;
+    }
+    let lines_at = 6 + 18 * rows;
+    for i in 0..rows {
+        let at = 6 + 18 * i;
+        let row: [i64; 18] = table[at..at + 18].try_into().unwrap();
+        let mut numbers = vec![];
+        if row[9] == 1 {
+            numbers.extend([row[10], row[11]]);
+        }
+        for line in row[12].clamp(0, 5000)..row[12].clamp(0, 5000) + row[13].clamp(0, 5000) {
+            if let Some(&v) = table.get(lines_at + 4 * line as usize) {
+                numbers.push(v);
+            }
+        }
+        let largest = numbers.iter().copied().max().unwrap_or(1);
+        let w = match row[1] {
+            1 => largest.to_string().len() as i64,
+            2 if row[7] == 0 => largest,
+            2 => largest.to_string().len() as i64,
+            3 => {
+                let digits = |v: i64| v.unsigned_abs().to_string().len().max(row[5].clamp(0, 30) as usize + 1) as i64;
+                numbers.iter().map(|&v| (v < 0) as i64 + digits(v) + row[6].clamp(0, 1)).max().unwrap_or(1)
+            }
+            4 => row[4],
+            _ => 1,
+        };
+        table[at + 4] = w;
+        if r.once_in(2) && row[2] >= 1 && row[3] < row[2].saturating_add(w) {
+            table[at + 3] = row[2].saturating_add(w) - r.below(2) as i64;
+        }
+    }
+    table[3] = (0..rows).map(|i| table[6 + 18 * i + 3]).max().unwrap_or(0);
+}

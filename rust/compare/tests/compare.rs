@@ -1,0 +1,520 @@
+//! The plain Rust against the library: linked (feature `ffi`), or in a process of its own (the command ZARFOLIN_BRIDGE); or
+//! against the naive Rust where there is neither.
+//!
+//! ZARFOLIN_CASES=n runs n times as many seeds; ZARFOLIN_SEED=n runs that one seed alone in every test.
+
+use std::collections::BTreeMap;
+use zarfolin_compare::case::{Call, Case, Outcome, compare, run};
+use zarfolin_compare::definitions::{self, SMALL, Size, Style};
+use zarfolin_compare::face::{Face, Plain, other};
+use zarfolin_compare::records;
+use zarfolin_compare::rng::Rng;
+use zarfolin_compare::tables;
+
+/// The other implementation, and how often each number was met in a test.
+struct Tally {
+    other: Box<dyn Face>,
+    cases: u64,
+    numbers: BTreeMap<u64, u64>,
+}
+
+impl Default for Tally {
+    fn default() -> Tally {
+        Tally { other: other(), cases: 0, numbers: BTreeMap::new() }
+    }
+}
+
+impl Tally {
+    fn note(&mut self, outcome: &Outcome) {
+        self.cases += 1;
+        *self.numbers.entry(outcome.number).or_default() += 1;
+    }
+
+    /// Prints the tally; every number of `wanted` must have been met, unless one seed alone was run.
+    fn end(self, what: &str, least: u64, wanted: &[u64]) {
+        println!("{what}: {} cases, plain Rust against {}; numbers met {:?}", self.cases, self.other.name(), self.numbers);
+        if std::env::var_os("ZARFOLIN_SEED").is_some() {
+            return;
+        }
+        assert!(self.cases >= least, "{what}: only {} cases", self.cases);
+        for number in wanted {
+            assert!(self.numbers.contains_key(number), "{what}: no case gave {number}");
+        }
+    }
+}
+
+fn seeds(count: u64) -> Box<dyn Iterator<Item = u64>> {
+    if let Ok(seed) = std::env::var("ZARFOLIN_SEED") {
+        let seed = seed.parse().expect("ZARFOLIN_SEED is a number");
+        return Box::new(std::iter::once(seed));
+    }
+    let times: u64 = match std::env::var("ZARFOLIN_CASES") {
+        Ok(times) => times.parse().expect("ZARFOLIN_CASES is a number"),
+        Err(_) => 1,
+    };
+    Box::new(0..count * times)
+}
+
+fn check(tally: &mut Tally, seed: u64, case: &Case) -> Outcome {
+    let outcome = compare(&Plain, &*tally.other, seed, case);
+    tally.note(&outcome);
+    outcome
+}
+
+fn definition(bytes: Vec<u8>, room: usize) -> Case {
+    Case { bytes, table: vec![0x0101_0101; room], ..Case::new(Call::ReadDefinition) }
+}
+
+/// The part of an outcome's table between the guards.
+fn inner(outcome: &Outcome) -> &[i64] {
+    &outcome.table[8..outcome.table.len() - 8]
+}
+
+#[test]
+fn sound_definitions() {
+    let mut tally = Tally::default();
+    for seed in seeds(20_000) {
+        let mut r = Rng::new(seed);
+        let model = definitions::model(&mut r, SMALL);
+        let style = Style::any(&mut r);
+        let (bytes, table) = definitions::sound(&mut r, style, &model);
+        let more = r.below(4);
+        let case = definition(bytes, table.len() + more);
+        let outcome = check(&mut tally, seed, &case);
+        // The maker of the definition knows its table.
+        assert_eq!(outcome.answer, [0, 0, table[1], table[2]], "seed {seed}: {}", zarfolin_compare::case::show(&case));
+        assert_eq!(inner(&outcome)[..table.len()], table, "seed {seed}: {}", zarfolin_compare::case::show(&case));
+        assert!(inner(&outcome)[table.len()..].iter().all(|&x| x == 0x0101_0101));
+        let short = if r.once_in(2) { table.len() - 1 } else { r.below(table.len()) };
+        let outcome = check(&mut tally, seed, &definition(case.bytes, short));
+        assert_eq!(outcome.answer, [10, 0, 0, 0]);
+        // The table is well formed: an empty record is too short for it.
+        let outcome = check(&mut tally, seed, &Case { table, ..Case::new(Call::JudgeRecord) });
+        assert_eq!(outcome.number, 22, "seed {seed}");
+    }
+    tally.end("sound definitions", 60_000, &[0, 10, 22]);
+}
+
+#[test]
+fn large_definitions() {
+    let mut tally = Tally::default();
+    for seed in seeds(120) {
+        let mut r = Rng::new(seed ^ 0x1a46e);
+        let size = r.pick(&[
+            Size { variables: 512, lines: 3, text: 8 },
+            Size { variables: 40, lines: 300, text: 5 },
+            Size { variables: 3, lines: 5000, text: 2 },
+            Size { variables: 4, lines: 4, text: 20_000 },
+            Size { variables: 600, lines: 2, text: 3 },
+        ]);
+        let model = definitions::model(&mut r, size);
+        let style = Style::any(&mut r);
+        let (bytes, table) = definitions::sound(&mut r, style, &model);
+        let outcome = check(&mut tally, seed, &definition(bytes.clone(), table.len() + 5));
+        if bytes.len() > 1_048_576 {
+            assert_eq!(outcome.number, 1);
+        } else if table[1] > 512 {
+            assert_eq!(outcome.number, 8);
+        } else {
+            assert_eq!(outcome.number, 0, "seed {seed}");
+            assert_eq!(inner(&outcome)[..table.len()], table, "seed {seed}");
+        }
+        for _ in 0..4 {
+            let mut damaged = bytes.clone();
+            definitions::damage_bytes(&mut r, &mut damaged);
+            check(&mut tally, seed, &definition(damaged, table.len() + 40));
+        }
+        let mut tokens = model.tokens.clone();
+        definitions::damage_tokens(&mut r, &mut tokens);
+        let (bytes, _) = definitions::render(&mut r, style, &tokens);
+        check(&mut tally, seed, &definition(bytes, table.len() + 40));
+    }
+    tally.end("large definitions", 700, &[0, 2]);
+}
+
+#[test]
+fn limits_of_definitions() {
+    let mut tally = Tally::default();
+    for seed in seeds(1) {
+        let mut r = Rng::new(seed);
+        let variable = |i: usize| format!("VARIABLE {i} NAME \"a{i}\" LABEL \"b\" TYPE LOGICAL POSITION 1 END VARIABLE\n");
+        let lines = |n: usize, step: usize| (0..n).map(|i| format!("{} \"\" ", i * step % 8192)).collect::<String>();
+        let block = |i: usize, n: usize, step: usize, more: &str| {
+            format!("VARIABLE {i} NAME \"\" LABEL \"\" TYPE QUANTITY POSITION 1 TO 9 VALUES {}{more} END VALUES END VARIABLE ", lines(n, step))
+        };
+        let whole = |head: &str, body: &str| format!("SSS VERSION 1.1 {head} SURVEY RECORD R {body} END RECORD END SURVEY END SSS");
+        let many = |n: usize| (1..=n).map(variable).collect::<String>();
+        let mut texts = vec![
+            whole("", &many(511)),
+            whole("STANDARD NAMES", &many(512)),
+            whole("STANDARD NAMES", &many(513)),
+            whole("", &(many(512) + &variable(512))),
+            whole("STANDARD NAMES", &(many(511) + &variable(512).replace("a512", "A7"))),
+        ];
+        for (n, more) in [(4095, ""), (4096, ""), (4096, "9 \"\""), (4096, "9000 \"\""), (4096, "9000.0 \"\""), (4095, "8191.\"\""), (4096, "+\"\"")] {
+            // Rising, and in an order that is neither rising nor falling.
+            texts.push(whole("", &block(1, n, 1, more)));
+            texts.push(whole("", &block(1, n, 5, more)));
+            texts.push(whole("", &(block(1, n - 1000, 3, "") + &block(2, 1000, 7, more))));
+        }
+        for n in [1, 1000, 1_048_576 - 400] {
+            texts.push(whole(&format!("NOTE \"{}\"", "x".repeat(n)), &variable(1)));
+            texts.push(whole(&"<>".repeat(n / 2), &variable(1)));
+            texts.push(whole(&" ".repeat(n), &variable(1)));
+            texts.push(whole(&"\n".repeat(n), &variable(1)));
+            texts.push(whole(&format!("DATE\"{}\"", "{41}".repeat(n / 4)), &variable(1)));
+            texts.push(whole(&format!("<{}>", "\"{NL}\"".repeat(n / 6)), &variable(1)));
+            texts.push(whole("", &variable(1).replace("POSITION 1", &format!("POSITION {}1", "0".repeat(n)))));
+            texts.push(whole("", &variable(1).replace("POSITION 1", &format!("POSITION 1{} TO 1{}", "0".repeat(n / 2), "0".repeat(n / 2 - n / 4)))));
+            texts.push(whole("", &variable(1).replace("POSITION 1", &format!("POSITION 1{} TO 1{}", "0".repeat(n / 2), "0".repeat(n / 2)))));
+        }
+        for text in texts {
+            for end in [0, 1] {
+                // As it is, and filled up to the limit or one byte above it.
+                check(&mut tally, seed, &definition(text.clone().into_bytes(), 30_000));
+                let mut full = text.clone().into_bytes();
+                full.resize(1_048_576 + end, r.pick(b" x\""));
+                check(&mut tally, seed, &definition(full, 30_000));
+            }
+            let mut damaged = text.into_bytes();
+            definitions::damage_bytes(&mut r, &mut damaged);
+            check(&mut tally, seed, &definition(damaged, 30_000));
+        }
+    }
+    tally.end("limits of definitions", 200, &[0, 1, 2, 5, 6, 8, 9]);
+}
+
+#[test]
+fn definitions_with_tokens_changed() {
+    let mut tally = Tally::default();
+    for seed in seeds(60_000) {
+        let mut r = Rng::new(seed ^ 0x70ce5);
+        let size = if r.once_in(2) { Size { variables: 2, lines: 3, text: 3 } } else { SMALL };
+        let model = definitions::model(&mut r, size);
+        let mut tokens = model.tokens.clone();
+        definitions::damage_tokens(&mut r, &mut tokens);
+        let style = if r.once_in(2) { Style { spacing: 1, ..Style::PLAIN } } else { Style::any(&mut r) };
+        let (bytes, _) = definitions::render(&mut r, style, &tokens);
+        check(&mut tally, seed, &definition(bytes, model.table.len() + 40));
+    }
+    tally.end("tokens changed", 60_000, &[0, 2, 3, 4, 5, 6, 7, 8]);
+}
+
+#[test]
+fn definitions_with_figures_changed() {
+    let mut tally = Tally::default();
+    for seed in seeds(60_000) {
+        let mut r = Rng::new(seed ^ 0xf16);
+        let size = if r.once_in(2) { Size { variables: 2, lines: 3, text: 3 } } else { SMALL };
+        let model = definitions::model(&mut r, size);
+        let mut tokens = model.tokens.clone();
+        definitions::damage_figures(&mut r, &mut tokens);
+        let style = if r.once_in(2) { Style { spacing: 1, ..Style::PLAIN } } else { Style::any(&mut r) };
+        let (mut bytes, _) = definitions::render(&mut r, style, &tokens);
+        if r.once_in(6) {
+            // A second fault, or an end, somewhere: which comes first?
+            definitions::damage_bytes(&mut r, &mut bytes);
+        }
+        check(&mut tally, seed, &definition(bytes, model.table.len() + 40));
+    }
+    tally.end("figures changed", 60_000, &[0, 2, 3, 4, 5, 6, 7, 8]);
+}
+
+#[test]
+fn definitions_with_bytes_changed() {
+    let mut tally = Tally::default();
+    for seed in seeds(50_000) {
+        let mut r = Rng::new(seed ^ 0xb17e5);
+        let size = if r.once_in(2) { Size { variables: 2, lines: 3, text: 3 } } else { SMALL };
+        let model = definitions::model(&mut r, size);
+        let style = Style::any(&mut r);
+        let (mut bytes, _) = definitions::sound(&mut r, style, &model);
+        definitions::damage_bytes(&mut r, &mut bytes);
+        check(&mut tally, seed, &definition(bytes, model.table.len() + 40));
+    }
+    tally.end("bytes changed", 50_000, &[0, 2, 3, 4, 5, 6, 7, 8]);
+}
+
+#[test]
+fn definitions_cut_short() {
+    let mut tally = Tally::default();
+    for seed in seeds(40) {
+        let mut r = Rng::new(seed ^ 0xc07);
+        let model = definitions::model(&mut r, Size { variables: 4, lines: 3, text: 5 });
+        let mut tokens = model.tokens.clone();
+        if r.once_in(2) {
+            // A figure at fault: where the text ends decides what comes first.
+            definitions::damage_tokens(&mut r, &mut tokens);
+        }
+        let style = Style::any(&mut r);
+        let (bytes, _) = definitions::render(&mut r, style, &tokens);
+        for end in 0..bytes.len() {
+            check(&mut tally, seed, &definition(bytes[..end].to_vec(), 200));
+            // The same with a mark that is then open at the end.
+            let mut open = bytes[..end].to_vec();
+            open.extend(r.pick(&[&b"<"[..], b" <", b"\"", b"{", b"<\"", b"<\"{4", b" x", b"<<>"]));
+            check(&mut tally, seed, &definition(open, 200));
+        }
+    }
+    tally.end("cut short", 20_000, &[2, 3]);
+}
+
+#[test]
+fn standard_names() {
+    let mut tally = Tally::default();
+    for seed in seeds(5_000) {
+        let mut r = Rng::new(seed ^ 0x9a9e5);
+        let mut text = b"SSS VERSION 1.1 STANDARD NAMES SURVEY RECORD R ".to_vec();
+        for i in 0..1 + r.below(6) {
+            text.extend(format!("VARIABLE {} NAME \"", i + 1).bytes());
+            // Names from few letters, so that they clash; encoded in all ways; now and then ill-formed.
+            let length = if r.once_in(10) { r.below(12) } else { 1 + r.below(2) };
+            for j in 0..length {
+                let x = if j == 0 && !r.once_in(20) { r.pick(b"abAB") } else { r.pick(b"aAbB012") };
+                let x = if r.once_in(60) { r.pick(b" _.@[`{}/:\x10\x7f\xe1") } else { x };
+                match r.below(6) {
+                    0 => text.extend(format!("{{{x:02x}}}").bytes()),
+                    1 => text.extend(format!("{{{x:02X}}}\r").bytes()),
+                    _ if x == b'{' => text.extend(b"{{}"),
+                    _ => text.push(x),
+                }
+            }
+            if r.once_in(40) {
+                text.extend(r.pick(&[&b"{NL}"[..], b"{\"}", b"{0041}", b"{00}", b"\n", b"{4142}"]));
+            }
+            text.extend(b"\" LABEL \"\" TYPE LOGICAL POSITION 1 END VARIABLE ");
+        }
+        text.extend(b"END RECORD END SURVEY END SSS");
+        let room = r.pick(&[0, 200, 200, 200]);
+        check(&mut tally, seed, &definition(text, room));
+    }
+    tally.end("standard names", 5_000, &[0, 9, 10]);
+}
+
+#[test]
+fn tables_with_cells_changed() {
+    let mut tally = Tally::default();
+    for seed in seeds(20_000) {
+        let mut r = Rng::new(seed ^ 0x7ab1e);
+        let size = if r.once_in(25) { Size { variables: 4, lines: 60, text: 1 } } else { Size { variables: 4, lines: 4, text: 1 } };
+        let mut table = tables::sound_table(&mut r, size);
+        tables::changed(&mut r, &mut table);
+        let record = records::record(&mut r, &table);
+        check(&mut tally, seed, &Case { table: table.clone(), ..Case::new(Call::JudgeRecord) });
+        check(&mut tally, seed, &Case { table: table.clone(), bytes: record.clone(), ..Case::new(Call::JudgeRecord) });
+        let row = records::row(&mut r, &table);
+        check(&mut tally, seed, &Case { table: table.clone(), bytes: record.clone(), row, list: vec![-7; 12], ..Case::new(Call::ReadValue) });
+        let case = write_case(&mut r, table, row, record);
+        check(&mut tally, seed, &case);
+    }
+    tally.end("tables changed", 80_000, &[0, 20, 21, 22, 23, 24, 26, 27]);
+}
+
+/// A write of some value to this row, mostly of the row's own kind.
+fn write_case(r: &mut Rng, table: Vec<i64>, row: u64, record: Vec<u8>) -> Case {
+    let kind = if row < 600 { table.get(6 + 18 * row as usize + 1).copied().unwrap_or(1) } else { 1 };
+    let own = match kind {
+        1 | 3 => Call::WriteNumber,
+        2 => Call::WriteSet,
+        4 => Call::WriteText,
+        _ => Call::WriteTruth,
+    };
+    let any = [Call::WriteMissing, Call::WriteNumber, Call::WriteTruth, Call::WriteSet, Call::WriteText];
+    let call = match r.below(12) {
+        0 => Call::WriteMissing,
+        1 => r.pick(&any),
+        _ => own,
+    };
+    let mut case = Case { bytes: record, row, ..Case::new(call) };
+    match call {
+        Call::WriteNumber => case.number = records::written_number(r, &table, row),
+        Call::WriteTruth => case.number = if r.once_in(6) { r.next() as u8 as i64 } else { r.below(2) as i64 },
+        Call::WriteSet => case.list = records::written_set(r, &table, row),
+        Call::WriteText => case.text = records::written_text(r, &table, row),
+        _ => {}
+    }
+    case.table = table;
+    case
+}
+
+#[test]
+fn records_read_judged_and_written() {
+    let mut tally = Tally::default();
+    for seed in seeds(15_000) {
+        let mut r = Rng::new(seed ^ 0x5ec04d);
+        let size = match r.below(60) {
+            0 => Size { variables: 60, lines: 10, text: 1 },
+            1 => Size { variables: 3, lines: 400, text: 1 },
+            _ => Size { variables: 4, lines: 5, text: 1 },
+        };
+        let table = tables::sound_table(&mut r, size);
+        let record = records::record(&mut r, &table);
+        check(&mut tally, seed, &Case { table: table.clone(), bytes: record.clone(), ..Case::new(Call::JudgeRecord) });
+        for row in 0..table[1].min(6) as u64 {
+            let row = if r.once_in(40) { records::row(&mut r, &table) } else { row };
+            let list = if r.once_in(4) { r.below(4) } else { r.pick(&[9, 50, 10_000]) };
+            let read = Case { table: table.clone(), bytes: record.clone(), row, list: vec![-7; list], ..Case::new(Call::ReadValue) };
+            check(&mut tally, seed, &read);
+            let case = write_case(&mut r, table.clone(), row, record.clone());
+            let written = check(&mut tally, seed, &case);
+            if written.number == 0 {
+                // What was written is read back.
+                let bytes = written.bytes[8..written.bytes.len() - 8].to_vec();
+                let again = Case { table: table.clone(), bytes, row, list: vec![-7; 10_000], ..Case::new(Call::ReadValue) };
+                let again = check(&mut tally, seed, &again);
+                let [_, kind, first, second] = again.answer;
+                let start = table[6 + 18 * row as usize + 2] - 1;
+                let same = match case.call {
+                    Call::WriteMissing => [kind, first, second] == [0, 0, 0],
+                    Call::WriteNumber => [kind, first, second] == [1, case.number, 0],
+                    Call::WriteTruth => [kind, first, second] == [4, case.number, 0],
+                    Call::WriteSet => {
+                        [kind, first, second] == [2, case.list.len() as i64, 0]
+                            && again.list[8..8 + case.list.len()] == case.list
+                    }
+                    _ => [kind, first, second] == [3, start, case.text.len() as i64],
+                };
+                assert!(same, "seed {seed}: not read back: {:?} {}", again.answer, zarfolin_compare::case::show(&case));
+            }
+        }
+    }
+    tally.end("records", 100_000, &[0, 21, 22, 23, 24, 25, 26, 27, 28]);
+}
+
+#[test]
+fn files() {
+    let mut tally = Tally::default();
+    for seed in seeds(20_000) {
+        let mut r = Rng::new(seed ^ 0xf11e);
+        let mut table = tables::sound_table(&mut r, Size { variables: 3, lines: 4, text: 1 });
+        if r.once_in(30) {
+            tables::changed(&mut r, &mut table);
+        }
+        let data = records::file(&mut r, &table);
+        check(&mut tally, seed, &Case { table: table.clone(), bytes: data, ..Case::new(Call::JudgeFile) });
+    }
+    tally.end("files", 20_000, &[0, 20, 22, 23, 24, 30, 31]);
+}
+
+#[test]
+fn next_records() {
+    let mut tally = Tally::default();
+    for seed in seeds(3_000) {
+        let mut r = Rng::new(seed ^ 0x4e47);
+        let data = records::loose_data(&mut r);
+        for from in (0..=data.len() as u64 + 1).chain([u64::MAX, 1 << 63]) {
+            check(&mut tally, seed, &Case { bytes: data.clone(), row: from, ..Case::new(Call::NextRecord) });
+        }
+        // Judged with a table whose records may have any length from 1.
+        let table = vec![11, 1, 0, 1, 6, 24, 1, 4, 1, 1, 1, 0, 0, 0, 0, 0, 0, 0, 0, 0, 0, 0, 0, 0];
+        check(&mut tally, seed, &Case { bytes: data, table, ..Case::new(Call::JudgeFile) });
+    }
+    tally.end("next records", 30_000, &[0, 1, 2]);
+}
+
+/// The comparison itself: faults put into a copy of the plain Rust are found and cut down.
+mod planted {
+    use super::*;
+
+    struct Wrong(u32);
+
+    impl Face for Wrong {
+        fn name(&self) -> &'static str {
+            "planted"
+        }
+        fn read_definition(&self, def: &[u8], table: &mut [i64], answer: &mut [i64; 4]) -> u64 {
+            let number = Plain.read_definition(def, table, answer);
+            match self.0 {
+                0 if number == 10 => table.iter_mut().take(1).for_each(|x| *x += 1),
+                1 if number == 2 && answer[1] as usize == def.len() => answer[1] -= 1,
+                2 if number == 0 => {
+                    let used = (6 + 18 * answer[2] + 4 * answer[3]) as usize;
+                    table.iter_mut().skip(used).for_each(|x| *x = 0);
+                }
+                _ => {}
+            }
+            number
+        }
+        fn read_value(&self, t: &[i64], row: u64, record: &[u8], list: &mut [i64], answer: &mut [i64; 4]) -> u64 {
+            let number = Plain.read_value(t, row, record, list, answer);
+            if self.0 == 3 && number == 0 && answer[1] == 2 {
+                let n = answer[2] as usize;
+                list[n..].fill(0);
+            }
+            number
+        }
+        fn judge_record(&self, table: &[i64], record: &[u8], answer: &mut [i64; 4]) -> u64 {
+            Plain.judge_record(table, record, answer)
+        }
+        fn write_missing(&self, table: &[i64], row: u64, record: &mut [u8]) -> u64 {
+            Plain.write_missing(table, row, record)
+        }
+        fn write_number(&self, table: &[i64], row: u64, number: i64, record: &mut [u8]) -> u64 {
+            if self.0 == 4 && number == 0 {
+                return 0;
+            }
+            Plain.write_number(table, row, number, record)
+        }
+        fn write_truth(&self, table: &[i64], row: u64, truth: u8, record: &mut [u8]) -> u64 {
+            Plain.write_truth(table, row, truth, record)
+        }
+        fn write_set(&self, table: &[i64], row: u64, list: &[i64], record: &mut [u8]) -> u64 {
+            Plain.write_set(table, row, list, record)
+        }
+        fn write_text(&self, table: &[i64], row: u64, text: &[u8], record: &mut [u8]) -> u64 {
+            Plain.write_text(table, row, text, record)
+        }
+        fn judge_file(&self, table: &[i64], data: &[u8], answer: &mut [i64; 4]) -> u64 {
+            let number = Plain.judge_file(table, data, answer);
+            if self.0 == 5 && number == 0 && answer[1] > 1 {
+                answer[1] -= 1;
+            }
+            number
+        }
+        fn next_record(&self, data: &[u8], from: u64, answer: &mut [i64; 4]) -> u64 {
+            Plain.next_record(data, from, answer)
+        }
+    }
+
+    #[test]
+    fn faults_are_found() {
+        for fault in 0..6 {
+            let found = (0..2_000).any(|seed| {
+                let mut r = Rng::new(seed);
+                let model = definitions::model(&mut r, SMALL);
+                let style = Style::any(&mut r);
+                let (mut bytes, table) = definitions::sound(&mut r, style, &model);
+                let record = records::record(&mut r, &table);
+                let row = records::row(&mut r, &table);
+                let case = match fault {
+                    0 => definition(bytes, table.len() - 1),
+                    1 => {
+                        bytes.truncate(r.below(bytes.len()));
+                        definition(bytes, table.len())
+                    }
+                    2 => definition(bytes, table.len() + 1),
+                    3 => Case { table, bytes: record, row, list: vec![-7; 50], ..Case::new(Call::ReadValue) },
+                    4 => write_case(&mut r, table, row, record),
+                    _ => Case { bytes: records::file(&mut r, &table), table, ..Case::new(Call::JudgeFile) },
+                };
+                run(&Plain, &case) != run(&Wrong(fault), &case)
+            });
+            assert!(found, "planted fault {fault} was not found");
+        }
+    }
+
+    #[test]
+    fn a_case_is_cut_down() {
+        let mut r = Rng::new(3);
+        let model = definitions::model(&mut r, SMALL);
+        let (mut bytes, table) = definitions::sound(&mut r, Style::PLAIN, &model);
+        let survey = bytes.windows(6).position(|w| w == b"SURVEY").unwrap();
+        bytes.truncate(survey + 6);
+        let case = definition(bytes, table.len());
+        let differs = |c: &Case| run(&Plain, c) != run(&Wrong(1), c);
+        assert!(differs(&case));
+        let small = zarfolin_compare::case::shrink(case, 20_000, differs);
+        assert!(differs(&small));
+        assert!(small.bytes.len() <= 4, "{:?}", small.bytes.escape_ascii().to_string());
+    }
+}

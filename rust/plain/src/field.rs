@@ -1,0 +1,464 @@
+//! Value places and readings: one row's value, and the judgement of a whole record.
+
+use crate::scan::{find, lanes};
+use crate::table::{Table, view};
+use crate::*;
+
+/// What a row's value places say.
+#[derive(Clone, Copy, Debug, PartialEq, Eq)]
+pub enum Value {
+    Missing,
+    Number(i64),
+    /// The members are at the start of the lent list; this is their count.
+    Set(usize),
+    /// The text's place in the record, and its length.
+    Text(usize, usize),
+    Truth(bool),
+}
+
+/// What reading one row answers: the value, or the refusal's number.
+pub type Reading = Result<Value, u32>;
+
+/// What judging a record answers. `place` is the byte for 23, the row for 24, otherwise 0.
+#[derive(Clone, Copy, Debug, PartialEq, Eq)]
+pub struct Judgement {
+    pub number: u32,
+    pub place: usize,
+}
+
+/// Reads the value of one row. Only a set touches the list, and only its start.
+pub fn read_value(table: &[i64], row: u64, record: &[u8], list: &mut [i64]) -> Reading {
+    let Some(t) = view(table) else { return Err(20) };
+    if row >= t.rows.len() as u64 {
+        return Err(21);
+    }
+    if record.len() < t.least {
+        return Err(22);
+    }
+    let row = &t.rows[row as usize];
+    let lines = t.lines_of(row);
+    match row[column::TYPE] {
+        SINGLE => match category(last_bytes(row, record)) {
+            Category::Blank | Category::Number(0) => Ok(Value::Missing),
+            Category::Number(c) if legal(row, lines, c) => Ok(Value::Number(c)),
+            _ => Err(24),
+        },
+        MULTIPLE if row[column::SUBFIELDS] == 0 => match bits(row, lines, record) {
+            Bits::Bad => Err(24),
+            Bits::Blank => Ok(Value::Missing),
+            Bits::Set(count, rising) => {
+                if list.len() < count {
+                    return Err(25);
+                }
+                list_bits(row, lines, record, rising, list);
+                Ok(Value::Set(count))
+            }
+        },
+        MULTIPLE => spread(row, lines, record, list),
+        QUANTITY => match quantity(row, last_bytes(row, record)) {
+            Quantity::Blank => Ok(Value::Missing),
+            Quantity::Number(v) if legal(row, lines, v) => Ok(Value::Number(v)),
+            _ => Err(24),
+        },
+        CHARACTER => {
+            let start = row[column::START] as usize - 1;
+            let text = &record[start..start + row[column::WIDTH] as usize];
+            if controls(text) {
+                return Err(24);
+            }
+            match text.iter().rposition(|&x| x != b' ') {
+                None => Ok(Value::Missing),
+                Some(last) => Ok(Value::Text(start, last + 1)),
+            }
+        }
+        _ => match record[row[column::FINISH] as usize - 1] {
+            b' ' => Ok(Value::Missing),
+            b'0' => Ok(Value::Truth(false)),
+            b'1' => Ok(Value::Truth(true)),
+            _ => Err(24),
+        },
+    }
+}
+
+/// Judges a whole record: 20, 22, 23 with the byte's place, 24 with the lowest row.
+pub fn judge_record(table: &[i64], record: &[u8]) -> Judgement {
+    let Some(t) = view(table) else { return Judgement { number: 20, place: 0 } };
+    if record.len() < t.least {
+        return Judgement { number: 22, place: 0 };
+    }
+    let place = find(record, 0, lanes::below_32);
+    if place < record.len() {
+        return Judgement { number: 23, place };
+    }
+    match first_illegal(&t, record) {
+        Some(row) => Judgement { number: 24, place: row },
+        None => Judgement { number: 0, place: 0 },
+    }
+}
+
+/// The lowest row whose field is illegal. The record is long enough and holds no byte below 32.
+pub(crate) fn first_illegal(t: &Table, record: &[u8]) -> Option<usize> {
+    t.rows.iter().position(|row| !field_legal(t, row, record))
+}
+
+#[inline]
+fn field_legal(t: &Table, row: &Row, record: &[u8]) -> bool {
+    match row[column::TYPE] {
+        SINGLE => match category(last_bytes(row, record)) {
+            Category::Blank | Category::Number(0) => true,
+            Category::Number(c) => legal(row, t.lines_of(row), c),
+            Category::Bad => false,
+        },
+        MULTIPLE if row[column::SUBFIELDS] == 0 => !matches!(bits(row, t.lines_of(row), record), Bits::Bad),
+        MULTIPLE => {
+            let lines = t.lines_of(row);
+            if lines.len() <= FEW || row[column::SUBFIELDS] as usize <= FEW {
+                return spread_legal(row, record, |c| legal(row, lines, c));
+            }
+            let mut defined = Defined::new(row, lines);
+            spread_legal(row, record, |c| defined.has(c))
+        }
+        QUANTITY => match quantity(row, last_bytes(row, record)) {
+            Quantity::Blank => true,
+            Quantity::Number(v) => legal(row, t.lines_of(row), v),
+            Quantity::Bad => false,
+        },
+        // No byte of the record is below 32.
+        CHARACTER => true,
+        _ => matches!(record[row[column::FINISH] as usize - 1], b' ' | b'0' | b'1'),
+    }
+}
+
+#[inline]
+fn spread_legal(row: &Row, record: &[u8], mut defined: impl FnMut(i64) -> bool) -> bool {
+    subfields(row, record).all(|place| match category(place) {
+        Category::Blank | Category::Number(0) => true,
+        Category::Number(c) => defined(c),
+        Category::Bad => false,
+    })
+}
+
+/// Whether a byte below 32 is among these.
+#[inline]
+fn controls(bytes: &[u8]) -> bool {
+    find(bytes, 0, lanes::below_32) < bytes.len()
+}
+
+/// Whether the number lies in the row's range or on one of its lines.
+#[inline]
+pub(crate) fn legal(row: &Row, lines: &[Line], v: i64) -> bool {
+    (row[column::RANGE] == 1 && row[column::FROM] <= v && v <= row[column::TO]) || on_line(lines, v)
+}
+
+#[inline]
+fn on_line(lines: &[Line], v: i64) -> bool {
+    let Some(first) = lines.first() else { return false };
+    // Lines mostly count up by ones: look there first.
+    if let Ok(guess) = usize::try_from(v.wrapping_sub(first[0]))
+        && let Some(line) = lines.get(guess)
+        && line[0] == v
+    {
+        return true;
+    }
+    lines.iter().any(|line| line[0] == v)
+}
+
+/// Up to this many lines or subfields, looking through the lines is quick enough.
+const FEW: usize = 16;
+
+/// The defined categories of a row, made ready for many questions once more than a few were asked.
+pub(crate) struct Defined<'a> {
+    row: &'a Row,
+    lines: &'a [Line],
+    asked: usize,
+    members: [u64; 157],
+}
+
+impl<'a> Defined<'a> {
+    #[inline]
+    pub fn new(row: &'a Row, lines: &'a [Line]) -> Self {
+        Defined { row, lines, asked: 0, members: [0; 157] }
+    }
+
+    #[inline]
+    pub fn has(&mut self, c: i64) -> bool {
+        if self.row[column::RANGE] == 1 && self.row[column::FROM] <= c && c <= self.row[column::TO] {
+            return true;
+        }
+        if self.lines.len() <= FEW || self.asked < FEW {
+            self.asked += 1;
+            return on_line(self.lines, c);
+        }
+        if self.asked == FEW {
+            self.asked = FEW + 1;
+            for line in self.lines {
+                self.members[line[0] as usize / 64] |= 1 << (line[0] % 64);
+            }
+        }
+        (1..=MAX_CATEGORY).contains(&c) && self.members[c as usize / 64] >> (c % 64) & 1 == 1
+    }
+}
+
+/// The last w bytes of the position.
+#[inline]
+fn last_bytes<'a>(row: &Row, record: &'a [u8]) -> &'a [u8] {
+    let finish = row[column::FINISH] as usize;
+    &record[finish - row[column::WIDTH] as usize..finish]
+}
+
+/// The last w bytes of each subfield.
+#[inline]
+fn subfields<'a>(row: &Row, record: &'a [u8]) -> impl Iterator<Item = &'a [u8]> + use<'a> {
+    let start = row[column::START] as usize - 1;
+    let width = row[column::SUBWIDTH] as usize;
+    let w = row[column::WIDTH] as usize;
+    let all = &record[start..start + row[column::SUBFIELDS] as usize * width];
+    all.chunks_exact(width).map(move |subfield| &subfield[width - w..])
+}
+
+enum Category {
+    Blank,
+    Number(i64),
+    Bad,
+}
+
+/// Spaces, then digits; at most four bytes.
+#[inline]
+fn category(places: &[u8]) -> Category {
+    // Mostly digits throughout.
+    let mut value = 0i64;
+    let mut plain = true;
+    for &x in places {
+        let d = x.wrapping_sub(b'0');
+        plain &= d < 10;
+        value = value * 10 + d as i64;
+    }
+    if plain {
+        return Category::Number(value);
+    }
+    value = 0;
+    let mut digits = false;
+    for &x in places {
+        let d = x.wrapping_sub(b'0');
+        if d < 10 {
+            value = value * 10 + d as i64;
+            digits = true;
+        } else if x != b' ' || digits {
+            return Category::Bad;
+        }
+    }
+    if digits { Category::Number(value) } else { Category::Blank }
+}
+
+enum Quantity {
+    Blank,
+    Number(i64),
+    Bad,
+}
+
+/// Spaces, `-` or none, digits, at least one before the point; point and decimals as in the block.
+#[inline]
+fn quantity(row: &Row, places: &[u8]) -> Quantity {
+    let decimals = row[column::DECIMALS] as usize;
+    let point = row[column::POINT] as usize;
+    let (whole, rest) = places.split_at(places.len() - decimals - point);
+    let mut value = 0i64;
+    let mut i = 0;
+    while i < whole.len() && whole[i] == b' ' {
+        i += 1;
+    }
+    if i == whole.len() {
+        return if rest.iter().all(|&x| x == b' ') { Quantity::Blank } else { Quantity::Bad };
+    }
+    let minus = whole[i] == b'-';
+    i += minus as usize;
+    if i == whole.len() {
+        return Quantity::Bad;
+    }
+    let mut good = true;
+    for &x in &whole[i..] {
+        let d = x.wrapping_sub(b'0');
+        good &= d < 10;
+        value = value * 10 + d as i64;
+    }
+    if point == 1 {
+        good &= rest[0] == b'.';
+        for &x in &rest[1..] {
+            let d = x.wrapping_sub(b'0');
+            good &= d < 10;
+            value = value * 10 + d as i64;
+        }
+    }
+    match (good, minus) {
+        (false, _) => Quantity::Bad,
+        (true, true) => Quantity::Number(-value),
+        (true, false) => Quantity::Number(value),
+    }
+}
+
+enum Bits {
+    Blank,
+    /// The count of members, and whether the lines are in rising order.
+    Set(usize, bool),
+    Bad,
+}
+
+/// The bytes of a bitstring's position; byte c is at c - 1.
+#[inline]
+fn bit_bytes<'a>(row: &Row, record: &'a [u8]) -> &'a [u8] {
+    let start = row[column::START] as usize - 1;
+    &record[start..start + row[column::WIDTH] as usize]
+}
+
+/// The row's range, empty (from above to) where there is none.
+#[inline]
+pub(crate) fn range_of(row: &Row) -> (i64, i64) {
+    if row[column::RANGE] == 1 { (row[column::FROM], row[column::TO]) } else { (1, 0) }
+}
+
+fn bits(row: &Row, lines: &[Line], record: &[u8]) -> Bits {
+    let bytes = bit_bytes(row, record);
+    let (from, to) = range_of(row);
+    let mut spaces = true;
+    let mut binary = true;
+    let mut count = 0;
+    for &x in &bytes[from as usize - 1..to as usize] {
+        spaces &= x == b' ';
+        binary &= x & 0xfe == b'0';
+        count += (x == b'1') as usize;
+    }
+    let mut rising = true;
+    let mut last = 0;
+    for &[c, ..] in lines {
+        let x = bytes[c as usize - 1];
+        spaces &= x == b' ';
+        binary &= x & 0xfe == b'0';
+        count += (x == b'1' && !(from <= c && c <= to)) as usize;
+        rising &= last < c;
+        last = c;
+    }
+    if spaces {
+        Bits::Blank
+    } else if binary {
+        Bits::Set(count, rising)
+    } else {
+        Bits::Bad
+    }
+}
+
+/// Lists the members of a bitstring in rising order. The list has room.
+fn list_bits(row: &Row, lines: &[Line], record: &[u8], rising: bool, list: &mut [i64]) {
+    let bytes = bit_bytes(row, record);
+    let (from, to) = range_of(row);
+    let mut slots = list.iter_mut();
+    let mut put = |c: i64| {
+        if let Some(slot) = slots.next() {
+            *slot = c;
+        }
+    };
+    let set = |c: i64| bytes[c as usize - 1] == b'1';
+    if rising {
+        // With no range from is 1 and to is 0: no line is below, all are above.
+        let below = lines.iter().take_while(|line| line[0] < from).count();
+        for line in &lines[..below] {
+            if set(line[0]) {
+                put(line[0]);
+            }
+        }
+        // The low bit of `0` and `1` is all that differs.
+        for (i, eight) in bytes[from as usize - 1..to as usize].chunks(8).enumerate() {
+            let mut word = [0; 8];
+            word[..eight.len()].copy_from_slice(eight);
+            let mut ones = u64::from_le_bytes(word) & 0x0101_0101_0101_0101;
+            while ones != 0 {
+                put(from + 8 * i as i64 + ones.trailing_zeros() as i64 / 8);
+                ones &= ones - 1;
+            }
+        }
+        for line in &lines[below..] {
+            if line[0] > to && set(line[0]) {
+                put(line[0]);
+            }
+        }
+        return;
+    }
+    let mut members = [0u64; 157];
+    for c in (from..=to).chain(lines.iter().map(|line| line[0])) {
+        members[c as usize / 64] |= (set(c) as u64) << (c % 64);
+    }
+    each_member(&members, put);
+}
+
+fn each_member(members: &[u64; 157], mut put: impl FnMut(i64)) {
+    for (i, &word) in members.iter().enumerate() {
+        let mut word = word;
+        while word != 0 {
+            put((i * 64) as i64 + word.trailing_zeros() as i64);
+            word &= word - 1;
+        }
+    }
+}
+
+fn spread(row: &Row, lines: &[Line], record: &[u8], list: &mut [i64]) -> Reading {
+    let mut blank = true;
+    if row[column::SUBFIELDS] as usize <= FEW {
+        let mut members = [0i64; FEW];
+        let mut count = 0;
+        for place in subfields(row, record) {
+            let c = match category(place) {
+                Category::Blank => continue,
+                Category::Number(c) => c,
+                Category::Bad => return Err(24),
+            };
+            blank = false;
+            if c == 0 {
+                continue;
+            }
+            if !legal(row, lines, c) {
+                return Err(24);
+            }
+            // Into its place, unless it is there.
+            let mut i = count;
+            while i > 0 && members[i - 1] > c {
+                i -= 1;
+            }
+            if i > 0 && members[i - 1] == c {
+                continue;
+            }
+            members.copy_within(i..count, i + 1);
+            members[i] = c;
+            count += 1;
+        }
+        if blank {
+            return Ok(Value::Missing);
+        }
+        let Some(start) = list.get_mut(..count) else { return Err(25) };
+        start.copy_from_slice(&members[..count]);
+        return Ok(Value::Set(count));
+    }
+    let mut defined = Defined::new(row, lines);
+    let mut members = [0u64; 157];
+    for place in subfields(row, record) {
+        match category(place) {
+            Category::Blank => {}
+            Category::Number(0) => blank = false,
+            Category::Number(c) if defined.has(c) => {
+                blank = false;
+                members[c as usize / 64] |= 1 << (c % 64);
+            }
+            _ => return Err(24),
+        }
+    }
+    if blank {
+        return Ok(Value::Missing);
+    }
+    let count: usize = members.iter().map(|word| word.count_ones() as usize).sum();
+    let Some(start) = list.get_mut(..count) else { return Err(25) };
+    let mut slots = start.iter_mut();
+    each_member(&members, |c| {
+        if let Some(slot) = slots.next() {
+            *slot = c;
+        }
+    });
+    Ok(Value::Set(count))
+}

@@ -1,0 +1,209 @@
+//! Whether a table is well formed, and a view of one that is.
+
+use crate::*;
+
+/// A table known to be well formed.
+#[derive(Clone, Copy)]
+pub(crate) struct Table<'a> {
+    pub rows: &'a [Row],
+    pub lines: &'a [Line],
+    /// The least record length.
+    pub least: usize,
+}
+
+impl<'a> Table<'a> {
+    /// The lines of a row.
+    #[inline]
+    pub fn lines_of(&self, row: &Row) -> &'a [Line] {
+        let before = row[column::BEFORE] as usize;
+        &self.lines[before..before + row[column::LINES] as usize]
+    }
+}
+
+/// Whether the table is well formed (the test behind refusal 20).
+pub fn well_formed(table: &[i64]) -> bool {
+    view(table).is_some()
+}
+
+#[inline]
+fn within(x: i64, most: i64) -> bool {
+    x as u64 <= most as u64
+}
+
+pub(crate) fn view(table: &[i64]) -> Option<Table<'_>> {
+    let (header, rest) = table.split_first_chunk::<HEADER>()?;
+    let &[version, v, e, least, rows_at, lines_at] = header;
+    if version != 11
+        || !(1..=MAX_VARIABLES as i64).contains(&v)
+        || !within(e, MAX_LINES as i64)
+        || rows_at != HEADER as i64
+        || lines_at != HEADER as i64 + ROW as i64 * v
+    {
+        return None;
+    }
+    let (v, e) = (v as usize, e as usize);
+    if rest.len() < ROW * v + LINE * e {
+        return None;
+    }
+    let rows = rest[..ROW * v].as_chunks::<ROW>().0;
+    let lines = rest[ROW * v..ROW * v + LINE * e].as_chunks::<LINE>().0;
+
+    let mut idents = [0u64; 157];
+    let mut before = 0usize;
+    let mut highest = 0;
+    for row in rows {
+        let ident = row[column::IDENT];
+        if !(1..=9_999).contains(&ident) {
+            return None;
+        }
+        let (word, bit) = (ident as usize / 64, 1u64 << (ident % 64));
+        if idents[word] & bit != 0 {
+            return None;
+        }
+        idents[word] |= bit;
+        let count = row[column::LINES];
+        if row[column::BEFORE] != before as i64 || !within(count, (e - before) as i64) {
+            return None;
+        }
+        let own = &lines[before..before + count as usize];
+        before += count as usize;
+        if !row_sound(row, own) {
+            return None;
+        }
+        highest = highest.max(row[column::FINISH]);
+    }
+    (before == e && least == highest).then_some(Table { rows, lines, least: least as usize })
+}
+
+fn row_sound(row: &Row, lines: &[Line]) -> bool {
+    let &[
+        _,
+        kind,
+        start,
+        finish,
+        w,
+        decimals,
+        point,
+        subfields,
+        subwidth,
+        range,
+        from,
+        to,
+        _,
+        _,
+        name,
+        name_length,
+        label,
+        label_length,
+    ] = row;
+    let text = MAX_DEFINITION as i64;
+    if !(1 <= start && start <= finish && finish <= MAX_LOCATION)
+        || !within(name, text)
+        || !within(name_length, text)
+        || !within(label, text)
+        || !within(label_length, text)
+        || !within(range, 1)
+    {
+        return false;
+    }
+    let room = finish - start + 1;
+    match kind {
+        SINGLE | MULTIPLE => {
+            if decimals != 0 || point != 0 {
+                return false;
+            }
+            let Some((_, most)) = block_sound(range, from, to, lines, 1, MAX_CATEGORY) else { return false };
+            let digits = category_digits(most);
+            if kind == SINGLE {
+                subfields == 0 && subwidth == 0 && w == digits && w <= room
+            } else if subfields == 0 {
+                subwidth == 0 && w == most && w <= room
+            } else {
+                // Each at most the room, so the product stays small.
+                w == digits
+                    && (1..=room).contains(&subfields)
+                    && (w..=room).contains(&subwidth)
+                    && subfields * subwidth <= room
+            }
+        }
+        QUANTITY => {
+            if subfields != 0 || subwidth != 0 || !within(decimals, MAX_DECIMALS as i64) || !within(point, 1) {
+                return false;
+            }
+            if decimals > 0 && point == 0 {
+                return false;
+            }
+            let Some((lowest, most)) = block_sound(range, from, to, lines, -MAX_QUANTITY, MAX_QUANTITY) else {
+                return false;
+            };
+            w == quantity_width(lowest, decimals, point).max(quantity_width(most, decimals, point)) && w <= room
+        }
+        CHARACTER | LOGICAL => {
+            let size = if kind == LOGICAL { 1 } else { MAX_SIZE };
+            decimals | point | subfields | subwidth | range | from | to == 0
+                && lines.is_empty()
+                && 1 <= w
+                && w <= size
+                && w <= room
+        }
+        _ => false,
+    }
+}
+
+/// The least and greatest number of a block whose range and lines are sound.
+fn block_sound(range: i64, from: i64, to: i64, lines: &[Line], low: i64, high: i64) -> Option<(i64, i64)> {
+    if range == 1 {
+        if from < low || to < from || high < to {
+            return None;
+        }
+    } else if from != 0 || to != 0 || lines.is_empty() {
+        return None;
+    }
+    let (mut least, mut most) = (i64::MAX, i64::MIN);
+    let mut sound = true;
+    let mut rising = true;
+    let mut last = i64::MIN;
+    for &[value, special, place, length] in lines {
+        least = least.min(value);
+        most = most.max(value);
+        sound &= within(special, 1) & within(place, MAX_DEFINITION as i64) & within(length, MAX_DEFINITION as i64);
+        rising &= last < value;
+        last = value;
+    }
+    if !sound || (!lines.is_empty() && (least < low || high < most)) {
+        return None;
+    }
+    // i64::MIN itself is below every bound, so a first line never looks like a fall.
+    if !rising && repeated(lines, low == 1) {
+        return None;
+    }
+    if range == 1 {
+        least = least.min(from);
+        most = most.max(to);
+    }
+    Some((least, most))
+}
+
+/// Whether two lines have the same value. All values are within their bounds.
+#[cold]
+fn repeated(lines: &[Line], categories: bool) -> bool {
+    if lines.len() <= 16 {
+        return lines.iter().enumerate().any(|(i, line)| lines[..i].iter().any(|other| other[0] == line[0]));
+    }
+    if categories {
+        let mut met = [0u64; 157];
+        return lines.iter().any(|line| {
+            let (word, bit) = (line[0] as usize / 64, 1u64 << (line[0] % 64));
+            let again = met[word] & bit != 0;
+            met[word] |= bit;
+            again
+        });
+    }
+    let mut room = [0i64; MAX_LINES];
+    let values = &mut room[..lines.len()];
+    for (value, line) in values.iter_mut().zip(lines) {
+        *value = line[0];
+    }
+    values.sort_unstable();
+    values.windows(2).any(|pair| pair[0] == pair[1])
+}
