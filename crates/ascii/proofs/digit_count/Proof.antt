@@ -36,19 +36,10 @@ loop-holds : tie.Need-loop-holds Inv-loop μ-loop
 unfolding digitsOf
 loop-holds c = (omega arith, refl)
 
-power-requires : tie.Need-power-requires Inv-loop μ-loop
-power-requires c κs = search needs
-
 returns : tie.Need-returns Inv-loop μ-loop
 returns c =
     sym (stop _ _ _ (c .before .before .loop-test .taken) (c .before .power .ensures) (c .if1 .taken))
     ∙ c .before .before .before .loop .inv .1
-
-add-k : tie.Need-add-k Inv-loop μ-loop
-add-k c = omega arith
-
-loop-less : tie.Need-loop-less Inv-loop μ-loop
-loop-less c = omega arith
 
 loop-again : tie.Need-loop-again Inv-loop μ-loop
 loop-again c = (
@@ -62,14 +53,4 @@ returns-2 c = sym (end _ _ (c .loop-test .left)) ∙ c .before .loop .inv .1
 
 pub digit-count-spec : {M : Type 1} → statement M
 digit-count-spec =
-    tie.close
-    (tie.spec
-    Inv-loop
-    μ-loop
-    loop-holds
-    power-requires
-    returns
-    add-k
-    loop-less
-    loop-again
-    returns-2)
+    tie.close (tie.spec Inv-loop μ-loop loop-holds (λ c κs. search needs) returns (λ c. omega arith) (λ c. omega arith) loop-again returns-2)

@@ -1,0 +1,26 @@
+-- `cells::number_of` meets its contract. Assumes nothing.
+use mathlib.Core.Path.{_∙_}
+use borrow.Author.Needs.{needs}
+use native.Mathlib.Omega.{arith}
+use mir.Facts.{toZ-ofZ}
+use mir.ValLaws.{toZ-pos}
+use mir.Syntax.{w64}
+use Rattle.cells.specs.Cell.{numberOf}
+use Rattle.cells.proofs.Signs.{zero-minus, zero-minus-fits}
+use Rattle.cells.proofs.number_of.Statement.{statement}
+use Rattle.cells.proofs.number_of.Tie as tie
+
+sub-result : tie.Need-sub-result
+sub-result c = zero-minus-fits (c .before .args .size) (omega arith)
+
+returns : tie.Need-returns
+unfolding numberOf
+returns c = rw (c .if1 .taken) (toZ-ofZ (zero-minus-fits (c .before .args .size) (omega arith)) ∙ zero-minus (c .before .args .size) (omega arith))
+
+returns-2 : tie.Need-returns-2
+unfolding numberOf
+returns-2 c = rw (c .if1 .left) (toZ-pos w64 (c .before .args .size) (omega arith))
+
+pub number-of-spec : {M : Type 1} → statement M
+number-of-spec =
+    tie.close (tie.spec (λ c. search needs) sub-result (λ c. search needs) returns returns-2)

@@ -1,0 +1,129 @@
+-- "Numbers and widths": how many bytes a number takes in the data, by its row's kind, and which numbers a row may name. The value
+-- width w of a row is the largest of these over its range ends and values.
+use mathlib.Core.Path.{_≡_, refl, sym, ap, _∙_}
+use mathlib.Core.Bool.{Bool, true, false, cond, _&&_}
+use Prim.Native.Nat.{ℕ, suc, _+_, _/_, _^_, _≤_, _<_, max}
+use native.Mathlib.Nat.{one-le-pow, le-div-iff-mul-le, div-mul-le-self, div-le-self, le-trans, lt-of-le-of-lt}
+use native.Mathlib.Omega.{arith}
+use borrow.Author.Tests.{leb-true}
+use lib.Dec.{eqb}
+use lib.IntN.{ℤ, pos, negsuc}
+use lib.Signed.{leZ}
+use Rattle.ascii.specs.Tens.{digitsOf, digits-rise}
+use Rattle.below.specs.Below.{holds-not}
+use Rattle.cells.specs.Cell.{signedOf}
+use Rattle.cells.specs.declared.Signed.{Signed}
+use Rattle.layout.specs.declared.Format.{Format}
+use Rattle.layout.specs.declared.Kind.{Kind}
+use Rattle.layout.specs.declared.Kind.the-variants.{Single, Multiple, Quantity, Character, Logical}
+use Rattle.layout.specs.declared.Spread.{Spread}
+use Rattle.layout.specs.declared.Spread.the-variants.{Bits, Fields}
+
+abbrev pub sizeOf : ℤ → ℕ
+sizeOf z = signedOf z .size
+
+abbrev pub minusOf : ℤ → ℕ
+minusOf z = cond (signedOf z .minus) 1 0
+
+-- the point, if required, and the decimals
+unfoldable pub tailOf : Format → ℕ
+tailOf f = cond (eqb (f .point) 0) 0 (f .decimals + 1)
+
+-- the digits before the point, without needless leading zeros but at least one
+unfoldable pub wholeDigits : Format → ℕ → ℕ
+wholeDigits f n = digitsOf (n / 10 ^ f .decimals)
+
+unfoldable pub quantityWidth : Format → ℤ → ℕ
+quantityWidth f z = wholeDigits f (sizeOf z) + tailOf f + minusOf z
+
+-- the digits of a category; in a bitstring the category itself; a quantity with its point and minus
+unfoldable pub need : Kind → ℤ → ℕ
+need Single z = digitsOf (sizeOf z)
+need (Multiple Bits) z = sizeOf z
+need (Multiple (Fields n w)) z = digitsOf (sizeOf z)
+need (Quantity f) z = quantityWidth f z
+need Character z = 0
+need Logical z = 0
+
+-- categories are 1 to 9,999; a scaled quantity has 15 digits, either sign
+unfoldable pub lowest : Kind → ℤ
+lowest Single = pos 1
+lowest (Multiple s) = pos 1
+lowest (Quantity f) = negsuc 999999999999998
+lowest Character = pos 1
+lowest Logical = pos 1
+
+unfoldable pub highest : Kind → ℤ
+highest Single = pos 9999
+highest (Multiple s) = pos 9999
+highest (Quantity f) = pos 999999999999999
+highest Character = pos 9999
+highest Logical = pos 9999
+
+-- a number that a row of this kind may name
+abbrev pub fitsKind : Kind → ℤ → Bool
+fitsKind k z = leZ (lowest k) z && leZ z (highest k)
+
+unfoldable pub decimalsOf : Kind → ℕ
+decimalsOf Single = 0
+decimalsOf (Multiple s) = 0
+decimalsOf (Quantity f) = f .decimals
+decimalsOf Character = 0
+decimalsOf Logical = 0
+
+-- decimals within their limit
+pub record FewDecimals (k : Kind) : Type 0 where
+  pub few : decimalsOf k ≤ 9
+
+-- ---- laws
+pub ten-some : (k : ℕ) → 0 < 10 ^ k
+ten-some k = one-le-pow k 10 (omega arith)
+
+pub tail-few : (f : Format) → f .decimals ≤ 9 → tailOf f ≤ 10
+unfolding tailOf
+tail-few f h = go (eqb (f .point) 0)
+  where
+    go : (b : Bool) → cond b 0 (f .decimals + 1) ≤ 10
+    go true = omega arith
+    go false = omega arith
+
+-- a quantity's width from its sign and size
+pub width-parts : (f : Format) (z : ℤ) (s : Signed) → s ≡ signedOf z → quantityWidth f z ≡ wholeDigits f (s .size) + tailOf f + cond (s .minus) 1 0
+unfolding quantityWidth
+width-parts f z s e = rw e
+
+-- ---- a number between two others takes no more bytes than the wider of them
+div-rises : (m n k : ℕ) → 0 < k → m ≤ n → m / k ≤ n / k
+div-rises m n k p h = le-div-iff-mul-le p .1 (le-trans (div-mul-le-self m k) h)
+
+whole-rises : (f : Format) (m n : ℕ) → m ≤ n → n < 10 ^ 16 → wholeDigits f m ≤ wholeDigits f n
+unfolding wholeDigits
+whole-rises f m n h l =
+    digits-rise (m / 10 ^ f .decimals) (n / 10 ^ f .decimals) (div-rises m n (10 ^ f .decimals) (ten-some (f .decimals)) h)
+    (lt-of-le-of-lt (div-le-self n (10 ^ f .decimals)) l)
+
+rises-up : (k : Kind) (m n : ℕ) → m ≤ n → n < 10 ^ 16 → need k (pos m) ≤ need k (pos n)
+unfolding need quantityWidth signedOf
+rises-up Single m n h l = digits-rise m n h l
+rises-up (Multiple Bits) m n h l = h
+rises-up (Multiple (Fields c w)) m n h l = digits-rise m n h l
+rises-up (Quantity f) m n h l = omega (arith, whole-rises f m n h l)
+rises-up Character m n h l = omega arith
+rises-up Logical m n h l = omega arith
+
+rises-down : (k : Kind) (m n : ℕ) → m ≤ n → suc n < 10 ^ 16 → need k (negsuc m) ≤ need k (negsuc n)
+unfolding need quantityWidth signedOf
+rises-down Single m n h l = digits-rise (suc m) (suc n) (omega arith) l
+rises-down (Multiple Bits) m n h l = omega arith
+rises-down (Multiple (Fields c w)) m n h l = digits-rise (suc m) (suc n) (omega arith) l
+rises-down (Quantity f) m n h l = omega (arith, whole-rises f (suc m) (suc n) (omega arith) l)
+rises-down Character m n h l = omega arith
+rises-down Logical m n h l = omega arith
+
+module _ (k : Kind) where
+  pub need-between : (a z b : ℤ) → leZ a z ≡ true → leZ z b ≡ true → sizeOf a < 10 ^ 16 → sizeOf b < 10 ^ 16 → need k z ≤ max (need k a) (need k b)
+  unfolding signedOf
+  need-between a (pos n) (pos m) h g p q = omega (arith, rises-up k n m (leb-true n m g) q)
+  need-between a (pos n) (negsuc m) h g p q = holds-not g refl
+  need-between (pos m) (negsuc n) b h g p q = holds-not h refl
+  need-between (negsuc m) (negsuc n) b h g p q = omega (arith, rises-down k n m (leb-true n m h) p)
