@@ -229,7 +229,7 @@ module _ {k l : List ℕ} where
   less-even o e f = rw (e, f)
 
 -- ---- a run of digits is the digits up to its end
-run-ahead : (d : List ℕ) (f : ℕ → Bool) {n : ℕ} {t : Text} → From d n t → n ≤ runOf f n t
+pub run-ahead : (d : List ℕ) (f : ℕ → Bool) {n : ℕ} {t : Text} → From d n t → n ≤ runOf f n t
 unfolding runOf
 run-ahead d f at-stop = omega arith
 run-ahead d f {n} (at-sign {p = p} {b = b} {u = u} h w e r) = by (f b) (run-ahead d f r) where

@@ -6,7 +6,7 @@ use Prim.Native.Nat.{ℕ, _+_, _*_, _-_, _≤_}
 use native.Mathlib.Omega.{arith}
 use lib.Dec.{ltb}
 use lib.ListN.{length}
-use borrow.Author.Tests.{lt-ltb, le-ltb, ltb-true}
+use borrow.Author.Tests.{lt-ltb, le-ltb, ltb-true, ltb-false}
 use Rattle.scan.specs.Text.{Text, stop, sign}
 use Rattle.scan.specs.declared.Digits.{Digits}
 use Rattle.scan.specs.Number.{runOf, bytesOf, decimalOf, capped, isDigit, pushOf, digitsFrom}
@@ -25,7 +25,7 @@ module _ (f : ℕ → Bool) (n : ℕ) {t : Text} where
   run-end e = rw e
 
 -- a number that is held at the cap before its last digits is held after them
-held : (v : ℕ) (s : List ℕ) → capped (decimalOf (capped v) s) ≡ capped (decimalOf v s)
+pub held : (v : ℕ) (s : List ℕ) → capped (decimalOf (capped v) s) ≡ capped (decimalOf v s)
 unfolding decimalOf
 held v [] = by (ltb 1000000000000000 v) refl where
   by : (q : Bool) → ltb 1000000000000000 v ≡ q → capped (cond q 1000000000000000 v) ≡ cond q 1000000000000000 v
@@ -57,3 +57,13 @@ module _ (v c n : ℕ) {t : Text} where
   pub digits-end : {p : ℕ} → t ≡ stop p → v ≤ 1000000000000000 → digitsFrom v c n t ≡ record { size = v; count = c; next = n }
   unfolding digitsFrom bytesOf decimalOf runOf
   digits-end e h = rw e (same _ _ _ _ _ (low v h) (omega arith))
+
+cap-holds : (n : ℕ) → capped n ≤ 1000000000000000
+cap-holds n = by (ltb 1000000000000000 n) refl where
+  by : (q : Bool) → ltb 1000000000000000 n ≡ q → cond q 1000000000000000 n ≤ 1000000000000000
+  by true e = omega arith
+  by false e = ltb-false 1000000000000000 n e
+
+pub digits-held : (v c n : ℕ) (t : Text) → digitsFrom v c n t .size ≤ 1000000000000000
+unfolding digitsFrom
+digits-held v c n t = cap-holds (decimalOf v (bytesOf isDigit t))
