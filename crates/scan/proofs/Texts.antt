@@ -10,7 +10,7 @@ use lib.ListN.{length, getD, drop, drop-of-length-le}
 use lib.Seq.{drop-cons, drop-nil}
 use borrow.Author.Tests.{eq-eqb, ne-eqb, eqb-false}
 use Rattle.ascii.specs.Class.{classOf}
-use Rattle.scan.specs.Text.{Text, stop, sign, kept, text, stepOf}
+use Rattle.scan.specs.Text.{Text, stop, sign, kept, text, stepOf, placeOf}
 use Rattle.scan.specs.declared.Step.{Step}
 use Rattle.scan.specs.declared.Step.the-variants.{Byte, End}
 
@@ -92,3 +92,16 @@ from-kept d (x ∷ s) at e =
 pub from-text : (d : List ℕ) (at : ℕ) → From d at (text d at)
 unfolding text
 from-text d at = from-kept d (drop at d) at refl
+
+-- what is left at a place starts there or later
+kept-from : (s : List ℕ) (at : ℕ) → at ≤ placeOf (kept at s)
+unfolding kept placeOf
+kept-from [] at = omega arith
+kept-from (b ∷ s) at = by (eqb (classOf b) 0) (kept-from s (at + 1)) where
+  by : (q : Bool) → at + 1 ≤ placeOf (kept (at + 1) s) → at ≤ placeOf (cond q (kept (at + 1) s) (sign at b (kept (at + 1) s)))
+  by true h = omega arith
+  by false h = omega arith
+
+pub place-from : (d : List ℕ) (at : ℕ) → at ≤ placeOf (text d at)
+unfolding text
+place-from d at = kept-from (drop at d) at

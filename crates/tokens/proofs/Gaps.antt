@@ -29,7 +29,7 @@ step-less {p = p} {n = n} true q′ h a e = let j : p + 1 ≡ n = cc in omega ar
 step-less {p = p} false true h a e = omega (arith, skip-less p a e)
 step-less false false h a e = let z : _≡_ {A = ℕ} 0 1 = cc in omega arith
 
-gap-less : (d : List ℕ) {at n : ℕ} {t : Text} → From d at t → gapStep t ≡ Again n → length d - n < length d - at
+pub gap-less : (d : List ℕ) {at n : ℕ} {t : Text} → From d at t → gapStep t ≡ Again n → length d - n < length d - at
 unfolding gapStep
 gap-less d at-stop e = let z : _≡_ {A = ℕ} 0 1 = cc in omega arith
 gap-less d {at} {n} (at-sign {p = p} {b = b} h w _ r) e =

@@ -1,2 +1,3 @@
 pub mod Gaps
 pub mod Values
+pub mod Aheads

@@ -42,3 +42,8 @@ gapOn d t = then t (gapAt d)
 
 unfoldable pub spacesOn : List ℕ → Reading → Reading
 spacesOn d t = then t λ n. At (placeOf (text d (runOf isSpace n (text d n))))
+
+-- how much is left to read, at most: it falls with every token, so that what is read again and again comes to an end
+unfoldable pub left : List ℕ → Reading → ℕ
+left d (At n) = suc (length d - n)
+left d (Refused f) = 0
