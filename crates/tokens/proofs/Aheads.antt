@@ -16,19 +16,26 @@ use Rattle.scan.proofs.Texts.{From, at-stop, at-sign, from-text, place-from}
 use Rattle.scan.specs.Number.{isSpace}
 use Rattle.marks.specs.declared.Skip.{Skip}
 use Rattle.marks.specs.declared.Skip.the-variants.{Past, Unclosed, Bad}
+use Rattle.marks.specs.declared.Inside.{Inside}
 use Rattle.marks.specs.declared.Inside.the-variants.{Plain}
-use Rattle.marks.specs.Marks.{commentOf, stringOf}
+use Rattle.marks.specs.declared.Move.{Move}
+use Rattle.marks.specs.declared.Move.the-variants.{Go, Closed, Wrong}
+use Rattle.marks.specs.Marks.{commentOf, insideOf, moved, stringOf}
 use Rattle.marks.proofs.Levels.{Ahead, by-past, by-none, by-bad, string-ahead}
 use Rattle.tokens.specs.declared.Fault.{Fault}
 use Rattle.tokens.specs.declared.Reading.{Reading}
 use Rattle.tokens.specs.declared.Reading.the-variants.{At, Refused}
 use Rattle.tokens.specs.declared.Choice.{Choice}
 use Rattle.tokens.specs.declared.Choice.the-variants.{Taken, Left}
+use Rattle.tokens.specs.declared.Quoted.{Quoted}
 use Rattle.tokens.specs.declared.Phrase.{Phrase}
 use Rattle.tokens.specs.declared.Phrase.the-variants as phrase
 use Rattle.tokens.specs.Gap.{fault, gapSkip, gapStep, gapAt, gapOn, left}
 use Rattle.tokens.specs.Token.{ofChoice, choiceOf, ofSkip, phraseOn, stringIn, stringOn, pastString}
 use Rattle.tokens.proofs.Gaps.{gap-less, gap-again, gap-done}
+
+abbrev quote : ℕ → ℕ → Quoted
+quote p m = record { place = p + 1; length = m - (p + 1) - 1; next = m }
 
 module _ (d : List ℕ) where
   -- ---- words
@@ -100,3 +107,33 @@ module _ (d : List ℕ) where
     by : (g : Reading) → left d g ≤ left d t → left d (pastString (phraseOn g λ n. stringIn (text d n))) ≤ left d t
     by (At n) h = let k = string-in n (from-text d n) in omega arith
     by (Refused f) h = omega arith
+
+  -- a string ends within the file
+  string-end : {at : ℕ} {t : Text} → From d at t → (s : Inside) {n : ℕ} → stringOf s t ≡ Past n → n ≤ length d
+  unfolding stringOf
+  string-end at-stop s e = let z : _≡_ {A = ℕ} 0 1 = cc in absurd (omega arith)
+  string-end (at-sign {p = p} {b = b} {u = u} g l q r) s {n} e = by (λ s. string-end r s) (insideOf s b p) e where
+    by : ((s : Inside) → stringOf s u ≡ Past n → n ≤ length d) → (m : Move) → moved m (λ s. stringOf s u) (Past (p + 1)) ≡ Past n → n ≤ length d
+    by ih (Go s) e = ih s e
+    by ih Closed e = let k : p + 1 ≡ n = cc in omega arith
+    by ih (Wrong o) e = let z : _≡_ {A = ℕ} 0 1 = cc in absurd (omega arith)
+
+  quoted-in : {n : ℕ} {t : Text} → From d n t → (q : Quoted) → stringIn t ≡ phrase.Is q → (q .place ≤ length d) × (q .length ≤ length d)
+  unfolding stringIn
+  quoted-in at-stop q e = let z : _≡_ {A = ℕ} 0 1 = cc in absurd (omega arith)
+  quoted-in (at-sign {p = p} {b = b} {u = u} g l f r) q e = by (eqb b 34) (stringOf Plain u) refl e where
+    by : (x : Bool) (k : Skip) → stringOf Plain u ≡ k → cond x (ofSkip p k) (phrase.Not (fault 2 p)) ≡ phrase.Is q → (q .place ≤ length d) × (q .length ≤ length d)
+    by true (Past m) i e =
+        let h = string-end r Plain i in
+        let j : quote p m ≡ q = cc in
+        rw (← j) (omega arith, omega arith)
+    by true Unclosed i e = let z : _≡_ {A = ℕ} 0 1 = cc in absurd (omega arith)
+    by true (Bad o) i e = let z : _≡_ {A = ℕ} 0 1 = cc in absurd (omega arith)
+    by false k i e = let z : _≡_ {A = ℕ} 0 1 = cc in absurd (omega arith)
+
+  pub quoted-within : (t : Reading) (q : Quoted) → stringOn d t ≡ phrase.Is q → (q .place ≤ length d) × (q .length ≤ length d)
+  unfolding stringOn
+  quoted-within t q = by (gapOn d t) where
+    by : (g : Reading) → phraseOn g (λ n. stringIn (text d n)) ≡ phrase.Is q → (q .place ≤ length d) × (q .length ≤ length d)
+    by (At n) e = quoted-in (from-text d n) q e
+    by (Refused f) e = let z : _≡_ {A = ℕ} 0 1 = cc in absurd (omega arith)
