@@ -518,7 +518,7 @@ pub fn read_lines(
 }
 
 // A block that has said nothing yet.
-fn empty_block() -> Block
+pub fn empty_block() -> Block
     ensures { λ r. ⌜ r ≡ emptyBlock ⌝ }
 {
     Block {
