@@ -1,6 +1,6 @@
 -- DATE, TIME, ORIGIN, USER and STANDARD NAMES, in any order, each at most once: a second one is 2 at its word, before its text is read.
-use Prim.Native.Nat.{ℕ}
-use mathlib.Core.Bool.{Bool, true, cond}
+use Prim.Native.Nat.{ℕ, suc}
+use mathlib.Core.Bool.{Bool, true, false, cond}
 use mathlib.Core.List.{List}
 use lib.Dec.{eqb}
 use Rattle.tokens.specs.declared.Reading.{Reading}
@@ -8,7 +8,8 @@ use Rattle.tokens.specs.declared.Reading.the-variants.{At, Refused}
 use Rattle.tokens.specs.declared.Choice.{Choice}
 use Rattle.tokens.specs.declared.Choice.the-variants.{Taken, Left}
 use Rattle.tokens.specs.declared.Quoted.{Quoted}
-use Rattle.tokens.specs.Gap.{fault}
+use Rattle.tokens.specs.Gap.{fault, left}
+use Rattle.scan.specs.Loop.{Next, Again, Done, loopOf}
 use Rattle.tokens.specs.declared.Phrase.{Phrase}
 use Rattle.tokens.specs.declared.Phrase.the-variants.{Is, Not}
 use Rattle.tokens.specs.Token.{choiceOf, wordOn, stringOn, pastString}
@@ -67,3 +68,24 @@ named h = record { date = h .date; time = h .time; origin = h .origin; user = h 
 
 unfoldable pub nameEntry : List ℕ → Heading → Reading → ℕ → Entered
 nameEntry d h t m = cond (h .standard) (record { heading = named h; next = again t }) (record { heading = named h; next = notesOn d (wordOn d (At m) NAMES) })
+
+-- ---- all of them, up to a statement that is none
+abbrev pub noText : Quoted
+noText = record { place = 0; length = 0; next = 0 }
+
+abbrev pub noHeading : Heading
+noHeading = record { date = noText; time = noText; origin = noText; user = noText; standard = false }
+
+abbrev pub entered : Heading → Reading → Entered
+entered h t = record { heading = h; next = t }
+
+abbrev pub entryStep : List ℕ → Entered → Entry → Next Entered Entered
+entryStep d e (Text k m) = Again (textEntry d (e .heading) (e .next) k m)
+entryStep d e (Standard m) = Again (nameEntry d (e .heading) (e .next) m)
+entryStep d e Other = Done e
+
+unfoldable pub entriesFrom : List ℕ → Entered → Entered
+entriesFrom d e = loopOf (λ e. entryStep d e (entryOf d (e .next))) (entered noHeading (At 0)) (suc (left d (e .next))) e
+
+unfoldable pub entriesOn : List ℕ → Reading → Entered
+entriesOn d t = entriesFrom d (entered noHeading (notesOn d t))

@@ -7,7 +7,7 @@ use tokens::Quoted;
 use tokens::Reading;
 ghost use mathlib.Core.Path.{_≡_};
 ghost use Rattle.ascii.specs.Class.{Classes};
-ghost use Rattle.heading.specs.Heading.{entryOf, again, textAt, withText, onceOf, keptOf, textEntry, nameEntry};
+ghost use Rattle.heading.specs.Heading.{entryOf, again, textAt, withText, onceOf, keptOf, textEntry, nameEntry, noHeading, entriesOn};
 
 // The texts of the heading, each 0 where it was not given, and whether STANDARD NAMES was.
 pub struct Heading {
@@ -188,4 +188,50 @@ fn enter_names(classes: &[u8; 256], d: &[u8], h: Heading, t: Reading, m: usize) 
     let a = tokens::word_on(classes, d, Reading::At(m), b"NAMES");
     let next = statements::notes_on(classes, d, a);
     Entered { heading, next }
+}
+
+fn no_heading() -> Heading
+    ensures { λ r. ⌜ r ≡ noHeading ⌝ }
+{
+    let q = Quoted {
+        place: 0,
+        length: 0,
+        next: 0,
+    };
+    Heading {
+        date: q,
+        time: q,
+        origin: q,
+        user: q,
+        standard: false,
+    }
+}
+
+// All of them, up to a statement that is none.
+pub fn entries_on(classes: &[u8; 256], d: &[u8], t: Reading) -> Entered
+    requires { ⌜ Classes (now classes) ⌝ }
+    ensures { λ r. ⌜ r ≡ entriesOn (now (d .entry)) t ⌝ }
+{
+    let mut h = no_heading();
+    let mut g = statements::notes_on(classes, d, t);
+    loop {
+        match entry_here(classes, d, g) {
+            Entry::Text { which, next } => {
+                let e = enter_text(classes, d, h, g, which, next);
+                h = e.heading;
+                g = e.next;
+            }
+            Entry::Standard(m) => {
+                let e = enter_names(classes, d, h, g, m);
+                h = e.heading;
+                g = e.next;
+            }
+            Entry::Other => {
+                return Entered {
+                    heading: h,
+                    next: g,
+                };
+            }
+        }
+    }
 }

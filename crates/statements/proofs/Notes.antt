@@ -1,7 +1,7 @@
 -- Notes are the first note, and then the notes from its end on.
 use mathlib.Core.Path.{_≡_, refl, _∙_, sym}
 use mathlib.Core.List.{List, [], _∷_}
-use Prim.Native.Nat.{ℕ, _<_, _≤_}
+use Prim.Native.Nat.{ℕ, zero, suc, _<_, _≤_}
 use native.Mathlib.Omega.{arith}
 use Rattle.scan.specs.Loop.{Next, Again, Done, loopOf}
 use Rattle.scan.proofs.Loops.{loop-again, loop-done}
@@ -9,11 +9,11 @@ use Rattle.tokens.specs.declared.Reading.{Reading}
 use Rattle.tokens.specs.declared.Reading.the-variants.{At, Refused}
 use Rattle.tokens.specs.declared.Choice.{Choice}
 use Rattle.tokens.specs.declared.Choice.the-variants.{Taken, Left}
-use Rattle.tokens.specs.Gap.{left}
+use Rattle.tokens.specs.Gap.{left, gapOn}
 use Rattle.tokens.specs.Token.{choiceOf, stringOn, pastString}
 use Rattle.tokens.proofs.Aheads.{taken-less, gap-left, string-left}
 use Rattle.statements.specs.Words.{NOTE}
-use Rattle.statements.specs.Note.{pastNote, noteStep, notesHere}
+use Rattle.statements.specs.Note.{pastNote, noteStep, notesHere, notesOn}
 
 module _ (d : List ℕ) where
   past-left : (m : ℕ) → left d (pastNote d m) ≤ left d (At m)
@@ -37,3 +37,18 @@ module _ (d : List ℕ) where
     pub notes-done : k ≡ Left → notesHere d t ≡ t
     unfolding notesHere
     notes-done f = loop-done (λ t. noteStep d (choiceOf d t NOTE) t) (At 0) (left d) note-less {s = t} (rw (sym e ∙ f))
+
+  -- ---- behind notes no more is left
+  notes-within : (f : ℕ) (t : Reading) → left d t < f → left d (notesHere d t) ≤ left d t
+  notes-within zero t h = absurd (omega arith)
+  notes-within (suc f) t h = by (choiceOf d t NOTE) refl (notes-within f) where
+    by : (k : Choice) → choiceOf d t NOTE ≡ k → ((u : Reading) → left d u < f → left d (notesHere d u) ≤ left d u) → left d (notesHere d t) ≤ left d t
+    by (Taken m) e ih =
+        let l = note-left t refl e in
+        let j = ih (pastNote d m) (omega arith) in
+        rw (notes-again t refl e) (omega arith)
+    by Left e ih = rw (notes-done t refl e) (omega arith)
+
+  pub notes-left : (t : Reading) → left d (notesOn d t) ≤ left d t
+  unfolding notesOn
+  notes-left t = omega (arith, notes-within (suc (left d (gapOn d t))) (gapOn d t) (omega arith), gap-left d t)

@@ -31,7 +31,7 @@ use Rattle.tokens.specs.declared.Quoted.{Quoted}
 use Rattle.tokens.specs.declared.Phrase.{Phrase}
 use Rattle.tokens.specs.declared.Phrase.the-variants as phrase
 use Rattle.tokens.specs.Gap.{fault, gapSkip, gapStep, gapAt, gapOn, left}
-use Rattle.tokens.specs.Token.{ofChoice, choiceOf, ofSkip, phraseOn, stringIn, stringOn, pastString}
+use Rattle.tokens.specs.Token.{ofWord, wordHere, wordOn, ofChoice, choiceOf, ofSkip, phraseOn, stringIn, stringOn, pastString}
 use Rattle.tokens.proofs.Gaps.{gap-less, gap-again, gap-done}
 
 abbrev quote : ℕ → ℕ → Quoted
@@ -137,3 +137,16 @@ module _ (d : List ℕ) where
     by : (g : Reading) → phraseOn g (λ n. stringIn (text d n)) ≡ phrase.Is q → (q .place ≤ length d) × (q .length ≤ length d)
     by (At n) e = quoted-in (from-text d n) q e
     by (Refused f) e = let z : _≡_ {A = ℕ} 0 1 = cc in absurd (omega arith)
+
+  -- ---- a word that is due
+  word-here : (t : Reading) (x : ℕ) (w : List ℕ) → left d (wordHere d t (x ∷ w)) ≤ left d t
+  unfolding wordHere wordAt left
+  word-here (At n) x w = by (wordOf n (text d n) (x ∷ w)) refl where
+    by : (r : Word) → wordOf n (text d n) (x ∷ w) ≡ r → left d (ofWord n r) ≤ suc (length d - n)
+    by (Matched m) f = let h = word-ahead (from-text d n) x w f in omega arith
+    by Not f = omega arith
+  word-here (Refused f) x w = omega arith
+
+  pub word-left : (t : Reading) (x : ℕ) (w : List ℕ) → left d (wordOn d t (x ∷ w)) ≤ left d t
+  unfolding wordOn
+  word-left t x w = omega (arith, word-here (gapOn d t) x w, gap-left t)
