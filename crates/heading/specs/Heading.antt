@@ -12,11 +12,13 @@ use Rattle.tokens.specs.Gap.{fault, left}
 use Rattle.scan.specs.Loop.{Next, Again, Done, loopOf}
 use Rattle.tokens.specs.declared.Phrase.{Phrase}
 use Rattle.tokens.specs.declared.Phrase.the-variants.{Is, Not}
-use Rattle.tokens.specs.Token.{choiceOf, wordOn, stringOn, pastString}
-use Rattle.statements.specs.Words.{DATE, TIME, ORIGIN, USER, STANDARD, NAMES}
+use Rattle.tokens.specs.Token.{choiceOf, wordHere, wordOn, stringOn, pastString}
+use Rattle.statements.specs.Words.{DATE, TIME, ORIGIN, USER, STANDARD, NAMES, SURVEY, TITLE}
+use Rattle.statements.specs.Opening.{openingOf, recordOn}
 use Rattle.statements.specs.Note.{notesOn}
 use Rattle.heading.specs.declared.Heading.{Heading}
 use Rattle.heading.specs.declared.Entered.{Entered}
+use Rattle.heading.specs.declared.Front.{Front}
 use Rattle.heading.specs.declared.Entry.{Entry}
 use Rattle.heading.specs.declared.Entry.the-variants.{Text, Standard, Other}
 
@@ -89,3 +91,20 @@ entriesFrom d e = loopOf (λ e. entryStep d e (entryOf d (e .next))) (entered no
 
 unfoldable pub entriesOn : List ℕ → Reading → Entered
 entriesOn d t = entriesFrom d (entered noHeading (notesOn d t))
+
+-- ---- all that stands before the first variable: SSS VERSION 1.1, the heading, SURVEY, an optional TITLE, RECORD and a letter
+abbrev pub titleOr : List ℕ → Heading → Reading → Choice → Front
+titleOr d h n (Taken m) =
+    let q = stringOn d (At m) in
+    record { heading = h; title = keptOf noText q; next = recordOn d (pastString q) }
+titleOr d h n Left = record { heading = h; title = noText; next = recordOn d n }
+
+unfoldable pub frontOf : List ℕ → Heading → Reading → Front
+frontOf d h t =
+    let n = notesOn d (wordHere d t SURVEY) in
+    titleOr d h n (choiceOf d n TITLE)
+
+unfoldable pub frontOn : List ℕ → Front
+frontOn d =
+    let e = entriesOn d (openingOf d) in
+    frontOf d (e .heading) (e .next)

@@ -7,7 +7,7 @@ use tokens::Quoted;
 use tokens::Reading;
 ghost use mathlib.Core.Path.{_≡_};
 ghost use Rattle.ascii.specs.Class.{Classes};
-ghost use Rattle.heading.specs.Heading.{entryOf, again, textAt, withText, onceOf, keptOf, textEntry, nameEntry, noHeading, entriesOn};
+ghost use Rattle.heading.specs.Heading.{entryOf, again, textAt, withText, onceOf, keptOf, textEntry, nameEntry, noHeading, entriesOn, frontOf, frontOn};
 
 // The texts of the heading, each 0 where it was not given, and whether STANDARD NAMES was.
 pub struct Heading {
@@ -234,4 +234,58 @@ pub fn entries_on(classes: &[u8; 256], d: &[u8], t: Reading) -> Entered
             }
         }
     }
+}
+
+// All that stands before the first variable: the heading, the title, 0 where there is none, and where reading stands behind RECORD
+// and its letter.
+pub struct Front {
+    pub heading: Heading,
+    pub title: Quoted,
+    pub next: Reading,
+}
+
+// SURVEY, an optional TITLE, and RECORD with its letter, behind the heading.
+fn front_rest(classes: &[u8; 256], d: &[u8], h: Heading, t: Reading) -> Front
+    requires { ⌜ Classes (now classes) ⌝ }
+    ensures { λ r. ⌜ r ≡ frontOf (now (d .entry)) h t ⌝ }
+{
+    let s = tokens::word_here(classes, d, t, b"SURVEY");
+    let n = statements::notes_on(classes, d, s);
+    let none = Quoted {
+        place: 0,
+        length: 0,
+        next: 0,
+    };
+    match tokens::perhaps(classes, d, n, b"TITLE") {
+        Choice::Taken(m) => {
+            let q = tokens::string_on(classes, d, Reading::At(m));
+            let title = kept_text(none, q);
+            let p = tokens::past_string(q);
+            let next = statements::record_on(classes, d, p);
+            Front {
+                heading: h,
+                title,
+                next,
+            }
+        }
+        Choice::Left => {
+            let next = statements::record_on(classes, d, n);
+            Front {
+                heading: h,
+                title: none,
+                next,
+            }
+        }
+    }
+}
+
+pub fn read_front(classes: &[u8; 256], d: &[u8]) -> Front
+    requires { ⌜ Classes (now classes) ⌝ }
+    ensures { λ r. ⌜ r ≡ frontOn (now (d .entry)) ⌝ }
+{
+    let o = statements::read_opening(classes, d);
+    let e = entries_on(classes, d, o);
+    let h = e.heading;
+    let t = e.next;
+    front_rest(classes, d, h, t)
 }
