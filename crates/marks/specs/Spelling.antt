@@ -1,0 +1,123 @@
+-- Strings and comments as the paper has them, and the bytes that a string says. 34 is a quote, 123 and 125 are { and }, 78 and 76 are
+-- N and L, 60 and 62 are < and >.
+use mathlib.Core.Path.{_≡_}
+use mathlib.Core.Bool.{Bool, true, false, cond, _&&_}
+use mathlib.Core.List.{List, [], _∷_, _++_}
+use Prim.Native.Nat.{ℕ, _+_, _*_, _-_, _<_}
+use Rattle.scan.specs.Text.{Text, stop, sign, text}
+use Rattle.ascii.specs.Class.{upperOf}
+use Rattle.scan.specs.Number.{isDigit}
+use Rattle.marks.specs.Marks.{isHex, insideOf}
+use Rattle.marks.specs.declared.Inside.{Inside}
+use Rattle.marks.specs.declared.Inside.the-variants.{Plain, Opened, Shut, Ell, Pair, Low}
+use Rattle.marks.specs.declared.Move.{Move}
+use Rattle.marks.specs.declared.Move.the-variants.{Go, Closed, Wrong}
+use Rattle.marks.specs.declared.Given.{Given}
+use Rattle.marks.specs.declared.Given.the-variants.{One, Nothing}
+use Rattle.marks.specs.declared.Part.{Part}
+use Rattle.marks.specs.declared.Part.the-variants.{Said, Over}
+use lib.Dec.{eqb}
+
+-- the value of a hex digit, and of a pair
+abbrev pub hexOf : ℕ → ℕ
+hexOf b = cond (isDigit b) (b - 48) (upperOf b - 55)
+
+abbrev pub pairOf : ℕ → ℕ → ℕ
+pairOf a b = hexOf a * 16 + hexOf b
+
+-- a text is hex pairs, one or more, and a closing brace, which say the bytes m, and then u
+pub data Pairs : Text → List ℕ → Text → Type 0 where
+  last : {p q r a b : ℕ} {u : Text} → isHex a ≡ true → isHex b ≡ true → Pairs (sign p a (sign q b (sign r 125 u))) (pairOf a b ∷ []) u
+  more : {p q a b : ℕ} {m : List ℕ} {t u : Text} → isHex a ≡ true → isHex b ≡ true → Pairs t m u → Pairs (sign p a (sign q b t)) (pairOf a b ∷ m) u
+
+-- a text is a piece of a string, which says the bytes m, and then u
+pub data Piece : Text → List ℕ → Text → Type 0 where
+  plain : {p b : ℕ} {u : Text} → (b ≡ 34 → ⊥) → (b ≡ 123 → ⊥) → Piece (sign p b u) (b ∷ []) u
+  quote : {p q r : ℕ} {u : Text} → Piece (sign p 123 (sign q 34 (sign r 125 u))) (34 ∷ []) u
+  brace : {p q r : ℕ} {u : Text} → Piece (sign p 123 (sign q 123 (sign r 125 u))) (123 ∷ []) u
+  line : {p q r s : ℕ} {u : Text} → Piece (sign p 123 (sign q 78 (sign r 76 (sign s 125 u)))) (10 ∷ []) u
+  bytes : {p : ℕ} {m : List ℕ} {t u : Text} → Pairs t m u → Piece (sign p 123 t) m u
+
+-- a text is pieces, which say the bytes m, and then a quote, with n the place after it
+pub data Spelt : Text → List ℕ → ℕ → Type 0 where
+  closed : {p : ℕ} {u : Text} → Spelt (sign p 34 u) [] (p + 1)
+  piece : {t u : Text} {m s : List ℕ} {n : ℕ} → Piece t m u → Spelt u s n → Spelt t (m ++ s) n
+
+-- a text is pieces, and then an open brace at o
+pub data Braced (o : ℕ) : Text → Type 0 where
+  here : {u : Text} → Braced o (sign o 123 u)
+  after-piece : {t u : Text} {m : List ℕ} → Piece t m u → Braced o u → Braced o t
+
+-- a text is pieces, and then an open brace at o, where no piece stands
+pub data Broken (o : ℕ) : Text → Type 0 where
+  breaks : {u : Text} → ((m : List ℕ) (w : Text) → Piece (sign o 123 u) m w → ⊥) → Broken o (sign o 123 u)
+  breaks-after : {t u : Text} {m : List ℕ} → Piece t m u → Broken o u → Broken o t
+
+-- the byte that a string's byte b ends, where b follows a: none or one
+unfoldable pub givesOf : Inside → ℕ → ℕ → List ℕ
+givesOf Plain a b = cond (eqb b 123) [] (b ∷ [])
+givesOf (Opened o) a b = cond (eqb b 34) (b ∷ []) (cond (eqb b 123) (b ∷ []) [])
+givesOf (Shut o) a b = []
+givesOf (Ell o) a b = 10 ∷ []
+givesOf (Pair o) a b = []
+givesOf (Low o) a b = pairOf a b ∷ []
+
+abbrev pub gone : Move → List ℕ → (Inside → List ℕ) → List ℕ
+gone (Go s) m k = m ++ k s
+gone Closed m k = []
+gone (Wrong o) m k = []
+
+-- the bytes that a string says, read on from s, where a was the byte before
+unfoldable pub decodeOf : Inside → ℕ → Text → List ℕ
+decodeOf s a (stop p) = []
+decodeOf s a (sign p b t) = gone (insideOf s b p) (givesOf s a b) (λ s. decodeOf s b t)
+
+abbrev pub givenList : Given → List ℕ
+givenList (One b) = b ∷ []
+givenList Nothing = []
+
+-- in a pair's second half both bytes are hex digits
+unfoldable pub ready : Inside → ℕ → ℕ → Bool
+ready Plain a b = true
+ready (Opened o) a b = true
+ready (Shut o) a b = true
+ready (Ell o) a b = true
+ready (Pair o) a b = true
+ready (Low o) a b = isHex a && isHex b
+
+-- a state that the byte before is not part of: any but a pair's second half
+unfoldable pub idle : Inside → Bool
+idle Plain = true
+idle (Opened o) = true
+idle (Shut o) = true
+idle (Ell o) = true
+idle (Pair o) = true
+idle (Low o) = false
+
+-- one byte of a string: what it completes is said; where it completes nothing the reader goes on
+abbrev pub said : List ℕ → ℕ → Inside → Part → Part
+said [] n s k = k
+said (x ∷ m) n s k = Said x n s
+
+abbrev pub parted : Move → List ℕ → ℕ → (Inside → Part) → Part
+parted (Go s) m n k = said m n s (k s)
+parted Closed m n k = Over
+parted (Wrong o) m n k = Over
+
+-- what a string says next, read on from s, where a was the byte before
+unfoldable pub partFrom : Inside → ℕ → Text → Part
+partFrom s a (stop p) = Over
+partFrom s a (sign p b t) = parted (insideOf s b p) (givesOf s a b) (p + 1) (λ s. partFrom s b t)
+
+-- from `at` on the file d has the inside of a comment of level l, bytes, strings and comments, and its closing angle, with n the
+-- place after it
+pub data Comment (d : List ℕ) : ℕ → ℕ → ℕ → Type 0 where
+  over : {l at p : ℕ} → text d at ≡ sign p 62 (text d (p + 1)) → Comment d l at (p + 1)
+  byte : {l at n p b : ℕ} → text d at ≡ sign p b (text d (p + 1)) → (b ≡ 62 → ⊥) → (b ≡ 34 → ⊥) → (b ≡ 60 → ⊥) → Comment d l (p + 1) n → Comment d l at n
+  string : {l at n p k : ℕ} {m : List ℕ} → text d at ≡ sign p 34 (text d (p + 1)) → Spelt (text d (p + 1)) m k → Comment d l k n → Comment d l at n
+  comment : {l at n p k : ℕ} → text d at ≡ sign p 60 (text d (p + 1)) → l < 32 → Comment d (l + 1) (p + 1) k → Comment d l k n → Comment d l at n
+
+-- a text that goes on with another
+unfoldable pub joined : Text → Text → Text
+joined (stop p) v = v
+joined (sign p b t) v = sign p b (joined t v)

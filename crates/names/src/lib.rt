@@ -1,0 +1,84 @@
+// STANDARD NAMES: a decoded name has 1 to 8 letters or digits and begins with a letter, and no two names agree when case is set
+// aside. A name becomes one number, 0 where it is ill-formed, so that two names agree exactly when their numbers do. Above it stands
+// the definition as a whole.
+use marks::Inside;
+use marks::Part;
+ghost use mathlib.Core.Path.{_≡_};
+ghost use Prim.Native.Nat.{_≤_};
+ghost use Rattle.ascii.specs.Class.{Classes};
+ghost use Rattle.scan.specs.Text.{text};
+ghost use Rattle.marks.specs.Spelling.{decodeOf};
+ghost use Rattle.names.specs.Name.{fits, keyOf};
+ghost use Rattle.names.specs.Clash.{faultOf};
+
+// Whether a byte may stand behind so many bytes of a name: a letter, or not first a digit.
+fn may_stand(classes: &[u8; 256], count: usize, b: u8) -> bool
+    requires { ⌜ Classes (now classes) ⌝ }
+    ensures { λ r. ⌜ r ≡ fits count b ⌝ }
+{
+    let class = ascii::class_of(classes, b);
+    (class == ascii::LETTER) | ((0 < count) & (class == ascii::DIGIT))
+}
+
+// The number of the name from just after its opening quote.
+pub fn name_key(classes: &[u8; 256], d: &[u8], at: usize) -> u64
+    requires { ⌜ Classes (now classes) ⌝ }
+    ensures { λ r. ⌜ r ≡ keyOf 0 0 (decodeOf Inside.Plain 0 (text (now (d .entry)) at)) ⌝ }
+{
+    let mut n = at;
+    let mut s = Inside::Plain;
+    let mut count: usize = 0;
+    let mut key: u64 = 0;
+    while count < 9 {
+        match marks::next_part(classes, d, n, s) {
+            Part::Said { byte, next, inside } => {
+                if !may_stand(classes, count, byte) {
+                    return 0;
+                }
+                if count == 8 {
+                    return 0;
+                }
+                key = key * 256 + wide(ascii::upper(byte));
+                count += 1;
+                n = next;
+                s = inside;
+            }
+            Part::Over => {
+                return key;
+            }
+        }
+    }
+    0
+}
+
+fn wide(b: u8) -> u64
+    ensures { λ r. ⌜ (r ≡ b) × (r ≤ 255) ⌝ }
+{
+    b as u64
+}
+
+// The first row whose name is ill-formed or agrees with an earlier one; the count where there is none.
+pub fn first_fault(keys: &[u64; 512], count: usize) -> usize
+    requires { ⌜ count ≤ 512 ⌝ }
+    ensures { λ r. ⌜ r ≡ faultOf (now (keys .entry)) count ⌝ }
+{
+    let mut found = count;
+    let mut j: usize = 0;
+    'rows: while j < count {
+        let key = keys[j];
+        if key == 0 {
+            found = j;
+            break 'rows;
+        }
+        let mut i: usize = 0;
+        while i < j {
+            if keys[i] == key {
+                found = j;
+                break 'rows;
+            }
+            i += 1;
+        }
+        j += 1;
+    }
+    found
+}

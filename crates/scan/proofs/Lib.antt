@@ -1,0 +1,6 @@
+pub mod Texts
+mod Words
+pub mod Runs
+pub mod Loops
+pub mod Keywords
+pub mod Orders

@@ -1,0 +1,5 @@
+pub mod Text
+pub mod Word
+pub mod Number
+pub mod Order
+pub mod Loop

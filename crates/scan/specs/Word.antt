@@ -1,0 +1,32 @@
+-- A keyword: its letters in either case, dropped bytes between them. What follows it is the next token, with no space needed.
+use Prim.Native.Nat.{ℕ, _+_}
+use mathlib.Core.Bool.{Bool, true, false, cond}
+use mathlib.Core.List.{List, [], _∷_}
+use lib.Dec.{leb, eqb}
+use Rattle.ascii.specs.Class.{upperOf}
+use Rattle.scan.specs.Text.{Text, stop, sign, text}
+use Rattle.scan.specs.declared.Word.{Word}
+use Rattle.scan.specs.declared.Word.the-variants.{Matched, Not}
+
+-- the keyword's rest w at place `at`
+unfoldable pub wordOf : ℕ → Text → List ℕ → Word
+wordOf at t [] = Matched at
+wordOf at (stop p) (x ∷ w) = Not
+wordOf at (sign p b t) (x ∷ w) = cond (eqb (upperOf b) x) (wordOf (p + 1) t w) Not
+
+unfoldable pub wordAt : List ℕ → ℕ → List ℕ → Word
+wordAt d at w = wordOf at (text d at) w
+
+-- a capital letter x, in either case
+pub data Either (x : ℕ) : ℕ → Type 0 where
+  capital : Either x x
+  small : Either x (x + 32)
+
+-- a text is the letters of w, each in either case, from `at` on, and n is the place after them
+pub data Written : List ℕ → ℕ → Text → ℕ → Type 0 where
+  none : {at : ℕ} {t : Text} → Written [] at t at
+  one : {at p b x n : ℕ} {w : List ℕ} {t : Text} → Either x b → Written w (p + 1) t n → Written (x ∷ w) at (sign p b t) n
+
+unfoldable pub capitals : List ℕ → Bool
+capitals [] = true
+capitals (x ∷ w) = cond (leb 65 x) (cond (leb x 90) (capitals w) false) false

@@ -1,0 +1,41 @@
+use mathlib.Core.Path.{_∙_, sym}
+use Rattle.statements.specs.Position.{bothOf}
+use borrow.Author.Needs.{needs}
+use Rattle.statements.proofs.both.Statement.{statement}
+use Rattle.statements.proofs.both.Tie as tie
+
+returns : tie.Need-returns
+unfolding bothOf
+returns c =
+    rw (
+      c .before .before .before .before .before .before .before .before .a .given .1,
+      c .before .before .before .before .before .b .given .1,
+      c .before .before .end .given .1,
+      sym (c .judge-position .ensures),
+    )
+
+returns-2 : tie.Need-returns-2
+unfolding bothOf
+returns-2 c =
+    rw (
+      c .before .before .before .before .before .before .before .a .given .1,
+      c .before .before .before .before .b .given .1,
+      c .before .end2 .given .1,
+    )
+
+returns-3 : tie.Need-returns-3
+unfolding bothOf
+returns-3 c =
+    rw (
+      c .before .before .before .before .a .given .1,
+      c .before .b2 .given .1,
+    )
+
+returns-4 : tie.Need-returns-4
+unfolding bothOf
+returns-4 c =
+    rw (c .before .a2 .given .1)
+
+pub both-spec : {M : Type 1} → statement M
+both-spec =
+    tie.close (tie.spec (λ c. search needs) (λ c. search needs) (λ c. search needs) (λ c κs. search needs) (λ c. search needs) (λ c. search needs) (λ c. search needs) returns returns-2 returns-3 returns-4)

@@ -1,0 +1,37 @@
+use mathlib.Core.Path.{_∙_, sym}
+use Rattle.statements.specs.Position.{positionOn}
+use borrow.Author.Needs.{needs}
+use Rattle.statements.proofs.position_on.Statement.{statement}
+use Rattle.statements.proofs.position_on.Tie as tie
+
+returns : tie.Need-returns
+unfolding positionOn
+returns c =
+    rw (
+      sym (c .before .before .before .before .before .before .before .before .before .before .before .statement-on .ensures),
+      sym (c .before .before .before .before .before .before .before .before .before .before .number-on .ensures),
+      sym (c .before .before .before .before .before .before .before .before .before .past-number .ensures),
+      sym (c .before .before .before .before .before .before .before .before .gap-on .ensures),
+      sym (c .before .before .before .before .before .before .perhaps .ensures) ∙ c .before .before .before .before .m .given .1,
+      sym (c .before .before .number-on2 .ensures),
+    )
+    (rw (
+      sym (c .before .past-number2 .ensures),
+      sym (c .both .ensures),
+    ))
+
+returns-2 : tie.Need-returns-2
+unfolding positionOn
+returns-2 c =
+    rw (
+      sym (c .before .before .before .before .before .before .before .before .statement-on .ensures),
+      sym (c .before .before .before .before .before .before .before .number-on .ensures),
+      sym (c .before .before .before .before .before .before .past-number .ensures),
+      sym (c .before .before .before .before .before .gap-on .ensures),
+      sym (c .before .before .before .perhaps .ensures) ∙ c .before .enum-told .given .1,
+      sym (c .both2 .ensures),
+    )
+
+pub position-on-spec : {M : Type 1} → statement M
+position-on-spec =
+    tie.close (tie.spec (λ c. search needs) (λ c κs. search needs) (λ c κs. search needs) (λ c κs. search needs) (λ c κs. search needs) (λ c. search needs) (λ c κs. search needs) (λ c. search needs) (λ c κs. search needs) (λ c κs. search needs) (λ c κs. search needs) (λ c. search needs) (λ c κs. search needs) returns returns-2)

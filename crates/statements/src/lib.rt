@@ -1,0 +1,371 @@
+// The statements of a definition but for its values, each read whole and then judged: notes, the opening, texts, the type,
+// POSITION, SPREAD, SIZE. Above it stand the values and the definition as a whole.
+use scan::Word;
+use tokens::Choice;
+use tokens::Fault;
+use tokens::Figures;
+use tokens::Number;
+use tokens::Phrase;
+use tokens::Reading;
+ghost use mathlib.Core.Path.{_≡_};
+ghost use Rattle.ascii.specs.Class.{Classes};
+ghost use Rattle.tokens.specs.Token.{choiceOf};
+ghost use Rattle.statements.specs.Words.{NOTE};
+ghost use Rattle.statements.specs.Note.{notesOn, statementOn, textOn};
+ghost use Rattle.statements.specs.Opening.{versionHere, openingOf, recordOn};
+ghost use Rattle.statements.specs.Kinds.{typeHere, typeOn};
+ghost use Rattle.statements.specs.Position.{judgePosition, bothOf, positionOn};
+ghost use Rattle.statements.specs.Spread.{judgeOf, judgeEven, fieldsOf, evenOf, spreadRest};
+ghost use Rattle.statements.specs.Size.{judgeSize, sizeOn};
+
+fn note_word(classes: &[u8; 256], d: &[u8], t: Reading) -> Choice
+    requires { ⌜ Classes (now classes) ⌝ }
+    ensures { λ r. ⌜ r ≡ choiceOf (now (d .entry)) t NOTE ⌝ }
+{
+    tokens::perhaps(classes, d, t, b"NOTE")
+}
+
+// NOTE and a string, as often as they stand between two statements, with the gaps around them.
+pub fn notes_on(classes: &[u8; 256], d: &[u8], t: Reading) -> Reading
+    requires { ⌜ Classes (now classes) ⌝ }
+    ensures { λ r. ⌜ r ≡ notesOn (now (d .entry)) t ⌝ }
+{
+    let mut g = tokens::gap_on(classes, d, t);
+    loop {
+        match note_word(classes, d, g) {
+            Choice::Taken(m) => {
+                let s = tokens::string_on(classes, d, Reading::At(m));
+                let p = tokens::past_string(s);
+                g = tokens::gap_on(classes, d, p);
+            }
+            Choice::Left => {
+                return g;
+            }
+        }
+    }
+}
+
+// The first word of a statement, behind the notes before it.
+pub fn statement_on(classes: &[u8; 256], d: &[u8], t: Reading, w: &[u8]) -> Reading
+    requires { ⌜ Classes (now classes) ⌝ }
+    ensures { λ r. ⌜ r ≡ statementOn (now (d .entry)) t (now (w .entry)) ⌝ }
+{
+    let n = notes_on(classes, d, t);
+    tokens::word_here(classes, d, n, w)
+}
+
+// A statement that is a word and a string.
+pub fn text_on(classes: &[u8; 256], d: &[u8], t: Reading, w: &[u8]) -> Phrase
+    requires { ⌜ Classes (now classes) ⌝ }
+    ensures { λ r. ⌜ r ≡ textOn (now (d .entry)) t (now (w .entry)) ⌝ }
+{
+    let n = statement_on(classes, d, t, w);
+    tokens::string_on(classes, d, n)
+}
+
+// The version: the longest run of value bytes, which is to be 1.1 as text.
+fn version_at(classes: &[u8; 256], d: &[u8], n: usize) -> Reading
+    requires { ⌜ Classes (now classes) ⌝ }
+    ensures { λ r. ⌜ r ≡ versionHere (now (d .entry)) n ⌝ }
+{
+    let end = scan::value_run(classes, d, n);
+    if end == n {
+        return Reading::Refused(Fault {
+            number: 2,
+            place: n,
+        });
+    }
+    match scan::keyword(classes, d, n, b"1.1") {
+        Word::Matched(m) => {
+            if m == end {
+                return Reading::At(end);
+            }
+            Reading::Refused(Fault {
+                number: 4,
+                place: n,
+            })
+        }
+        Word::Not => Reading::Refused(Fault {
+            number: 4,
+            place: n,
+        }),
+    }
+}
+
+// SSS, with nothing before it, and VERSION 1.1.
+pub fn read_opening(classes: &[u8; 256], d: &[u8]) -> Reading
+    requires { ⌜ Classes (now classes) ⌝ }
+    ensures { λ r. ⌜ r ≡ openingOf (now (d .entry)) ⌝ }
+{
+    let start = scan::place_at(classes, d, 0);
+    let a = tokens::word_here(classes, d, Reading::At(start), b"SSS");
+    let b = tokens::spaces_on(classes, d, a);
+    let e = tokens::word_here(classes, d, b, b"VERSION");
+    match tokens::spaces_on(classes, d, e) {
+        Reading::At(n) => version_at(classes, d, n),
+        Reading::Refused(f) => Reading::Refused(f),
+    }
+}
+
+// RECORD and one letter.
+pub fn record_on(classes: &[u8; 256], d: &[u8], t: Reading) -> Reading
+    requires { ⌜ Classes (now classes) ⌝ }
+    ensures { λ r. ⌜ r ≡ recordOn (now (d .entry)) t ⌝ }
+{
+    let a = statement_on(classes, d, t, b"RECORD");
+    tokens::letter_on(classes, d, a)
+}
+
+// The type, 1 SINGLE, 2 MULTIPLE, 3 QUANTITY, 4 CHARACTER, 5 LOGICAL, and the place after its word.
+pub enum Typed {
+    Is { kind: usize, next: usize },
+    Not(Fault),
+}
+
+fn type_here(classes: &[u8; 256], d: &[u8], t: Reading) -> Typed
+    requires { ⌜ Classes (now classes) ⌝ }
+    ensures { λ r. ⌜ r ≡ typeHere (now (d .entry)) t ⌝ }
+{
+    if let Choice::Taken(next) = tokens::perhaps(classes, d, t, b"SINGLE") {
+        return Typed::Is { kind: 1, next };
+    }
+    if let Choice::Taken(next) = tokens::perhaps(classes, d, t, b"MULTIPLE") {
+        return Typed::Is { kind: 2, next };
+    }
+    if let Choice::Taken(next) = tokens::perhaps(classes, d, t, b"QUANTITY") {
+        return Typed::Is { kind: 3, next };
+    }
+    if let Choice::Taken(next) = tokens::perhaps(classes, d, t, b"CHARACTER") {
+        return Typed::Is { kind: 4, next };
+    }
+    match tokens::word_here(classes, d, t, b"LOGICAL") {
+        Reading::At(next) => Typed::Is { kind: 5, next },
+        Reading::Refused(f) => Typed::Not(f),
+    }
+}
+
+pub fn type_on(classes: &[u8; 256], d: &[u8], t: Reading) -> Typed
+    requires { ⌜ Classes (now classes) ⌝ }
+    ensures { λ r. ⌜ r ≡ typeOn (now (d .entry)) t ⌝ }
+{
+    let a = statement_on(classes, d, t, b"TYPE");
+    let g = tokens::gap_on(classes, d, a);
+    type_here(classes, d, g)
+}
+
+// POSITION a [TO b]: the first and the last location, the first number's place, and the place after the statement.
+pub struct Position {
+    pub start: u64,
+    pub finish: u64,
+    pub place: usize,
+    pub next: usize,
+}
+
+pub enum Stated {
+    Is(Position),
+    Not(Fault),
+}
+
+// What is wrong with two locations: 7 comes before 8, and an earlier place before a later.
+fn judge_position(classes: &[u8; 256], d: &[u8], a: Figures, b: Figures, next: usize) -> Stated
+    requires { ⌜ Classes (now classes) ⌝ }
+    ensures { λ r. ⌜ r ≡ judgePosition (now (d .entry)) a b next ⌝ }
+{
+    if a.size == 0 {
+        return Stated::Not(Fault {
+            number: 7,
+            place: a.place,
+        });
+    }
+    if scan::less(classes, d, b.place, b.next, a.place, a.next) {
+        return Stated::Not(Fault {
+            number: 7,
+            place: b.place,
+        });
+    }
+    if 16384 < a.size {
+        return Stated::Not(Fault {
+            number: 8,
+            place: a.place,
+        });
+    }
+    if 16384 < b.size {
+        return Stated::Not(Fault {
+            number: 8,
+            place: b.place,
+        });
+    }
+    Stated::Is(Position {
+        start: a.size,
+        finish: b.size,
+        place: a.place,
+        next,
+    })
+}
+
+// The first 2 or 3 met in a POSITION, and then what is wrong with its numbers.
+fn both(classes: &[u8; 256], d: &[u8], a: Number, b: Number, end: Reading) -> Stated
+    requires { ⌜ Classes (now classes) ⌝ }
+    ensures { λ r. ⌜ r ≡ bothOf (now (d .entry)) a b end ⌝ }
+{
+    match a {
+        Number::Is(x) => match b {
+            Number::Is(y) => match end {
+                Reading::At(n) => judge_position(classes, d, x, y, n),
+                Reading::Refused(f) => Stated::Not(f),
+            },
+            Number::Not(f) => Stated::Not(f),
+        },
+        Number::Not(f) => Stated::Not(f),
+    }
+}
+
+pub fn position_on(classes: &[u8; 256], d: &[u8], t: Reading) -> Stated
+    requires { ⌜ Classes (now classes) ⌝ }
+    ensures { λ r. ⌜ r ≡ positionOn (now (d .entry)) t ⌝ }
+{
+    let w = statement_on(classes, d, t, b"POSITION");
+    let a = tokens::number_on(classes, d, w);
+    let p = tokens::past_number(a);
+    let g = tokens::gap_on(classes, d, p);
+    match tokens::perhaps(classes, d, g, b"TO") {
+        Choice::Taken(m) => {
+            let b = tokens::number_on(classes, d, Reading::At(m));
+            let e = tokens::past_number(b);
+            both(classes, d, a, b, e)
+        }
+        Choice::Left => both(classes, d, a, a, g),
+    }
+}
+
+// SPREAD n [OF w]: how many subfields, of how many bytes each, and the place after the statement.
+pub struct Subfields {
+    pub count: u64,
+    pub width: u64,
+    pub next: usize,
+}
+
+pub enum Spreading {
+    Is(Subfields),
+    Not(Fault),
+}
+
+// With OF.
+fn judge_fields(n: Figures, w: Figures, next: usize) -> Spreading
+    ensures { λ r. ⌜ r ≡ judgeOf n w next ⌝ }
+{
+    if n.size == 0 {
+        return Spreading::Not(Fault {
+            number: 7,
+            place: n.place,
+        });
+    }
+    if w.size == 0 {
+        return Spreading::Not(Fault {
+            number: 7,
+            place: w.place,
+        });
+    }
+    Spreading::Is(Subfields {
+        count: n.size,
+        width: w.size,
+        next,
+    })
+}
+
+// Without OF n must divide the position's width exactly.
+fn judge_even(n: Figures, width: u64, next: usize) -> Spreading
+    ensures { λ r. ⌜ r ≡ judgeEven n width next ⌝ }
+{
+    let count = n.size;
+    if count == 0 {
+        return Spreading::Not(Fault {
+            number: 7,
+            place: n.place,
+        });
+    }
+    if width % count != 0 {
+        return Spreading::Not(Fault {
+            number: 7,
+            place: n.place,
+        });
+    }
+    Spreading::Is(Subfields {
+        count,
+        width: width / count,
+        next,
+    })
+}
+
+fn fields(a: Number, b: Number) -> Spreading
+    ensures { λ r. ⌜ r ≡ fieldsOf a b ⌝ }
+{
+    match a {
+        Number::Is(x) => match b {
+            Number::Is(y) => judge_fields(x, y, y.next),
+            Number::Not(f) => Spreading::Not(f),
+        },
+        Number::Not(f) => Spreading::Not(f),
+    }
+}
+
+fn even(a: Number, width: u64, end: Reading) -> Spreading
+    ensures { λ r. ⌜ r ≡ evenOf a width end ⌝ }
+{
+    match a {
+        Number::Is(x) => match end {
+            Reading::At(n) => judge_even(x, width, n),
+            Reading::Refused(f) => Spreading::Not(f),
+        },
+        Number::Not(f) => Spreading::Not(f),
+    }
+}
+
+// What stands behind the word SPREAD, for a position of so many bytes.
+pub fn spread_rest(classes: &[u8; 256], d: &[u8], t: Reading, width: u64) -> Spreading
+    requires { ⌜ Classes (now classes) ⌝ }
+    ensures { λ r. ⌜ r ≡ spreadRest (now (d .entry)) t width ⌝ }
+{
+    let a = tokens::number_on(classes, d, t);
+    let p = tokens::past_number(a);
+    let g = tokens::gap_on(classes, d, p);
+    match tokens::perhaps(classes, d, g, b"OF") {
+        Choice::Taken(m) => {
+            let b = tokens::number_on(classes, d, Reading::At(m));
+            fields(a, b)
+        }
+        Choice::Left => even(a, width, g),
+    }
+}
+
+fn judge_size(n: Number) -> Number
+    ensures { λ r. ⌜ r ≡ judgeSize n ⌝ }
+{
+    match n {
+        Number::Is(x) => {
+            if x.size == 0 {
+                return Number::Not(Fault {
+                    number: 7,
+                    place: x.place,
+                });
+            }
+            if 4096 < x.size {
+                return Number::Not(Fault {
+                    number: 8,
+                    place: x.place,
+                });
+            }
+            Number::Is(x)
+        }
+        Number::Not(f) => Number::Not(f),
+    }
+}
+
+pub fn size_on(classes: &[u8; 256], d: &[u8], t: Reading) -> Number
+    requires { ⌜ Classes (now classes) ⌝ }
+    ensures { λ r. ⌜ r ≡ sizeOn (now (d .entry)) t ⌝ }
+{
+    let w = statement_on(classes, d, t, b"SIZE");
+    let n = tokens::number_on(classes, d, w);
+    judge_size(n)
+}

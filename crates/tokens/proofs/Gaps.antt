@@ -1,0 +1,46 @@
+-- A gap is its first space or comment, and then the gap from its end on.
+use mathlib.Core.Path.{_≡_, refl, _∙_, sym}
+use mathlib.Core.Bool.{Bool, true, false, cond}
+use mathlib.Core.List.{List}
+use Prim.Native.Nat.{ℕ, _+_, _-_, _≤_, _<_}
+use native.Mathlib.Omega.{arith}
+use lib.Dec.{eqb}
+use lib.ListN.{length}
+use Rattle.scan.specs.Text.{Text, stop, sign, text}
+use Rattle.scan.specs.Number.{isSpace}
+use Rattle.scan.specs.Loop.{Next, Again, Done, loopOf}
+use Rattle.scan.proofs.Texts.{From, at-stop, at-sign, from-text}
+use Rattle.scan.proofs.Loops.{loop-again, loop-done}
+use Rattle.marks.specs.declared.Skip.{Skip}
+use Rattle.marks.specs.declared.Skip.the-variants.{Past, Unclosed, Bad}
+use Rattle.marks.specs.Marks.{commentOf}
+use Rattle.marks.proofs.Levels.{Ahead, by-past, by-none, by-bad, comment-ahead}
+use Rattle.tokens.specs.declared.Reading.{Reading}
+use Rattle.tokens.specs.declared.Reading.the-variants.{At, Refused}
+use Rattle.tokens.specs.Gap.{gapSkip, gapStep, gapAt}
+
+skip-less : (p : ℕ) {n : ℕ} {r : Skip} → Ahead (p + 1) r → gapSkip p r ≡ Again n → p + 1 < n
+skip-less p {n = n} (by-past {n = m} h) e = let q : m ≡ n = cc in omega arith
+skip-less p by-none e = let z : _≡_ {A = ℕ} 0 1 = cc in omega arith
+skip-less p by-bad e = let z : _≡_ {A = ℕ} 0 1 = cc in omega arith
+
+step-less : {at p n : ℕ} {r : Skip} (q q′ : Bool) → at ≤ p → Ahead (p + 1) r → cond q (Again (p + 1)) (cond q′ (gapSkip p r) (Done (At p))) ≡ Again n → at < n
+step-less {p = p} {n = n} true q′ h a e = let j : p + 1 ≡ n = cc in omega arith
+step-less {p = p} false true h a e = omega (arith, skip-less p a e)
+step-less false false h a e = let z : _≡_ {A = ℕ} 0 1 = cc in omega arith
+
+pub gap-less : (d : List ℕ) {at n : ℕ} {t : Text} → From d at t → gapStep t ≡ Again n → length d - n < length d - at
+unfolding gapStep
+gap-less d at-stop e = let z : _≡_ {A = ℕ} 0 1 = cc in omega arith
+gap-less d {at} {n} (at-sign {p = p} {b = b} h w _ r) e =
+    let l = step-less (isSpace b) (eqb b 60) h (comment-ahead d r 1) e in
+    omega arith
+
+module _ (d : List ℕ) (n : ℕ) where
+  pub gap-again : {m : ℕ} → gapStep (text d n) ≡ Again m → gapAt d n ≡ gapAt d m
+  unfolding gapAt
+  gap-again e = loop-again (λ n. gapStep (text d n)) (At 0) (λ n. length d - n) (λ s s′. gap-less d (from-text d s)) e
+
+  pub gap-done : {g : Reading} → gapStep (text d n) ≡ Done g → gapAt d n ≡ g
+  unfolding gapAt
+  gap-done e = loop-done (λ n. gapStep (text d n)) (At 0) (λ n. length d - n) (λ s s′. gap-less d (from-text d s)) e

@@ -1,0 +1,377 @@
+// The tokens of a definition, each with the spaces and comments before it: words, numbers, values, strings, a letter. A refusal
+// passes through every reader, so that a statement is a row of calls. Above it stand the statements.
+use marks::Skip;
+use scan::Step;
+use scan::Word;
+ghost use mathlib.Core.Path.{_≡_};
+ghost use Rattle.ascii.specs.Class.{Classes};
+ghost use Rattle.scan.specs.Text.{text};
+ghost use Rattle.tokens.specs.Gap.{gapAt, gapOn, spacesOn};
+ghost use Rattle.tokens.specs.Token.{wordHere, wordOn, choiceOf, numberHere, numberOn, pastNumber, markOf, valueAt, valueHere, valueOn, pastValue, stringIn, stringOn, pastString, letterIn, letterOn};
+
+// A refusal: its number, and the place of the token at fault.
+pub struct Fault {
+    pub number: usize,
+    pub place: usize,
+}
+
+// Where reading stands, or the refusal that ended it.
+pub enum Reading {
+    At(usize),
+    Refused(Fault),
+}
+
+// The spaces and comments from a place on: the place of the token behind them.
+pub fn skip_gap(classes: &[u8; 256], d: &[u8], at: usize) -> Reading
+    requires { ⌜ Classes (now classes) ⌝ }
+    ensures { λ r. ⌜ r ≡ gapAt (now (d .entry)) at ⌝ }
+{
+    let mut n = at;
+    loop {
+        match scan::next_byte(classes, d, n) {
+            Step::Byte { byte, place, next } => {
+                if ascii::class_of(classes, byte) == ascii::SPACE {
+                    n = next;
+                } else {
+                    if byte != 60 {
+                        return Reading::At(place);
+                    }
+                    match marks::comment(classes, d, next, 1) {
+                        Skip::Past(m) => {
+                            n = m;
+                        }
+                        Skip::Unclosed => {
+                            return Reading::Refused(Fault { number: 3, place });
+                        }
+                        Skip::Bad(p) => {
+                            return Reading::Refused(Fault {
+                                number: 3,
+                                place: p,
+                            });
+                        }
+                    }
+                }
+            }
+            Step::End { place } => {
+                return Reading::At(place);
+            }
+        }
+    }
+}
+
+pub fn gap_on(classes: &[u8; 256], d: &[u8], t: Reading) -> Reading
+    requires { ⌜ Classes (now classes) ⌝ }
+    ensures { λ r. ⌜ r ≡ gapOn (now (d .entry)) t ⌝ }
+{
+    match t {
+        Reading::At(n) => skip_gap(classes, d, n),
+        Reading::Refused(f) => Reading::Refused(f),
+    }
+}
+
+// Spaces alone: before the end of the VERSION statement no comment stands.
+pub fn spaces_on(classes: &[u8; 256], d: &[u8], t: Reading) -> Reading
+    requires { ⌜ Classes (now classes) ⌝ }
+    ensures { λ r. ⌜ r ≡ spacesOn (now (d .entry)) t ⌝ }
+{
+    match t {
+        Reading::At(n) => {
+            let m = scan::spaces(classes, d, n);
+            Reading::At(scan::place_at(classes, d, m))
+        }
+        Reading::Refused(f) => Reading::Refused(f),
+    }
+}
+
+// A word that is due right here.
+pub fn word_here(classes: &[u8; 256], d: &[u8], t: Reading, w: &[u8]) -> Reading
+    requires { ⌜ Classes (now classes) ⌝ }
+    ensures { λ r. ⌜ r ≡ wordHere (now (d .entry)) t (now (w .entry)) ⌝ }
+{
+    match t {
+        Reading::At(n) => match scan::keyword(classes, d, n, w) {
+            Word::Matched(m) => Reading::At(m),
+            Word::Not => Reading::Refused(Fault {
+                number: 2,
+                place: n,
+            }),
+        },
+        Reading::Refused(f) => Reading::Refused(f),
+    }
+}
+
+pub fn word_on(classes: &[u8; 256], d: &[u8], t: Reading, w: &[u8]) -> Reading
+    requires { ⌜ Classes (now classes) ⌝ }
+    ensures { λ r. ⌜ r ≡ wordOn (now (d .entry)) t (now (w .entry)) ⌝ }
+{
+    let g = gap_on(classes, d, t);
+    word_here(classes, d, g, w)
+}
+
+// A word that may stand right here, and the place after it.
+pub enum Choice {
+    Taken(usize),
+    Left,
+}
+
+pub fn perhaps(classes: &[u8; 256], d: &[u8], t: Reading, w: &[u8]) -> Choice
+    requires { ⌜ Classes (now classes) ⌝ }
+    ensures { λ r. ⌜ r ≡ choiceOf (now (d .entry)) t (now (w .entry)) ⌝ }
+{
+    match t {
+        Reading::At(n) => match scan::keyword(classes, d, n, w) {
+            Word::Matched(m) => Choice::Taken(m),
+            Word::Not => Choice::Left,
+        },
+        Reading::Refused(_) => Choice::Left,
+    }
+}
+
+// A number that was read: what it says, at most 10 ^ 15, how many digits it has, its place and the place after it.
+pub struct Figures {
+    pub size: u64,
+    pub count: usize,
+    pub place: usize,
+    pub next: usize,
+}
+
+pub enum Number {
+    Is(Figures),
+    Not(Fault),
+}
+
+pub fn number_here(classes: &[u8; 256], d: &[u8], t: Reading) -> Number
+    requires { ⌜ Classes (now classes) ⌝ }
+    ensures { λ r. ⌜ r ≡ numberHere (now (d .entry)) t ⌝ }
+{
+    match t {
+        Reading::At(n) => {
+            let r = scan::read_digits(classes, d, n, 0);
+            if r.count == 0 {
+                return Number::Not(Fault {
+                    number: 2,
+                    place: n,
+                });
+            }
+            Number::Is(Figures {
+                size: r.size,
+                count: r.count,
+                place: n,
+                next: r.next,
+            })
+        }
+        Reading::Refused(f) => Number::Not(f),
+    }
+}
+
+pub fn number_on(classes: &[u8; 256], d: &[u8], t: Reading) -> Number
+    requires { ⌜ Classes (now classes) ⌝ }
+    ensures { λ r. ⌜ r ≡ numberOn (now (d .entry)) t ⌝ }
+{
+    let g = gap_on(classes, d, t);
+    number_here(classes, d, g)
+}
+
+pub fn past_number(n: Number) -> Reading
+    ensures { λ r. ⌜ r ≡ pastNumber n ⌝ }
+{
+    match n {
+        Number::Is(f) => Reading::At(f.next),
+        Number::Not(f) => Reading::Refused(f),
+    }
+}
+
+// Whether a byte stands at a place, and the place after it or the same place.
+pub struct Mark {
+    pub there: bool,
+    pub next: usize,
+}
+
+pub fn find_mark(classes: &[u8; 256], d: &[u8], at: usize, b: u8) -> Mark
+    requires { ⌜ Classes (now classes) ⌝ }
+    ensures { λ r. ⌜ r ≡ markOf at b (text (now (d .entry)) at) ⌝ }
+{
+    match scan::next_byte(classes, d, at) {
+        Step::Byte {
+            byte,
+            place: _,
+            next,
+        } => {
+            if byte == b {
+                return Mark { there: true, next };
+            }
+            Mark {
+                there: false,
+                next: at,
+            }
+        }
+        Step::End { place: _ } => Mark {
+            there: false,
+            next: at,
+        },
+    }
+}
+
+// A value that was read: whether a minus stands in front; what its digits say, the point left out, at most 10 ^ 15; how many of
+// them stand before the point and behind it; whether there is a point; whether all of it is so: a minus or none, digits, a point
+// or none, digits, at least one digit in all. Then its place, the places where its digits begin and end, and the place after it.
+pub struct Value {
+    pub minus: bool,
+    pub size: u64,
+    pub whole: usize,
+    pub decimals: usize,
+    pub point: bool,
+    pub formed: bool,
+    pub place: usize,
+    pub first: usize,
+    pub last: usize,
+    pub next: usize,
+}
+
+pub enum Amount {
+    Is(Value),
+    Not(Fault),
+}
+
+pub fn read_value(classes: &[u8; 256], d: &[u8], at: usize) -> Value
+    requires { ⌜ Classes (now classes) ⌝ }
+    ensures { λ r. ⌜ r ≡ valueAt (now (d .entry)) at ⌝ }
+{
+    let sign = find_mark(classes, d, at, b'-');
+    let whole = scan::read_digits(classes, d, sign.next, 0);
+    let dot = find_mark(classes, d, whole.next, b'.');
+    let rest = scan::read_digits(classes, d, dot.next, whole.size);
+    let end = scan::value_run(classes, d, rest.next);
+    Value {
+        minus: sign.there,
+        size: rest.size,
+        whole: whole.count,
+        decimals: rest.count,
+        point: dot.there,
+        formed: (end == rest.next) & ((0 < whole.count) | (0 < rest.count)),
+        place: at,
+        first: sign.next,
+        last: rest.next,
+        next: end,
+    }
+}
+
+pub fn value_here(classes: &[u8; 256], d: &[u8], t: Reading) -> Amount
+    requires { ⌜ Classes (now classes) ⌝ }
+    ensures { λ r. ⌜ r ≡ valueHere (now (d .entry)) t ⌝ }
+{
+    match t {
+        Reading::At(n) => {
+            let v = read_value(classes, d, n);
+            if v.next == n {
+                return Amount::Not(Fault {
+                    number: 2,
+                    place: n,
+                });
+            }
+            Amount::Is(v)
+        }
+        Reading::Refused(f) => Amount::Not(f),
+    }
+}
+
+pub fn value_on(classes: &[u8; 256], d: &[u8], t: Reading) -> Amount
+    requires { ⌜ Classes (now classes) ⌝ }
+    ensures { λ r. ⌜ r ≡ valueOn (now (d .entry)) t ⌝ }
+{
+    let g = gap_on(classes, d, t);
+    value_here(classes, d, g)
+}
+
+pub fn past_value(v: Amount) -> Reading
+    ensures { λ r. ⌜ r ≡ pastValue v ⌝ }
+{
+    match v {
+        Amount::Is(f) => Reading::At(f.next),
+        Amount::Not(f) => Reading::Refused(f),
+    }
+}
+
+// A string that was read: the place just after its opening quote, how many bytes it has up to its closing quote, undecoded, and
+// the place after that quote.
+pub struct Quoted {
+    pub place: usize,
+    pub length: usize,
+    pub next: usize,
+}
+
+pub enum Phrase {
+    Is(Quoted),
+    Not(Fault),
+}
+
+pub fn string_at(classes: &[u8; 256], d: &[u8], at: usize) -> Phrase
+    requires { ⌜ Classes (now classes) ⌝ }
+    ensures { λ r. ⌜ r ≡ stringIn (text (now (d .entry)) at) ⌝ }
+{
+    match scan::next_byte(classes, d, at) {
+        Step::Byte { byte, place, next } => {
+            if byte != 34 {
+                return Phrase::Not(Fault { number: 2, place });
+            }
+            match marks::string(classes, d, next) {
+                Skip::Past(m) => Phrase::Is(Quoted {
+                    place: next,
+                    length: m - next - 1,
+                    next: m,
+                }),
+                Skip::Unclosed => Phrase::Not(Fault { number: 3, place }),
+                Skip::Bad(p) => Phrase::Not(Fault {
+                    number: 3,
+                    place: p,
+                }),
+            }
+        }
+        Step::End { place } => Phrase::Not(Fault { number: 2, place }),
+    }
+}
+
+pub fn string_on(classes: &[u8; 256], d: &[u8], t: Reading) -> Phrase
+    requires { ⌜ Classes (now classes) ⌝ }
+    ensures { λ r. ⌜ r ≡ stringOn (now (d .entry)) t ⌝ }
+{
+    match gap_on(classes, d, t) {
+        Reading::At(n) => string_at(classes, d, n),
+        Reading::Refused(f) => Phrase::Not(f),
+    }
+}
+
+pub fn past_string(s: Phrase) -> Reading
+    ensures { λ r. ⌜ r ≡ pastString s ⌝ }
+{
+    match s {
+        Phrase::Is(q) => Reading::At(q.next),
+        Phrase::Not(f) => Reading::Refused(f),
+    }
+}
+
+// One letter.
+pub fn letter_at(classes: &[u8; 256], d: &[u8], at: usize) -> Reading
+    requires { ⌜ Classes (now classes) ⌝ }
+    ensures { λ r. ⌜ r ≡ letterIn (text (now (d .entry)) at) ⌝ }
+{
+    match scan::next_byte(classes, d, at) {
+        Step::Byte { byte, place, next } => {
+            if ascii::class_of(classes, byte) == ascii::LETTER {
+                return Reading::At(next);
+            }
+            Reading::Refused(Fault { number: 2, place })
+        }
+        Step::End { place } => Reading::Refused(Fault { number: 2, place }),
+    }
+}
+
+pub fn letter_on(classes: &[u8; 256], d: &[u8], t: Reading) -> Reading
+    requires { ⌜ Classes (now classes) ⌝ }
+    ensures { λ r. ⌜ r ≡ letterOn (now (d .entry)) t ⌝ }
+{
+    match gap_on(classes, d, t) {
+        Reading::At(n) => letter_at(classes, d, n),
+        Reading::Refused(f) => Reading::Refused(f),
+    }
+}

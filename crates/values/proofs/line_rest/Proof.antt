@@ -1,0 +1,33 @@
+use mathlib.Core.Path.{_∙_, sym}
+use Rattle.values.specs.Line.{lineRest}
+use borrow.Author.Needs.{needs}
+use Rattle.values.proofs.line_rest.Statement.{statement}
+use Rattle.values.proofs.line_rest.Tie as tie
+
+returns : tie.Need-returns
+unfolding lineRest
+returns c =
+    rw (
+      sym (c .before .before .before .before .before .before .before .before .before .past-value .ensures),
+      sym (c .before .before .before .before .before .before .before .before .string-on .ensures),
+      sym (c .before .before .before .before .before .before .before .past-string .ensures),
+      sym (c .before .before .before .before .before .before .gap-on .ensures),
+      sym (c .before .before .before .before .perhaps .ensures) ∙ c .before .before .m .given .1,
+      sym (c .join-line .ensures),
+    )
+
+returns-2 : tie.Need-returns-2
+unfolding lineRest
+returns-2 c =
+    rw (
+      sym (c .before .before .before .before .before .before .before .before .past-value .ensures),
+      sym (c .before .before .before .before .before .before .before .string-on .ensures),
+      sym (c .before .before .before .before .before .before .past-string .ensures),
+      sym (c .before .before .before .before .before .gap-on .ensures),
+      sym (c .before .before .before .perhaps .ensures) ∙ c .before .enum-told .given .1,
+      sym (c .join-line2 .ensures),
+    )
+
+pub line-rest-spec : {M : Type 1} → statement M
+line-rest-spec =
+    tie.close (tie.spec (λ c κs. search needs) (λ c κs. search needs) (λ c κs. search needs) (λ c κs. search needs) (λ c. search needs) (λ c κs. search needs) (λ c. search needs) (λ c κs. search needs) (λ c. search needs) (λ c κs. search needs) returns returns-2)

@@ -1,0 +1,4 @@
+pub mod Value
+pub mod Range
+pub mod Line
+pub mod Block

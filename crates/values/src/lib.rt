@@ -1,0 +1,609 @@
+// The values of a variable: a range, and the lines, each read whole and then judged. The numbers of the lines go into a lent list,
+// four a line. Above it stands the definition as a whole.
+use tokens::Amount;
+use tokens::Choice;
+use tokens::Fault;
+use tokens::Phrase;
+use tokens::Quoted;
+use tokens::Reading;
+use tokens::Value;
+ghost use mathlib.Core.Path.{_≡_};
+ghost use mathlib.Core.Bool.{false};
+ghost use Prim.Native.Nat.{_+_, _*_, _-_, _≤_, _<_};
+ghost use lib.ListN.{length, take};
+ghost use lib.Signed.{ltZ};
+ghost use Rattle.ascii.specs.Class.{Classes};
+ghost use Rattle.cells.specs.Cell.{cell, pasted};
+ghost use Rattle.values.specs.Value.{formOf, largeOf, trueOf, scaledOf, pointOf};
+ghost use Rattle.values.specs.Range.{judgeRange, settled, rangedOf, rangeRest};
+ghost use Rattle.values.specs.Line.{saidOf, lineRest, repeatedIn, Topped, lineFault, judgeLine, higherOf, grownBy, lineCells, endOf, moreOf, storable, stateOf, judgedTurn, judgedRoom, turnOf, roomAfter, linesFrom};
+ghost use Rattle.values.specs.Block.{emptyBlock, closedBy, rangeThen, valuesOn};
+
+// What the values of a variable have said so far: whether there is a range, and its ends; whether a number was read, and then how
+// many decimals all have; the code of the point, 0 none, 1 one; and a number that no line's value lies above.
+pub struct Block {
+    pub ranged: bool,
+    pub from: i64,
+    pub to: i64,
+    pub known: bool,
+    pub decimals: usize,
+    pub point: usize,
+    pub top: i64,
+}
+
+// Whether a value has the form of its type: a category is digits alone, and above 0.
+pub fn formed(quantity: bool, v: Value) -> bool
+    ensures { λ r. ⌜ r ≡ formOf quantity v ⌝ }
+{
+    if quantity {
+        return v.formed;
+    }
+    v.formed & (!v.minus & (!v.point & (0 < v.size)))
+}
+
+// Whether a value passes the limits of its type.
+pub fn large(quantity: bool, v: Value) -> bool
+    ensures { λ r. ⌜ r ≡ largeOf quantity v ⌝ }
+{
+    if quantity {
+        return (999_999_999_999_999 < v.size) | (9 < v.decimals);
+    }
+    9_999 < v.size
+}
+
+// Whether b lies below a, by their true values.
+pub fn reversed(classes: &[u8; 256], d: &[u8], a: Value, b: Value) -> bool
+    requires { ⌜ Classes (now classes) ⌝ }
+    ensures { λ r. ⌜ r ≡ ltZ (trueOf (now (d .entry)) b) (trueOf (now (d .entry)) a) ⌝ }
+{
+    if a.minus {
+        if b.minus {
+            return scan::less(classes, d, a.first, a.last, b.first, b.last);
+        }
+        return false;
+    }
+    if b.minus {
+        // one of them is not zero
+        let zero = scan::less(classes, d, 0, 0, a.first, a.last);
+        return zero | scan::less(classes, d, 0, 0, b.first, b.last);
+    }
+    scan::less(classes, d, b.first, b.last, a.first, a.last)
+}
+
+// The code of the point.
+fn point_code(point: bool) -> usize
+    ensures { λ r. ⌜ r ≡ pointOf point ⌝ }
+{
+    if point { 1 } else { 0 }
+}
+
+// The number that a value says, scaled, where it passes no limit.
+fn scaled(quantity: bool, v: Value) -> i64
+    requires { ⌜ largeOf quantity v ≡ false ⌝ }
+    ensures { λ r. ⌜ r ≡ scaledOf v ⌝ }
+{
+    cells::number_of(v.minus, v.size)
+}
+
+pub enum Judged {
+    Good(Block),
+    Bad(Fault),
+}
+
+// A range: 6 at each value of wrong form, and at the second where decimals differ or the range is reversed; then 8 at each.
+fn judge_range(classes: &[u8; 256], d: &[u8], quantity: bool, a: Value, b: Value) -> Judged
+    requires { ⌜ Classes (now classes) ⌝ }
+    ensures { λ r. ⌜ r ≡ judgeRange (now (d .entry)) quantity a b ⌝ }
+{
+    if !formed(quantity, a) {
+        return Judged::Bad(Fault {
+            number: 6,
+            place: a.place,
+        });
+    }
+    if !formed(quantity, b) {
+        return Judged::Bad(Fault {
+            number: 6,
+            place: b.place,
+        });
+    }
+    if a.decimals != b.decimals {
+        return Judged::Bad(Fault {
+            number: 6,
+            place: b.place,
+        });
+    }
+    if reversed(classes, d, a, b) {
+        return Judged::Bad(Fault {
+            number: 6,
+            place: b.place,
+        });
+    }
+    if large(quantity, a) {
+        return Judged::Bad(Fault {
+            number: 8,
+            place: a.place,
+        });
+    }
+    if large(quantity, b) {
+        return Judged::Bad(Fault {
+            number: 8,
+            place: b.place,
+        });
+    }
+    let from = scaled(quantity, a);
+    let to = scaled(quantity, b);
+    let point = point_code(a.point | b.point);
+    Judged::Good(Block {
+        ranged: true,
+        from,
+        to,
+        known: true,
+        decimals: a.decimals,
+        point,
+        top: -1_000_000_000_000_000,
+    })
+}
+
+// A range that was read: what it says, whether WITH follows, and the place after it.
+pub enum Ranged {
+    Is {
+        block: Block,
+        with: bool,
+        next: usize,
+    },
+    Not(Fault),
+}
+
+fn settle(
+    classes: &[u8; 256],
+    d: &[u8],
+    quantity: bool,
+    a: Value,
+    b: Value,
+    with: bool,
+    next: usize,
+) -> Ranged
+    requires { ⌜ Classes (now classes) ⌝ }
+    ensures { λ r. ⌜ r ≡ settled (judgeRange (now (d .entry)) quantity a b) with next ⌝ }
+{
+    match judge_range(classes, d, quantity, a, b) {
+        Judged::Good(block) => Ranged::Is { block, with, next },
+        Judged::Bad(f) => Ranged::Not(f),
+    }
+}
+
+// The first 2 or 3 met in a range, and then what is wrong with its values.
+fn join_range(
+    classes: &[u8; 256],
+    d: &[u8],
+    quantity: bool,
+    a: Amount,
+    b: Amount,
+    end: Reading,
+    with: bool,
+) -> Ranged
+    requires { ⌜ Classes (now classes) ⌝ }
+    ensures { λ r. ⌜ r ≡ rangedOf (now (d .entry)) quantity a b end with ⌝ }
+{
+    match a {
+        Amount::Not(f) => Ranged::Not(f),
+        Amount::Is(x) => match b {
+            Amount::Not(f) => Ranged::Not(f),
+            Amount::Is(y) => match end {
+                Reading::Refused(f) => Ranged::Not(f),
+                Reading::At(next) => settle(classes, d, quantity, x, y, with, next),
+            },
+        },
+    }
+}
+
+// What stands behind the TO of a range that begins with a.
+pub fn range_rest(classes: &[u8; 256], d: &[u8], quantity: bool, a: Amount, t: Reading) -> Ranged
+    requires { ⌜ Classes (now classes) ⌝ }
+    ensures { λ r. ⌜ r ≡ rangeRest (now (d .entry)) quantity a t ⌝ }
+{
+    let b = tokens::value_on(classes, d, t);
+    let p = tokens::past_value(b);
+    let g = tokens::gap_on(classes, d, p);
+    match tokens::perhaps(classes, d, g, b"WITH") {
+        Choice::Taken(m) => join_range(classes, d, quantity, a, b, Reading::At(m), true),
+        Choice::Left => join_range(classes, d, quantity, a, b, g, false),
+    }
+}
+
+// A line that was read: its value, its text, whether it is special, 0 or 1, and the place after it.
+pub struct Said {
+    pub value: Value,
+    pub text: Quoted,
+    pub special: usize,
+    pub next: usize,
+}
+
+pub enum Lined {
+    Is(Said),
+    Not(Fault),
+}
+
+// The first 2 or 3 met in a line.
+fn join_line(a: Amount, q: Phrase, special: usize, end: Reading) -> Lined
+    ensures { λ r. ⌜ r ≡ saidOf a q special end ⌝ }
+{
+    match a {
+        Amount::Not(f) => Lined::Not(f),
+        Amount::Is(value) => match q {
+            Phrase::Not(f) => Lined::Not(f),
+            Phrase::Is(text) => match end {
+                Reading::Refused(f) => Lined::Not(f),
+                Reading::At(next) => Lined::Is(Said {
+                    value,
+                    text,
+                    special,
+                    next,
+                }),
+            },
+        },
+    }
+}
+
+// A line whose value is a: a string, and SPECIAL or not.
+fn line_rest(classes: &[u8; 256], d: &[u8], a: Amount) -> Lined
+    requires { ⌜ Classes (now classes) ⌝ }
+    ensures { λ r. ⌜ r ≡ lineRest (now (d .entry)) a ⌝ }
+{
+    let p = tokens::past_value(a);
+    let q = tokens::string_on(classes, d, p);
+    let s = tokens::past_string(q);
+    let g = tokens::gap_on(classes, d, s);
+    match tokens::perhaps(classes, d, g, b"SPECIAL") {
+        Choice::Taken(m) => join_line(a, q, 1, Reading::At(m)),
+        Choice::Left => join_line(a, q, 0, g),
+    }
+}
+
+// Whether a line from the first to the last but one says z. Where z lies above them all none does.
+fn repeated(lines: &[i64], first: usize, last: usize, top: i64, z: i64) -> bool
+    requires { ⌜ (4 * last ≤ length (now lines)) × (first ≤ last) × (last ≤ 4096) ⌝ }
+    requires { ⌜ Topped (now lines) first last top ⌝ }
+    ensures { λ r. ⌜ r ≡ repeatedIn (now (lines .entry)) first last z ⌝ }
+{
+    if !cells::not_above(z, top) {
+        return false;
+    }
+    let mut i: usize = first;
+    while i < last {
+        let x = lines[4 * i];
+        if cells::same(x, z) {
+            return true;
+        }
+        i += 1;
+    }
+    false
+}
+
+// What is wrong with a line's value by itself: 6 for its form or its decimals, 8 for its size, 0 for nothing.
+fn line_fault(quantity: bool, b: Block, v: Value) -> usize
+    ensures { λ r. ⌜ r ≡ lineFault quantity b v ⌝ }
+{
+    if !formed(quantity, v) {
+        return 6;
+    }
+    if b.known & (v.decimals != b.decimals) {
+        return 6;
+    }
+    if large(quantity, v) { 8 } else { 0 }
+}
+
+pub enum Verdict {
+    Good(i64),
+    Bad(Fault),
+}
+
+// A line: a value too large repeats none, so that it may be judged first.
+fn judge_line(
+    lines: &[i64],
+    first: usize,
+    last: usize,
+    quantity: bool,
+    b: Block,
+    v: Value,
+) -> Verdict
+    requires { ⌜ (4 * last ≤ length (now lines)) × (first ≤ last) × (last ≤ 4096) ⌝ }
+    requires { ⌜ Topped (now lines) first last (b .top) ⌝ }
+    ensures { λ r. ⌜ r ≡ judgeLine (now (lines .entry)) first last quantity b v ⌝ }
+{
+    let f = line_fault(quantity, b, v);
+    if f != 0 {
+        return Verdict::Bad(Fault {
+            number: f,
+            place: v.place,
+        });
+    }
+    let z = scaled(quantity, v);
+    if repeated(lines, first, last, b.top, z) {
+        return Verdict::Bad(Fault {
+            number: 6,
+            place: v.place,
+        });
+    }
+    if 4096 <= last {
+        return Verdict::Bad(Fault {
+            number: 8,
+            place: v.place,
+        });
+    }
+    Verdict::Good(z)
+}
+
+fn higher(a: i64, b: i64) -> i64
+    ensures { λ r. ⌜ r ≡ higherOf a b ⌝ }
+{
+    if cells::not_above(a, b) { b } else { a }
+}
+
+// A block with one more line, of the value v, which says z.
+fn grown(b: Block, v: Value, z: i64) -> Block
+    ensures { λ r. ⌜ r ≡ grownBy b v z ⌝ }
+{
+    let from = b.from;
+    let to = b.to;
+    let top = higher(b.top, z);
+    let point = point_code((0 < b.point) | v.point);
+    Block {
+        ranged: b.ranged,
+        from,
+        to,
+        known: true,
+        decimals: v.decimals,
+        point,
+        top,
+    }
+}
+
+// What follows a line: another value, or END VALUES and the place after it.
+pub enum Turn {
+    More { amount: Amount, block: Block },
+    Over { block: Block, next: usize },
+    Not(Fault),
+}
+
+fn end_values(b: Block, t: Reading) -> Turn
+    ensures { λ r. ⌜ r ≡ endOf b t ⌝ }
+{
+    match t {
+        Reading::At(next) => Turn::Over { block: b, next },
+        Reading::Refused(f) => Turn::Not(f),
+    }
+}
+
+fn more(classes: &[u8; 256], d: &[u8], b: Block, next: usize) -> Turn
+    requires { ⌜ Classes (now classes) ⌝ }
+    ensures { λ r. ⌜ r ≡ moreOf (now (d .entry)) b next ⌝ }
+{
+    let t = statements::notes_on(classes, d, Reading::At(next));
+    match tokens::perhaps(classes, d, t, b"END") {
+        Choice::Taken(m) => {
+            let e = tokens::word_on(classes, d, Reading::At(m), b"VALUES");
+            end_values(b, e)
+        }
+        Choice::Left => {
+            let a = tokens::value_here(classes, d, t);
+            Turn::More {
+                amount: a,
+                block: b,
+            }
+        }
+    }
+}
+
+// The four numbers of a line at the place of the line with this number.
+fn store(lines: &mut [i64], last: usize, z: i64, s: Said)
+    requires { ⌜ (4 * last + 4 ≤ length (now lines)) × (last ≤ 4096) ⌝ }
+    requires { ⌜ storable s ⌝ }
+    ensures { λ _. ⌜ now (lines .exit) ≡ pasted (now (lines .entry)) (4 * last) (lineCells z s) ⌝ }
+{
+    let text = s.text;
+    let numbers = [
+        z,
+        cells::cell_of(s.special),
+        cells::cell_of(text.place),
+        cells::cell_of(text.length),
+    ];
+    cells::paste(lines, 4 * last, &numbers);
+}
+
+// A line that was read: judged, and if it stands stored, and what follows it.
+fn place_line(
+    classes: &[u8; 256],
+    d: &[u8],
+    quantity: bool,
+    first: usize,
+    s: Said,
+    b: Block,
+    last: usize,
+    lines: &mut [i64],
+) -> Turn
+    requires { ⌜ Classes (now classes) ⌝ }
+    requires { ⌜ (length (now lines) ≡ 16384) × (first ≤ last) × (last ≤ 4096) ⌝ }
+    requires { ⌜ Topped (now lines) first last (b .top) ⌝ }
+    requires { ⌜ storable s ⌝ }
+    ensures { λ r. ⌜ r ≡ judgedTurn (now (d .entry)) b s (judgeLine (now (lines .entry)) first last quantity b (s .value)) ⌝ }
+    ensures { λ r. ⌜ now (lines .exit) ≡ judgedRoom (now (lines .entry)) last s (judgeLine (now (lines .entry)) first last quantity b (s .value)) ⌝ }
+{
+    let v = s.value;
+    match judge_line(lines, first, last, quantity, b, v) {
+        Verdict::Good(z) => {
+            store(lines, last, z, s);
+            let g = grown(b, v, z);
+            more(classes, d, g, s.next)
+        }
+        Verdict::Bad(f) => Turn::Not(f),
+    }
+}
+
+// One line, whose value is a.
+fn one_line(
+    classes: &[u8; 256],
+    d: &[u8],
+    quantity: bool,
+    first: usize,
+    a: Amount,
+    b: Block,
+    last: usize,
+    lines: &mut [i64],
+) -> Turn
+    requires { ⌜ Classes (now classes) ⌝ }
+    requires { ⌜ length (now d) ≤ 1048576 ⌝ }
+    requires { ⌜ (length (now lines) ≡ 16384) × (first ≤ last) × (last ≤ 4096) ⌝ }
+    requires { ⌜ Topped (now lines) first last (b .top) ⌝ }
+    ensures { λ r. ⌜ r ≡ turnOf (now (d .entry)) quantity first (stateOf a b last (now (lines .entry))) ⌝ }
+    ensures { λ r. ⌜ now (lines .exit) ≡ roomAfter (now (d .entry)) quantity first (stateOf a b last (now (lines .entry))) ⌝ }
+{
+    match line_rest(classes, d, a) {
+        Lined::Is(s) => place_line(classes, d, quantity, first, s, b, last, lines),
+        Lined::Not(f) => Turn::Not(f),
+    }
+}
+
+// Lines up to END VALUES: what the block has said, how many lines there are in all, and the place after END VALUES.
+pub enum Listed {
+    Is {
+        block: Block,
+        last: usize,
+        next: usize,
+    },
+    Not(Fault),
+}
+
+pub fn read_lines(
+    classes: &[u8; 256],
+    d: &[u8],
+    quantity: bool,
+    a: Amount,
+    b: Block,
+    first: usize,
+    lines: &mut [i64],
+) -> Listed
+    requires { ⌜ Classes (now classes) ⌝ }
+    requires { ⌜ length (now d) ≤ 1048576 ⌝ }
+    requires { ⌜ (length (now lines) ≡ 16384) × (first ≤ 4096) ⌝ }
+    ensures { λ r. ⌜ r ≡ linesFrom (now (d .entry)) quantity first (stateOf a b first (now (lines .entry))) .0 ⌝ }
+    ensures { λ r. ⌜ now (lines .exit) ≡ linesFrom (now (d .entry)) quantity first (stateOf a b first (now (lines .entry))) .1 ⌝ }
+{
+    let mut amount = a;
+    let mut block = b;
+    let mut last = first;
+    loop {
+        match one_line(classes, d, quantity, first, amount, block, last, lines) {
+            Turn::More {
+                amount: x,
+                block: y,
+            } => {
+                amount = x;
+                block = y;
+                last += 1;
+            }
+            Turn::Over { block: y, next } => {
+                return Listed::Is {
+                    block: y,
+                    last: last + 1,
+                    next,
+                };
+            }
+            Turn::Not(f) => {
+                return Listed::Not(f);
+            }
+        }
+    }
+}
+
+// A block that has said nothing yet.
+pub fn empty_block() -> Block
+    ensures { λ r. ⌜ r ≡ emptyBlock ⌝ }
+{
+    Block {
+        ranged: false,
+        from: 0,
+        to: 0,
+        known: false,
+        decimals: 0,
+        point: 0,
+        top: -1_000_000_000_000_000,
+    }
+}
+
+// A block without lines, behind its END VALUES.
+fn close_block(b: Block, last: usize, t: Reading) -> Listed
+    ensures { λ r. ⌜ r ≡ closedBy b last t ⌝ }
+{
+    match t {
+        Reading::At(next) => Listed::Is {
+            block: b,
+            last,
+            next,
+        },
+        Reading::Refused(f) => Listed::Not(f),
+    }
+}
+
+// What follows a range: END VALUES, or behind WITH at least one line.
+fn range_then(
+    classes: &[u8; 256],
+    d: &[u8],
+    quantity: bool,
+    r: Ranged,
+    first: usize,
+    lines: &mut [i64],
+) -> Listed
+    requires { ⌜ Classes (now classes) ⌝ }
+    requires { ⌜ length (now d) ≤ 1048576 ⌝ }
+    requires { ⌜ (length (now lines) ≡ 16384) × (first ≤ 4096) ⌝ }
+    ensures { λ s. ⌜ s ≡ rangeThen (now (d .entry)) quantity r first (now (lines .entry)) .0 ⌝ }
+    ensures { λ s. ⌜ now (lines .exit) ≡ rangeThen (now (d .entry)) quantity r first (now (lines .entry)) .1 ⌝ }
+{
+    match r {
+        Ranged::Not(f) => Listed::Not(f),
+        Ranged::Is { block, with, next } => {
+            let t = statements::notes_on(classes, d, Reading::At(next));
+            if with {
+                let a = tokens::value_here(classes, d, t);
+                return read_lines(classes, d, quantity, a, block, first, lines);
+            }
+            let e = tokens::word_here(classes, d, t, b"END");
+            let v = tokens::word_on(classes, d, e, b"VALUES");
+            close_block(block, first, v)
+        }
+    }
+}
+
+// VALUES to END VALUES.
+pub fn values_on(
+    classes: &[u8; 256],
+    d: &[u8],
+    quantity: bool,
+    t: Reading,
+    first: usize,
+    lines: &mut [i64],
+) -> Listed
+    requires { ⌜ Classes (now classes) ⌝ }
+    requires { ⌜ length (now d) ≤ 1048576 ⌝ }
+    requires { ⌜ (length (now lines) ≡ 16384) × (first ≤ 4096) ⌝ }
+    ensures { λ r. ⌜ r ≡ valuesOn (now (d .entry)) quantity t first (now (lines .entry)) .0 ⌝ }
+    ensures { λ r. ⌜ now (lines .exit) ≡ valuesOn (now (d .entry)) quantity t first (now (lines .entry)) .1 ⌝ }
+{
+    let w = statements::statement_on(classes, d, t, b"VALUES");
+    let n = statements::notes_on(classes, d, w);
+    let a = tokens::value_here(classes, d, n);
+    let p = tokens::past_value(a);
+    let g = tokens::gap_on(classes, d, p);
+    match tokens::perhaps(classes, d, g, b"TO") {
+        Choice::Taken(m) => {
+            let r = range_rest(classes, d, quantity, a, Reading::At(m));
+            range_then(classes, d, quantity, r, first, lines)
+        }
+        Choice::Left => {
+            let b = empty_block();
+            read_lines(classes, d, quantity, a, b, first, lines)
+        }
+    }
+}

@@ -1,0 +1,22 @@
+use mathlib.Core.Path.{_∙_, sym}
+use Rattle.variables.specs.Rest.{joinNothing}
+use borrow.Author.Needs.{needs}
+use Rattle.variables.proofs.join_nothing.Statement.{statement}
+use Rattle.variables.proofs.join_nothing.Tie as tie
+
+returns : tie.Need-returns
+unfolding joinNothing
+returns c =
+    rw (
+      c .before .before .t .given .1,
+      sym (c .empty-block .ensures),
+    )
+
+returns-2 : tie.Need-returns-2
+unfolding joinNothing
+returns-2 c =
+    rw (c .before .t2 .given .1)
+
+pub join-nothing-spec : {M : Type 1} → statement M
+join-nothing-spec =
+    tie.close (tie.spec (λ c. search needs) (λ c κs. search needs) (λ c. search needs) returns returns-2)

@@ -1,0 +1,338 @@
+// A variable: its ident, name, label, type and position, and what its type has behind them, up to END VARIABLE. Above it stands the
+// definition as a whole.
+use statements::Spreading;
+use statements::Stated;
+use statements::Typed;
+use tokens::Choice;
+use tokens::Fault;
+use tokens::Figures;
+use tokens::Number;
+use tokens::Phrase;
+use tokens::Quoted;
+use tokens::Reading;
+use values::Block;
+use values::Listed;
+ghost use mathlib.Core.Path.{_≡_};
+ghost use Prim.Native.Nat.{_+_, _≤_, _<_};
+ghost use lib.ListN.{length};
+ghost use Rattle.ascii.specs.Class.{Classes};
+ghost use Rattle.variables.specs.Ident.{wrongIdent, judgeIdent, identOn};
+ghost use Rattle.variables.specs.Head.{pastType, joinTitles, joinHead, headOn};
+ghost use Rattle.variables.specs.Rest.{joinValues, valuesRest, joinSize, joinNothing, spreadThen, restOf};
+
+// Whether an ident has more than four digits, is 0, or was met before.
+fn wrong_ident(seen: &[u8; 10000], x: Figures) -> bool
+    ensures { λ r. ⌜ r ≡ wrongIdent (now (seen .entry)) x ⌝ }
+{
+    if 4 < x.count {
+        return true;
+    }
+    let n = x.size;
+    if n < 10000 {
+        let mark = seen[n as usize];
+        return (n == 0) | (mark == 1);
+    }
+    true
+}
+
+// 5 comes before 8 at a 513th variable.
+fn judge_ident(seen: &[u8; 10000], count: usize, n: Number) -> Number
+    ensures { λ r. ⌜ r ≡ judgeIdent (now (seen .entry)) count n ⌝ }
+{
+    match n {
+        Number::Is(x) => {
+            if wrong_ident(seen, x) {
+                return Number::Not(Fault {
+                    number: 5,
+                    place: x.place,
+                });
+            }
+            if 512 <= count {
+                return Number::Not(Fault {
+                    number: 8,
+                    place: x.place,
+                });
+            }
+            Number::Is(x)
+        }
+        Number::Not(f) => Number::Not(f),
+    }
+}
+
+// VARIABLE and its ident, where so many variables were read before, whose idents are marked.
+pub fn ident_on(
+    classes: &[u8; 256],
+    d: &[u8],
+    t: Reading,
+    seen: &[u8; 10000],
+    count: usize,
+) -> Number
+    requires { ⌜ Classes (now classes) ⌝ }
+    ensures { λ r. ⌜ r ≡ identOn (now (d .entry)) t (now (seen .entry)) count ⌝ }
+{
+    let w = statements::statement_on(classes, d, t, b"VARIABLE");
+    let n = tokens::number_on(classes, d, w);
+    judge_ident(seen, count, n)
+}
+
+fn past_type(k: Typed) -> Reading
+    ensures { λ r. ⌜ r ≡ pastType k ⌝ }
+{
+    match k {
+        Typed::Is { kind: _, next } => Reading::At(next),
+        Typed::Not(f) => Reading::Refused(f),
+    }
+}
+
+// What every variable says: its ident, name, label, type and position.
+pub struct Head {
+    pub ident: u64,
+    pub name: Quoted,
+    pub label: Quoted,
+    pub kind: usize,
+    pub start: u64,
+    pub finish: u64,
+    pub place: usize,
+    pub next: usize,
+}
+
+pub enum Headed {
+    Is(Head),
+    Not(Fault),
+}
+
+// The ident and the texts.
+pub struct Titles {
+    pub ident: u64,
+    pub name: Quoted,
+    pub label: Quoted,
+}
+
+pub enum Titled {
+    Is(Titles),
+    Not(Fault),
+}
+
+// The first refusal met among them.
+fn join_titles(i: Number, n: Phrase, l: Phrase) -> Titled
+    ensures { λ r. ⌜ r ≡ joinTitles i n l ⌝ }
+{
+    match i {
+        Number::Not(f) => Titled::Not(f),
+        Number::Is(x) => match n {
+            Phrase::Not(f) => Titled::Not(f),
+            Phrase::Is(name) => match l {
+                Phrase::Not(f) => Titled::Not(f),
+                Phrase::Is(label) => Titled::Is(Titles {
+                    ident: x.size,
+                    name,
+                    label,
+                }),
+            },
+        },
+    }
+}
+
+fn join_head(t: Titled, k: Typed, p: Stated) -> Headed
+    ensures { λ r. ⌜ r ≡ joinHead t k p ⌝ }
+{
+    match t {
+        Titled::Not(f) => Headed::Not(f),
+        Titled::Is(x) => match k {
+            Typed::Not(f) => Headed::Not(f),
+            Typed::Is { kind, next: _ } => match p {
+                Stated::Not(f) => Headed::Not(f),
+                Stated::Is(q) => {
+                    let name = x.name;
+                    let label = x.label;
+                    Headed::Is(Head {
+                        ident: x.ident,
+                        name,
+                        label,
+                        kind,
+                        start: q.start,
+                        finish: q.finish,
+                        place: q.place,
+                        next: q.next,
+                    })
+                }
+            },
+        },
+    }
+}
+
+// NAME, LABEL, TYPE and POSITION behind an ident that stands.
+pub fn head_on(classes: &[u8; 256], d: &[u8], i: Number) -> Headed
+    requires { ⌜ Classes (now classes) ⌝ }
+    ensures { λ r. ⌜ r ≡ headOn (now (d .entry)) i ⌝ }
+{
+    let a = tokens::past_number(i);
+    let n = statements::text_on(classes, d, a, b"NAME");
+    let b = tokens::past_string(n);
+    let l = statements::text_on(classes, d, b, b"LABEL");
+    let e = tokens::past_string(l);
+    let k = statements::type_on(classes, d, e);
+    let g = past_type(k);
+    let p = statements::position_on(classes, d, g);
+    let t = join_titles(i, n, l);
+    join_head(t, k, p)
+}
+
+// What the type of a variable has behind its position: its values, how many lines there are then in all, its subfields and their
+// width, its size, and the place after it. What a type lacks is 0.
+pub struct Rest {
+    pub block: Block,
+    pub last: usize,
+    pub subfields: u64,
+    pub subwidth: u64,
+    pub size: u64,
+    pub next: usize,
+}
+
+pub enum Rested {
+    Is(Rest),
+    Not(Fault),
+}
+
+fn join_values(l: Listed, subfields: u64, subwidth: u64) -> Rested
+    ensures { λ r. ⌜ r ≡ joinValues l subfields subwidth ⌝ }
+{
+    match l {
+        Listed::Is { block, last, next } => Rested::Is(Rest {
+            block,
+            last,
+            subfields,
+            subwidth,
+            size: 0,
+            next,
+        }),
+        Listed::Not(f) => Rested::Not(f),
+    }
+}
+
+fn values_rest(
+    classes: &[u8; 256],
+    d: &[u8],
+    quantity: bool,
+    t: Reading,
+    subfields: u64,
+    subwidth: u64,
+    first: usize,
+    lines: &mut [i64],
+) -> Rested
+    requires { ⌜ Classes (now classes) ⌝ }
+    requires { ⌜ length (now d) ≤ 1048576 ⌝ }
+    requires { ⌜ (length (now lines) ≡ 16384) × (first ≤ 4096) ⌝ }
+    ensures { λ r. ⌜ r ≡ valuesRest (now (d .entry)) quantity t subfields subwidth first (now (lines .entry)) .0 ⌝ }
+    ensures { λ r. ⌜ now (lines .exit) ≡ valuesRest (now (d .entry)) quantity t subfields subwidth first (now (lines .entry)) .1 ⌝ }
+{
+    let l = values::values_on(classes, d, quantity, t, first, lines);
+    join_values(l, subfields, subwidth)
+}
+
+// A variable without values: its size, or 0.
+fn join_size(n: Number, first: usize) -> Rested
+    ensures { λ r. ⌜ r ≡ joinSize n first ⌝ }
+{
+    match n {
+        Number::Is(x) => {
+            let block = values::empty_block();
+            Rested::Is(Rest {
+                block,
+                last: first,
+                subfields: 0,
+                subwidth: 0,
+                size: x.size,
+                next: x.next,
+            })
+        }
+        Number::Not(f) => Rested::Not(f),
+    }
+}
+
+fn join_nothing(t: Reading, first: usize) -> Rested
+    ensures { λ r. ⌜ r ≡ joinNothing t first ⌝ }
+{
+    match t {
+        Reading::At(next) => {
+            let block = values::empty_block();
+            Rested::Is(Rest {
+                block,
+                last: first,
+                subfields: 0,
+                subwidth: 0,
+                size: 0,
+                next,
+            })
+        }
+        Reading::Refused(f) => Rested::Not(f),
+    }
+}
+
+// SPREAD or not, and then VALUES.
+fn spread_then(
+    classes: &[u8; 256],
+    d: &[u8],
+    t: Reading,
+    width: u64,
+    first: usize,
+    lines: &mut [i64],
+) -> Rested
+    requires { ⌜ Classes (now classes) ⌝ }
+    requires { ⌜ length (now d) ≤ 1048576 ⌝ }
+    requires { ⌜ (length (now lines) ≡ 16384) × (first ≤ 4096) ⌝ }
+    ensures { λ r. ⌜ r ≡ spreadThen (now (d .entry)) t width first (now (lines .entry)) .0 ⌝ }
+    ensures { λ r. ⌜ now (lines .exit) ≡ spreadThen (now (d .entry)) t width first (now (lines .entry)) .1 ⌝ }
+{
+    let n = statements::notes_on(classes, d, t);
+    match tokens::perhaps(classes, d, n, b"SPREAD") {
+        Choice::Taken(m) => match statements::spread_rest(classes, d, Reading::At(m), width) {
+            Spreading::Is(s) => {
+                values_rest(
+                    classes,
+                    d,
+                    false,
+                    Reading::At(s.next),
+                    s.count,
+                    s.width,
+                    first,
+                    lines,
+                )
+            }
+            Spreading::Not(f) => Rested::Not(f),
+        },
+        Choice::Left => values_rest(classes, d, false, n, 0, 0, first, lines),
+    }
+}
+
+// By type.
+pub fn rest_on(
+    classes: &[u8; 256],
+    d: &[u8],
+    kind: usize,
+    t: Reading,
+    width: u64,
+    first: usize,
+    lines: &mut [i64],
+) -> Rested
+    requires { ⌜ Classes (now classes) ⌝ }
+    requires { ⌜ length (now d) ≤ 1048576 ⌝ }
+    requires { ⌜ (length (now lines) ≡ 16384) × (first ≤ 4096) ⌝ }
+    ensures { λ r. ⌜ r ≡ restOf (now (d .entry)) kind t width first (now (lines .entry)) .0 ⌝ }
+    ensures { λ r. ⌜ now (lines .exit) ≡ restOf (now (d .entry)) kind t width first (now (lines .entry)) .1 ⌝ }
+{
+    if kind == 1 {
+        return values_rest(classes, d, false, t, 0, 0, first, lines);
+    }
+    if kind == 2 {
+        return spread_then(classes, d, t, width, first, lines);
+    }
+    if kind == 3 {
+        return values_rest(classes, d, true, t, 0, 0, first, lines);
+    }
+    if kind == 4 {
+        let n = statements::size_on(classes, d, t);
+        return join_size(n, first);
+    }
+    join_nothing(t, first)
+}
