@@ -221,6 +221,20 @@ module _ (d : List ℕ) (w : Terminator) (start : ℕ) where
       (λ l. let p = sym (next-none d start w l) ∙ q in let z : _≡_ {A = ℕ} 0 1 = cc in absurd (omega arith))
       (lt-or-le start (length d))
 
+  -- some record starts where data are left
+  ends-some : (s : List ℕ) (i : ℕ) → endFrom w start i s ≡ Nothing → ⊥
+  unfolding endFrom
+  ends-some [] i q = let z : _≡_ {A = ℕ} 0 1 = cc in omega arith
+  ends-some (b ∷ s) i q = go (beginsAt w (b ∷ s)) (λ p. ends-some s (i + 1) p) q
+    where
+      go : (c : Bool) → (endFrom w start (i + 1) s ≡ Nothing → ⊥) → cond c (Ended start i (i + w .size)) (endFrom w start (i + 1) s) ≡ Nothing → ⊥
+      go true ih q = let z : _≡_ {A = ℕ} 0 1 = cc in omega arith
+      go false ih q = ih q
+
+  pub next-nothing : nextFrom w start (drop start d) ≡ Nothing → length d ≤ start
+  next-nothing q =
+      ⊎-elim (λ l. absurd (ends-some (drop start d) start (sym (next-some d start w l) ∙ q))) (λ l. l) (lt-or-le start (length d))
+
   pub over-past : length d ≤ start → recordsFrom w (drop start d) ≡ over
   unfolding cut atEnd
   over-past l = rw (drop-of-length-le d l)

@@ -1,0 +1,4 @@
+pub mod Proved
+pub mod Settled
+pub mod Alone
+pub mod Refused

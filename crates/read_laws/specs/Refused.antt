@@ -1,0 +1,127 @@
+-- A record is refused exactly when it is shorter than L, holds a byte below 32, or has an illegal field, given a well-formed table; and
+-- the places are the first ones.
+use mathlib.Core.Path.{_≡_, refl, sym, ap, _∙_}
+use mathlib.Core.Logic.{⊎-elim}
+use mathlib.Core.Bool.{Bool, true, false, cond}
+use mathlib.Core.List.{List}
+use Prim.Native.Nat.{ℕ, zero, suc, _+_, _≤_, _<_}
+use native.Mathlib.Nat.{zero-add, eq-or-lt-of-le}
+use native.Mathlib.Omega.{arith}
+use borrow.Author.Tests.{le-leb, leb-true, lt-leb, le-ltb, ltb-false}
+use lib.Dec.{leb, ltb}
+use lib.IntN.{ℤ}
+use lib.ListN.{length, getD}
+use Rattle.below.specs.Below.{holds-not}
+use Rattle.fields.specs.Field.{Field, illegal}
+use Rattle.sets.specs.Sets.{isIllegal}
+use Rattle.sound.specs.Sound.{wellFormed}
+use Rattle.sound.specs.Rows.{rowsOf, lengthOf}
+use Rattle.records.specs.First.{firstFrom, lowAt, badRow}
+use Rattle.records.specs.Value.{readingAt}
+use Rattle.records.specs.Verdict.{Verdict, sound, refused, refusedAt, rowVerdict, byteVerdict, rowsVerdict, verdictOf}
+use Rattle.records.specs.declared.Found.{Found}
+use Rattle.records.specs.declared.Found.the-variants.{At, Nothing}
+
+-- ---- the first of the n numbers from i on
+-- k is the first: it passes, and none before it does
+pub record IsFirst (f : ℕ → Bool) (i n k : ℕ) : Type 0 where
+  pub from : i ≤ k
+  pub below : k < i + n
+  pub passes : f k ≡ true
+  pub none : (j : ℕ) → i ≤ j → j < k → f j ≡ false
+
+module _ (f : ℕ → Bool) where
+  pub none-found : (n i : ℕ) → firstFrom f i n ≡ Nothing → (j : ℕ) → i ≤ j → j < i + n → f j ≡ false
+  unfolding firstFrom
+  none-found zero i e j a b = absurd (omega arith)
+  none-found (suc n) i e j a b = go (f i) refl e (λ q. none-found n (suc i) q)
+    where
+      go : (c : Bool) → f i ≡ c → cond c (At i) (firstFrom f (suc i) n) ≡ Nothing → (firstFrom f (suc i) n ≡ Nothing → (j : ℕ) → suc i ≤ j → j < suc i + n → f j ≡ false) → f j ≡ false
+      go true q p ih = let z : _≡_ {A = ℕ} 0 1 = cc in absurd (omega arith)
+      go false q p ih = ⊎-elim (λ s. ap f (sym s) ∙ q) (λ l. ih p j l (omega arith)) (eq-or-lt-of-le a)
+
+  pub nothing-found : (n i : ℕ) → ((j : ℕ) → i ≤ j → j < i + n → f j ≡ false) → firstFrom f i n ≡ Nothing
+  unfolding firstFrom
+  nothing-found zero i h = refl
+  nothing-found (suc n) i h = rw (h i (omega arith) (omega arith)) (nothing-found n (suc i) (λ j a b. h j (omega arith) (omega arith)))
+
+  pub first-is : (n i k : ℕ) → firstFrom f i n ≡ At k → IsFirst f i n k
+  unfolding firstFrom
+  first-is zero i k e = let z : _≡_ {A = ℕ} 0 1 = cc in absurd (omega arith)
+  first-is (suc n) i k e = go (f i) refl e (λ q. first-is n (suc i) k q)
+    where
+      go : (c : Bool) → f i ≡ c → cond c (At i) (firstFrom f (suc i) n) ≡ At k → (firstFrom f (suc i) n ≡ At k → IsFirst f (suc i) n k) → IsFirst f i (suc n) k
+      go true q p ih =
+          let s : i ≡ k = cc in
+          record { from = omega arith; below = omega arith; passes = ap f (sym s) ∙ q; none = λ j a b. absurd (omega arith) }
+      go false q p ih =
+          let r = ih p in
+          let x = r .from in let y = r .below in
+          record { from = omega arith; below = omega arith; passes = r .passes; none = λ j a b. ⊎-elim (λ s. ap f (sym s) ∙ q) (λ l. r .none j l b) (eq-or-lt-of-le a) }
+
+-- ---- a whole record
+module _ (t : List ℤ) (good : wellFormed t ≡ true) (bytes : List ℕ) where
+  -- what a sound record has
+  pub record Passes : Type 0 where
+    pub long : lengthOf t ≤ length bytes
+    pub plain : (p : ℕ) → p < length bytes → 32 ≤ getD bytes p 0
+    pub legal-rows : (i : ℕ) → i < rowsOf t → isIllegal (readingAt t i bytes) ≡ false
+
+  -- REFUSED EXACTLY WHEN: a record that passes is sound
+  pub passes-sound : Passes → verdictOf t bytes ≡ sound
+  unfolding verdictOf rowsVerdict byteVerdict rowVerdict
+  passes-sound p =
+      rw (
+        good,
+        le-leb _ _ (p .long),
+        nothing-found (lowAt bytes) (length bytes) 0 (λ j a b. le-ltb _ _ (p .plain j (omega arith))),
+        nothing-found (badRow t (rowsOf t) bytes) (rowsOf t) 0 (λ j a b. p .legal-rows j (omega arith)),
+      )
+
+  by-rows : lengthOf t ≤ length bytes → firstFrom (lowAt bytes) 0 (length bytes) ≡ Nothing → (x : Found) → firstFrom (badRow t (rowsOf t) bytes) 0 (rowsOf t) ≡ x
+      → rowVerdict x ≡ sound → Passes
+  unfolding rowVerdict
+  by-rows l q (At i) r v = let z : _≡_ {A = ℕ} 0 1 = cc in absurd (omega arith)
+  by-rows l q Nothing r v = record {
+    long = l;
+    plain = λ p h. ltb-false _ _ (none-found (lowAt bytes) (length bytes) 0 q p (omega arith) (omega arith));
+    legal-rows = λ i h. none-found (badRow t (rowsOf t) bytes) (rowsOf t) 0 r i (omega arith) (omega arith);
+  }
+
+  by-bytes : lengthOf t ≤ length bytes → (x : Found) → firstFrom (lowAt bytes) 0 (length bytes) ≡ x
+      → byteVerdict x (rowVerdict (firstFrom (badRow t (rowsOf t) bytes) 0 (rowsOf t))) ≡ sound → Passes
+  unfolding byteVerdict
+  by-bytes l (At p) q v = let z : _≡_ {A = ℕ} 0 1 = cc in absurd (omega arith)
+  by-bytes l Nothing q v = by-rows l q (firstFrom (badRow t (rowsOf t) bytes) 0 (rowsOf t)) refl v
+
+  by-length : (c : Bool) → leb (lengthOf t) (length bytes) ≡ c → cond c (rowsVerdict t (rowsOf t) bytes) (refused 22) ≡ sound → Passes
+  unfolding rowsVerdict
+  by-length true q v = by-bytes (leb-true _ _ q) (firstFrom (lowAt bytes) 0 (length bytes)) refl v
+  by-length false q v = let z : _≡_ {A = ℕ} 0 1 = cc in absurd (omega arith)
+
+  -- and one that is sound passes
+  pub sound-passes : verdictOf t bytes ≡ sound → Passes
+  unfolding verdictOf
+  sound-passes e = by-length (leb (lengthOf t) (length bytes)) refl (rw good at e)
+
+  -- THE NUMBERS: 22 exactly when it is too short
+  pub short-refused : length bytes < lengthOf t → verdictOf t bytes ≡ refused 22
+  unfolding verdictOf
+  short-refused h = rw (good, lt-leb _ _ h)
+
+  module _ (long : lengthOf t ≤ length bytes) where
+    -- 23 with the first byte below 32
+    pub low-refused : (p : ℕ) → firstFrom (lowAt bytes) 0 (length bytes) ≡ At p → verdictOf t bytes ≡ refusedAt 23 p
+    unfolding verdictOf rowsVerdict byteVerdict
+    low-refused p e = rw (good, le-leb _ _ long, e)
+
+    pub low-first : (p : ℕ) → firstFrom (lowAt bytes) 0 (length bytes) ≡ At p → IsFirst (lowAt bytes) 0 (length bytes) p
+    low-first p e = first-is (lowAt bytes) (length bytes) 0 p e
+
+    -- 24 with the lowest illegal row, where no byte is below 32
+    pub row-refused : (i : ℕ) → firstFrom (lowAt bytes) 0 (length bytes) ≡ Nothing → firstFrom (badRow t (rowsOf t) bytes) 0 (rowsOf t) ≡ At i → verdictOf t bytes ≡ refusedAt 24 i
+    unfolding verdictOf rowsVerdict byteVerdict rowVerdict
+    row-refused i q e = rw (good, le-leb _ _ long, q, e)
+
+    pub row-first : (i : ℕ) → firstFrom (badRow t (rowsOf t) bytes) 0 (rowsOf t) ≡ At i → IsFirst (badRow t (rowsOf t) bytes) 0 (rowsOf t) i
+    row-first i e = first-is (badRow t (rowsOf t) bytes) (rowsOf t) 0 i e

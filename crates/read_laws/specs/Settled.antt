@@ -1,0 +1,68 @@
+-- "No two outcomes": each promise settles its answer and the list.
+use mathlib.Core.Path.{_≡_, refl, sym, ap, _∙_}
+use mathlib.Core.Bool.{cond}
+use mathlib.Core.List.{List}
+use Prim.Native.Nat.{ℕ}
+use lib.Dec.{eqb}
+use lib.IntN.{ℤ}
+use Rattle.readings.specs.declared.Answer.{Answer}
+use Rattle.readings.specs.declared.Answer.the-variants as answer
+use Rattle.records.specs.Value.{Outcome, nothing, numberIs, setOf, textAt, truthIs, refused, said, ValueRead}
+use Rattle.records.specs.Verdict as verdict
+use Rattle.records.specs.Verdict.{Verdict, sound, refusedAt, judgedAs, verdictOf}
+use Rattle.records.specs.declared.Judged.{Judged}
+use Rattle.records.specs.declared.Judged.the-variants as judged
+
+-- the answer that says it
+abbrev unsaid : Outcome → Answer
+unsaid nothing = answer.Missing
+unsaid (numberIs z) = answer.Number z
+unsaid (setOf n) = answer.Set n
+unsaid (textAt p n) = answer.Text p n
+unsaid (truthIs b) = answer.Truth b
+unsaid (refused n) =
+    cond (eqb n 20) answer.BadTable
+    (cond (eqb n 21) answer.NoRow (cond (eqb n 22) answer.ShortRecord (cond (eqb n 24) answer.Illegal answer.ShortList)))
+
+said-back : (a : Answer) → unsaid (said a) ≡ a
+unfolding said
+said-back answer.Missing = refl
+said-back (answer.Number z) = refl
+said-back (answer.Set n) = refl
+said-back (answer.Text p n) = refl
+said-back (answer.Truth b) = refl
+said-back answer.BadTable = refl
+said-back answer.NoRow = refl
+said-back answer.ShortRecord = refl
+said-back answer.Illegal = refl
+said-back answer.ShortList = refl
+
+-- two answers that say the same are one
+pub said-one : (a b : Answer) → said a ≡ said b → a ≡ b
+said-one a b e = sym (said-back a) ∙ ap unsaid e ∙ said-back b
+
+-- READING ONE ROW: one answer and one list
+pub value-settled : (t : List ℤ) (i : ℕ) (bytes : List ℕ) (list list₁ list₂ : List ℤ) (r₁ r₂ : Answer)
+    → ValueRead t i bytes list list₁ r₁ → ValueRead t i bytes list list₂ r₂ → (r₁ ≡ r₂) × (list₁ ≡ list₂)
+value-settled t i bytes list list₁ list₂ r₁ r₂ a b =
+    (said-one r₁ r₂ (a .says ∙ sym (b .says)), a .leaves ∙ sym (b .leaves))
+
+abbrev unjudged : Verdict → Judged
+unjudged sound = judged.Sound
+unjudged (verdict.refused n) = cond (eqb n 20) judged.BadTable judged.ShortRecord
+unjudged (refusedAt n p) = cond (eqb n 23) (judged.LowByte p) (judged.Illegal p)
+
+judged-back : (a : Judged) → unjudged (judgedAs a) ≡ a
+unfolding judgedAs
+judged-back judged.Sound = refl
+judged-back judged.BadTable = refl
+judged-back judged.ShortRecord = refl
+judged-back (judged.LowByte p) = refl
+judged-back (judged.Illegal i) = refl
+
+pub judged-one : (a b : Judged) → judgedAs a ≡ judgedAs b → a ≡ b
+judged-one a b e = sym (judged-back a) ∙ ap unjudged e ∙ judged-back b
+
+-- JUDGING A RECORD: one answer
+pub verdict-settled : (t : List ℤ) (bytes : List ℕ) (r₁ r₂ : Judged) → judgedAs r₁ ≡ verdictOf t bytes → judgedAs r₂ ≡ verdictOf t bytes → r₁ ≡ r₂
+verdict-settled t bytes r₁ r₂ a b = judged-one r₁ r₂ (a ∙ sym b)
