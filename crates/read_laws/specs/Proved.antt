@@ -12,7 +12,8 @@ use Rattle.cells.specs.Cell.{countOf, signedOf, numberOf, eqZ}
 use Rattle.layout.specs.Layout.{headerOf, columnsAt, lineAt}
 use Rattle.layout.specs.Row.{rowOf, rowAt, kindOf, spreadOf}
 use Rattle.widths.specs.Width.{need, tailOf, wholeDigits, quantityWidth, lowest, highest}
-use Rattle.sound.specs.Sound.{headCounts, headSums, typeKnown, decimalsFew, flagsPlain, lackedZero, pointGiven, valuesGiven, identGood, positionGood, subfieldsGood, textsGood, rangeLacked, rangeGood, linesPlain, valuesFit, valueAt, valueNew, valuesDiffer, rangeWidth, widest, widthGood, roomGood, linesGood, valuesGood, widthsGood, countsGood, placesGood, columnsGood, rowGood, columnsOf, linesBefore, highestFinish, identNew, identsDiffer, rowsGood, wellFormed}
+use Rattle.strides.specs.Stride.{allDiffer, numberNew}
+use Rattle.sound.specs.Sound.{headCounts, headSums, typeKnown, decimalsFew, flagsPlain, lackedZero, pointGiven, valuesGiven, identGood, positionGood, subfieldsGood, textsGood, rangeLacked, rangeGood, linesPlain, valuesFit, valueAt, rangeWidth, widest, widthGood, roomGood, linesGood, valuesGood, widthsGood, countsGood, placesGood, columnsGood, rowGood, columnsOf, linesBefore, highestFinish, identsDiffer, rowsGood, wellFormed}
 use Rattle.fields.specs.Legal.{inRange, onLine, legal}
 use Rattle.fields.specs.Number.{allSpaces, unspaced, digitsOnly, decimalFrom, codeAfter, codeOf, amountForm, amountSize, amountOf, quantityAfter, quantityOf}
 use Rattle.fields.specs.Field.{numberField, singleSays, quantitySays, allBits, setBits, bitsField, entryGood, entryIs, allEntries, someEntry, passing, spreadField, truthField}
@@ -83,5 +84,5 @@ pub proved-readings :
     × (widest quantityTooWide 1 (rowAt quantityTooWide 0) ≡ 3)
     × (readAs quantityTooWide 0 (49 ∷ 55 ∷ []) 9 ≡ refused 20)
     × (readAs truthInTwo 0 (120 ∷ 49 ∷ []) 9 ≡ truthIs true)
-unfolding wellFormed rowsGood rowGood columnsGood countsGood placesGood valuesGood linesGood widthsGood linesPlain valuesFit valuesDiffer valueNew rangeWidth widest widthGood roomGood identsDiffer identNew _and_ allBelow anyBelow sumBelow maxBelow countOf signedOf numberOf eqZ headerOf columnsAt lineAt rowOf kindOf spreadOf need tailOf wholeDigits quantityWidth lowest highest digitsOf countFrom inRange onLine legal allSpaces unspaced digitsOnly decimalFrom codeAfter codeOf amountForm amountSize amountOf quantityAfter quantityOf numberField singleSays quantitySays allBits setBits bitsField entryGood entryIs allEntries someEntry passing spreadField truthField defined bitPlaces spreadPlaces placesBy fieldBy readingOf filledOf listAfter outcomeOf readAs listAs
+unfolding wellFormed rowsGood rowGood columnsGood countsGood placesGood valuesGood linesGood widthsGood linesPlain valuesFit allDiffer numberNew rangeWidth widest widthGood roomGood identsDiffer _and_ allBelow anyBelow sumBelow maxBelow countOf signedOf numberOf eqZ headerOf columnsAt lineAt rowOf kindOf spreadOf need tailOf wholeDigits quantityWidth lowest highest digitsOf countFrom inRange onLine legal allSpaces unspaced digitsOnly decimalFrom codeAfter codeOf amountForm amountSize amountOf quantityAfter quantityOf numberField singleSays quantitySays allBits setBits bitsField entryGood entryIs allEntries someEntry passing spreadField truthField defined bitPlaces spreadPlaces placesBy fieldBy readingOf filledOf listAfter outcomeOf readAs listAs
 proved-readings = (refl, refl, refl, refl, refl, refl, refl, refl, refl, refl, refl, refl, refl, refl, refl, refl, refl, refl, refl, refl)

@@ -14,7 +14,8 @@ use Rattle.layout.specs.Row.{rowOf, rowAt, kindOf, spreadOf}
 use Rattle.layout.specs.declared.Columns.{Columns}
 use Rattle.layout.specs.declared.Row.{Row}
 use Rattle.widths.specs.Width.{need, tailOf, wholeDigits, quantityWidth, lowest, highest}
-use Rattle.sound.specs.Sound.{headCounts, headSums, typeKnown, decimalsFew, flagsPlain, lackedZero, pointGiven, valuesGiven, identGood, positionGood, subfieldsGood, textsGood, rangeLacked, rangeGood, linesPlain, valuesFit, valueAt, valueNew, valuesDiffer, rangeWidth, widest, widthGood, roomGood, linesGood, valuesGood, widthsGood, countsGood, placesGood, columnsGood, rowGood, columnsOf, linesBefore, highestFinish, identNew, identsDiffer, rowsGood, wellFormed}
+use Rattle.strides.specs.Stride.{numberNew, allDiffer}
+use Rattle.sound.specs.Sound.{headCounts, headSums, typeKnown, decimalsFew, flagsPlain, lackedZero, pointGiven, valuesGiven, identGood, positionGood, subfieldsGood, textsGood, rangeLacked, rangeGood, linesPlain, valuesFit, valueAt, rangeWidth, widest, widthGood, roomGood, linesGood, valuesGood, widthsGood, countsGood, placesGood, columnsGood, rowGood, columnsOf, linesBefore, highestFinish, identsDiffer, rowsGood, wellFormed}
 
 -- ---- a sound table: a SINGLE from 1 to 12; a bitstring of 1, 2 and 4; a spread of two subfields of three bytes, from 1 to 9; a quantity
 -- from -1.0 to 99.5 with 999.0 on a line; a text of ten bytes; a truth
@@ -103,7 +104,7 @@ failing t =
     (unless (each t rangeGood) ranges
     (unless (each t (λ r. linesPlain t v (r .before) (r .lines))) lines-plain
     (unless (each t (λ r. valuesFit (r .kind) (valueAt t v (r .before)) (r .lines))) numbers-fit
-    (unless (each t (λ r. valuesDiffer (valueAt t v (r .before)) (r .lines))) numbers-differ
+    (unless (each t (λ r. allDiffer (valueAt t v (r .before)) (r .lines))) numbers-differ
     (unless (each t (λ r. widthGood (r .kind) (r .width) (widest t v r))) widths
     (unless (each t (λ r. roomGood (r .kind) r)) rooms
     (unless (eqb (highestFinish t v) (headerOf t .length)) lengths
@@ -111,7 +112,7 @@ failing t =
 
 -- nothing fails on the sound table; numbers beyond it are not looked at; the empty table is refused
 pub decided : (wellFormed good ≡ true) × (failing good ≡ []) × (wellFormed (good ++ negsuc 6 ∷ pos 3 ∷ []) ≡ true) × (wellFormed [] ≡ false)
-unfolding wellFormed rowsGood rowGood columnsGood countsGood placesGood valuesGood linesGood widthsGood linesPlain valuesFit valuesDiffer valueNew rangeWidth widest widthGood roomGood identsDiffer identNew _and_ allBelow sumBelow maxBelow countOf signedOf eqZ headerOf columnsAt lineAt rowOf kindOf spreadOf need tailOf wholeDigits quantityWidth lowest highest digitsOf countFrom
+unfolding wellFormed rowsGood rowGood columnsGood countsGood placesGood valuesGood linesGood widthsGood linesPlain valuesFit allDiffer numberNew rangeWidth widest widthGood roomGood identsDiffer _and_ allBelow sumBelow maxBelow countOf signedOf eqZ headerOf columnsAt lineAt rowOf kindOf spreadOf need tailOf wholeDigits quantityWidth lowest highest digitsOf countFrom
 decided = (refl, refl, refl, refl)
 
 -- ---- tables that break one clause each
@@ -208,5 +209,5 @@ alone (b ∷ bs) = (b .clause ∷ []) ∷ alone bs
 
 -- each is refused, and for its one clause alone
 pub each-breaks-one : (refused broken ≡ never broken) × (failings broken ≡ alone broken)
-unfolding wellFormed rowsGood rowGood columnsGood countsGood placesGood valuesGood linesGood widthsGood linesPlain valuesFit valuesDiffer valueNew rangeWidth widest widthGood roomGood identsDiffer identNew _and_ allBelow sumBelow maxBelow countOf signedOf eqZ headerOf columnsAt lineAt rowOf kindOf spreadOf need tailOf wholeDigits quantityWidth lowest highest digitsOf countFrom
+unfolding wellFormed rowsGood rowGood columnsGood countsGood placesGood valuesGood linesGood widthsGood linesPlain valuesFit allDiffer numberNew rangeWidth widest widthGood roomGood identsDiffer _and_ allBelow sumBelow maxBelow countOf signedOf eqZ headerOf columnsAt lineAt rowOf kindOf spreadOf need tailOf wholeDigits quantityWidth lowest highest digitsOf countFrom
 each-breaks-one = (refl, refl)

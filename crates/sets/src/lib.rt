@@ -13,7 +13,7 @@ ghost use Rattle.sets.specs.Sets.{ReadSet, isIllegal, BitsFacts, FieldsF
 use layout::Row;
 
 mod bits;
-mod marks;
+pub mod marks;
 mod spread;
 
 // What was read: nothing, so many members in the list, a field that isn't legal, or a set longer than the list.

@@ -12,9 +12,9 @@ use lib.IntN.{ℤ, pos}
 use lib.ListN.{length}
 use lib.Signed.{leZ}
 use Rattle.below.specs.Below.{_and_, and-both, and-left, and-right, either-true, holds-not, all-at, any-some, sum-rises, sum-more, maxBelow, max-at, max-least}
-use Rattle.cells.specs.Cell.{eqZ, same-true}
+use Rattle.cells.specs.Cell.{cell, eqZ, same-true}
 use Rattle.cells.specs.Order.{le-join}
-use Rattle.layout.specs.Layout.{mostRows, mostLines, lineBase, headerOf}
+use Rattle.layout.specs.Layout.{mostRows, mostLines, lineSize, lineBase, headerOf}
 use Rattle.layout.specs.Row.{rowOf, rowAt, kindOf, kind-cases}
 use Rattle.layout.specs.declared.Columns.{Columns}
 use Rattle.layout.specs.declared.Row.{Row}
@@ -90,6 +90,10 @@ module _ (t : List ℤ) (v : ℕ) (r : Row) where
         line-fits = λ j l. all-at (λ i. fitsKind (r .kind) (valueAt t v (r .before) i)) (r .lines) j l (b .1);
       }
 
+-- the value of a row's line is that of one of the lines from its first on
+pub line-value : (t : List ℤ) (v : ℕ) (r : Row) (j : ℕ) → lineValue t v r j ≡ valueAt t v (r .before) j
+line-value t v r j = let p : lineBase v (r .before + j) ≡ lineBase v (r .before) + lineSize * j = omega arith in ap (cell t) p
+
 -- ---- a legal number, by its range or its line
 module _ (t : List ℤ) (v : ℕ) (r : Row) (u : FitAs t v r (r .kind)) where
   -- in the range: between its ends
@@ -113,7 +117,7 @@ module _ (t : List ℤ) (v : ℕ) (r : Row) (u : FitAs t v r (r .kind)) where
   unfolding legal onLine
   legal-cases z e f g =
       ⊎-elim (λ p. f (between z p))
-      (λ p. any-some (λ k. eqZ (lineValue t v r k) z) (r .lines) p (λ j l q. g j l (same-true (lineValue t v r j) z q)))
+      (λ p. any-some (λ k. eqZ (lineValue t v r k) z) (r .lines) p (λ j l q. g j l (sym (line-value t v r j) ∙ same-true (lineValue t v r j) z q)))
       (either-true (inRange r z) _ e)
 
   lower : (z : ℤ) → fitsKind (r .kind) z ≡ true → leZ (lowest (r .kind)) z ≡ true

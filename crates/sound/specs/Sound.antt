@@ -11,7 +11,8 @@ use lib.Signed.{leZ}
 use Rattle.ascii.specs.Class.{within}
 use Rattle.below.specs.Below.{_and_, and-no, and-yes, allBelow, sumBelow, maxBelow}
 use Rattle.cells.specs.Cell.{cell, eqZ}
-use Rattle.layout.specs.Layout.{mark, mostRows, mostLines, headerSize, lineSize, rowBase, linesBase, lineBase, headerOf, columnsAt, lineAt}
+use Rattle.strides.specs.Stride.{strideAt, allDiffer}
+use Rattle.layout.specs.Layout.{mark, mostRows, mostLines, headerSize, rowSize, lineSize, rowBase, linesBase, lineBase, headerOf, columnsAt, lineAt}
 use Rattle.layout.specs.Row.{rowOf}
 use Rattle.layout.specs.declared.Header.{Header}
 use Rattle.layout.specs.declared.Columns.{Columns}
@@ -84,7 +85,7 @@ rangeGood r = not (r .range) || (leZ (r .from) (r .to) && (fitsKind (r .kind) (r
 
 -- the value of line k of those that start after b lines, in a table of v rows
 abbrev pub valueAt : List ℤ → ℕ → ℕ → ℕ → ℤ
-valueAt t v b k = cell t (lineBase v (b + k))
+valueAt t v b k = strideAt t (lineBase v b) lineSize k
 
 -- a line's flag, text place and length
 abbrev pub linePlain : Line → Bool
@@ -99,16 +100,6 @@ linesPlain t v b n = allBelow n (plainAt t v b)
 -- refusals 6 and 8 of lines: values within the limits of their kind
 unfoldable pub valuesFit : Kind → (ℕ → ℤ) → ℕ → Bool
 valuesFit k f n = allBelow n (λ j. fitsKind k (f j))
-
--- "value repeated": the one at k is none of those before it
-abbrev pub unlike : (ℕ → ℤ) → ℕ → ℕ → Bool
-unlike f k j = not (eqZ (f k) (f j))
-
-unfoldable pub valueNew : (ℕ → ℤ) → ℕ → Bool
-valueNew f k = allBelow k (unlike f k)
-
-unfoldable pub valuesDiffer : (ℕ → ℤ) → ℕ → Bool
-valuesDiffer f n = allBelow n (valueNew f)
 
 -- ---- w, recomputed
 -- the wider of the range ends
@@ -139,11 +130,12 @@ roomGood (Quantity f) r = holdsWidth r
 roomGood Character r = holdsWidth r
 roomGood Logical r = holdsWidth r
 
+-- refusal 6 of lines: no value repeated
 unfoldable pub linesGood : List ℤ → ℕ → Row → Bool
 linesGood t v r =
     linesPlain t v (r .before) (r .lines)
     and valuesFit (r .kind) (valueAt t v (r .before)) (r .lines)
-    and valuesDiffer (valueAt t v (r .before)) (r .lines)
+    and allDiffer (valueAt t v (r .before)) (r .lines)
 
 unfoldable pub valuesGood : List ℤ → ℕ → Row → Bool
 valuesGood t v r = rangeGood r and linesGood t v r
@@ -178,18 +170,9 @@ highestFinish t v = maxBelow v (finishAt t)
 abbrev pub goodAt : List ℤ → ℕ → ℕ → ℕ → Bool
 goodAt t v e i = rowGood t v e (linesBefore t i) (columnsOf t i)
 
--- refusal 5 of two idents: row i's is no earlier row's
-abbrev pub identAt : List ℤ → ℕ → ℕ
-identAt t i = columnsOf t i .ident
-
-abbrev pub otherIdent : List ℤ → ℕ → ℕ → Bool
-otherIdent t i j = not (eqb (identAt t j) (identAt t i))
-
-unfoldable pub identNew : List ℤ → ℕ → Bool
-identNew t i = allBelow i (otherIdent t i)
-
+-- refusal 5 of two idents: no two are equal
 unfoldable pub identsDiffer : List ℤ → ℕ → Bool
-identsDiffer t v = allBelow v (identNew t)
+identsDiffer t v = allDiffer (strideAt t headerSize rowSize) v
 
 -- ---- the header
 abbrev pub headCounts : Header → Bool

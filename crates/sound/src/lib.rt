@@ -4,25 +4,21 @@ ghost use mathlib.Core.Path.{_≡_};
 ghost use Prim.Native.Nat.{_+_, _*_, _≤_, _<_, max};
 ghost use lib.Dec.{leb};
 ghost use lib.ListN.{length};
-ghost use lib.Signed.{leZ};
-ghost use mathlib.Core.Bool.{cond, true};
+ghost use mathlib.Core.Bool.{true};
 ghost use Rattle.ascii.specs.Tens.{Tens};
 ghost use Rattle.below.specs.Below.{_and_};
 ghost use Rattle.widths.specs.Width.{need, fitsKind, FewDecimals};
-ghost use Rattle.sound.specs.Sound.{headCounts, headSums, typeKnown, decimalsFew, flagsPlain, lackedZero, rangeLacked, pointGiven, valuesGiven, identGood, positionGood, subfieldsGood, textsGood, countsGood, placesGood, linePlain, linesPlain, valueAt, valueNew, valuesDiffer, rangeGood, rangeWidth, widthGood, roomGood, valuesGood, widthsGood, columnsGood, rowGood, rowsGood, identAt, identNew, identsDiffer, wellFormed};
-ghost use Rattle.sound.specs.Block.{Standing, above, valuesRise, hullWith, Hulled, Blocked, hullFits, hullWidth, Placed, Ready, linedGood, identsRise};
+ghost use Rattle.sound.specs.Sound.{headCounts, headSums, lackedZero, rangeLacked, textsGood, countsGood, placesGood, linePlain, linesPlain, rangeGood, rangeWidth, widthGood, roomGood, valuesGood, widthsGood, columnsGood, rowGood, rowsGood, valueAt, identsDiffer, wellFormed};
+ghost use Rattle.strides.specs.Hull.{Blocked};
+ghost use Rattle.sound.specs.Block.{Standing, hullFits, hullWidth, Placed, Ready, linedGood};
 use layout::Columns;
 use layout::Header;
 use layout::Kind;
 use layout::Line;
 use layout::Row;
 use layout::Spread;
-
-// The least and the most of some numbers.
-pub struct Hull {
-    pub least: i64,
-    pub most: i64,
-}
+use strides::Block;
+use strides::Hull;
 
 fn head_counts(h: Header) -> bool
     ensures { λ b. ⌜ b ≡ headCounts h ⌝ }
@@ -108,132 +104,12 @@ fn lines_plain(t: &[i64], v: usize, b: usize, n: usize) -> bool
     true
 }
 
-// The value of line k of the n lines from b on.
-fn value(t: &[i64], v: usize, b: usize, n: usize, k: usize) -> i64
-    requires { ⌜ Standing (now t) v b n × (k < n) ⌝ }
-    ensures { λ r. ⌜ r ≡ valueAt (now (t .entry)) v b k ⌝ }
-{
-    t[Line::base(v, b + k)]
-}
-
-// Is the value of line k above that of the line before it?
-fn above_last(t: &[i64], v: usize, b: usize, n: usize, k: usize) -> bool
-    requires { ⌜ Standing (now t) v b n × (k < n) × (1 ≤ k) ⌝ }
-    ensures { λ r. ⌜ r ≡ above (valueAt (now (t .entry)) v b) k ⌝ }
-{
-    !cells::not_above(value(t, v, b, n, k), value(t, v, b, n, k - 1))
-}
-
-// Does each value rise above the one before it? The usual case, in which no two are equal.
-fn values_rise(t: &[i64], v: usize, b: usize, n: usize) -> bool
-    requires { ⌜ Standing (now t) v b n ⌝ }
-    ensures { λ r. ⌜ r ≡ valuesRise (valueAt (now (t .entry)) v b) n ⌝ }
-{
-    let mut k: usize = 1;
-    while k < n {
-        if !above_last(t, v, b, n, k) {
-            return false;
-        }
-        k += 1;
-    }
-    true
-}
-
-// Does the value of line k differ from those of the lines before it?
-fn value_new(t: &[i64], v: usize, b: usize, n: usize, k: usize) -> bool
-    requires { ⌜ Standing (now t) v b n × (k < n) ⌝ }
-    ensures { λ r. ⌜ r ≡ valueNew (valueAt (now (t .entry)) v b) k ⌝ }
-{
-    let x = value(t, v, b, n, k);
-    let mut j: usize = 0;
-    while j < k {
-        if cells::same(x, value(t, v, b, n, j)) {
-            return false;
-        }
-        j += 1;
-    }
-    true
-}
-
-// Are the values pairwise different?
-fn values_differ(t: &[i64], v: usize, b: usize, n: usize) -> bool
-    requires { ⌜ Standing (now t) v b n ⌝ }
-    ensures { λ r. ⌜ r ≡ valuesDiffer (valueAt (now (t .entry)) v b) n ⌝ }
-{
-    let mut k: usize = 0;
-    while k < n {
-        if !value_new(t, v, b, n, k) {
-            return false;
-        }
-        k += 1;
-    }
-    true
-}
-
-// The hull with one number more.
-fn hull_with(h: Hull, z: i64) -> Hull
-    ensures { λ r. ⌜ r ≡ hullWith h z ⌝ }
-{
-    let least = h.least;
-    let most = h.most;
-    Hull {
-        least: lesser(least, z),
-        most: greater(z, most),
-    }
-}
-
-// The first number where it is at most the second, else the second.
-fn lesser(a: i64, b: i64) -> i64
-    ensures { λ r. ⌜ r ≡ cond (leZ a b) a b ⌝ }
-{
-    if a <= b { a } else { b }
-}
-
-// The second number where the first is at most it, else the first.
-fn greater(a: i64, b: i64) -> i64
-    ensures { λ r. ⌜ r ≡ cond (leZ a b) b a ⌝ }
-{
-    if a <= b { b } else { a }
-}
-
-// The least and the most of the values of n lines.
-fn hull_of(t: &[i64], v: usize, b: usize, n: usize) -> Hull
-    requires { ⌜ Standing (now t) v b n × (1 ≤ n) ⌝ }
-    ensures { λ r. ⌜ Hulled (valueAt (now (t .entry)) v b) n r ⌝ }
-{
-    let first = value(t, v, b, n, 0);
-    let mut h = Hull {
-        least: first,
-        most: first,
-    };
-    let mut k: usize = 1;
-    while k < n {
-        h = hull_with(h, value(t, v, b, n, k));
-        k += 1;
-    }
-    h
-}
-
-// What is known of a row's lines: whether their values differ, and the least and the most of them.
-pub struct Block {
-    pub differ: bool,
-    pub hull: Hull,
-}
-
+// Whether the values of the n lines from b on differ, and the least and the most of them.
 fn block_of(t: &[i64], v: usize, b: usize, n: usize) -> Block
     requires { ⌜ Standing (now t) v b n × (1 ≤ n) ⌝ }
     ensures { λ r. ⌜ Blocked (valueAt (now (t .entry)) v b) n r ⌝ }
 {
-    if values_rise(t, v, b, n) {
-        let hull = Hull {
-            least: value(t, v, b, n, 0),
-            most: value(t, v, b, n, n - 1),
-        };
-        return Block { differ: true, hull };
-    }
-    let differ = values_differ(t, v, b, n);
-    let hull = hull_of(t, v, b, n);
-    Block { differ, hull }
+    strides::block_of(t, Line::base(v, b), Line::SIZE, n)
 }
 
 fn fits_kind(kind: Kind, z: i64) -> bool
@@ -462,61 +338,12 @@ fn rows_good(t: &[i64], powers: &[u64; 16], h: Header) -> bool
     (sum == e) & (high == h.length)
 }
 
-// The ident of row i.
-fn ident(t: &[i64], v: usize, i: usize) -> usize
-    requires { ⌜ Standing (now t) v 0 0 × (i < v) ⌝ }
-    ensures { λ r. ⌜ r ≡ identAt (now (t .entry)) i ⌝ }
-{
-    cells::count_at(t, Row::base(i) + Row::IDENT)
-}
-
-// Does each ident rise above the one before it? The usual case, in which no two are equal.
-fn idents_rise(t: &[i64], v: usize) -> bool
-    requires { ⌜ Standing (now t) v 0 0 ⌝ }
-    ensures { λ r. ⌜ r ≡ identsRise (now (t .entry)) v ⌝ }
-{
-    let mut i: usize = 1;
-    while i < v {
-        if ident(t, v, i) <= ident(t, v, i - 1) {
-            return false;
-        }
-        i += 1;
-    }
-    true
-}
-
-// Is the ident of row i that of no earlier row?
-fn ident_new(t: &[i64], v: usize, i: usize) -> bool
-    requires { ⌜ Standing (now t) v 0 0 × (i < v) ⌝ }
-    ensures { λ r. ⌜ r ≡ identNew (now (t .entry)) i ⌝ }
-{
-    let x = ident(t, v, i);
-    let mut j: usize = 0;
-    while j < i {
-        if ident(t, v, j) == x {
-            return false;
-        }
-        j += 1;
-    }
-    true
-}
-
 // Are the idents pairwise different?
 fn idents_differ(t: &[i64], v: usize) -> bool
     requires { ⌜ Standing (now t) v 0 0 ⌝ }
     ensures { λ r. ⌜ r ≡ identsDiffer (now (t .entry)) v ⌝ }
 {
-    if idents_rise(t, v) {
-        return true;
-    }
-    let mut i: usize = 0;
-    while i < v {
-        if !ident_new(t, v, i) {
-            return false;
-        }
-        i += 1;
-    }
-    true
+    strides::differ(t, Header::SIZE, Row::SIZE, v)
 }
 
 // Is the table well formed?

@@ -1,0 +1,3 @@
+pub mod Tops
+pub mod Writing
+pub mod ReadBack

@@ -1,0 +1,3 @@
+pub mod SpreadSteps
+pub mod BitSteps
+pub mod JudgeSteps

@@ -1,0 +1,28 @@
+-- What the writers of sets ask for.
+use Prim.Native.Nat.{ℕ, _+_, _*_, _^_, _≤_, _<_}
+use mathlib.Core.Bool.{Bool, false}
+use mathlib.Core.List.{List, [], _∷_}
+use lib.IntN.{ℤ, pos}
+use lib.ListN.{getD}
+use Rattle.cells.specs.Cell.{eqZ}
+use Rattle.widths.specs.Width.{sizeOf}
+
+-- n subfields of b bytes lie in a record of len, and each holds w bytes
+pub record Subfields (len start b w n : ℕ) : Type 0 where
+  pub few : w ≤ 20
+  pub holds : w ≤ b
+  pub inside : start + n * b ≤ len
+
+-- every member has few digits
+pub record Small (ms : List ℤ) : Type 0 where
+  pub at : (i : ℕ) → sizeOf (getD ms i (pos 0)) < 10 ^ 16
+
+-- the w categories from the place at on lie in a record of len
+pub record Bitstring (at w len : ℕ) : Type 0 where
+  pub few : w ≤ 9999
+  pub inside : at + w ≤ len
+
+-- whether the first member is c
+unfoldable pub headIs : List ℤ → ℤ → Bool
+headIs [] c = false
+headIs (m ∷ ms) c = eqZ m c

@@ -1,0 +1,142 @@
+-- The four outcomes of a write to a row.
+use mathlib.Core.Path.{_≡_, refl}
+use mathlib.Core.Bool.{Bool, true, false, cond}
+use mathlib.Core.List.{List, [], _∷_}
+use Prim.Native.Nat.{ℕ, zero, suc, _^_, _<_}
+use native.Mathlib.Omega.{arith}
+use borrow.Author.Tests.{leb-true}
+use lib.IntN.{ℤ, pos, negsuc}
+use lib.Signed.{leZ}
+use Rattle.below.specs.Below.{holds-not}
+use Rattle.cells.specs.Cell.{signedOf}
+use Rattle.widths.specs.Width.{sizeOf, lowest, highest, need, quantityWidth}
+use Rattle.fields.specs.Legal.{legal}
+use Rattle.layout.specs.declared.Kind.the-variants.{Single, Multiple, Quantity}
+use Rattle.layout.specs.declared.Spread.the-variants.{Bits, Fields}
+use Rattle.layout.specs.declared.Format.{Format}
+use Rattle.digits.specs.Room.{Wide}
+use lib.ListN.{length, getD}
+use Rattle.places.specs.Places.{put, run}
+use Rattle.places.specs.Laws.{length-run}
+use Rattle.layout.specs.declared.Kind.{Kind}
+use Rattle.layout.specs.declared.Row.{Row}
+use Rattle.fields.specs.Field.{spaces, allLegal, setFits}
+use Rattle.fieldlaws.specs.BackLaws.{Limits, bits-members}
+use Rattle.fieldlaws.specs.RisingLaws.{Rising, legal-of, legal-here, legal-next}
+use Rattle.setbytes.specs.Sets.{Small}
+use Rattle.fields.specs.Row.{fits, otherType, notLegal, tooMany, legalFit, fitsBy, bytesBy, placesBy}
+use Rattle.writes.specs.declared.Wrote.the-variants.{Done, OtherType, NotLegal, TooMany}
+use Rattle.writes.specs.declared.Value.{Value}
+use Rattle.writes.specs.declared.Value.the-variants.{Missing, Set}
+use Rattle.writes.specs.declared.Wrote.{Wrote}
+use Rattle.writes.specs.Write.{valueOf, WrittenBy, Ready, answerBy, leftBy}
+
+module _ {k : Kind} {t : List ℤ} {v : ℕ} {r : Row} {value value′ : Value} {list : List ℤ} {text : List ℕ} {old : List ℕ} (given : value ≡ value′) where
+  pub accepted : {new : List ℕ} → fitsBy k t v r (valueOf value′ list text) ≡ fits → new ≡ put old (placesBy k t v r) (bytesBy k t v r (valueOf value′ list text))
+      → WrittenBy k t v r value list text old new Done
+  unfolding answerBy leftBy
+  accepted e q = record { says = rw (given, e); leaves = rw (given, e, q) }
+
+  pub other : fitsBy k t v r (valueOf value′ list text) ≡ otherType → WrittenBy k t v r value list text old old OtherType
+  unfolding answerBy leftBy
+  other e = record { says = rw (given, e); leaves = rw (given, e) }
+
+  pub illegal : fitsBy k t v r (valueOf value′ list text) ≡ notLegal → WrittenBy k t v r value list text old old NotLegal
+  unfolding answerBy leftBy
+  illegal e = record { says = rw (given, e); leaves = rw (given, e) }
+
+  pub many : fitsBy k t v r (valueOf value′ list text) ≡ tooMany → WrittenBy k t v r value list text old old TooMany
+  unfolding answerBy leftBy
+  many e = record { says = rw (given, e); leaves = rw (given, e) }
+
+-- a missing value fits every kind, and gives spaces
+pub blanked : {k : Kind} {t : List ℤ} {v : ℕ} {r : Row} {value : Value} {list : List ℤ} {text : List ℕ} {old new : List ℕ} → value ≡ Missing
+    → new ≡ put old (placesBy k t v r) (spaces (length (placesBy k t v r))) → WrittenBy k t v r value list text old new Done
+unfolding valueOf fitsBy bytesBy
+blanked given q = accepted given refl q
+
+-- in one run of places
+pub blanked-run : {k : Kind} {t : List ℤ} {v : ℕ} {r : Row} {value : Value} {list : List ℤ} {text : List ℕ} {old new : List ℕ} → value ≡ Missing
+    → (at w : ℕ) → placesBy k t v r ≡ run at w → new ≡ put old (run at w) (spaces w) → WrittenBy k t v r value list text old new Done
+blanked-run given at w e q = blanked given (rw (e, length-run at w) q)
+
+-- a number from 1 to 9,999
+pub code-size : (z : ℤ) → leZ (pos 1) z ≡ true → leZ z (pos 9999) ≡ true → sizeOf z < 10 ^ 16
+unfolding signedOf
+code-size (pos n) a b = omega (arith, leb-true n 9999 b)
+code-size (negsuc n) a b = holds-not a refl
+
+pub legal-fits : {b : Bool} → b ≡ true → legalFit b ≡ fits
+unfolding legalFit
+legal-fits e = rw e
+
+pub legal-not : {b : Bool} → b ≡ false → legalFit b ≡ notLegal
+unfolding legalFit
+legal-not e = rw e
+
+-- a legal code has few digits
+pub code-few : {t : List ℤ} {v n : ℕ} {r : Row} → Ready Single t v n r → (z : ℤ) → legal t v r z ≡ true → sizeOf z < 10 ^ 16
+unfolding lowest highest
+code-few h z e = code-size z (h .least z e) (h .most z e)
+
+-- a legal quantity has room in the row's width
+quantity-few : (z : ℤ) → leZ (negsuc 999999999999998) z ≡ true → leZ z (pos 999999999999999) ≡ true → sizeOf z < 10 ^ 16
+unfolding signedOf
+quantity-few (pos n) a b = omega (arith, leb-true n 999999999999999 b)
+quantity-few (negsuc n) a b = omega (arith, leb-true n 999999999999998 a)
+
+pub quantity-wide : {t : List ℤ} {v n : ℕ} {r : Row} {f : Format} → Ready (Quantity f) t v n r → (z : ℤ) → legal t v r z ≡ true → Wide f (r .width) z
+unfolding lowest highest need quantityWidth
+quantity-wide h z e = record {
+  few = quantity-few z (h .least z e) (h .most z e);
+  decimals = h .kind .decimals;
+  tail = omega (arith, h .room z e);
+  inside = omega (arith, h .kind .width .few);
+}
+
+-- ---- sets
+module _ {k : Kind} {t : List ℤ} {v : ℕ} {r : Row} {value : Value} {list : List ℤ} {text : List ℕ} {old new : List ℕ} {a : Wrote} where
+  pub as-missing : value ≡ Missing → WrittenBy k t v r Missing [] [] old new a → WrittenBy k t v r value list text old new a
+  unfolding valueOf
+  as-missing given w = record { says = rw given (w .says); leaves = rw given (w .leaves) }
+
+  pub as-set : value ≡ Set → WrittenBy k t v r Set list [] old new a → WrittenBy k t v r value list text old new a
+  unfolding valueOf
+  as-set given w = record { says = rw given (w .says); leaves = rw given (w .leaves) }
+
+limits-of : {k : Kind} {t : List ℤ} {v n : ℕ} {r : Row} → Ready k t v n r → Limits k t v r
+limits-of h = record { kind = h .kind; least = h .least; most = h .most; room = h .room }
+
+-- a set that fits a bitstring is some of its categories
+pub bits-rising : {t : List ℤ} {v n : ℕ} {r : Row} → Ready (Multiple Bits) t v n r → (ms : List ℤ) → setFits (legal t v r) ms ≡ true → Rising 1 (r .width) ms
+bits-rising {t} {v} {n} {r} h ms e = bits-members t v r (limits-of h) ms e
+
+-- the members of a set that fits have few digits
+all-small : (ok : ℤ → Bool) → ((z : ℤ) → ok z ≡ true → sizeOf z < 10 ^ 16) → (ms : List ℤ) → allLegal ok ms ≡ true → (i : ℕ) → sizeOf (getD ms i (pos 0)) < 10 ^ 16
+unfolding signedOf
+all-small ok few [] l i = omega arith
+all-small ok few (m ∷ ms) l zero = few m (legal-here ok m ms l)
+all-small ok few (m ∷ ms) l (suc i) = all-small ok few ms (legal-next ok m ms l) i
+
+pub spread-small : {t : List ℤ} {v n c b : ℕ} {r : Row} → Ready (Multiple (Fields c b)) t v n r → (ms : List ℤ) → setFits (legal t v r) ms ≡ true → Small ms
+unfolding lowest highest
+spread-small {t} {v} {r = r} h ms e =
+    record { at = all-small (legal t v r) (λ z q. code-size z (h .least z q) (h .most z q)) ms (legal-of (legal t v r) ms e) }
+
+-- the answers of a spread
+pub set-not : {a : Bool} (b : Bool) → a ≡ false → cond a (cond b tooMany fits) notLegal ≡ notLegal
+set-not b e = rw e
+
+pub set-many : {a b : Bool} → a ≡ true → b ≡ true → cond a (cond b tooMany fits) notLegal ≡ tooMany
+set-many e f = rw (e, f)
+
+pub set-fits : {a b : Bool} → a ≡ true → b ≡ false → cond a (cond b tooMany fits) notLegal ≡ fits
+set-fits e f = rw (e, f)
+
+-- ---- the kind of a row, once it is known
+pub ready-as : {k k′ : Kind} {t : List ℤ} {v n : ℕ} {r : Row} → k ≡ k′ → Ready k t v n r → Ready k′ t v n r
+ready-as e h = rw e at h
+
+pub written-as : {k k′ : Kind} {t : List ℤ} {v : ℕ} {r : Row} {value : Value} {list : List ℤ} {text : List ℕ} {old new : List ℕ} {a : Wrote}
+    → k ≡ k′ → WrittenBy k′ t v r value list text old new a → WrittenBy k t v r value list text old new a
+written-as e w = rw e w

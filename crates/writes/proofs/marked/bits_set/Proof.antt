@@ -1,0 +1,48 @@
+-- `writes::marked::bits_set` meets its contract.
+use mathlib.Core.Path.{refl, sym, _∙_}
+use Prim.Native.Nat.{_-_}
+use native.Mathlib.Omega.{arith}
+use borrow.Author.Needs.{needs}
+use borrow.Author.Tests.{not-true, not-false}
+use Rattle.fields.specs.Row.{fitsBy, bytesBy, placesBy}
+use Rattle.writes.specs.Write.{valueOf}
+use Rattle.writes.proofs.Cases.{accepted, illegal, legal-fits, legal-not, bits-rising}
+use Rattle.writes.proofs.marked.bits_set.Statement.{statement}
+use Rattle.writes.proofs.marked.bits_set.Tie as tie
+
+set-fits-requires : tie.Need-set-fits-requires
+set-fits-requires c κs =
+    let m = c .before .before .before in
+    let s = m .before .before .before .before .before in
+    (s .pre .0 .lines, (m .mark-legal .ensures, rw (m .mark-legal .kept .1 .1 .1 .0) (s .pre .1)))
+
+returns : tie.Need-returns
+unfolding valueOf fitsBy
+returns c = illegal refl (legal-not (sym (c .before .set-fits .ensures) ∙ not-true _ (c .if1 .taken)))
+
+put-bits-requires : tie.Need-put-bits-requires
+put-bits-requires c κs =
+    let j = c .before .before .before in
+    let m = j .before .before .before .before in
+    let s = m .before .before .before .before .before in
+    (s .pre .0 .lines, (m .mark-legal .ensures, (record { few = s .pre .0 .kind .few; inside = omega arith }, bits-rising (s .pre .0) _ (sym (j .set-fits .ensures) ∙ not-false _ (c .before .before .if1 .left)))))
+
+returns-2 : tie.Need-returns-2
+unfolding valueOf fitsBy placesBy bytesBy
+returns-2 c =
+    let p = c .before .before in
+    accepted refl (legal-fits (sym (p .before .before .before .before .set-fits .ensures) ∙ not-false _ (p .before .before .before .if1 .left))) (p .put-bits .ensures)
+
+pub bits-set-spec : {M : Type 1} → statement M
+bits-set-spec =
+    tie.close
+    (tie.spec
+    (λ c. search needs)
+    (λ c κs. search needs)
+    set-fits-requires
+    (λ c. search needs)
+    returns
+    put-bits-requires
+    (λ c. search needs)
+    (λ c. search needs)
+    returns-2)

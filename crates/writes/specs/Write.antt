@@ -1,0 +1,73 @@
+-- Writing one row's value: the value that is given, the answer, and the record afterwards, for a row of each kind.
+use mathlib.Core.Path.{_≡_}
+use mathlib.Core.Bool.{true}
+use mathlib.Core.List.{List}
+use Prim.Native.Nat.{ℕ, _≤_}
+use native.Mathlib.Omega.{arith}
+use lib.IntN.{ℤ}
+use lib.Signed.{leZ}
+use Rattle.places.specs.Places.{put}
+use Rattle.layout.specs.declared.Kind.{Kind}
+use Rattle.layout.specs.declared.Row.{Row}
+use Rattle.widths.specs.Width.{need, lowest, highest}
+use Rattle.fields.specs.Legal.{legal}
+use Rattle.fields.specs.Field as field
+use Rattle.fields.specs.Row.{Fit, fits, otherType, notLegal, tooMany, fitsBy, bytesBy, placesBy}
+use Rattle.fields.specs.Facts.{LineFacts, KindFacts, RowFacts}
+use Rattle.writes.specs.declared.Value.{Value}
+use Rattle.writes.specs.declared.Value.the-variants.{Missing, Number, Set, Text, Truth}
+use Rattle.writes.specs.declared.Wrote.{Wrote}
+use Rattle.writes.specs.declared.Wrote.the-variants.{Done, OtherType, NotLegal, TooMany}
+
+-- what is given: a set is the list beside it, a text the bytes beside it
+unfoldable pub valueOf : Value → List ℤ → List ℕ → field.Value
+valueOf Missing list bytes = field.missing
+valueOf (Number z) list bytes = field.number z
+valueOf Set list bytes = field.members list
+valueOf Text list bytes = field.text bytes
+valueOf (Truth b) list bytes = field.truth b
+
+-- the answer by whether the value fits
+unfoldable pub answerBy : Fit → Wrote
+answerBy fits = Done
+answerBy otherType = OtherType
+answerBy notLegal = NotLegal
+answerBy tooMany = TooMany
+
+-- and the record: a value that fits leaves new, a refusal old
+unfoldable pub leftBy : Fit → List ℕ → List ℕ → List ℕ
+leftBy fits new old = new
+leftBy otherType new old = old
+leftBy notLegal new old = old
+leftBy tooMany new old = old
+
+-- a write to a row of the kind k
+pub record WrittenBy (k : Kind) (t : List ℤ) (v : ℕ) (r : Row) (value : Value) (list : List ℤ) (text : List ℕ) (old new : List ℕ) (answer : Wrote) : Type 0 where
+  pub says : answer ≡ answerBy (fitsBy k t v r (valueOf value list text))
+  pub leaves : new ≡ leftBy (fitsBy k t v r (valueOf value list text)) (put old (placesBy k t v r) (bytesBy k t v r (valueOf value list text))) old
+
+-- what a writer needs of a row of the kind k, in a record of n bytes
+pub record Ready (k : Kind) (t : List ℤ) (v n : ℕ) (r : Row) : Type 0 where
+  pub lines : LineFacts t v r
+  pub from-one : 1 ≤ r .start
+  pub ordered : r .start ≤ r .finish
+  pub inside : r .finish ≤ n
+  pub low : r .finish ≤ 16384
+  pub kind : KindFacts k r
+  pub least : (z : ℤ) → legal t v r z ≡ true → leZ (lowest k) z ≡ true
+  pub most : (z : ℤ) → legal t v r z ≡ true → leZ z (highest k) ≡ true
+  pub room : (z : ℤ) → legal t v r z ≡ true → need k z ≤ r .width
+
+-- a row of a well-formed table is ready, in a record of the least length or more
+pub ready : {t : List ℤ} {v len : ℕ} {r : Row} (n : ℕ) → RowFacts t v len r → len ≤ n → Ready (r .kind) t v n r
+ready n f h = record {
+  lines = f .lines;
+  from-one = f .position .from-one;
+  ordered = f .position .ordered;
+  inside = omega (arith, f .position .inside);
+  low = omega (arith, f .position .inside, f .position .low);
+  kind = f .kind;
+  least = f .least;
+  most = f .most;
+  room = f .fits;
+}

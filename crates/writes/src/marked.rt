@@ -1,0 +1,164 @@
+// Rows of sets: bitstrings and spreads. The numbers that the row allows are marked once where that pays, so that its lines are not
+// searched for each category or member.
+ghost use mathlib.Core.Path.{_≡_};
+ghost use mathlib.Core.List.{[]};
+ghost use Prim.Native.Nat.{_≤_};
+ghost use lib.ListN.{length};
+ghost use Rattle.ascii.specs.Tens.{Tens};
+ghost use Rattle.layout.specs.declared.Kind.the-variants as kind;
+ghost use Rattle.layout.specs.declared.Spread.the-variants as spread;
+ghost use Rattle.writes.specs.declared.Value.the-variants as given;
+ghost use Rattle.writes.specs.Write.{WrittenBy, Ready};
+use super::Value;
+use super::Wrote;
+use layout::Row;
+
+// So many members, and so many lines to search for each, pay for marks of all categories.
+const MANY: usize = 16;
+
+// Marks of 0 to the highest category.
+const MARKS: usize = 10_000;
+
+fn bits_missing(t: &[i64], rows: usize, row: Row, marks: &mut [u8], bytes: &mut [u8]) -> Wrote
+    requires { ⌜ Ready (kind.Multiple spread.Bits) (now t) rows (length (now bytes)) row ⌝ }
+    requires { ⌜ length (now marks) ≤ 10000 ⌝ }
+    ensures { λ r. ⌜ WrittenBy (kind.Multiple spread.Bits) (now (t .entry)) rows row given.Missing [] [] (now (bytes .entry)) (now (bytes .exit)) r ⌝ }
+{
+    let w = row.width;
+    let at = row.start - 1;
+    sets::marks::mark_legal(t, rows, row, marks);
+    setbytes::bits::blank_bits(t, rows, row, marks, bytes, at, w);
+    Wrote::Done
+}
+
+fn bits_set(
+    t: &[i64],
+    rows: usize,
+    row: Row,
+    list: &[i64],
+    marks: &mut [u8],
+    bytes: &mut [u8],
+) -> Wrote
+    requires { ⌜ Ready (kind.Multiple spread.Bits) (now t) rows (length (now bytes)) row ⌝ }
+    requires { ⌜ length (now marks) ≤ 10000 ⌝ }
+    ensures { λ r. ⌜ WrittenBy (kind.Multiple spread.Bits) (now (t .entry)) rows row given.Set (now (list .entry)) [] (now (bytes .entry)) (now (bytes .exit)) r ⌝ }
+{
+    let w = row.width;
+    let at = row.start - 1;
+    sets::marks::mark_legal(t, rows, row, marks);
+    if !setbytes::judge::set_fits(t, rows, row, marks, list) {
+        return Wrote::NotLegal;
+    }
+    setbytes::bits::put_bits(t, rows, row, marks, bytes, at, w, list);
+    Wrote::Done
+}
+
+pub fn write_bits(
+    t: &[i64],
+    rows: usize,
+    row: Row,
+    value: Value,
+    list: &[i64],
+    text: &[u8],
+    bytes: &mut [u8],
+) -> Wrote
+    requires { ⌜ Ready (kind.Multiple spread.Bits) (now t) rows (length (now bytes)) row ⌝ }
+    ensures { λ r. ⌜ WrittenBy (kind.Multiple spread.Bits) (now (t .entry)) rows row value (now (list .entry)) (now (text .entry)) (now (bytes .entry)) (now (bytes .exit)) r ⌝ }
+{
+    let k = row.width + 1;
+    match value {
+        Value::Missing => {
+            let mut marks = [0; MARKS];
+            bits_missing(t, rows, row, &mut marks[..k], bytes)
+        }
+        Value::Set => {
+            let mut marks = [0; MARKS];
+            bits_set(t, rows, row, list, &mut marks[..k], bytes)
+        }
+        Value::Number(_) => Wrote::OtherType,
+        Value::Text => Wrote::OtherType,
+        Value::Truth(_) => Wrote::OtherType,
+    }
+}
+
+fn spread_set(
+    powers: &[u64; 16],
+    t: &[i64],
+    rows: usize,
+    row: Row,
+    count: usize,
+    width: usize,
+    list: &[i64],
+    marks: &mut [u8],
+    bytes: &mut [u8],
+) -> Wrote
+    requires { ⌜ Tens (now powers) ⌝ }
+    requires { ⌜ Ready (kind.Multiple (spread.Fields count width)) (now t) rows (length (now bytes)) row ⌝ }
+    requires { ⌜ length (now marks) ≤ 10000 ⌝ }
+    ensures { λ r. ⌜ WrittenBy (kind.Multiple (spread.Fields count width)) (now (t .entry)) rows row given.Set (now (list .entry)) [] (now (bytes .entry)) (now (bytes .exit)) r ⌝ }
+{
+    let w = row.width;
+    let at = row.start - 1;
+    sets::marks::mark_legal(t, rows, row, marks);
+    if !setbytes::judge::set_fits(t, rows, row, marks, list) {
+        return Wrote::NotLegal;
+    }
+    if count < list.len() {
+        return Wrote::TooMany;
+    }
+    setbytes::spread::put_spread(powers, bytes, at, width, w, count, list);
+    Wrote::Done
+}
+
+fn spread_written(
+    powers: &[u64; 16],
+    t: &[i64],
+    rows: usize,
+    row: Row,
+    count: usize,
+    width: usize,
+    list: &[i64],
+    bytes: &mut [u8],
+) -> Wrote
+    requires { ⌜ Tens (now powers) ⌝ }
+    requires { ⌜ Ready (kind.Multiple (spread.Fields count width)) (now t) rows (length (now bytes)) row ⌝ }
+    ensures { λ r. ⌜ WrittenBy (kind.Multiple (spread.Fields count width)) (now (t .entry)) rows row given.Set (now (list .entry)) [] (now (bytes .entry)) (now (bytes .exit)) r ⌝ }
+{
+    let lines = row.lines;
+    if (list.len() < MANY) | (lines < MANY) {
+        let mut none = [0; 1];
+        return spread_set(powers, t, rows, row, count, width, list, &mut none, bytes);
+    }
+    let mut marks = [0; MARKS];
+    spread_set(powers, t, rows, row, count, width, list, &mut marks, bytes)
+}
+
+pub fn write_spread(
+    powers: &[u64; 16],
+    t: &[i64],
+    rows: usize,
+    row: Row,
+    count: usize,
+    width: usize,
+    value: Value,
+    list: &[i64],
+    text: &[u8],
+    bytes: &mut [u8],
+) -> Wrote
+    requires { ⌜ Tens (now powers) ⌝ }
+    requires { ⌜ Ready (kind.Multiple (spread.Fields count width)) (now t) rows (length (now bytes)) row ⌝ }
+    ensures { λ r. ⌜ WrittenBy (kind.Multiple (spread.Fields count width)) (now (t .entry)) rows row value (now (list .entry)) (now (text .entry)) (now (bytes .entry)) (now (bytes .exit)) r ⌝ }
+{
+    let w = row.width;
+    let at = row.start - 1;
+    match value {
+        Value::Missing => {
+            setbytes::spread::blank_spread(bytes, at, width, w, count);
+            Wrote::Done
+        }
+        Value::Set => spread_written(powers, t, rows, row, count, width, list, bytes),
+        Value::Number(_) => Wrote::OtherType,
+        Value::Text => Wrote::OtherType,
+        Value::Truth(_) => Wrote::OtherType,
+    }
+}
