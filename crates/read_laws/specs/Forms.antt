@@ -135,7 +135,7 @@ unfolding unspaced
 past-gap b s none h = rw (ne-eqb _ _ h)
 past-gap b s (space r) h = past-gap b s r h
 
-all-gap : {g : List ℕ} → Spaces g → unspaced g ≡ []
+pub all-gap : {g : List ℕ} → Spaces g → unspaced g ≡ []
 unfolding unspaced
 all-gap none = refl
 all-gap (space r) = all-gap r

@@ -5,3 +5,4 @@ pub mod Refused
 pub mod Forms
 pub mod Kinds
 pub mod Others
+pub mod Missing
