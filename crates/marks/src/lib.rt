@@ -38,38 +38,49 @@ pub fn is_hex(classes: &[u8; 256], b: u8) -> bool
     if u < 65 { false } else { u <= 70 }
 }
 
+// The next byte of a string in plain text.
+fn move_plain(b: u8, place: usize) -> Move
+    ensures { λ r. ⌜ r ≡ insideOf Inside.Plain b place ⌝ }
+{
+    if b == 34 {
+        return Move::Closed;
+    }
+    if b == 123 {
+        Move::Go(Inside::Opened(place))
+    } else {
+        Move::Go(Inside::Plain)
+    }
+}
+
+// The first byte of a brace form that opened at o.
+fn move_opened(classes: &[u8; 256], o: usize, b: u8, place: usize) -> Move
+    requires { ⌜ Classes (now classes) ⌝ }
+    ensures { λ r. ⌜ r ≡ insideOf (Inside.Opened o) b place ⌝ }
+{
+    if b == 34 {
+        return Move::Go(Inside::Shut(o));
+    }
+    if b == 123 {
+        return Move::Go(Inside::Shut(o));
+    }
+    if b == 78 {
+        return Move::Go(Inside::Ell(o));
+    }
+    if is_hex(classes, b) {
+        Move::Go(Inside::Low(o))
+    } else {
+        Move::Wrong(o)
+    }
+}
+
 // The next byte of a string.
 pub fn move_inside(classes: &[u8; 256], s: Inside, b: u8, place: usize) -> Move
     requires { ⌜ Classes (now classes) ⌝ }
     ensures { λ r. ⌜ r ≡ insideOf s b place ⌝ }
 {
     match s {
-        Inside::Plain => {
-            if b == 34 {
-                return Move::Closed;
-            }
-            if b == 123 {
-                Move::Go(Inside::Opened(place))
-            } else {
-                Move::Go(Inside::Plain)
-            }
-        }
-        Inside::Opened(o) => {
-            if b == 34 {
-                return Move::Go(Inside::Shut(o));
-            }
-            if b == 123 {
-                return Move::Go(Inside::Shut(o));
-            }
-            if b == 78 {
-                return Move::Go(Inside::Ell(o));
-            }
-            if is_hex(classes, b) {
-                Move::Go(Inside::Low(o))
-            } else {
-                Move::Wrong(o)
-            }
-        }
+        Inside::Plain => move_plain(b, place),
+        Inside::Opened(o) => move_opened(classes, o, b, place),
         Inside::Shut(o) => {
             if b == 125 {
                 Move::Go(Inside::Plain)
