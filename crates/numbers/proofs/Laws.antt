@@ -1,24 +1,22 @@
 -- What the readers of numbers lean on: digits read, and an amount by its parts.
 -- Assumes nothing.
-use mathlib.Core.Path.{_≡_, refl, sym, ap, _∙_}
-use mathlib.Core.Bool.{Bool, true, false, cond, _&&_, and-false}
+use mathlib.Core.Path.{_≡_, refl, _∙_}
+use mathlib.Core.Bool.{Bool, true, false, cond}
 use mathlib.Core.List.{List, [], _∷_, _++_}
-use Prim.Native.Nat.{ℕ, zero, suc, _+_, _-_, _*_, _^_, _≤_, _<_}
+use Prim.Native.Nat.{ℕ, suc, _+_, _-_, _*_, _^_, _≤_, _<_}
 use native.Mathlib.Nat.{sub-zero, pow-le-pow-right, le-trans, one-mul, mul-le-mul-right}
 use native.Mathlib.Numerals.{add-one}
 use native.Mathlib.Omega.{arith}
 use borrow.Author.Tests.{lt-ltb, le-ltb, eq-eqb, ne-eqb}
-use lib.Dec.{ltb, eqb}
-use lib.IntN.{ℤ, pos}
-use lib.ListN.{length, take, drop, getD, length-take, length-drop, drop-of-length-le}
+use lib.IntN.{pos}
+use lib.ListN.{length, take, drop, getD, length-drop, drop-of-length-le}
 use lib.Pow.{pow-add}
 use lib.Seq.{length-take-le, take-all, take-length, drop-length, drop-cons}
-use Rattle.below.specs.Below.{holds-not}
 use Rattle.cells.specs.Cell.{numberOf}
 use Rattle.layout.specs.declared.Format.{Format}
 use Rattle.widths.specs.Width.{tailOf}
-use Rattle.fields.specs.Number.{Said, blank, says, wrong, digitsOnly, decimalFrom, decimal, unspaced, codeAfter, codeOf, amountForm, amountSize, amountOf, quantityAfter, quantityOf, wholePart, decimalPart}
-use Rattle.numbers.specs.Numeral.{digitsRead, decimalsRead, FormatFacts}
+use Rattle.fields.specs.Number.{blank, says, wrong, digitsOnly, decimalFrom, decimal, unspaced, codeAfter, codeOf, amountForm, amountSize, amountOf, quantityAfter, quantityOf}
+use Rattle.numbers.specs.Numeral.{digitsRead, decimalsRead}
 use Rattle.numbers.specs.Room.{decimal-room}
 use Rattle.numbers.specs.declared.Digits.the-variants as digits
 

@@ -3,7 +3,6 @@ use mathlib.Core.Path.{_≡_}
 use mathlib.Core.Bool.{Bool, cond}
 use mathlib.Core.List.{List}
 use Prim.Native.Nat.{ℕ, _≤_}
-use lib.IntN.{ℤ}
 use Rattle.cells.specs.Cell.{numberOf}
 use Rattle.layout.specs.declared.Format.{Format}
 use Rattle.fields.specs.Number.{Said, blank, says, wrong, digitsOnly, decimalFrom}

@@ -1,9 +1,9 @@
 -- How large a number a run of digits can say: what it says after n lies below (n + 1) times ten to the count of digits.
-use mathlib.Core.Path.{_≡_, refl, sym, ap, _∙_}
-use mathlib.Core.Bool.{Bool, true, false}
+use mathlib.Core.Path.{_≡_}
+use mathlib.Core.Bool.{true}
 use mathlib.Core.List.{List, [], _∷_}
-use Prim.Native.Nat.{ℕ, zero, suc, _+_, _-_, _*_, _^_, _≤_, _<_}
-use native.Mathlib.Nat.{pow-suc, pow-zero, mul-one, mul-comm, mul-assoc, mul-le-mul-right, le-mul-of-pos-right, pow-le-pow-right, one-le-pow, le-trans}
+use Prim.Native.Nat.{ℕ, suc, _+_, _-_, _*_, _^_, _≤_}
+use native.Mathlib.Nat.{pow-suc, pow-zero, mul-one, mul-comm, mul-assoc, mul-le-mul-right, le-mul-of-pos-right, one-le-pow, le-trans}
 use native.Mathlib.Omega.{arith}
 use borrow.Author.Tests.{leb-true}
 use lib.Dec.{leb}

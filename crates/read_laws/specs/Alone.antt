@@ -1,5 +1,5 @@
 -- "Reading one row looks at no byte outside its value places": two records that agree there read equal.
-use mathlib.Core.Path.{_≡_, refl, sym, ap, _∙_}
+use mathlib.Core.Path.{_≡_, refl, ap}
 use mathlib.Core.List.{List, [], _∷_}
 use Prim.Native.Nat.{ℕ, _-_, _≤_}
 use borrow.Author.Tests.{le-leb}
@@ -9,9 +9,8 @@ use Rattle.layout.specs.Row.{rowAt}
 use Rattle.layout.specs.declared.Row.{Row}
 use Rattle.places.specs.Places.{pick}
 use Rattle.fields.specs.Row.{placesOf, fieldOf, readingOf}
-use Rattle.sets.specs.Sets.{listAfter}
 use Rattle.sound.specs.Rows.{rowsOf, lengthOf}
-use Rattle.records.specs.Value.{readingAt, outcomeOf, readAs, listAs}
+use Rattle.records.specs.Value.{readingAt, readAs, listAs}
 
 -- two records hold the same byte at each of the places
 abbrev pub Agree : List ℕ → List ℕ → List ℕ → Type 0

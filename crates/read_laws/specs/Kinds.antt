@@ -1,22 +1,22 @@
 -- Each kind's reading in the paper's own words, both ways: the bytes of the value places read as this value exactly when they have this
 -- form. Here `ok` is the test that a number is in the range or on a line.
-use mathlib.Core.Path.{_≡_, refl, sym, ap, subst, _∙_}
+use mathlib.Core.Path.{_≡_, refl, ap, _∙_}
 use mathlib.Core.Logic.{_⊎_, inl, inr, ⊎-elim}
 use mathlib.Core.Bool.{Bool, true, false, cond, _&&_, _||_}
-use mathlib.Core.List.{List, [], _∷_, _++_}
-use Prim.Native.Nat.{ℕ, zero, suc, _+_, _≤_, _<_}
+use mathlib.Core.List.{List, [], _∷_}
+use Prim.Native.Nat.{ℕ}
 use native.Mathlib.Omega.{arith}
-use borrow.Author.Tests.{eqb-true, eqb-false, eq-eqb, ne-eqb, le-leb, leb-true}
-use lib.Dec.{eqb, leb}
+use borrow.Author.Tests.{eqb-true}
+use lib.Dec.{eqb}
 use lib.IntN.{ℤ, pos}
 use lib.ListN.{length}
 use Rattle.below.specs.Below.{holds-not}
 use Rattle.cells.specs.Cell.{eqZ, same-true, same-self}
 use Rattle.layout.specs.declared.Format.{Format}
 use Rattle.fields.specs.Number.{Said, blank, says, wrong, allSpaces, codeOf, quantityOf}
-use Rattle.fields.specs.Field.{Value, missing, number, members, text, truth, Field, holds, illegal, numberField, singleSays, singleField, quantitySays, quantityField, allBits, setBits, bitsField, allPlain, unended, textField, truthField}
+use Rattle.fields.specs.Field.{missing, number, members, holds, illegal, numberField, singleSays, singleField, quantitySays, quantityField, allBits, setBits, bitsField}
 use Rattle.numbers.specs.Numeral.{FormatFacts}
-use Rattle.read_laws.specs.Forms.{Spaces, none, space, CodeForm, QuantityForm, code-exactly, code-blank-exactly, quantity-exactly, quantity-blank-exactly, spaces-all, all-spaces}
+use Rattle.read_laws.specs.Forms.{Spaces, CodeForm, QuantityForm, code-exactly, code-blank-exactly, quantity-exactly}
 
 -- ---- zero or not
 zero-not : (z : ℤ) → (z ≡ pos 0 → ⊥) → eqZ z (pos 0) ≡ false

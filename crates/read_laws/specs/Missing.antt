@@ -1,21 +1,18 @@
 -- "All value places spaces: missing, for every type", and a field is illegal exactly when it holds no value.
-use mathlib.Core.Path.{_≡_, refl, sym, ap, _∙_}
-use mathlib.Core.Bool.{Bool, true, false, cond}
+use mathlib.Core.Path.{_≡_, refl}
 use mathlib.Core.List.{List}
 use Prim.Native.Nat.{ℕ}
 use native.Mathlib.Omega.{arith}
 use lib.IntN.{ℤ}
-use lib.ListN.{length}
-use Rattle.layout.specs.declared.Format.{Format}
 use Rattle.layout.specs.declared.Spread.the-variants.{Bits, Fields}
 use Rattle.layout.specs.declared.Kind.{Kind}
 use Rattle.layout.specs.declared.Kind.the-variants.{Single, Multiple, Quantity, Character, Logical}
 use Rattle.layout.specs.declared.Row.{Row}
 use Rattle.places.specs.Places.{pick}
-use Rattle.fields.specs.Number.{allSpaces, codeOf, codeAfter, quantityOf, quantityAfter, unspaced}
-use Rattle.fields.specs.Field.{Value, missing, number, members, text, truth, Field, holds, illegal, singleSays, quantitySays, bitsField, spreadField, textField, truthField}
-use Rattle.fields.specs.Row.{fieldBy, placesOf, fieldOf, readingOf}
-use Rattle.read_laws.specs.Forms.{Spaces, spaces-all, all-spaces, all-gap}
+use Rattle.fields.specs.Number.{codeOf, codeAfter, quantityOf, quantityAfter}
+use Rattle.fields.specs.Field.{Value, missing, Field, holds, illegal, singleSays, quantitySays, bitsField, spreadField, textField, truthField}
+use Rattle.fields.specs.Row.{fieldBy, placesOf, readingOf}
+use Rattle.read_laws.specs.Forms.{Spaces, spaces-all, all-gap}
 
 -- ---- spaces read as missing, for every kind
 pub spaces-missing : (k : Kind) (t : List ℤ) (v : ℕ) (r : Row) (s : List ℕ) → Spaces s → fieldBy k t v r s ≡ holds missing

@@ -1,21 +1,20 @@
 -- CHARACTER, LOGICAL and spreads in the paper's own words, both ways.
-use mathlib.Core.Path.{_≡_, refl, sym, ap, subst, _∙_}
-use mathlib.Core.Logic.{_⊎_, inl, inr, ⊎-elim}
+use mathlib.Core.Path.{_≡_, refl, ap, _∙_}
+use mathlib.Core.Logic.{_⊎_, ⊎-elim}
 use mathlib.Core.Bool.{Bool, true, false, cond, _&&_, _||_}
-use mathlib.Core.List.{List, [], _∷_, _++_, append-assoc, append-nil}
+use mathlib.Core.List.{List, [], _∷_, _++_, append-assoc}
 use Prim.Native.Nat.{ℕ, zero, suc, _+_, _-_, _^_, _≤_, _<_}
 use native.Mathlib.Nat.{eq-or-lt-of-le}
 use native.Mathlib.Omega.{arith}
-use borrow.Author.Tests.{eqb-true, eqb-false, eq-eqb, ne-eqb, le-leb, leb-true, lt-ltb}
-use lib.Dec.{eqb, leb, ltb}
+use borrow.Author.Tests.{eqb-true, eq-eqb, ne-eqb, lt-ltb}
+use lib.Dec.{eqb}
 use lib.IntN.{ℤ, pos}
-use lib.ListN.{length, take, drop}
-use lib.Signed.{ltZ}
-use Rattle.below.specs.Below.{holds-not, same-bool}
+use lib.ListN.{take, drop}
+use Rattle.below.specs.Below.{holds-not}
 use Rattle.cells.specs.Cell.{eqZ, same-true, same-self}
 use Rattle.fields.specs.Number.{Said, blank, says, wrong, allSpaces, codeOf}
-use Rattle.fields.specs.Field.{Value, missing, number, members, text, truth, Field, holds, illegal, allPlain, unended, textField, truthField, entryGood, entryIs, allEntries, someEntry, passing, spreadSet, spreadField, isMember, risingFrom}
-use Rattle.read_laws.specs.Forms.{Spaces, none, space, CodeForm, code-exactly, code-blank-exactly, spaces-all, all-spaces}
+use Rattle.fields.specs.Field.{missing, members, text, truth, holds, illegal, allPlain, unended, textField, truthField, entryGood, entryIs, allEntries, someEntry, passing, spreadSet, spreadField, isMember, risingFrom}
+use Rattle.read_laws.specs.Forms.{Spaces, CodeForm, code-exactly, code-blank-exactly, spaces-all, all-spaces}
 
 -- ---- CHARACTER
 -- a text's bytes: the text, which ends in no space, and spaces

@@ -1,11 +1,9 @@
 -- "Proved readings": document 01's list, by computation, in the terms of the public calls. `readAs` is what reading row 0 answers, with
 -- room for nine members, and `listAs` the list after it; `x` is 120.
 use mathlib.Core.Path.{_≡_, refl}
-use mathlib.Core.Bool.{Bool, true, false, cond, _&&_, not}
-use mathlib.Core.List.{List, [], _∷_, _++_}
-use Prim.Native.Nat.{ℕ, _+_}
+use mathlib.Core.Bool.{true, false}
+use mathlib.Core.List.{List, [], _∷_}
 use lib.IntN.{ℤ, pos, negsuc}
-use lib.ListN.{length, take}
 use Rattle.ascii.specs.Tens.{countFrom, digitsOf}
 use Rattle.below.specs.Below.{_and_, allBelow, anyBelow, sumBelow, maxBelow}
 use Rattle.cells.specs.Cell.{countOf, signedOf, numberOf, eqZ}
@@ -13,13 +11,13 @@ use Rattle.layout.specs.Layout.{headerOf, columnsAt, lineAt}
 use Rattle.layout.specs.Row.{rowOf, rowAt, kindOf, spreadOf}
 use Rattle.widths.specs.Width.{need, tailOf, wholeDigits, quantityWidth, lowest, highest}
 use Rattle.strides.specs.Stride.{allDiffer, numberNew}
-use Rattle.sound.specs.Sound.{headCounts, headSums, typeKnown, decimalsFew, flagsPlain, lackedZero, pointGiven, valuesGiven, identGood, positionGood, subfieldsGood, textsGood, rangeLacked, rangeGood, linesPlain, valuesFit, valueAt, rangeWidth, widest, widthGood, roomGood, linesGood, valuesGood, widthsGood, countsGood, placesGood, columnsGood, rowGood, columnsOf, linesBefore, highestFinish, identsDiffer, rowsGood, wellFormed}
+use Rattle.sound.specs.Sound.{linesPlain, valuesFit, rangeWidth, widest, widthGood, roomGood, linesGood, valuesGood, widthsGood, countsGood, placesGood, columnsGood, rowGood, columnsOf, identsDiffer, rowsGood, wellFormed}
 use Rattle.fields.specs.Legal.{inRange, onLine, legal}
 use Rattle.fields.specs.Number.{allSpaces, unspaced, digitsOnly, decimalFrom, codeAfter, codeOf, amountForm, amountSize, amountOf, quantityAfter, quantityOf}
 use Rattle.fields.specs.Field.{numberField, singleSays, quantitySays, allBits, setBits, bitsField, entryGood, entryIs, allEntries, someEntry, passing, spreadField, truthField}
 use Rattle.fields.specs.Row.{defined, bitPlaces, spreadPlaces, placesBy, fieldBy, readingOf}
 use Rattle.sets.specs.Sets.{filledOf, listAfter}
-use Rattle.records.specs.Value.{Outcome, nothing, numberIs, setOf, truthIs, refused, outcomeOf, readAs, listAs}
+use Rattle.records.specs.Value.{nothing, numberIs, setOf, truthIs, refused, outcomeOf, readAs, listAs}
 
 -- SINGLE from 1 to 20 in two bytes
 abbrev singleTo20 : List ℤ

@@ -5,20 +5,18 @@ use mathlib.Core.Logic.{⊎-elim}
 use mathlib.Core.Bool.{Bool, true, false, cond}
 use mathlib.Core.List.{List}
 use Prim.Native.Nat.{ℕ, zero, suc, _+_, _≤_, _<_}
-use native.Mathlib.Nat.{zero-add, eq-or-lt-of-le}
+use native.Mathlib.Nat.{eq-or-lt-of-le}
 use native.Mathlib.Omega.{arith}
 use borrow.Author.Tests.{le-leb, leb-true, lt-leb, le-ltb, ltb-false}
-use lib.Dec.{leb, ltb}
+use lib.Dec.{leb}
 use lib.IntN.{ℤ}
 use lib.ListN.{length, getD}
-use Rattle.below.specs.Below.{holds-not}
-use Rattle.fields.specs.Field.{Field, illegal}
 use Rattle.sets.specs.Sets.{isIllegal}
 use Rattle.sound.specs.Sound.{wellFormed}
 use Rattle.sound.specs.Rows.{rowsOf, lengthOf}
 use Rattle.records.specs.First.{firstFrom, lowAt, badRow}
 use Rattle.records.specs.Value.{readingAt}
-use Rattle.records.specs.Verdict.{Verdict, sound, refused, refusedAt, rowVerdict, byteVerdict, rowsVerdict, verdictOf}
+use Rattle.records.specs.Verdict.{sound, refused, refusedAt, rowVerdict, byteVerdict, rowsVerdict, verdictOf}
 use Rattle.records.specs.declared.Found.{Found}
 use Rattle.records.specs.declared.Found.the-variants.{At, Nothing}
 

@@ -3,7 +3,7 @@
 use mathlib.Core.Path.{_≡_, refl, sym, ap, _∙_}
 use mathlib.Core.Bool.{Bool, true, false, cond, _&&_}
 use mathlib.Core.List.{List, [], _∷_}
-use Prim.Native.Nat.{ℕ, _+_, _-_, _≤_, _<_}
+use Prim.Native.Nat.{ℕ, _+_, _-_, _≤_}
 use native.Mathlib.Omega.{arith}
 use lib.Dec.{leb, eqb}
 use lib.IntN.{ℤ, pos}
@@ -11,7 +11,6 @@ use lib.ListN.{length, getD, take, drop}
 use Rattle.below.specs.Below.{holds-not}
 use Rattle.cells.specs.Cell.{eqZ}
 use Rattle.layout.specs.declared.Format.{Format}
-use Rattle.layout.specs.declared.Spread.{Spread}
 use Rattle.layout.specs.declared.Spread.the-variants.{Bits, Fields}
 use Rattle.layout.specs.declared.Kind.the-variants.{Single, Multiple, Quantity, Character, Logical}
 use Rattle.layout.specs.declared.Row.{Row}
@@ -19,7 +18,7 @@ use Rattle.places.specs.Places.{pick, run}
 use Rattle.places.specs.Laws.{pick-run}
 use Rattle.fields.specs.Legal.{legal}
 use Rattle.fields.specs.Number.{Said, blank, says, wrong, codeOf, quantityOf, allSpaces}
-use Rattle.fields.specs.Field.{Value, Field, holds, illegal, missing, number, members, text, truth, numberField, singleSays, singleField, quantitySays, quantityField, allBits, setBits, bitsField, allEntries, spreadSet, spreadField, allPlain, unended, textField, truthField}
+use Rattle.fields.specs.Field.{Field, holds, illegal, missing, number, members, text, truth, numberField, singleSays, singleField, quantitySays, quantityField, allBits, setBits, bitsField, allEntries, spreadSet, spreadField, allPlain, unended, textField, truthField}
 use Rattle.fields.specs.Row.{categories, bitPlaces, spreadPlaces, placesBy, fieldBy, readingOf}
 use Rattle.letters.specs.Letters.{textSaid, truthSaid}
 use Rattle.letters.specs.declared.Text.the-variants as t
@@ -29,7 +28,7 @@ use Rattle.sets.specs.declared.SetRead.the-variants as set
 use Rattle.sets.specs.Sets.{setAnswer, listAfter, ReadSet, isIllegal}
 use Rattle.readings.specs.Answer.{answerOf, numeralField, setSaid, illegalAnswer, SetAnswered, RowRead}
 use Rattle.readings.specs.declared.Answer.{Answer}
-use Rattle.readings.specs.declared.Answer.the-variants.{Missing, Number, Set, Text, Truth, BadTable, NoRow, ShortRecord, Illegal, ShortList}
+use Rattle.readings.specs.declared.Answer.the-variants.{Missing, Number, Set, Text, Truth, Illegal, ShortList}
 
 -- ---- the reading of a row by its kind
 module _ (tab : List ℤ) (v : ℕ) (r : Row) (bytes : List ℕ) where

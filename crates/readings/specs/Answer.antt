@@ -6,7 +6,7 @@ use Prim.Native.Nat.{ℕ}
 use lib.Dec.{leb}
 use lib.IntN.{ℤ}
 use lib.ListN.{length}
-use Rattle.fields.specs.Field.{Value, missing, number, members, text, truth, Field, holds, illegal, singleSays, quantitySays}
+use Rattle.fields.specs.Field.{missing, number, members, text, truth, Field, holds, illegal, singleSays, quantitySays}
 use Rattle.fields.specs.Number.{Said}
 use Rattle.sets.specs.Sets.{listAfter}
 use Rattle.sets.specs.declared.SetRead.{SetRead}

@@ -2,13 +2,13 @@
 -- than L.
 use mathlib.Core.Path.{_≡_, subst}
 use mathlib.Core.List.{List}
-use Prim.Native.Nat.{ℕ, _+_, _-_, _*_, _≤_, _<_}
+use Prim.Native.Nat.{ℕ, _-_, _*_, _≤_, _<_}
 use native.Mathlib.Nat.{le-mul-of-pos-right}
 use native.Mathlib.Omega.{arith}
 use Rattle.layout.specs.declared.Format.{Format}
 use Rattle.layout.specs.declared.Spread.the-variants.{Bits, Fields}
 use Rattle.layout.specs.declared.Kind.{Kind}
-use Rattle.layout.specs.declared.Kind.the-variants.{Single, Multiple, Quantity, Character, Logical}
+use Rattle.layout.specs.declared.Kind.the-variants.{Single, Multiple, Quantity, Character}
 use Rattle.numbers.specs.Numeral.{FormatFacts}
 use Rattle.sets.specs.Sets.{BitsFacts, FieldsFacts}
 use lib.IntN.{ℤ}

@@ -1,10 +1,9 @@
 // What one row of a record says, by its kind, and whether it is illegal; the row's facts are given. Above it stand the public calls on
 // records, which test the table once, and every request that reads many rows of a tested table.
 ghost use mathlib.Core.Path.{_≡_};
-ghost use mathlib.Core.Bool.{cond};
 ghost use mathlib.Core.List.{[], _∷_};
 ghost use Prim.Native.Nat.{ℕ, _-_, _≤_, _<_};
-ghost use lib.ListN.{length, getD};
+ghost use lib.ListN.{length};
 ghost use Rattle.places.specs.Places.{pick, run};
 ghost use Rattle.fields.specs.Legal.{legal};
 ghost use Rattle.fields.specs.Facts.{LineFacts};

@@ -1,11 +1,10 @@
 -- The answers of the public calls, by the tests that led to them.
 -- Assumes nothing.
-use mathlib.Core.Path.{_≡_, refl, sym, ap, subst, _∙_}
-use mathlib.Core.Bool.{Bool, true, false, cond}
+use mathlib.Core.Path.{_≡_, ap, _∙_}
+use mathlib.Core.Bool.{Bool, true, false}
 use mathlib.Core.List.{List}
-use Prim.Native.Nat.{ℕ, zero, suc, _+_, _-_, _≤_, _<_}
+use Prim.Native.Nat.{ℕ, suc, _+_, _-_, _≤_, _<_}
 use native.Mathlib.Numerals.{add-one}
-use native.Mathlib.Nat.{sub-zero}
 use native.Mathlib.Omega.{arith}
 use borrow.Author.Tests.{lt-ltb, le-ltb, le-leb, lt-leb}
 use lib.IntN.{ℤ}
@@ -21,9 +20,9 @@ use Rattle.readings.specs.declared.Answer.{Answer}
 use Rattle.readings.specs.declared.Answer.the-variants as answer
 use Rattle.sound.specs.Sound.{wellFormed}
 use Rattle.sound.specs.Rows.{rowsOf, lengthOf}
-use Rattle.records.specs.First.{firstFrom, lowAt, badRow}
+use Rattle.records.specs.First.{firstFrom}
 use Rattle.records.specs.Value.{said, readAs, listAs, readingAt, ValueRead, said-answer}
-use Rattle.records.specs.Verdict.{judgedAs, rowsVerdict, verdictOf, rowVerdict, byteVerdict, refused}
+use Rattle.records.specs.Verdict.{rowsVerdict, verdictOf, refused}
 use Rattle.records.specs.Tables.{TableReady, table-ready}
 use Rattle.records.specs.declared.Found.the-variants.{At, Nothing}
 

@@ -1,6 +1,5 @@
 -- The first number at which a test holds: the place of "a byte below 32 anywhere in the record", and "the lowest row".
-use mathlib.Core.Path.{_≡_, refl}
-use mathlib.Core.Bool.{Bool, true, false, cond}
+use mathlib.Core.Bool.{Bool, cond}
 use mathlib.Core.List.{List}
 use Prim.Native.Nat.{ℕ, zero, suc}
 use lib.Dec.{ltb}

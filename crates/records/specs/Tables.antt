@@ -2,11 +2,11 @@
 use mathlib.Core.Path.{_≡_}
 use mathlib.Core.Bool.{true}
 use mathlib.Core.List.{List}
-use Prim.Native.Nat.{ℕ, _+_, _≤_, _<_}
+use Prim.Native.Nat.{ℕ, _≤_, _<_}
 use native.Mathlib.Omega.{arith}
 use lib.IntN.{ℤ}
 use lib.ListN.{length}
-use Rattle.layout.specs.Layout.{mostRows, rowBase, rowSize, linesBase}
+use Rattle.layout.specs.Layout.{mostRows, linesBase}
 use Rattle.layout.specs.Row.{rowAt}
 use Rattle.readings.specs.Ready.{RowReady, ready-of}
 use Rattle.sound.specs.Sound.{wellFormed}

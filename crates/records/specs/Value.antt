@@ -7,7 +7,7 @@ use lib.Dec.{ltb, leb}
 use lib.IntN.{ℤ}
 use lib.ListN.{length}
 use Rattle.layout.specs.Row.{rowAt}
-use Rattle.fields.specs.Field.{Value, missing, number, members, text, truth, Field, holds, illegal}
+use Rattle.fields.specs.Field.{missing, number, members, text, truth, Field, holds, illegal}
 use Rattle.fields.specs.Row.{readingOf}
 use Rattle.sets.specs.Sets.{listAfter}
 use Rattle.readings.specs.Answer.{answerOf}

@@ -1,6 +1,5 @@
 -- What judging a whole record answers: refusals 20, 22, 23 with the byte's place, 24 with the lowest row.
-use mathlib.Core.Path.{_≡_}
-use mathlib.Core.Bool.{Bool, cond}
+use mathlib.Core.Bool.{cond}
 use mathlib.Core.List.{List}
 use Prim.Native.Nat.{ℕ}
 use lib.Dec.{leb}

@@ -1,9 +1,8 @@
 // The public calls that read a record: one row's value, and a whole record judged. Each tests the table (refusal 20) and then calls an
 // inner function, which whoever has tested a table may call many times. Above it stand files, the lister and the face.
 ghost use mathlib.Core.Path.{_≡_};
-ghost use Prim.Native.Nat.{_-_, _≤_, _<_};
+ghost use Prim.Native.Nat.{_-_, _<_};
 ghost use lib.ListN.{length};
-ghost use Rattle.layout.specs.Row.{rowAt};
 ghost use Rattle.records.specs.First.{firstFrom, lowAt, badRow};
 ghost use Rattle.records.specs.Value.{ValueRead};
 ghost use Rattle.records.specs.Verdict.{judgedAs, rowsVerdict, verdictOf};

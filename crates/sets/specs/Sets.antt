@@ -6,7 +6,7 @@ use Prim.Native.Nat.{ℕ, _+_, _*_, _≤_}
 use lib.Dec.{leb}
 use lib.IntN.{ℤ}
 use lib.ListN.{length, drop}
-use Rattle.fields.specs.Field.{Value, missing, number, members, text, truth, Field, holds, illegal, allBits, setBits}
+use Rattle.fields.specs.Field.{missing, number, members, text, truth, Field, holds, illegal, allBits, setBits}
 use Rattle.fields.specs.Facts.{LineFacts}
 use Rattle.layout.specs.declared.Row.{Row}
 use Rattle.sets.specs.declared.SetRead.{SetRead}

@@ -2,13 +2,11 @@
 // marked once where that pays, so that no line is searched for each byte or subfield. Above it stand the calls on records.
 ghost use mathlib.Core.Path.{_≡_};
 ghost use Prim.Native.Nat.{_-_, _^_, _≤_};
-ghost use lib.ListN.{length, take};
+ghost use lib.ListN.{length};
 ghost use Rattle.places.specs.Places.{pick};
 ghost use Rattle.fields.specs.Legal.{legal};
-ghost use Rattle.fields.specs.Facts.{LineFacts};
-ghost use Rattle.fields.specs.Field.{holds, members, bitsField, spreadField};
+ghost use Rattle.fields.specs.Field.{bitsField, spreadField};
 ghost use Rattle.fields.specs.Row.{categories, bitPlaces, spreadPlaces};
-ghost use Rattle.sets.specs.Marks.{Marks, markedOf};
 ghost use Rattle.sets.specs.Sets.{ReadSet, isIllegal, BitsFacts, FieldsFacts};
 use layout::Row;
 

@@ -1,5 +1,4 @@
 -- `legal::is_legal` meets its contract: in the range, or else on a line.
-use mathlib.Core.Path.{_≡_, _∙_}
 use borrow.Author.Needs.{needs}
 use mir.Facts.{toZ-ofZ}
 use Rattle.fields.specs.Legal.{legal}

@@ -1,21 +1,13 @@
 -- `letters::kept_bytes` meets its contract. The invariant: the first n bytes end where the whole does.
-use mathlib.Core.Path.{_≡_, refl, sym, ap, _∙_}
-use mathlib.Core.Bool.{Bool, true, false, cond, _&&_, _||_}
-use mathlib.Core.List.{List, [], _∷_, _++_}
-use Prim.Native.Nat.{ℕ, zero, suc, _+_, _-_, _*_, _^_, _≤_, _<_}
+use mathlib.Core.Path.{_≡_, sym, _∙_}
+use mathlib.Core.List.{List}
+use Prim.Native.Nat.{ℕ, _-_, _≤_}
 use native.Mathlib.Omega.{arith}
-use native.Mathlib.Numerals.{add-one}
-use borrow.Author.Needs.{needs, sfits-of}
-use borrow.Author.Tests.{eq-eqb, ne-eqb, lt-ltb, le-ltb, le-leb, lt-leb}
-use lib.IntN.{ℤ, pos}
-use lib.ListN.{length, getD, take, drop, set, length-set, length-drop, length-take}
-use mir.Syntax.{w64}
-use mir.Val.{toZ, ofZ}
-use mir.Facts.{toZ-ofZ}
-use lib.Dec.{eqb, leb}
+use borrow.Author.Tests.{ne-eqb}
+use lib.ListN.{length, take}
+use lib.Dec.{eqb}
 use Rattle.fields.specs.Number.{allSpaces}
-use Rattle.fields.specs.Field.{allPlain, unended, textField, truthField}
-use Rattle.letters.specs.Letters.{textSaid, truthSaid}
+use Rattle.fields.specs.Field.{unended}
 use lib.Seq.{take-length}
 use Rattle.letters.proofs.Ends.{space-unended, space-all, other-unended, other-all}
 use Rattle.letters.proofs.kept_bytes.Statement.{statement}

@@ -1,14 +1,14 @@
 -- `numbers::amount` meets its contract: too short, bad digits, no point where it has its place, or a number.
-use mathlib.Core.Path.{_≡_, refl, sym, ap, _∙_}
-use Prim.Native.Nat.{ℕ, _+_, _-_, _*_, _^_, _≤_, _<_}
+use mathlib.Core.Path.{_≡_, sym, ap, _∙_}
+use Prim.Native.Nat.{_+_, _-_, _≤_, _<_}
 use native.Mathlib.Omega.{arith}
 use borrow.Author.Needs.{needs, sfits-of}
-use lib.ListN.{length, drop, take, length-drop, length-take}
+use lib.ListN.{length, take, length-take}
 use lib.Seq.{length-take-le}
 use mir.Facts.{toZ-ofZ}
 use Rattle.widths.specs.Width.{tailOf}
 use Rattle.fields.specs.Number.{says}
-use Rattle.numbers.specs.Numeral.{saidOf, digitsRead, decimalsRead}
+use Rattle.numbers.specs.Numeral.{saidOf, decimalsRead}
 use Rattle.numbers.proofs.Laws.{rest-is, few-digits, value-small, amount-short, amount-bad, amount-plain, amount-pointless, amount-decimals, tail-some, decimals-room}
 use Rattle.numbers.proofs.amount.Statement.{statement}
 use Rattle.numbers.proofs.amount.Tie as tie

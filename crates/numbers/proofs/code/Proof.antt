@@ -1,12 +1,9 @@
 -- `numbers::code` meets its contract: what follows the spaces is nothing, digits, or wrong.
-use mathlib.Core.Path.{_≡_, refl, sym, ap, _∙_}
-use mathlib.Core.Bool.{false}
-use Prim.Native.Nat.{ℕ, _+_, _-_, _≤_, _<_}
+use mathlib.Core.Path.{_≡_, sym, ap, _∙_}
+use Prim.Native.Nat.{_-_}
 use native.Mathlib.Omega.{arith}
 use borrow.Author.Needs.{needs, sfits-of}
-use lib.ListN.{length, drop, take, length-drop}
-use lib.IntN.{pos}
-use mir.Syntax.{w64}
+use lib.ListN.{drop, length-drop}
 use mir.Facts.{toZ-ofZ}
 use Rattle.cells.specs.Cell.{numberOf}
 use Rattle.fields.specs.Number.{says}

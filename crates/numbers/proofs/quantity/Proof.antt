@@ -1,10 +1,9 @@
 -- `numbers::quantity` meets its contract: what follows the spaces is nothing, a minus and an amount, or an amount.
-use mathlib.Core.Path.{_≡_, refl, sym, ap, _∙_}
+use mathlib.Core.Path.{sym, ap, _∙_}
 use mathlib.Core.Bool.{true, false}
-use Prim.Native.Nat.{ℕ, _+_, _-_, _≤_, _<_}
+use Prim.Native.Nat.{_+_, _-_}
 use native.Mathlib.Omega.{arith}
 use borrow.Author.Needs.{needs}
-use lib.ListN.{length, drop, length-drop}
 use Rattle.fields.specs.Number.{amountOf}
 use Rattle.numbers.specs.Numeral.{saidOf}
 use Rattle.numbers.proofs.Laws.{rest-is, short-rest, quantity-none, quantity-minus, quantity-plain}

@@ -1,27 +1,11 @@
 -- `records::low_byte` meets its contract. The invariant: the first from here is the first of all.
-use mathlib.Core.Path.{_≡_, refl, sym, ap, _∙_}
-use mathlib.Core.Bool.{Bool, true, false, cond, _&&_, _||_}
-use mathlib.Core.List.{List, [], _∷_, _++_}
-use Prim.Native.Nat.{ℕ, zero, suc, _+_, _-_, _*_, _^_, _≤_, _<_}
+use mathlib.Core.Path.{_≡_, sym, _∙_}
+use Prim.Native.Nat.{_-_, _≤_}
 use native.Mathlib.Omega.{arith}
-use native.Mathlib.Numerals.{add-one}
-use borrow.Author.Needs.{needs, sfits-of}
-use borrow.Author.Tests.{eq-eqb, ne-eqb, lt-ltb, le-ltb, le-leb, lt-leb}
-use lib.IntN.{ℤ, pos}
-use lib.ListN.{length, getD, take, drop, set, length-set, length-drop, length-take}
-use mir.Syntax.{w64}
-use mir.Val.{toZ, ofZ}
-use mir.Facts.{toZ-ofZ}
+use borrow.Author.Tests.{lt-ltb, le-ltb}
+use lib.ListN.{length}
 use native.Mathlib.Nat.{sub-zero}
-use lib.Dec.{ltb}
-use Rattle.layout.specs.Layout.{headerOf, rowBase, rowSize}
-use Rattle.layout.specs.Row.{rowAt}
-use Rattle.fields.specs.Row.{readingOf}
-use Rattle.sets.specs.Sets.{isIllegal}
-use Rattle.records.specs.First.{firstFrom, lowAt, badRow}
-use Rattle.records.specs.Value.{said, ValueRead}
-use Rattle.records.specs.Verdict.{judgedAs, rowsVerdict, verdictOf, rowVerdict, byteVerdict}
-use Rattle.records.specs.Tables.{TableReady}
+use Rattle.records.specs.First.{firstFrom, lowAt}
 use Rattle.records.proofs.Laws.{first-here, first-on, first-none}
 use Rattle.records.proofs.low_byte.Statement.{statement}
 use Rattle.records.proofs.low_byte.Tie as tie

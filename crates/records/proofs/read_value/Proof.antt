@@ -1,27 +1,9 @@
 -- `records::read_value` meets its contract: the table, the row, the length, and the rest by the inner function.
-use mathlib.Core.Path.{_≡_, refl, sym, ap, _∙_}
-use mathlib.Core.Bool.{Bool, true, false, cond, _&&_, _||_}
-use mathlib.Core.List.{List, [], _∷_, _++_}
-use Prim.Native.Nat.{ℕ, zero, suc, _+_, _-_, _*_, _^_, _≤_, _<_}
+use mathlib.Core.Path.{sym, _∙_}
+use Prim.Native.Nat.{_-_}
 use native.Mathlib.Omega.{arith}
-use native.Mathlib.Numerals.{add-one}
-use borrow.Author.Needs.{needs, sfits-of}
-use borrow.Author.Tests.{eq-eqb, ne-eqb, lt-ltb, le-ltb, le-leb, lt-leb}
-use lib.IntN.{ℤ, pos}
-use lib.ListN.{length, getD, take, drop, set, length-set, length-drop, length-take}
-use mir.Syntax.{w64}
-use mir.Val.{toZ, ofZ}
-use mir.Facts.{toZ-ofZ}
-use native.Mathlib.Nat.{sub-zero}
-use lib.Dec.{ltb}
-use Rattle.layout.specs.Layout.{headerOf, rowBase, rowSize}
-use Rattle.layout.specs.Row.{rowAt}
-use Rattle.fields.specs.Row.{readingOf}
-use Rattle.sets.specs.Sets.{isIllegal}
-use Rattle.records.specs.First.{firstFrom, lowAt, badRow}
-use Rattle.records.specs.Value.{said, ValueRead}
-use Rattle.records.specs.Verdict.{judgedAs, rowsVerdict, verdictOf, rowVerdict, byteVerdict}
-use Rattle.records.specs.Tables.{TableReady}
+use borrow.Author.Needs.{needs}
+use lib.ListN.{length}
 use Rattle.records.proofs.Laws.{value-table, value-row, value-short, value-read, row-ready}
 use Rattle.records.specs.Tables.{table-ready}
 use Rattle.records.proofs.read_value.Statement.{statement}

@@ -1,22 +1,10 @@
 -- `sets::bits::bits_counted` meets its contract. The invariant: the count and what is left to count give the whole.
-use mathlib.Core.Path.{_≡_, refl, sym, ap, _∙_}
-use mathlib.Core.Bool.{Bool, true, false, cond, _&&_, _||_}
-use mathlib.Core.List.{List, [], _∷_, _++_}
-use Prim.Native.Nat.{ℕ, zero, suc, _+_, _-_, _*_, _^_, _≤_, _<_}
+use mathlib.Core.Path.{_≡_, refl, sym, _∙_}
+use Prim.Native.Nat.{_-_, _≤_}
 use native.Mathlib.Omega.{arith}
-use native.Mathlib.Numerals.{add-one}
-use borrow.Author.Needs.{needs, sfits-of}
-use borrow.Author.Tests.{eq-eqb, ne-eqb, lt-ltb, le-ltb, le-leb, lt-leb}
-use lib.IntN.{ℤ, pos}
-use lib.ListN.{length, getD, take, drop, set, length-set, length-drop, length-take}
-use mir.Syntax.{w64}
-use mir.Val.{toZ, ofZ}
-use mir.Facts.{toZ-ofZ}
-use native.Mathlib.Nat.{sub-zero, zero-add, add-zero}
+use native.Mathlib.Nat.{sub-zero}
 use Rattle.fields.specs.Legal.{legal}
-use Rattle.fields.specs.Number.{allSpaces}
-use Rattle.sets.specs.Sets.{bitsCounted, filledOf}
-use Rattle.sets.proofs.BitLaws.{restOf, restBytes, counting, count-one, count-none, count-wrong, no-byte, passed, count-start, count-end}
+use Rattle.sets.proofs.BitLaws.{restOf, restBytes, counting, count-one, count-none, count-wrong, passed, count-start, count-end}
 use Rattle.sets.proofs.bits.bits_counted.Statement.{statement}
 use Rattle.sets.proofs.bits.bits_counted.Tie as tie
 

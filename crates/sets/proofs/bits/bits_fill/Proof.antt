@@ -1,23 +1,16 @@
 -- `sets::bits::bits_fill` meets its contract. The invariant: what is left to store, from here, gives the whole.
 use mathlib.Core.Path.{_≡_, refl, sym, ap, _∙_}
-use mathlib.Core.Bool.{Bool, true, false, cond, _&&_, _||_}
-use mathlib.Core.List.{List, [], _∷_, _++_}
-use Prim.Native.Nat.{ℕ, zero, suc, _+_, _-_, _*_, _^_, _≤_, _<_}
+use mathlib.Core.List.{_∷_}
+use Prim.Native.Nat.{_+_, _-_, _≤_}
 use native.Mathlib.Omega.{arith}
 use native.Mathlib.Numerals.{add-one}
-use borrow.Author.Needs.{needs, sfits-of}
-use borrow.Author.Tests.{eq-eqb, ne-eqb, lt-ltb, le-ltb, le-leb, lt-leb}
-use lib.IntN.{ℤ, pos}
-use lib.ListN.{length, getD, take, drop, set, length-set, length-drop, length-take}
-use mir.Syntax.{w64}
-use mir.Val.{toZ, ofZ}
+use borrow.Author.Needs.{sfits-of}
+use lib.IntN.{pos}
+use lib.ListN.{length, length-set}
 use mir.Facts.{toZ-ofZ}
-use native.Mathlib.Nat.{sub-zero, zero-add, add-zero}
+use native.Mathlib.Nat.{sub-zero, zero-add}
 use Rattle.fields.specs.Legal.{legal}
-use Rattle.fields.specs.Number.{allSpaces}
-use Rattle.sets.specs.Sets.{bitsCounted, filledOf}
 use lib.Seq.{sets}
-use mir.ValLaws.{toZ-pos}
 use Rattle.sets.proofs.BitLaws.{restSet, member, no-member, no-set, set-end}
 use Rattle.sets.proofs.FillLaws.{filled}
 use Rattle.sets.proofs.bits.bits_fill.Statement.{statement}
