@@ -103,7 +103,10 @@ pub fn keeps(case: &Case, outcome: &Outcome) -> bool {
     let list = same_numbers(&outcome.list, &case.list);
     let bytes = same(&outcome.bytes, &case.bytes);
     let text = same(&outcome.text, &case.text);
-    let guards = outcome.table[..GUARD].iter().chain(&outcome.table[outcome.table.len() - GUARD..]).all(|&x| x == -0x5a5a_5a5a)
+    let guards = outcome.table[..GUARD]
+        .iter()
+        .chain(&outcome.table[outcome.table.len() - GUARD..])
+        .all(|&x| x == -0x5a5a_5a5a)
         && outcome.list[..GUARD].iter().chain(&outcome.list[outcome.list.len() - GUARD..]).all(|&x| x == -0x3c3c_3c3c)
         && outcome.bytes[..GUARD].iter().chain(&outcome.bytes[outcome.bytes.len() - GUARD..]).all(|&x| x == 0x7e)
         && outcome.text[..GUARD].iter().chain(&outcome.text[outcome.text.len() - GUARD..]).all(|&x| x == 0x31);
@@ -133,16 +136,31 @@ fn report(a: &dyn Face, b: &dyn Face, seed: u64, case: &Case) -> ! {
     let (x, y) = (run(a, &small), run(b, &small));
     let mut unlike = String::new();
     if (x.number, x.answer) != (y.number, y.answer) {
-        unlike += &format!("  {}: {} {:?}\n  {}: {} {:?}\n", a.name(), x.number, x.answer, b.name(), y.number, y.answer);
+        unlike +=
+            &format!("  {}: {} {:?}\n  {}: {} {:?}\n", a.name(), x.number, x.answer, b.name(), y.number, y.answer);
     }
     for (what, p, q) in [("table", &x.table, &y.table), ("list", &x.list, &y.list)] {
         if let Some(i) = (0..p.len()).find(|&i| p[i] != q[i]) {
-            unlike += &format!("  {what}[{}]: {} has {}, {} has {}\n", i as i64 - GUARD as i64, a.name(), p[i], b.name(), q[i]);
+            unlike += &format!(
+                "  {what}[{}]: {} has {}, {} has {}\n",
+                i as i64 - GUARD as i64,
+                a.name(),
+                p[i],
+                b.name(),
+                q[i]
+            );
         }
     }
     for (what, p, q) in [("bytes", &x.bytes, &y.bytes), ("text", &x.text, &y.text)] {
         if let Some(i) = (0..p.len()).find(|&i| p[i] != q[i]) {
-            unlike += &format!("  {what}[{}]: {} has {}, {} has {}\n", i as i64 - GUARD as i64, a.name(), p[i], b.name(), q[i]);
+            unlike += &format!(
+                "  {what}[{}]: {} has {}, {} has {}\n",
+                i as i64 - GUARD as i64,
+                a.name(),
+                p[i],
+                b.name(),
+                q[i]
+            );
         }
     }
     panic!("\nDIFFERENCE, seed {seed} (try again with ZARFOLIN_SEED={seed}), cut down to\n{}\n{unlike}", show(&small));

@@ -349,8 +349,7 @@ impl Reader<'_> {
     fn values(&mut self, quantity: bool, row: &mut Row) -> Outcome<Block> {
         self.statement(b"VALUES")?;
         let first = self.lines.len();
-        let mut block =
-            Block { quantity, decimals: None, point: false, range: None, least: i64::MAX, most: i64::MIN };
+        let mut block = Block { quantity, decimals: None, point: false, range: None, least: i64::MAX, most: i64::MIN };
         self.repeats.start(first);
         self.notes()?;
         let figure = self.s.figure_due()?;
