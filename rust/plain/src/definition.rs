@@ -26,8 +26,8 @@ fn read(def: &[u8], table: &mut [i64]) -> Outcome<(usize, usize)> {
     }
     let mut r = Reader {
         s: Scan { bytes: def, at: 0 },
-        rows: Vec::new(),
-        lines: Vec::new(),
+        rows: Vec::with_capacity(32),
+        lines: Vec::with_capacity(128),
         idents: [0; 157],
         highest: 0,
         repeats: Repeats::default(),
