@@ -119,20 +119,29 @@ pub fn keeps(case: &Case, outcome: &Outcome) -> bool {
     guards && text && (table || table_lent) && (list || list_lent) && (bytes || bytes_lent)
 }
 
-/// Compares the two on the case. A difference panics with the seed, the case cut down, and both outcomes.
-pub fn compare(a: &dyn Face, b: &dyn Face, seed: u64, case: &Case) -> Outcome {
-    let x = run(a, case);
-    let y = run(b, case);
-    if x != y {
-        report(a, b, seed, case);
-    }
-    assert!(keeps(case, &x), "seed {seed}: a call changed what it must keep: {}", show(case));
-    x
+/// A difference: what tells it from others (the call and both numbers), and a report with the case cut down.
+pub struct Difference {
+    pub kind: (Call, u64, u64),
+    pub report: String,
 }
 
+/// Compares the two on the case: what a left, or the difference.
+pub fn compare(a: &dyn Face, b: &dyn Face, case: &Case) -> Result<Outcome, (Call, u64, u64)> {
+    let x = run(a, case);
+    let y = run(b, case);
+    assert!(keeps(case, &x), "{}: a call changed what it must keep: {}", a.name(), show(case));
+    if x == y { Ok(x) } else { Err((case.call, x.number, y.number)) }
+}
+
+/// The report on a case that differs, cut down to a smaller one that differs with the same two numbers.
 #[cold]
-fn report(a: &dyn Face, b: &dyn Face, seed: u64, case: &Case) -> ! {
-    let small = shrink(case.clone(), 20_000, |c| run(a, c) != run(b, c));
+pub fn report(a: &dyn Face, b: &dyn Face, seed: u64, case: &Case) -> Difference {
+    let kind = |c: &Case| {
+        let (x, y) = (run(a, c), run(b, c));
+        (x != y).then_some((c.call, x.number, y.number))
+    };
+    let whole = kind(case);
+    let small = shrink(case.clone(), 20_000, |c| kind(c) == whole);
     let (x, y) = (run(a, &small), run(b, &small));
     let mut unlike = String::new();
     if (x.number, x.answer) != (y.number, y.answer) {
@@ -163,7 +172,11 @@ fn report(a: &dyn Face, b: &dyn Face, seed: u64, case: &Case) -> ! {
             );
         }
     }
-    panic!("\nDIFFERENCE, seed {seed} (try again with ZARFOLIN_SEED={seed}), cut down to\n{}\n{unlike}", show(&small));
+    let report = format!(
+        "\nDIFFERENCE, seed {seed} (try again with ZARFOLIN_SEED={seed}), cut down to\n{}\n{unlike}",
+        show(&small)
+    );
+    Difference { kind: (case.call, x.number, y.number), report }
 }
 
 /// The case in a form to paste into a test.

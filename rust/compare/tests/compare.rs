@@ -4,7 +4,7 @@
 //! ZARFOLIN_CASES=n runs n times as many seeds; ZARFOLIN_SEED=n runs that one seed alone in every test.
 
 use std::collections::BTreeMap;
-use zarfolin_compare::case::{Call, Case, Outcome, compare, run};
+use zarfolin_compare::case::{Call, Case, Difference, Outcome, compare, report, run};
 use zarfolin_compare::definitions::{self, SMALL, Size, Style};
 use zarfolin_compare::face::{Face, Plain, other};
 use zarfolin_compare::records;
@@ -16,11 +16,13 @@ struct Tally {
     other: Box<dyn Face>,
     cases: u64,
     numbers: BTreeMap<u64, u64>,
+    /// The differences met, one of each kind.
+    differences: Vec<Difference>,
 }
 
 impl Default for Tally {
     fn default() -> Tally {
-        Tally { other: other(), cases: 0, numbers: BTreeMap::new() }
+        Tally { other: other(), cases: 0, numbers: BTreeMap::new(), differences: vec![] }
     }
 }
 
@@ -28,6 +30,21 @@ impl Tally {
     fn note(&mut self, outcome: &Outcome) {
         self.cases += 1;
         *self.numbers.entry(outcome.number).or_default() += 1;
+    }
+
+    /// Notes a difference, if none of its kind was met; fails at once when there are many kinds.
+    fn differs(&mut self, seed: u64, case: &Case, kind: (Call, u64, u64)) {
+        if !self.differences.iter().any(|d| d.kind == kind) {
+            self.differences.push(report(&Plain, &*self.other, seed, case));
+        }
+        if self.differences.len() == 12 {
+            self.fail();
+        }
+    }
+
+    fn fail(&self) {
+        let reports: Vec<&str> = self.differences.iter().map(|d| d.report.as_str()).collect();
+        assert!(reports.is_empty(), "{} kinds of difference, one of each:\n{}", reports.len(), reports.concat());
     }
 
     /// Prints the tally; every number of `wanted` must have been met, unless one seed alone was run.
@@ -38,6 +55,7 @@ impl Tally {
             self.other.name(),
             self.numbers
         );
+        self.fail();
         if std::env::var_os("ZARFOLIN_SEED").is_some() {
             return;
         }
@@ -60,8 +78,15 @@ fn seeds(count: u64) -> Box<dyn Iterator<Item = u64>> {
     Box::new(0..count * times)
 }
 
+/// Runs the case on both sides and notes it. Gives what the plain Rust left.
 fn check(tally: &mut Tally, seed: u64, case: &Case) -> Outcome {
-    let outcome = compare(&Plain, &*tally.other, seed, case);
+    let outcome = match compare(&Plain, &*tally.other, case) {
+        Ok(outcome) => outcome,
+        Err(kind) => {
+            tally.differs(seed, case, kind);
+            run(&Plain, case)
+        }
+    };
     tally.note(&outcome);
     outcome
 }
