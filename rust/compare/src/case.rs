@@ -1,6 +1,7 @@
 //! One call with its inputs, what two implementations leave behind, and how a case that differs is cut down.
 
 use crate::face::Face;
+use std::time::{Duration, Instant};
 
 /// The calls, in the order in which the bridge numbers them.
 #[derive(Clone, Copy, Debug, PartialEq, Eq)]
@@ -209,19 +210,23 @@ fn cut(text: String) -> String {
     }
 }
 
-/// Cuts a case down as long as `differs` holds, with at most `tries` tries.
+/// Cuts a case down as long as `differs` holds, with at most `tries` tries and for a few seconds.
 pub fn shrink(mut case: Case, tries: usize, differs: impl Fn(&Case) -> bool) -> Case {
+    let start = Instant::now();
     let mut left = tries;
-    let mut attempt = |case: &mut Case, next: Case| {
-        if left == 0 {
-            return false;
+    // One change tried: kept if the case still differs. None when the tries or the time are used up.
+    let mut attempt = |case: &mut Case, change: &dyn Fn(&mut Case)| -> Option<bool> {
+        if left == 0 || start.elapsed() > Duration::from_secs(3) {
+            return None;
         }
         left -= 1;
+        let mut next = case.clone();
+        change(&mut next);
         let better = differs(&next);
         if better {
             *case = next;
         }
-        better
+        Some(better)
     };
     loop {
         let mut changed = false;
@@ -233,17 +238,16 @@ pub fn shrink(mut case: Case, tries: usize, differs: impl Fn(&Case) -> bool) -> 
                 let mut at = 0;
                 while at < length(&case) {
                     let end = (at + size).min(length(&case));
-                    let mut next = case.clone();
-                    match which {
+                    let change = |next: &mut Case| match which {
                         0 => drop(next.bytes.drain(at..end)),
                         1 => drop(next.text.drain(at..end)),
                         2 => drop(next.list.drain(at..end)),
                         _ => drop(next.table.drain(at..end)),
-                    }
-                    if attempt(&mut case, next) {
-                        changed = true;
-                    } else {
-                        at += size;
+                    };
+                    match attempt(&mut case, &change) {
+                        None => return case,
+                        Some(true) => changed = true,
+                        Some(false) => at += size,
                     }
                 }
                 size /= 2;
@@ -255,34 +259,38 @@ pub fn shrink(mut case: Case, tries: usize, differs: impl Fn(&Case) -> bool) -> 
                 if case.bytes[at] == plain {
                     break;
                 }
-                let mut next = case.clone();
-                next.bytes[at] = plain;
-                if attempt(&mut case, next) {
-                    changed = true;
-                    break;
-                }
-            }
-        }
-        if case.call != Call::ReadDefinition {
-            for at in 0..case.table.len() {
-                for plain in [0, 1] {
-                    if case.table[at] == plain {
-                        break;
-                    }
-                    let mut next = case.clone();
-                    next.table[at] = plain;
-                    if attempt(&mut case, next) {
+                match attempt(&mut case, &|next| next.bytes[at] = plain) {
+                    None => return case,
+                    Some(true) => {
                         changed = true;
                         break;
                     }
+                    Some(false) => {}
+                }
+            }
+        }
+        let cells = if case.call == Call::ReadDefinition { 0 } else { case.table.len() };
+        for at in 0..cells {
+            for plain in [0, 1] {
+                if case.table[at] == plain {
+                    break;
+                }
+                match attempt(&mut case, &|next| next.table[at] = plain) {
+                    None => return case,
+                    Some(true) => {
+                        changed = true;
+                        break;
+                    }
+                    Some(false) => {}
                 }
             }
         }
         for row in [0, case.row / 2] {
             if row < case.row {
-                let mut next = case.clone();
-                next.row = row;
-                changed |= attempt(&mut case, next);
+                match attempt(&mut case, &|next| next.row = row) {
+                    None => return case,
+                    Some(better) => changed |= better,
+                }
             }
         }
         if !changed {
