@@ -34,7 +34,9 @@ fn main() {
     let parts: Vec<&String> = args.iter().filter(|a| !a.starts_with("--")).collect();
     let other = measured();
     println!("ours: {}    plain: {}", other.name(), Plain.name());
-    println!("buffers: the same for both, warm (in cache as far as they fit); calls interleaved in one run, pair by pair;");
+    println!(
+        "buffers: the same for both, warm (in cache as far as they fit); calls interleaved in one run, pair by pair;"
+    );
     println!("time is the thread's time on a processor; the ratio is the median over the pairs");
     if callgrind {
         println!("\n{:<44} {:>14} {:>14} {:>7}", "instructions of one call", "ours", "plain", "ratio");
@@ -66,11 +68,7 @@ fn main() {
                 0 => "-".to_string(),
                 bytes => format!("{:.0}", bytes as f64 * 1e3 / ns),
             };
-            println!(
-                "{name:<44} {ours:>12.1} {plain:>12.1} {ratio:>7.2} {:>10} {:>10}",
-                speed(ours),
-                speed(plain)
-            );
+            println!("{name:<44} {ours:>12.1} {plain:>12.1} {ratio:>7.2} {:>10} {:>10}", speed(ours), speed(plain));
             ratio
         };
         if ratio > worst.0 {
@@ -186,7 +184,11 @@ impl Survey {
         let mut at = 1;
         for i in 0..self.variables {
             let comment = if self.roomy { " <as asked \"<in>\" 1997>" } else { "" };
-            t += &format!("VARIABLE {}{nl}{tab}NAME \"v{i}\"{nl}{tab}LABEL \"{}\"{comment}{nl}{tab}TYPE ", i + 1, pad("Question"));
+            t += &format!(
+                "VARIABLE {}{nl}{tab}NAME \"v{i}\"{nl}{tab}LABEL \"{}\"{comment}{nl}{tab}TYPE ",
+                i + 1,
+                pad("Question")
+            );
             let lines = || {
                 let mut t = String::new();
                 for c in 1..=self.lines {
@@ -201,7 +203,9 @@ impl Survey {
                 1 => ("MULTIPLE", self.lines, format!("VALUES{nl}{}END VALUES", lines())),
                 2 => ("QUANTITY", 7, format!("VALUES{nl}{tab}-99.50 TO 999.99{nl}{tab}END VALUES")),
                 3 => ("CHARACTER", 12, "SIZE 10".to_string()),
-                _ if self.lines > 0 && i % 2 == 0 => ("MULTIPLE", 3 * digits, format!("SPREAD 3 OF {digits}{nl}VALUES{nl}{}END VALUES", lines())),
+                _ if self.lines > 0 && i % 2 == 0 => {
+                    ("MULTIPLE", 3 * digits, format!("SPREAD 3 OF {digits}{nl}VALUES{nl}{}END VALUES", lines()))
+                }
                 _ => ("LOGICAL", 1, String::new()),
             };
             // The records are laid out again and again from location 1 when the last one is reached.
@@ -224,7 +228,13 @@ fn table(def: &[u8]) -> Vec<i64> {
     let mut table = vec![0; 30_000];
     let mut answer = [0; 4];
     let number = Plain.read_definition(def, &mut table, &mut answer);
-    assert_eq!(number, 0, "at {}: {:?}", answer[1], String::from_utf8_lossy(&def[answer[1] as usize..][..40.min(def.len() - answer[1] as usize)]));
+    assert_eq!(
+        number,
+        0,
+        "at {}: {:?}",
+        answer[1],
+        String::from_utf8_lossy(&def[answer[1] as usize..][..40.min(def.len() - answer[1] as usize)])
+    );
     table.truncate((6 + 18 * answer[2] + 4 * answer[3]) as usize);
     table
 }
@@ -370,9 +380,18 @@ fn cases() -> Vec<Maker> {
     for (name, survey) in [
         ("definition 1 KiB", small()),
         ("definition 16 KiB", Survey { variables: 50, lines: 6, text: 24, roomy: true, standard: false }),
-        ("definition 86 KB, 512 variables", Survey { variables: 512, lines: 6, text: 12, roomy: false, standard: true }),
-        ("definition 190 KB, 512 variables, roomy", Survey { variables: 512, lines: 6, text: 40, roomy: true, standard: true }),
-        ("definition 0.8 MB, 512 variables, long texts", Survey { variables: 512, lines: 10, text: 215, roomy: true, standard: true }),
+        (
+            "definition 86 KB, 512 variables",
+            Survey { variables: 512, lines: 6, text: 12, roomy: false, standard: true },
+        ),
+        (
+            "definition 190 KB, 512 variables, roomy",
+            Survey { variables: 512, lines: 6, text: 40, roomy: true, standard: true },
+        ),
+        (
+            "definition 0.8 MB, 512 variables, long texts",
+            Survey { variables: 512, lines: 10, text: 215, roomy: true, standard: true },
+        ),
     ] {
         add(name, Box::new(move || definition(survey.text(), 0)));
     }
@@ -413,7 +432,13 @@ fn cases() -> Vec<Maker> {
     add("well-formed 1 row, 4,096 lines, mixed", Box::new(|| test(table(&block(4099)))));
 
     // Reading one row.
-    let kinds = ["read SINGLE, 5 rows", "read bitstring, 5 rows", "read QUANTITY, 5 rows", "read CHARACTER, 5 rows", "read spread, 5 rows"];
+    let kinds = [
+        "read SINGLE, 5 rows",
+        "read bitstring, 5 rows",
+        "read QUANTITY, 5 rows",
+        "read CHARACTER, 5 rows",
+        "read spread, 5 rows",
+    ];
     for (row, kind) in kinds.iter().enumerate() {
         add(kind, Box::new(move || read(short(), row as u64, record(&short(), 7), 0)));
     }

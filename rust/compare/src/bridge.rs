@@ -48,7 +48,8 @@ impl Bridge {
         let Pipes { child, to, from, request, reply } = &mut *pipes;
         request.clear();
         let lengths = [inputs.table.len(), inputs.list.len(), inputs.bytes.len(), inputs.text.len()];
-        let head = [call as u64, inputs.row, inputs.number as u64].into_iter().chain(lengths.map(|n| n as u64)).chain([0]);
+        let head =
+            [call as u64, inputs.row, inputs.number as u64].into_iter().chain(lengths.map(|n| n as u64)).chain([0]);
         for number in head {
             request.extend(number.to_le_bytes());
         }

@@ -1,6 +1,7 @@
 //! One call with its inputs, what two implementations leave behind, and how a case that differs is cut down.
 
 use crate::face::Face;
+use std::time::{Duration, Instant};
 
 /// The calls, in the order in which the bridge numbers them.
 #[derive(Clone, Copy, Debug, PartialEq, Eq)]
@@ -103,7 +104,10 @@ pub fn keeps(case: &Case, outcome: &Outcome) -> bool {
     let list = same_numbers(&outcome.list, &case.list);
     let bytes = same(&outcome.bytes, &case.bytes);
     let text = same(&outcome.text, &case.text);
-    let guards = outcome.table[..GUARD].iter().chain(&outcome.table[outcome.table.len() - GUARD..]).all(|&x| x == -0x5a5a_5a5a)
+    let guards = outcome.table[..GUARD]
+        .iter()
+        .chain(&outcome.table[outcome.table.len() - GUARD..])
+        .all(|&x| x == -0x5a5a_5a5a)
         && outcome.list[..GUARD].iter().chain(&outcome.list[outcome.list.len() - GUARD..]).all(|&x| x == -0x3c3c_3c3c)
         && outcome.bytes[..GUARD].iter().chain(&outcome.bytes[outcome.bytes.len() - GUARD..]).all(|&x| x == 0x7e)
         && outcome.text[..GUARD].iter().chain(&outcome.text[outcome.text.len() - GUARD..]).all(|&x| x == 0x31);
@@ -116,36 +120,64 @@ pub fn keeps(case: &Case, outcome: &Outcome) -> bool {
     guards && text && (table || table_lent) && (list || list_lent) && (bytes || bytes_lent)
 }
 
-/// Compares the two on the case. A difference panics with the seed, the case cut down, and both outcomes.
-pub fn compare(a: &dyn Face, b: &dyn Face, seed: u64, case: &Case) -> Outcome {
-    let x = run(a, case);
-    let y = run(b, case);
-    if x != y {
-        report(a, b, seed, case);
-    }
-    assert!(keeps(case, &x), "seed {seed}: a call changed what it must keep: {}", show(case));
-    x
+/// A difference: what tells it from others (the call and both numbers), and a report with the case cut down.
+pub struct Difference {
+    pub kind: (Call, u64, u64),
+    pub report: String,
 }
 
+/// Compares the two on the case: what a left, or the difference.
+pub fn compare(a: &dyn Face, b: &dyn Face, case: &Case) -> Result<Outcome, (Call, u64, u64)> {
+    let x = run(a, case);
+    let y = run(b, case);
+    assert!(keeps(case, &x), "{}: a call changed what it must keep: {}", a.name(), show(case));
+    if x == y { Ok(x) } else { Err((case.call, x.number, y.number)) }
+}
+
+/// The report on a case that differs, cut down to a smaller one that differs with the same two numbers.
 #[cold]
-fn report(a: &dyn Face, b: &dyn Face, seed: u64, case: &Case) -> ! {
-    let small = shrink(case.clone(), 20_000, |c| run(a, c) != run(b, c));
+pub fn report(a: &dyn Face, b: &dyn Face, seed: u64, case: &Case) -> Difference {
+    let kind = |c: &Case| {
+        let (x, y) = (run(a, c), run(b, c));
+        (x != y).then_some((c.call, x.number, y.number))
+    };
+    let whole = kind(case);
+    let small = shrink(case.clone(), 20_000, |c| kind(c) == whole);
     let (x, y) = (run(a, &small), run(b, &small));
     let mut unlike = String::new();
     if (x.number, x.answer) != (y.number, y.answer) {
-        unlike += &format!("  {}: {} {:?}\n  {}: {} {:?}\n", a.name(), x.number, x.answer, b.name(), y.number, y.answer);
+        unlike +=
+            &format!("  {}: {} {:?}\n  {}: {} {:?}\n", a.name(), x.number, x.answer, b.name(), y.number, y.answer);
     }
     for (what, p, q) in [("table", &x.table, &y.table), ("list", &x.list, &y.list)] {
         if let Some(i) = (0..p.len()).find(|&i| p[i] != q[i]) {
-            unlike += &format!("  {what}[{}]: {} has {}, {} has {}\n", i as i64 - GUARD as i64, a.name(), p[i], b.name(), q[i]);
+            unlike += &format!(
+                "  {what}[{}]: {} has {}, {} has {}\n",
+                i as i64 - GUARD as i64,
+                a.name(),
+                p[i],
+                b.name(),
+                q[i]
+            );
         }
     }
     for (what, p, q) in [("bytes", &x.bytes, &y.bytes), ("text", &x.text, &y.text)] {
         if let Some(i) = (0..p.len()).find(|&i| p[i] != q[i]) {
-            unlike += &format!("  {what}[{}]: {} has {}, {} has {}\n", i as i64 - GUARD as i64, a.name(), p[i], b.name(), q[i]);
+            unlike += &format!(
+                "  {what}[{}]: {} has {}, {} has {}\n",
+                i as i64 - GUARD as i64,
+                a.name(),
+                p[i],
+                b.name(),
+                q[i]
+            );
         }
     }
-    panic!("\nDIFFERENCE, seed {seed} (try again with ZARFOLIN_SEED={seed}), cut down to\n{}\n{unlike}", show(&small));
+    let report = format!(
+        "\nDIFFERENCE, seed {seed} (try again with ZARFOLIN_SEED={seed}), cut down to\n{}\n{unlike}",
+        show(&small)
+    );
+    Difference { kind: (case.call, x.number, y.number), report }
 }
 
 /// The case in a form to paste into a test.
@@ -178,19 +210,23 @@ fn cut(text: String) -> String {
     }
 }
 
-/// Cuts a case down as long as `differs` holds, with at most `tries` tries.
+/// Cuts a case down as long as `differs` holds, with at most `tries` tries and for a few seconds.
 pub fn shrink(mut case: Case, tries: usize, differs: impl Fn(&Case) -> bool) -> Case {
+    let start = Instant::now();
     let mut left = tries;
-    let mut attempt = |case: &mut Case, next: Case| {
-        if left == 0 {
-            return false;
+    // One change tried: kept if the case still differs. None when the tries or the time are used up.
+    let mut attempt = |case: &mut Case, change: &dyn Fn(&mut Case)| -> Option<bool> {
+        if left == 0 || start.elapsed() > Duration::from_secs(3) {
+            return None;
         }
         left -= 1;
+        let mut next = case.clone();
+        change(&mut next);
         let better = differs(&next);
         if better {
             *case = next;
         }
-        better
+        Some(better)
     };
     loop {
         let mut changed = false;
@@ -202,17 +238,16 @@ pub fn shrink(mut case: Case, tries: usize, differs: impl Fn(&Case) -> bool) -> 
                 let mut at = 0;
                 while at < length(&case) {
                     let end = (at + size).min(length(&case));
-                    let mut next = case.clone();
-                    match which {
+                    let change = |next: &mut Case| match which {
                         0 => drop(next.bytes.drain(at..end)),
                         1 => drop(next.text.drain(at..end)),
                         2 => drop(next.list.drain(at..end)),
                         _ => drop(next.table.drain(at..end)),
-                    }
-                    if attempt(&mut case, next) {
-                        changed = true;
-                    } else {
-                        at += size;
+                    };
+                    match attempt(&mut case, &change) {
+                        None => return case,
+                        Some(true) => changed = true,
+                        Some(false) => at += size,
                     }
                 }
                 size /= 2;
@@ -224,34 +259,38 @@ pub fn shrink(mut case: Case, tries: usize, differs: impl Fn(&Case) -> bool) -> 
                 if case.bytes[at] == plain {
                     break;
                 }
-                let mut next = case.clone();
-                next.bytes[at] = plain;
-                if attempt(&mut case, next) {
-                    changed = true;
-                    break;
-                }
-            }
-        }
-        if case.call != Call::ReadDefinition {
-            for at in 0..case.table.len() {
-                for plain in [0, 1] {
-                    if case.table[at] == plain {
-                        break;
-                    }
-                    let mut next = case.clone();
-                    next.table[at] = plain;
-                    if attempt(&mut case, next) {
+                match attempt(&mut case, &|next| next.bytes[at] = plain) {
+                    None => return case,
+                    Some(true) => {
                         changed = true;
                         break;
                     }
+                    Some(false) => {}
+                }
+            }
+        }
+        let cells = if case.call == Call::ReadDefinition { 0 } else { case.table.len() };
+        for at in 0..cells {
+            for plain in [0, 1] {
+                if case.table[at] == plain {
+                    break;
+                }
+                match attempt(&mut case, &|next| next.table[at] = plain) {
+                    None => return case,
+                    Some(true) => {
+                        changed = true;
+                        break;
+                    }
+                    Some(false) => {}
                 }
             }
         }
         for row in [0, case.row / 2] {
             if row < case.row {
-                let mut next = case.clone();
-                next.row = row;
-                changed |= attempt(&mut case, next);
+                match attempt(&mut case, &|next| next.row = row) {
+                    None => return case,
+                    Some(better) => changed |= better,
+                }
             }
         }
         if !changed {

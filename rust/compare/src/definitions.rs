@@ -405,7 +405,11 @@ fn variable(m: &mut Maker, r: &mut Rng, size: Size, i: usize, ident: i64, standa
     let spread = kind == 2 && r.once_in(2);
     let need = match kind {
         1 | 2 => {
-            let most = if kind == 2 && !spread && !r.once_in(30) { r.pick(&[3, 9, 40]) } else { r.pick(&[9, 20, 99, 999, 9999]) };
+            let most = if kind == 2 && !spread && !r.once_in(30) {
+                r.pick(&[3, 9, 40])
+            } else {
+                r.pick(&[9, 20, 99, 999, 9999])
+            };
             m.note(r);
             m.word("VALUES");
             let with_range = r.once_in(2);
@@ -571,18 +575,116 @@ fn line(m: &mut Maker, r: &mut Rng, size: Size, figure: String, value: i64) {
 }
 
 const WORDS: &[&str] = &[
-    "SSS", "VERSION", "DATE", "TIME", "ORIGIN", "USER", "STANDARD", "NAMES", "SURVEY", "TITLE", "RECORD", "VARIABLE",
-    "NAME", "LABEL", "TYPE", "SINGLE", "MULTIPLE", "QUANTITY", "CHARACTER", "LOGICAL", "POSITION", "TO", "SPREAD", "OF",
-    "VALUES", "WITH", "SPECIAL", "SIZE", "END", "NOTE", "R", "<", ">", "\"", "{", "}", "X", "T", "W", "S", "E", "<<", "\"{4", "\"{",
+    "SSS",
+    "VERSION",
+    "DATE",
+    "TIME",
+    "ORIGIN",
+    "USER",
+    "STANDARD",
+    "NAMES",
+    "SURVEY",
+    "TITLE",
+    "RECORD",
+    "VARIABLE",
+    "NAME",
+    "LABEL",
+    "TYPE",
+    "SINGLE",
+    "MULTIPLE",
+    "QUANTITY",
+    "CHARACTER",
+    "LOGICAL",
+    "POSITION",
+    "TO",
+    "SPREAD",
+    "OF",
+    "VALUES",
+    "WITH",
+    "SPECIAL",
+    "SIZE",
+    "END",
+    "NOTE",
+    "R",
+    "<",
+    ">",
+    "\"",
+    "{",
+    "}",
+    "X",
+    "T",
+    "W",
+    "S",
+    "E",
+    "<<",
+    "\"{4",
+    "\"{",
 ];
 
 const FIGURES: &[&str] = &[
-    "0", "00", "000", "1", "2", "3", "5", "7", "9", "10", "11", "99", "100", "01", "00001", "9999", "10000", "99999", "16384", "16385",
-    "4096", "4097", "99999999999999999999", "99999999999999999998", "18446744073709551616", "18446744073709551617",
-    "9223372036854775808", "4294967296", "4294967297", "65536", "-0", "-1", "-9", "-5.5", "1.", "1.0", "1.00", ".5", "-.5", ".", "-", "+", "+1", "1-", "1.1", "1.1.1",
-    "0.0000000000", "0.000000000", "0.0000000001", "999999999999999", "1000000000000000", "-999999999999999", "-1000000000000000",
-    "99999.9999999999", "999999.999999999", "1000000.000000000", "000000000000000000000000000000000001", "-000.0", "-99999999999999999999",
-    "-99999999999999999998", "1.2", "1.10", "1.1-",
+    "0",
+    "00",
+    "000",
+    "1",
+    "2",
+    "3",
+    "5",
+    "7",
+    "9",
+    "10",
+    "11",
+    "99",
+    "100",
+    "01",
+    "00001",
+    "9999",
+    "10000",
+    "99999",
+    "16384",
+    "16385",
+    "4096",
+    "4097",
+    "99999999999999999999",
+    "99999999999999999998",
+    "18446744073709551616",
+    "18446744073709551617",
+    "9223372036854775808",
+    "4294967296",
+    "4294967297",
+    "65536",
+    "-0",
+    "-1",
+    "-9",
+    "-5.5",
+    "1.",
+    "1.0",
+    "1.00",
+    ".5",
+    "-.5",
+    ".",
+    "-",
+    "+",
+    "+1",
+    "1-",
+    "1.1",
+    "1.1.1",
+    "0.0000000000",
+    "0.000000000",
+    "0.0000000001",
+    "999999999999999",
+    "1000000000000000",
+    "-999999999999999",
+    "-1000000000000000",
+    "99999.9999999999",
+    "999999.999999999",
+    "1000000.000000000",
+    "000000000000000000000000000000000001",
+    "-000.0",
+    "-99999999999999999999",
+    "-99999999999999999998",
+    "1.2",
+    "1.10",
+    "1.1-",
 ];
 
 /// One to three figures changed, none of the version's most of the time: to odd ones, to others of the text, by one.
@@ -629,7 +731,11 @@ pub fn damage_tokens(r: &mut Rng, tokens: &mut Vec<Token>) {
                 // A figure somewhere becomes another one.
                 let figures: Vec<usize> = (0..n).filter(|&i| matches!(tokens[i], Token::Figure(_))).collect();
                 if let Some(&at) = figures.get(r.below(figures.len())) {
-                    let other = if r.once_in(3) { tokens[figures[r.below(figures.len())]].clone() } else { Token::Figure(r.pick(FIGURES).to_string()) };
+                    let other = if r.once_in(3) {
+                        tokens[figures[r.below(figures.len())]].clone()
+                    } else {
+                        Token::Figure(r.pick(FIGURES).to_string())
+                    };
                     tokens[at] = other;
                 }
             }

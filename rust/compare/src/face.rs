@@ -139,13 +139,7 @@ impl Face for Library {
 
     fn write_missing(&self, table: &[i64], row: u64, record: &mut [u8]) -> u64 {
         unsafe {
-            zarfolin::ffi::zarfolin_write_missing(
-                table.as_ptr(),
-                table.len(),
-                row,
-                record.as_mut_ptr(),
-                record.len(),
-            )
+            zarfolin::ffi::zarfolin_write_missing(table.as_ptr(), table.len(), row, record.as_mut_ptr(), record.len())
         }
     }
 

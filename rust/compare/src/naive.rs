@@ -410,7 +410,8 @@ fn variable(r: &mut Reader, rows: &[Vec<i64>], lines: &mut Vec<Vec<i64>>) -> Res
                 Some(width) => {
                     let w = stripped(&width.text);
                     judged(&[(n.is_empty(), 7, count.place), (w.is_empty(), 7, width.place)])?;
-                    let product = small.and_then(|n| if w.len() <= 5 { Some(n * w.parse::<i64>().unwrap()) } else { None });
+                    let product =
+                        small.and_then(|n| if w.len() <= 5 { Some(n * w.parse::<i64>().unwrap()) } else { None });
                     narrow = product.is_none_or(|p| p > room);
                     row[7] = small.unwrap_or(0);
                     row[8] = if w.len() <= 5 { w.parse().unwrap() } else { 0 };
@@ -583,7 +584,9 @@ fn row_sound(row: &Row) -> bool {
     if !(1..=9999).contains(&c[0]) || !(1..=5).contains(&kind) || c[5] > 9 || c[6] > 1 || c[9] > 1 {
         return false;
     }
-    if row.lines.iter().any(|line| line[1] > 1 || line[2] > 1_048_576 || line[3] > 1_048_576) || c[14..].iter().any(|&x| x > 1_048_576) {
+    if row.lines.iter().any(|line| line[1] > 1 || line[2] > 1_048_576 || line[3] > 1_048_576)
+        || c[14..].iter().any(|&x| x > 1_048_576)
+    {
         return false;
     }
     // Columns a type lacks.
@@ -645,7 +648,8 @@ enum Value {
 
 impl Row {
     fn legal(&self, v: i64) -> bool {
-        (self.cells[9] == 1 && (self.cells[10]..=self.cells[11]).contains(&v)) || self.lines.iter().any(|line| line[0] == v)
+        (self.cells[9] == 1 && (self.cells[10]..=self.cells[11]).contains(&v))
+            || self.lines.iter().any(|line| line[0] == v)
     }
 
     fn defined(&self) -> BTreeSet<i64> {
@@ -714,7 +718,10 @@ impl Row {
                 let (minus, text) = text.strip_prefix('-').map_or((false, text), |rest| (true, rest));
                 let (whole, rest) = if self.cells[6] == 1 { text.split_once('.')? } else { (text, "") };
                 let digits = format!("{whole}{rest}");
-                if whole.is_empty() || rest.len() != self.cells[5] as usize || !digits.bytes().all(|x| x.is_ascii_digit()) {
+                if whole.is_empty()
+                    || rest.len() != self.cells[5] as usize
+                    || !digits.bytes().all(|x| x.is_ascii_digit())
+                {
                     return None;
                 }
                 let m: i64 = digits.parse().unwrap();
@@ -881,42 +888,60 @@ impl Face for Naive {
     }
 
     fn write_truth(&self, table: &[i64], row: u64, truth: u8, record: &mut [u8]) -> u64 {
-        write(table, row, record, |kind| kind == 5, |_| match truth {
-            0 => Ok(vec![b"0".to_vec()]),
-            1 => Ok(vec![b"1".to_vec()]),
-            _ => Err(27),
-        })
+        write(
+            table,
+            row,
+            record,
+            |kind| kind == 5,
+            |_| match truth {
+                0 => Ok(vec![b"0".to_vec()]),
+                1 => Ok(vec![b"1".to_vec()]),
+                _ => Err(27),
+            },
+        )
     }
 
     fn write_set(&self, table: &[i64], row: u64, list: &[i64], record: &mut [u8]) -> u64 {
-        write(table, row, record, |kind| kind == 2, |row| {
-            let defined = row.defined();
-            let members: BTreeSet<i64> = list.iter().copied().collect();
-            if !members.iter().eq(list.iter()) || !members.is_subset(&defined) {
-                return Err(27);
-            }
-            let (n, w) = (row.cells[7] as usize, row.cells[4] as usize);
-            if n == 0 {
-                return Ok(defined.iter().map(|c| vec![b'0' + members.contains(c) as u8]).collect());
-            }
-            if list.len() > n {
-                return Err(28);
-            }
-            let all = list.iter().copied().chain(std::iter::repeat(0)).take(n);
-            Ok(all.map(|c| format!("{c:0>w$}").into_bytes()).collect())
-        })
+        write(
+            table,
+            row,
+            record,
+            |kind| kind == 2,
+            |row| {
+                let defined = row.defined();
+                let members: BTreeSet<i64> = list.iter().copied().collect();
+                if !members.iter().eq(list.iter()) || !members.is_subset(&defined) {
+                    return Err(27);
+                }
+                let (n, w) = (row.cells[7] as usize, row.cells[4] as usize);
+                if n == 0 {
+                    return Ok(defined.iter().map(|c| vec![b'0' + members.contains(c) as u8]).collect());
+                }
+                if list.len() > n {
+                    return Err(28);
+                }
+                let all = list.iter().copied().chain(std::iter::repeat(0)).take(n);
+                Ok(all.map(|c| format!("{c:0>w$}").into_bytes()).collect())
+            },
+        )
     }
 
     fn write_text(&self, table: &[i64], row: u64, text: &[u8], record: &mut [u8]) -> u64 {
-        write(table, row, record, |kind| kind == 4, |row| {
-            let w = row.cells[4] as usize;
-            if text.is_empty() || text.len() > w || text.ends_with(b" ") || text.iter().any(|&x| x < 32) {
-                return Err(27);
-            }
-            let mut field = text.to_vec();
-            field.resize(w, b' ');
-            Ok(vec![field])
-        })
+        write(
+            table,
+            row,
+            record,
+            |kind| kind == 4,
+            |row| {
+                let w = row.cells[4] as usize;
+                if text.is_empty() || text.len() > w || text.ends_with(b" ") || text.iter().any(|&x| x < 32) {
+                    return Err(27);
+                }
+                let mut field = text.to_vec();
+                field.resize(w, b' ');
+                Ok(vec![field])
+            },
+        )
     }
 
     fn judge_file(&self, table: &[i64], data: &[u8], answer: &mut [i64; 4]) -> u64 {

@@ -181,7 +181,9 @@ fn field(r: &mut Rng, table: &[i64], row: usize, record: &mut [u8]) {
     let blank = r.once_in(8);
     match c(1) {
         1 => {
-            let bytes = if blank { vec![b' '; w as usize] } else {
+            let bytes = if blank {
+                vec![b' '; w as usize]
+            } else {
                 let v = number(r, table, row);
                 figure(r, v, w as usize, 0, false)
             };
@@ -202,7 +204,11 @@ fn field(r: &mut Rng, table: &[i64], row: usize, record: &mut [u8]) {
         2 => {
             let (n, sub) = (c(7).clamp(0, 300), c(8).clamp(0, 20_000));
             for k in 0..n {
-                let bytes = if blank || r.once_in(6) { vec![b' '; w as usize] } else if r.once_in(4) { vec![b'0'; w as usize] } else {
+                let bytes = if blank || r.once_in(6) {
+                    vec![b' '; w as usize]
+                } else if r.once_in(4) {
+                    vec![b'0'; w as usize]
+                } else {
                     let v = number(r, table, row);
                     figure(r, v, w as usize, 0, false)
                 };
@@ -210,7 +216,9 @@ fn field(r: &mut Rng, table: &[i64], row: usize, record: &mut [u8]) {
             }
         }
         3 => {
-            let bytes = if blank { vec![b' '; w as usize] } else {
+            let bytes = if blank {
+                vec![b' '; w as usize]
+            } else {
                 let v = number(r, table, row);
                 figure(r, v, w as usize, c(5).clamp(0, 20) as usize, c(6) == 1)
             };
@@ -225,7 +233,17 @@ fn field(r: &mut Rng, table: &[i64], row: usize, record: &mut [u8]) {
             }
             lay(record, start, &if blank { vec![b' '; w as usize] } else { bytes });
         }
-        _ => lay(record, finish - 1, &[if blank { b' ' } else if r.once_in(12) { r.pick(b"2xL\xff/") } else { r.pick(b"01") }]),
+        _ => lay(
+            record,
+            finish - 1,
+            &[if blank {
+                b' '
+            } else if r.once_in(12) {
+                r.pick(b"2xL\xff/")
+            } else {
+                r.pick(b"01")
+            }],
+        ),
     }
 }
 

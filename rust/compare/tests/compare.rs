@@ -4,7 +4,7 @@
 //! ZARFOLIN_CASES=n runs n times as many seeds; ZARFOLIN_SEED=n runs that one seed alone in every test.
 
 use std::collections::BTreeMap;
-use zarfolin_compare::case::{Call, Case, Outcome, compare, run};
+use zarfolin_compare::case::{Call, Case, Difference, Outcome, compare, report, run};
 use zarfolin_compare::definitions::{self, SMALL, Size, Style};
 use zarfolin_compare::face::{Face, Plain, other};
 use zarfolin_compare::records;
@@ -16,11 +16,13 @@ struct Tally {
     other: Box<dyn Face>,
     cases: u64,
     numbers: BTreeMap<u64, u64>,
+    /// The differences met, one of each kind.
+    differences: Vec<Difference>,
 }
 
 impl Default for Tally {
     fn default() -> Tally {
-        Tally { other: other(), cases: 0, numbers: BTreeMap::new() }
+        Tally { other: other(), cases: 0, numbers: BTreeMap::new(), differences: vec![] }
     }
 }
 
@@ -30,9 +32,30 @@ impl Tally {
         *self.numbers.entry(outcome.number).or_default() += 1;
     }
 
+    /// Notes a difference, if none of its kind was met; fails at once when there are many kinds.
+    fn differs(&mut self, seed: u64, case: &Case, kind: (Call, u64, u64)) {
+        if !self.differences.iter().any(|d| d.kind == kind) {
+            self.differences.push(report(&Plain, &*self.other, seed, case));
+        }
+        if self.differences.len() == 12 {
+            self.fail();
+        }
+    }
+
+    fn fail(&self) {
+        let reports: Vec<&str> = self.differences.iter().map(|d| d.report.as_str()).collect();
+        assert!(reports.is_empty(), "{} kinds of difference, one of each:\n{}", reports.len(), reports.concat());
+    }
+
     /// Prints the tally; every number of `wanted` must have been met, unless one seed alone was run.
     fn end(self, what: &str, least: u64, wanted: &[u64]) {
-        println!("{what}: {} cases, plain Rust against {}; numbers met {:?}", self.cases, self.other.name(), self.numbers);
+        println!(
+            "{what}: {} cases, plain Rust against {}; numbers met {:?}",
+            self.cases,
+            self.other.name(),
+            self.numbers
+        );
+        self.fail();
         if std::env::var_os("ZARFOLIN_SEED").is_some() {
             return;
         }
@@ -55,8 +78,15 @@ fn seeds(count: u64) -> Box<dyn Iterator<Item = u64>> {
     Box::new(0..count * times)
 }
 
+/// Runs the case on both sides and notes it. Gives what the plain Rust left.
 fn check(tally: &mut Tally, seed: u64, case: &Case) -> Outcome {
-    let outcome = compare(&Plain, &*tally.other, seed, case);
+    let outcome = match compare(&Plain, &*tally.other, case) {
+        Ok(outcome) => outcome,
+        Err(kind) => {
+            tally.differs(seed, case, kind);
+            run(&Plain, case)
+        }
+    };
     tally.note(&outcome);
     outcome
 }
@@ -137,12 +167,18 @@ fn limits_of_definitions() {
     let mut tally = Tally::default();
     for seed in seeds(1) {
         let mut r = Rng::new(seed);
-        let variable = |i: usize| format!("VARIABLE {i} NAME \"a{i}\" LABEL \"b\" TYPE LOGICAL POSITION 1 END VARIABLE\n");
+        let variable =
+            |i: usize| format!("VARIABLE {i} NAME \"a{i}\" LABEL \"b\" TYPE LOGICAL POSITION 1 END VARIABLE\n");
         let lines = |n: usize, step: usize| (0..n).map(|i| format!("{} \"\" ", i * step % 8192)).collect::<String>();
         let block = |i: usize, n: usize, step: usize, more: &str| {
-            format!("VARIABLE {i} NAME \"\" LABEL \"\" TYPE QUANTITY POSITION 1 TO 9 VALUES {}{more} END VALUES END VARIABLE ", lines(n, step))
+            format!(
+                "VARIABLE {i} NAME \"\" LABEL \"\" TYPE QUANTITY POSITION 1 TO 9 VALUES {}{more} END VALUES END VARIABLE ",
+                lines(n, step)
+            )
         };
-        let whole = |head: &str, body: &str| format!("SSS VERSION 1.1 {head} SURVEY RECORD R {body} END RECORD END SURVEY END SSS");
+        let whole = |head: &str, body: &str| {
+            format!("SSS VERSION 1.1 {head} SURVEY RECORD R {body} END RECORD END SURVEY END SSS")
+        };
         let many = |n: usize| (1..=n).map(variable).collect::<String>();
         let mut texts = vec![
             whole("", &many(511)),
@@ -151,7 +187,15 @@ fn limits_of_definitions() {
             whole("", &(many(512) + &variable(512))),
             whole("STANDARD NAMES", &(many(511) + &variable(512).replace("a512", "A7"))),
         ];
-        for (n, more) in [(4095, ""), (4096, ""), (4096, "9 \"\""), (4096, "9000 \"\""), (4096, "9000.0 \"\""), (4095, "8191.\"\""), (4096, "+\"\"")] {
+        for (n, more) in [
+            (4095, ""),
+            (4096, ""),
+            (4096, "9 \"\""),
+            (4096, "9000 \"\""),
+            (4096, "9000.0 \"\""),
+            (4095, "8191.\"\""),
+            (4096, "+\"\""),
+        ] {
             // Rising, and in an order that is neither rising nor falling.
             texts.push(whole("", &block(1, n, 1, more)));
             texts.push(whole("", &block(1, n, 5, more)));
@@ -165,8 +209,18 @@ fn limits_of_definitions() {
             texts.push(whole(&format!("DATE\"{}\"", "{41}".repeat(n / 4)), &variable(1)));
             texts.push(whole(&format!("<{}>", "\"{NL}\"".repeat(n / 6)), &variable(1)));
             texts.push(whole("", &variable(1).replace("POSITION 1", &format!("POSITION {}1", "0".repeat(n)))));
-            texts.push(whole("", &variable(1).replace("POSITION 1", &format!("POSITION 1{} TO 1{}", "0".repeat(n / 2), "0".repeat(n / 2 - n / 4)))));
-            texts.push(whole("", &variable(1).replace("POSITION 1", &format!("POSITION 1{} TO 1{}", "0".repeat(n / 2), "0".repeat(n / 2)))));
+            texts.push(whole(
+                "",
+                &variable(1).replace(
+                    "POSITION 1",
+                    &format!("POSITION 1{} TO 1{}", "0".repeat(n / 2), "0".repeat(n / 2 - n / 4)),
+                ),
+            ));
+            texts.push(whole(
+                "",
+                &variable(1)
+                    .replace("POSITION 1", &format!("POSITION 1{} TO 1{}", "0".repeat(n / 2), "0".repeat(n / 2))),
+            ));
         }
         for text in texts {
             for end in [0, 1] {
@@ -296,14 +350,28 @@ fn tables_with_cells_changed() {
     let mut tally = Tally::default();
     for seed in seeds(20_000) {
         let mut r = Rng::new(seed ^ 0x7ab1e);
-        let size = if r.once_in(25) { Size { variables: 4, lines: 60, text: 1 } } else { Size { variables: 4, lines: 4, text: 1 } };
+        let size = if r.once_in(25) {
+            Size { variables: 4, lines: 60, text: 1 }
+        } else {
+            Size { variables: 4, lines: 4, text: 1 }
+        };
         let mut table = tables::sound_table(&mut r, size);
         tables::changed(&mut r, &mut table);
         let record = records::record(&mut r, &table);
         check(&mut tally, seed, &Case { table: table.clone(), ..Case::new(Call::JudgeRecord) });
         check(&mut tally, seed, &Case { table: table.clone(), bytes: record.clone(), ..Case::new(Call::JudgeRecord) });
         let row = records::row(&mut r, &table);
-        check(&mut tally, seed, &Case { table: table.clone(), bytes: record.clone(), row, list: vec![-7; 12], ..Case::new(Call::ReadValue) });
+        check(
+            &mut tally,
+            seed,
+            &Case {
+                table: table.clone(),
+                bytes: record.clone(),
+                row,
+                list: vec![-7; 12],
+                ..Case::new(Call::ReadValue)
+            },
+        );
         let case = write_case(&mut r, table, row, record);
         check(&mut tally, seed, &case);
     }
@@ -353,14 +421,21 @@ fn records_read_judged_and_written() {
         for row in 0..table[1].min(6) as u64 {
             let row = if r.once_in(40) { records::row(&mut r, &table) } else { row };
             let list = if r.once_in(4) { r.below(4) } else { r.pick(&[9, 50, 10_000]) };
-            let read = Case { table: table.clone(), bytes: record.clone(), row, list: vec![-7; list], ..Case::new(Call::ReadValue) };
+            let read = Case {
+                table: table.clone(),
+                bytes: record.clone(),
+                row,
+                list: vec![-7; list],
+                ..Case::new(Call::ReadValue)
+            };
             check(&mut tally, seed, &read);
             let case = write_case(&mut r, table.clone(), row, record.clone());
             let written = check(&mut tally, seed, &case);
             if written.number == 0 {
                 // What was written is read back.
                 let bytes = written.bytes[8..written.bytes.len() - 8].to_vec();
-                let again = Case { table: table.clone(), bytes, row, list: vec![-7; 10_000], ..Case::new(Call::ReadValue) };
+                let again =
+                    Case { table: table.clone(), bytes, row, list: vec![-7; 10_000], ..Case::new(Call::ReadValue) };
                 let again = check(&mut tally, seed, &again);
                 let [_, kind, first, second] = again.answer;
                 let start = table[6 + 18 * row as usize + 2] - 1;

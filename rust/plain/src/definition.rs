@@ -26,8 +26,8 @@ fn read(def: &[u8], table: &mut [i64]) -> Outcome<(usize, usize)> {
     }
     let mut r = Reader {
         s: Scan { bytes: def, at: 0 },
-        rows: Vec::new(),
-        lines: Vec::new(),
+        rows: Vec::with_capacity(32),
+        lines: Vec::with_capacity(128),
         idents: [0; 157],
         highest: 0,
         repeats: Repeats::default(),
@@ -349,8 +349,7 @@ impl Reader<'_> {
     fn values(&mut self, quantity: bool, row: &mut Row) -> Outcome<Block> {
         self.statement(b"VALUES")?;
         let first = self.lines.len();
-        let mut block =
-            Block { quantity, decimals: None, point: false, range: None, least: i64::MAX, most: i64::MIN };
+        let mut block = Block { quantity, decimals: None, point: false, range: None, least: i64::MAX, most: i64::MIN };
         self.repeats.start(first);
         self.notes()?;
         let figure = self.s.figure_due()?;

@@ -182,9 +182,8 @@ impl Scan<'_> {
         let mut level = 1;
         self.at += 1;
         loop {
-            self.at = find(self.bytes, self.at, |v| {
-                lanes::equal(v, b'<') | lanes::equal(v, b'>') | lanes::equal(v, b'"')
-            });
+            self.at =
+                find(self.bytes, self.at, |v| lanes::equal(v, b'<') | lanes::equal(v, b'>') | lanes::equal(v, b'"'));
             match self.bytes.get(self.at) {
                 None => return fault(3, outer),
                 Some(b'"') => {

@@ -231,8 +231,12 @@ fn dropped_bytes_and_case() {
     let (d, t) = read(SAMPLE.to_lowercase().as_bytes());
     assert_eq!(d.number, 0);
     assert_eq!(t, plain);
-    good("sssversion1.1surveyrecordrvariable1name\"n\"label\"l\"typelogicalposition1to1endvariableendrecordendsurveyendsssx");
-    good("\r\nS\0S\nSVER\r\nSION1\r.\n1SURVEYRECORDrVARIABLE\n1\n2NAME\"\"LABEL\"\"TYPEQUANTITYPOSITION2\n1TO2\r\n4VALUES-\n1TO1\r0ENDVALUESENDVARIABLEENDRECORDENDSURVEYENDSSS<");
+    good(
+        "sssversion1.1surveyrecordrvariable1name\"n\"label\"l\"typelogicalposition1to1endvariableendrecordendsurveyendsssx",
+    );
+    good(
+        "\r\nS\0S\nSVER\r\nSION1\r.\n1SURVEYRECORDrVARIABLE\n1\n2NAME\"\"LABEL\"\"TYPEQUANTITYPOSITION2\n1TO2\r\n4VALUES-\n1TO1\r0ENDVALUESENDVARIABLEENDRECORDENDSURVEYENDSSS<",
+    );
     // A text's place is just behind its quote, even where that byte is dropped.
     let text = variable("LOGICAL POSITION 1").replace("\"n\"", "\"\r\nn\r\"");
     let t = good(&text);
@@ -294,7 +298,9 @@ fn head_statements() {
     refused(2, "SSS VERSION 1.1 SURVEY RECORD A^B");
     refused(2, "SSS VERSION 1.1 SURVEY RECORD N^OTE \"x\" A");
     refused(2, &format!("{HEAD}^{}", TAIL.trim_start()));
-    good("SSS VERSION 1.1 SURVEY NOTE \"1\" TITLE\"x\"NOTE\"2\"RECORDRNOTE\"3\"VARIABLE1NOTE\"4\"NAME\"a\"NOTE\"5\"LABEL\"b\"NOTE\"6\"TYPE MULTIPLE NOTE\"7\"POSITION 1 TO 4 NOTE\"8\"SPREAD 2 NOTE\"9\" VALUES NOTE\"10\" 1 TO 2 WITH NOTE\"11\" 1\"x\"NOTE\"12\"2\"y\"SPECIAL NOTE\"13\"END VALUES NOTE\"14\"END VARIABLE NOTE\"15\"END RECORD NOTE\"16\"END SURVEY NOTE\"17\" END SSS NOTE");
+    good(
+        "SSS VERSION 1.1 SURVEY NOTE \"1\" TITLE\"x\"NOTE\"2\"RECORDRNOTE\"3\"VARIABLE1NOTE\"4\"NAME\"a\"NOTE\"5\"LABEL\"b\"NOTE\"6\"TYPE MULTIPLE NOTE\"7\"POSITION 1 TO 4 NOTE\"8\"SPREAD 2 NOTE\"9\" VALUES NOTE\"10\" 1 TO 2 WITH NOTE\"11\" 1\"x\"NOTE\"12\"2\"y\"SPECIAL NOTE\"13\"END VALUES NOTE\"14\"END VARIABLE NOTE\"15\"END RECORD NOTE\"16\"END SURVEY NOTE\"17\" END SSS NOTE",
+    );
     refused(2, "SSS VERSION 1.1 NOTE ^NOTE");
 }
 
@@ -327,11 +333,15 @@ fn comments_and_strings() {
     refused(3, "SSS VERSION 1.1 ^< < > { }");
     good(&variable("LOGICAL POSITION 1").replacen("SURVEY", "<{x> SURVEY", 1));
     good(&variable("LOGICAL POSITION 1").replacen("SURVEY", "<\"><\" {\"> SURVEY\" > SURVEY", 1));
-    for form in ["{\"}", "{{}", "{NL}", "{41}", "{4a4B}", "}", "{0D0A}", "{\r4\n1\0}", "{\nN\nL\n}", "<", ">", "\u{fe}"] {
+    for form in ["{\"}", "{{}", "{NL}", "{41}", "{4a4B}", "}", "{0D0A}", "{\r4\n1\0}", "{\nN\nL\n}", "<", ">", "\u{fe}"]
+    {
         let t = good(&variable("LOGICAL POSITION 1").replace("\"n\"", &format!("\"{form}\"")));
         assert_eq!(t[21], form.len() as i64);
     }
-    for form in ["{}", "{4}", "{414}", "{nl}", "{Nl}", "{NL", "{N}", "{\"", "{{", "{x}", "{ 41}", "{41 }", "{4 1}", "{4\"}", "{41\"", "{<}"] {
+    for form in [
+        "{}", "{4}", "{414}", "{nl}", "{Nl}", "{NL", "{N}", "{\"", "{{", "{x}", "{ 41}", "{41 }", "{4 1}", "{4\"}",
+        "{41\"", "{<}",
+    ] {
         let text = variable("LOGICAL POSITION 1").replace("\"n\"", &format!("\"^{form}\""));
         refused(3, &text);
     }
@@ -597,7 +607,20 @@ fn standard_names() {
         format!("SSS VERSION 1.1 STANDARD NAMES SURVEY RECORD R {variables}{TAIL}")
     };
     good(&named(&["\"a\"", "\"Ab345678\"", "\"{41}{4142}c\"", "\"b\r\n\""]));
-    for bad in ["\"\"", "\"1a\"", "\"a b\"", "\"a \"", "\"abcdefghi\"", "\"a_\"", "\"a{NL}\"", "\"a{0A}\"", "\"{\"}\"", "\"{31}a\"", "\"a\u{e9}\"", "\"\n\""] {
+    for bad in [
+        "\"\"",
+        "\"1a\"",
+        "\"a b\"",
+        "\"a \"",
+        "\"abcdefghi\"",
+        "\"a_\"",
+        "\"a{NL}\"",
+        "\"a{0A}\"",
+        "\"{\"}\"",
+        "\"{31}a\"",
+        "\"a\u{e9}\"",
+        "\"\n\"",
+    ] {
         refused(9, &named(&["\"x\"", &format!("^{bad}"), "\"x\""]));
     }
     refused(9, &named(&["\"Q1\"", "\"Q001\"", "^\"q1\"", "\"1\""]));

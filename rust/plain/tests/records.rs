@@ -49,11 +49,29 @@ fn block(values: &[i64]) -> String {
 #[test]
 fn proved_readings() {
     let t = one("SINGLE POSITION 1 TO 2 VALUES 1 TO 20 END VALUES");
-    for (record, value) in [("07", "N 7"), (" 7", "N 7"), ("  ", "missing"), ("00", "missing"), ("7 ", "24"), ("21", "24"), (" 0", "missing"), ("-7", "24"), ("0x", "24"), ("20", "N 20")] {
+    for (record, value) in [
+        ("07", "N 7"),
+        (" 7", "N 7"),
+        ("  ", "missing"),
+        ("00", "missing"),
+        ("7 ", "24"),
+        ("21", "24"),
+        (" 0", "missing"),
+        ("-7", "24"),
+        ("0x", "24"),
+        ("20", "N 20"),
+    ] {
         assert_eq!(read(&t, record), value, "{record:?}");
     }
     let t = one(&format!("MULTIPLE POSITION 1 TO 9 VALUES {} END VALUES", block(&[1, 2, 3, 9])));
-    for (record, value) in [("100xxxxx0", "S [1]"), ("   xxxxx ", "missing"), ("000xxxxx ", "24"), ("0002", "22"), ("011111111", "S [2, 3, 9]"), ("200000000", "24")] {
+    for (record, value) in [
+        ("100xxxxx0", "S [1]"),
+        ("   xxxxx ", "missing"),
+        ("000xxxxx ", "24"),
+        ("0002", "22"),
+        ("011111111", "S [2, 3, 9]"),
+        ("200000000", "24"),
+    ] {
         assert_eq!(read(&t, record), value, "{record:?}");
     }
     // Out of order, and lines among a range.
@@ -71,26 +89,70 @@ fn proved_readings() {
     let t = one("MULTIPLE POSITION 1 TO 10 VALUES 1 TO 9 END VALUES");
     assert_eq!(read(&t, "010000010x"), "S [2, 8]");
     let t = one("MULTIPLE POSITION 1 TO 6 SPREAD 2 OF 3 VALUES 1 TO 999 END VALUES");
-    for (record, value) in [("001042", "S [1, 42]"), ("      ", "missing"), ("000000", "S []"), ("   000", "S []"), ("  9  9", "S [9]"), ("042  1", "S [1, 42]"), ("1  000", "24"), ("00x000", "24")] {
+    for (record, value) in [
+        ("001042", "S [1, 42]"),
+        ("      ", "missing"),
+        ("000000", "S []"),
+        ("   000", "S []"),
+        ("  9  9", "S [9]"),
+        ("042  1", "S [1, 42]"),
+        ("1  000", "24"),
+        ("00x000", "24"),
+    ] {
         assert_eq!(read(&t, record), value, "{record:?}");
     }
     let t = one("MULTIPLE POSITION 1 TO 4 SPREAD 2 OF 2 VALUES 1 TO 9 END VALUES");
     assert_eq!(read(&t, "x1x0"), "S [1]");
     assert_eq!(read(&t, "x0x1"), "S [1]");
     let t = one(&format!("MULTIPLE POSITION 1 TO 4 SPREAD 2 OF 1 VALUES {} END VALUES", block(&[1, 2, 3, 9])));
-    for (record, value) in [("20xx", "S [2]"), ("02xx", "S [2]"), ("13xx", "S [1, 3]"), ("04xx", "24"), ("  xx", "missing"), ("00xx", "S []"), ("11xx", "S [1]")] {
+    for (record, value) in [
+        ("20xx", "S [2]"),
+        ("02xx", "S [2]"),
+        ("13xx", "S [1, 3]"),
+        ("04xx", "24"),
+        ("  xx", "missing"),
+        ("00xx", "S []"),
+        ("11xx", "S [1]"),
+    ] {
         assert_eq!(read(&t, record), value, "{record:?}");
     }
     let t = one("QUANTITY POSITION 1 TO 3 VALUES -99 TO 99 END VALUES");
-    for (record, value) in [("-07", "N -7"), (" -7", "N -7"), ("  7", "N 7"), ("0-7", "24"), ("- 7", "24"), ("-  ", "24"), ("7  ", "24"), ("-00", "N 0"), ("000", "N 0"), ("100", "24"), ("   ", "missing"), ("+07", "24")] {
+    for (record, value) in [
+        ("-07", "N -7"),
+        (" -7", "N -7"),
+        ("  7", "N 7"),
+        ("0-7", "24"),
+        ("- 7", "24"),
+        ("-  ", "24"),
+        ("7  ", "24"),
+        ("-00", "N 0"),
+        ("000", "N 0"),
+        ("100", "24"),
+        ("   ", "missing"),
+        ("+07", "24"),
+    ] {
         assert_eq!(read(&t, record), value, "{record:?}");
     }
     let t = one("QUANTITY POSITION 1 TO 6 VALUES -1.00 TO 99.99 END VALUES");
-    for (record, value) in [("x-1.00", "N -100"), ("x 7.00", "N 700"), ("x07.00", "N 700"), ("x  .00", "24"), ("x -.00", "24"), ("x70000", "24"), ("x7.000", "24"), ("x     ", "missing"), ("x   . ", "24"), ("x-1.01", "24"), ("x-0.00", "N 0")] {
+    for (record, value) in [
+        ("x-1.00", "N -100"),
+        ("x 7.00", "N 700"),
+        ("x07.00", "N 700"),
+        ("x  .00", "24"),
+        ("x -.00", "24"),
+        ("x70000", "24"),
+        ("x7.000", "24"),
+        ("x     ", "missing"),
+        ("x   . ", "24"),
+        ("x-1.01", "24"),
+        ("x-0.00", "N 0"),
+    ] {
         assert_eq!(read(&t, record), value, "{record:?}");
     }
     let t = one("QUANTITY POSITION 1 TO 2 VALUES 1 TO 9. END VALUES");
-    for (record, value) in [("7.", "N 7"), ("07", "24"), (" 7", "24"), (" .", "24"), ("  ", "missing"), ("0.", "24"), ("-.", "24")] {
+    for (record, value) in
+        [("7.", "N 7"), ("07", "24"), (" 7", "24"), (" .", "24"), ("  ", "missing"), ("0.", "24"), ("-.", "24")]
+    {
         assert_eq!(read(&t, record), value, "{record:?}");
     }
     let t = one("QUANTITY POSITION 1 TO 2 VALUES 0 TO 50 WITH 99 \"\" END VALUES");
@@ -103,7 +165,12 @@ fn proved_readings() {
         assert_eq!(read(&t, record), value, "{record:?}");
     }
     let t = one("CHARACTER POSITION 2 TO 12 SIZE 10");
-    for (record, value) in [("xCHARACTER xx", "T 1 CHARACTER"), ("x  a       xx", "T 1   a"), ("x          xx", "missing"), ("x0123456789xx", "T 1 0123456789")] {
+    for (record, value) in [
+        ("xCHARACTER xx", "T 1 CHARACTER"),
+        ("x  a       xx", "T 1   a"),
+        ("x          xx", "missing"),
+        ("x0123456789xx", "T 1 0123456789"),
+    ] {
         assert_eq!(read(&t, record), value, "{record:?}");
     }
     assert_eq!(read_value(&t, 0, b"x  \n       xx", &mut []), Err(24));

@@ -155,12 +155,7 @@ pub unsafe extern "C" fn zarfolin_judge_file(
 }
 
 #[unsafe(no_mangle)]
-pub unsafe extern "C" fn zarfolin_next_record(
-    data: *const u8,
-    data_len: usize,
-    from: u64,
-    answer: *mut i64,
-) -> Number {
+pub unsafe extern "C" fn zarfolin_next_record(data: *const u8, data_len: usize, from: u64, answer: *mut i64) -> Number {
     unsafe {
         let numbers = match plain::next_record(from_raw_parts(data, data_len), from) {
             plain::NextRecord::None => [0, 0, 0, 0],

@@ -17,12 +17,7 @@ pub fn read_definition(def: &[u8], table: &mut [i64]) -> Result<Counts, Definiti
 }
 
 /// Reads one row's value from a record. A set goes to the start of the list and is answered as a part of it.
-pub fn read_value<'a>(
-    table: &[i64],
-    row: u64,
-    record: &'a [u8],
-    list: &'a mut [i64],
-) -> Result<Value<'a>, Refused> {
+pub fn read_value<'a>(table: &[i64], row: u64, record: &'a [u8], list: &'a mut [i64]) -> Result<Value<'a>, Refused> {
     let mut answer = [0i64; 4];
     // SAFETY: as above.
     let number = unsafe {
@@ -94,9 +89,8 @@ pub fn write_value(table: &[i64], row: u64, value: Value, record: &mut [u8]) -> 
 pub fn judge_file(table: &[i64], data: &[u8]) -> Result<u64, FileFault> {
     let mut answer = [0i64; 4];
     // SAFETY: as above.
-    let number = unsafe {
-        zarfolin_judge_file(table.as_ptr(), table.len(), data.as_ptr(), data.len(), answer.as_mut_ptr())
-    };
+    let number =
+        unsafe { zarfolin_judge_file(table.as_ptr(), table.len(), data.as_ptr(), data.len(), answer.as_mut_ptr()) };
     let [_, record, row, place] = answer;
     let record = record as u64;
     match number {

@@ -24,8 +24,7 @@ fn read_judge_write() {
 
     let mut record = *b" 710x1x-1.0ab   1";
     let mut list = [0; 3];
-    let expected =
-        [Value::Number(7), Value::Set(&[1, 4]), Value::Number(-10), Value::Text(b"ab"), Value::Truth(true)];
+    let expected = [Value::Number(7), Value::Set(&[1, 4]), Value::Number(-10), Value::Text(b"ab"), Value::Truth(true)];
     for (row, value) in expected.iter().enumerate() {
         assert_eq!(read_value(&table, row as u64, &record, &mut list), Ok(*value));
     }
@@ -35,8 +34,7 @@ fn read_judge_write() {
     assert_eq!(judge_record(&table, &record[1..]), Err(RecordFault::TooShort));
     assert_eq!(judge_record(&table[1..], &record), Err(RecordFault::TableNotWellFormed));
 
-    let written =
-        [Value::Number(12), Value::Set(&[2]), Value::Number(995), Value::Text(b"c d"), Value::Truth(false)];
+    let written = [Value::Number(12), Value::Set(&[2]), Value::Number(995), Value::Text(b"c d"), Value::Truth(false)];
     for (row, value) in written.iter().enumerate() {
         assert_eq!(write_value(&table, row as u64, *value, &mut record), Ok(()));
     }
