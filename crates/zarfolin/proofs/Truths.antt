@@ -1,0 +1,35 @@
+-- What is no truth, test by test.
+use mathlib.Core.Path.{_≡_, sym, ap, _∙_}
+use mathlib.Core.Bool.{true, false}
+use mathlib.Core.List.{List}
+use Prim.Native.Nat.{ℕ, _≤_, _<_}
+use borrow.Author.Tests.{le-leb, lt-leb, lt-ltb, le-ltb}
+use lib.IntN.{ℤ}
+use Rattle.layout.specs.Layout.{headerOf}
+use Rattle.layout.specs.Row.{rowAt}
+use Rattle.layout.specs.declared.Header.{Header}
+use Rattle.layout.specs.declared.Row.{Row}
+use Rattle.sound.specs.Sound.{wellFormed}
+use Rattle.sound.specs.Rows.{rowsOf, lengthOf}
+use Rattle.writes.specs.Public.{refusalOf}
+use Rattle.zarfolin.specs.Truth.{noTruth, badTruth, kindNumber, kind-number}
+
+module _ (t : List ℤ) (i n : ℕ) where
+  pub bad-table : wellFormed t ≡ false → 20 ≡ badTruth t i n
+  unfolding refusalOf noTruth
+  bad-table e = rw e
+
+  module _ (good : wellFormed t ≡ true) (h : Header) (e : h ≡ headerOf t) where
+    pub bad-row : h .rows ≤ i → 21 ≡ badTruth t i n
+    unfolding refusalOf noTruth
+    bad-row l = rw (good, le-leb (rowsOf t) i (rw e at l))
+
+    pub bad-length : i < h .rows → n < h .length → 22 ≡ badTruth t i n
+    unfolding refusalOf noTruth
+    bad-length l m = rw (good, lt-leb (rowsOf t) i (rw e at l), lt-ltb n (lengthOf t) (rw e at m))
+
+    pub bad-kind : i < h .rows → h .length ≤ n → (r : Row) → r ≡ rowAt t i → kindNumber (r .kind) ≡ badTruth t i n
+    unfolding refusalOf
+    bad-kind l m r q =
+        rw (good, lt-leb (rowsOf t) i (rw e at l), le-ltb n (lengthOf t) (rw e at m), q)
+        (sym (kind-number (rowAt t i .kind) t (rowsOf t) (rowAt t i)))

@@ -1,0 +1,335 @@
+// The face for C and Rust: each public call as an exported function on numbers and slices, with an answer of four numbers where one is
+// not enough. It holds no rule of its own but that of a truth given as a number. Nothing checks the declarations on the other side:
+// include/zarfolin.h has them. The reader of definitions is not there yet, so zarfolin_read_definition is missing.
+ghost use mathlib.Core.Path.{_≡_};
+ghost use lib.ListN.{length};
+ghost use lib.IntN.{pos};
+ghost use Rattle.fields.specs.Field as field;
+ghost use Rattle.fields.specs.Field.{missing, members};
+ghost use Rattle.records.specs.Verdict.{judgedAs, verdictOf};
+ghost use Rattle.records.specs.Value.{said};
+ghost use Rattle.files.specs.File.{fileSaid, fileVerdict};
+ghost use Rattle.cuts.specs.Cut.{nextOf};
+ghost use Rattle.writes.specs.Public.{numberOf};
+ghost use Rattle.zarfolin.specs.Face.{cellOf, flagOf, Telling, verdictCells, outcomeCells, faultCells, fileCells, nextCells, ValueTold, WriteTold};
+ghost use Rattle.zarfolin.specs.Face as face;
+ghost use Rattle.zarfolin.specs.Truth.{badTruth, kindNumber, TruthTold};
+use cuts::Next;
+use files::Judgement;
+use layout::Header;
+use layout::Kind;
+use layout::Row;
+use readings::Answer;
+use records::Judged;
+use writes::Value;
+use writes::Wrote;
+
+// The four numbers of an answer; the first is given back.
+pub struct Told {
+    pub number: u64,
+    pub first: i64,
+    pub second: i64,
+    pub third: i64,
+}
+
+// A count as a signed number. No slice is so long that a place in it reaches the last.
+fn cell(n: usize) -> i64
+    ensures { λ r. ⌜ r ≡ cellOf n ⌝ }
+{
+    if n < 9_223_372_036_854_775_807 {
+        n as i64
+    } else {
+        9_223_372_036_854_775_807
+    }
+}
+
+fn flag(b: bool) -> i64
+    ensures { λ r. ⌜ r ≡ flagOf b ⌝ }
+{
+    if b { 1 } else { 0 }
+}
+
+// Puts the four numbers into the lent answer and gives the first back.
+fn tell(answer: &mut [i64; 4], c: Told) -> u64
+    ensures { λ r. ⌜ Telling c (now (answer .exit)) r ⌝ }
+{
+    let number = c.number;
+    let zeroth = cell(number as usize);
+    *answer = [zeroth, c.first, c.second, c.third];
+    number
+}
+
+// A number with nothing beside it.
+fn bare(number: u64) -> Told
+    ensures { λ r. ⌜ r ≡ face.bare number ⌝ }
+{
+    Told {
+        number,
+        first: 0,
+        second: 0,
+        third: 0,
+    }
+}
+
+// A number with one beside it.
+fn with_one(number: u64, first: i64) -> Told
+    ensures { λ r. ⌜ r ≡ face.four number first (pos 0) (pos 0) ⌝ }
+{
+    Told {
+        number,
+        first,
+        second: 0,
+        third: 0,
+    }
+}
+
+// A value that was read: its kind, and two numbers.
+fn value_told(kind: i64, second: i64, third: i64) -> Told
+    ensures { λ r. ⌜ r ≡ face.four 0 kind second third ⌝ }
+{
+    Told {
+        number: 0,
+        first: kind,
+        second,
+        third,
+    }
+}
+
+fn verdict_cells(j: Judged) -> Told
+    ensures { λ r. ⌜ r ≡ verdictCells (judgedAs j) ⌝ }
+{
+    match j {
+        Judged::Sound => bare(0),
+        Judged::BadTable => bare(20),
+        Judged::ShortRecord => bare(22),
+        Judged::LowByte(p) => with_one(23, cell(p)),
+        Judged::Illegal(i) => with_one(24, cell(i)),
+    }
+}
+
+fn outcome_cells(a: Answer) -> Told
+    ensures { λ r. ⌜ r ≡ outcomeCells (said a) ⌝ }
+{
+    match a {
+        Answer::Missing => bare(0),
+        Answer::Number(z) => value_told(1, z, 0),
+        Answer::Set(n) => value_told(2, cell(n), 0),
+        Answer::Text(p, n) => value_told(3, cell(p), cell(n)),
+        Answer::Truth(b) => value_told(4, flag(b), 0),
+        Answer::BadTable => bare(20),
+        Answer::NoRow => bare(21),
+        Answer::ShortRecord => bare(22),
+        Answer::Illegal => bare(24),
+        Answer::ShortList => bare(25),
+    }
+}
+
+// The fault of record n: the row stands before the byte's place.
+fn fault_cells(n: usize, j: Judged) -> Told
+    ensures { λ r. ⌜ r ≡ faultCells n (judgedAs j) ⌝ }
+{
+    let first = cell(n);
+    match j {
+        Judged::Sound => with_one(0, first),
+        Judged::BadTable => with_one(20, first),
+        Judged::ShortRecord => with_one(22, first),
+        Judged::LowByte(p) => Told {
+            number: 23,
+            first,
+            second: 0,
+            third: cell(p),
+        },
+        Judged::Illegal(i) => Told {
+            number: 24,
+            first,
+            second: cell(i),
+            third: 0,
+        },
+    }
+}
+
+fn file_cells(j: Judgement) -> Told
+    ensures { λ r. ⌜ r ≡ fileCells (fileSaid j) ⌝ }
+{
+    match j {
+        Judgement::Sound(n) => with_one(0, cell(n)),
+        Judgement::BadTable => bare(20),
+        Judgement::Unended(n) => with_one(30, cell(n)),
+        Judgement::OtherLength(n) => with_one(31, cell(n)),
+        Judgement::Fault(n, fault) => fault_cells(n, fault),
+    }
+}
+
+fn next_cells(n: Next) -> Told
+    ensures { λ r. ⌜ r ≡ nextCells n ⌝ }
+{
+    match n {
+        Next::Ended { start, end, next } => Told {
+            number: 1,
+            first: cell(start),
+            second: cell(end),
+            third: cell(next),
+        },
+        Next::Unended { start, end } => Told {
+            number: 2,
+            first: cell(start),
+            second: cell(end),
+            third: cell(end),
+        },
+        Next::Nothing => bare(0),
+    }
+}
+
+fn number_of(w: Wrote) -> u64
+    ensures { λ r. ⌜ r ≡ numberOf w ⌝ }
+{
+    match w {
+        Wrote::Done => 0,
+        Wrote::NotWellFormed => 20,
+        Wrote::NoRow => 21,
+        Wrote::TooShort => 22,
+        Wrote::OtherType => 26,
+        Wrote::NotLegal => 27,
+        Wrote::TooMany => 28,
+    }
+}
+
+// The number for what is no truth, by the row's kind.
+fn kind_number(k: Kind) -> u64
+    ensures { λ r. ⌜ r ≡ kindNumber k ⌝ }
+{
+    match k {
+        Kind::Single => 26,
+        Kind::Multiple(_) => 26,
+        Kind::Quantity(_) => 26,
+        Kind::Character => 26,
+        Kind::Logical => 27,
+    }
+}
+
+// The number for what is no truth, in a record of n bytes.
+fn bad_truth(t: &[i64], i: usize, n: usize) -> u64
+    ensures { λ r. ⌜ r ≡ badTruth (now (t .entry)) i n ⌝ }
+{
+    if sound::well_formed(t) {
+        let h = Header::read(t);
+        if h.rows <= i {
+            return 21;
+        }
+        if n < h.length {
+            return 22;
+        }
+        let row = Row::read(t, i);
+        let kind = row.kind;
+        return kind_number(kind);
+    }
+    20
+}
+
+// Judges a whole record.
+#[no_mangle]
+pub extern "C" fn zarfolin_judge_record(table: &[i64], bytes: &[u8], answer: &mut [i64; 4]) -> u64
+    ensures { λ r. ⌜ Telling (verdictCells (verdictOf (now (table .entry)) (now (bytes .entry)))) (now (answer .exit)) r ⌝ }
+{
+    tell(answer, verdict_cells(records::judge_record(table, bytes)))
+}
+
+// Reads one row's value from a record.
+#[no_mangle]
+pub extern "C" fn zarfolin_read_value(
+    table: &[i64],
+    row: u64,
+    bytes: &[u8],
+    list: &mut [i64],
+    answer: &mut [i64; 4],
+) -> u64
+    ensures { λ r. ⌜ ValueTold (now (table .entry)) row (now (bytes .entry)) (now (list .entry)) (now (list .exit)) (now (answer .exit)) r ⌝ }
+{
+    tell(
+        answer,
+        outcome_cells(records::read_value(table, row as usize, bytes, list)),
+    )
+}
+
+// Judges a whole data file.
+#[no_mangle]
+pub extern "C" fn zarfolin_judge_file(table: &[i64], d: &[u8], answer: &mut [i64; 4]) -> u64
+    ensures { λ r. ⌜ Telling (fileCells (fileVerdict (now (table .entry)) (now (d .entry)))) (now (answer .exit)) r ⌝ }
+{
+    tell(answer, file_cells(files::judge_file(table, d)))
+}
+
+// Finds the record that starts at a place of a data file.
+#[no_mangle]
+pub extern "C" fn zarfolin_next_record(d: &[u8], from: u64, answer: &mut [i64; 4]) -> u64
+    ensures { λ r. ⌜ Telling (nextCells (nextOf (now (d .entry)) from)) (now (answer .exit)) r ⌝ }
+{
+    tell(answer, next_cells(cuts::next_record(d, from as usize)))
+}
+
+// Writes missing into a row of a record. Here and below a list or a text that the value has no use for is not looked at.
+#[no_mangle]
+pub extern "C" fn zarfolin_write_missing(table: &[i64], row: u64, bytes: &mut [u8]) -> u64
+    ensures { λ r. ⌜ WriteTold (now (table .entry)) row missing (now (bytes .entry)) (now (bytes .exit)) r ⌝ }
+{
+    let text = [0u8; 1];
+    number_of(writes::write_value(table, row as usize, Value::Missing, table, &text, bytes))
+}
+
+// Writes a number, scaled.
+#[no_mangle]
+pub extern "C" fn zarfolin_write_number(
+    table: &[i64],
+    row: u64,
+    number: i64,
+    bytes: &mut [u8],
+) -> u64
+    ensures { λ r. ⌜ WriteTold (now (table .entry)) row (field.number number) (now (bytes .entry)) (now (bytes .exit)) r ⌝ }
+{
+    let text = [0u8; 1];
+    number_of(writes::write_value(
+        table,
+        row as usize,
+        Value::Number(number),
+        table,
+        &text,
+        bytes,
+    ))
+}
+
+// Writes a truth, 0 or 1.
+#[no_mangle]
+pub extern "C" fn zarfolin_write_truth(table: &[i64], row: u64, truth: u8, bytes: &mut [u8]) -> u64
+    ensures { λ r. ⌜ TruthTold (now (table .entry)) row truth (now (bytes .entry)) (now (bytes .exit)) r ⌝ }
+{
+    if truth < 2 {
+        let text = [0u8; 1];
+        let b = truth == 1;
+        return number_of(writes::write_value(
+            table,
+            row as usize,
+            Value::Truth(b),
+            table,
+            &text,
+            bytes,
+        ));
+    }
+    bad_truth(table, row as usize, bytes.len())
+}
+
+// Writes a set.
+#[no_mangle]
+pub extern "C" fn zarfolin_write_set(table: &[i64], row: u64, list: &[i64], bytes: &mut [u8]) -> u64
+    ensures { λ r. ⌜ WriteTold (now (table .entry)) row (members (now (list .entry))) (now (bytes .entry)) (now (bytes .exit)) r ⌝ }
+{
+    let text = [0u8; 1];
+    number_of(writes::write_value(table, row as usize, Value::Set, list, &text, bytes))
+}
+
+// Writes a text.
+#[no_mangle]
+pub extern "C" fn zarfolin_write_text(table: &[i64], row: u64, text: &[u8], bytes: &mut [u8]) -> u64
+    ensures { λ r. ⌜ WriteTold (now (table .entry)) row (field.text (now (text .entry))) (now (bytes .entry)) (now (bytes .exit)) r ⌝ }
+{
+    number_of(writes::write_value(table, row as usize, Value::Text, table, text, bytes))
+}
