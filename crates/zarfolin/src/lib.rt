@@ -2,7 +2,6 @@
 // not enough. It holds no rule of its own but that of a truth given as a number. Nothing checks the declarations on the other side:
 // include/zarfolin.h has them. The reader of definitions is not there yet, so zarfolin_read_definition is missing.
 ghost use mathlib.Core.Path.{_≡_};
-ghost use lib.ListN.{length};
 ghost use lib.IntN.{pos};
 ghost use Rattle.fields.specs.Field as field;
 ghost use Rattle.fields.specs.Field.{missing, members};

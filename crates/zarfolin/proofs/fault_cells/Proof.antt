@@ -1,5 +1,4 @@
 -- `zarfolin::fault_cells` meets its contract, case by case.
-use mathlib.Core.Path.{sym}
 use borrow.Author.Needs.{needs, sfits-of}
 use mir.Facts.{toZ-ofZ}
 use Rattle.zarfolin.specs.Face.{faultCells}
