@@ -127,7 +127,7 @@ fn hull_fits(kind: Kind, h: Hull) -> bool
     (widths::lowest_of(kind) <= least) & (most <= widths::highest_of(kind))
 }
 
-fn larger(a: usize, b: usize) -> usize
+pub fn larger(a: usize, b: usize) -> usize
     ensures { λ r. ⌜ r ≡ max a b ⌝ }
 {
     if a <= b { b } else { a }
@@ -155,7 +155,7 @@ fn range_good(r: Row) -> bool
 }
 
 // The bytes that the range's ends take.
-fn range_width(powers: &[u64; 16], r: Row) -> usize
+pub fn range_width(powers: &[u64; 16], r: Row) -> usize
     requires { ⌜ Tens (now powers) ⌝ }
     requires { ⌜ FewDecimals (r .kind) ⌝ }
     ensures { λ w. ⌜ w ≡ rangeWidth r ⌝ }
@@ -199,7 +199,7 @@ fn subfields_fit(n: usize, b: usize, start: usize, finish: usize) -> bool
 }
 
 // Does the position hold the row's value?
-fn room_good(r: Row) -> bool
+pub fn room_good(r: Row) -> bool
     requires { ⌜ Placed r × (r .width ≤ 9999) ⌝ }
     ensures { λ b. ⌜ b ≡ roomGood (r .kind) r ⌝ }
 {
@@ -232,7 +232,7 @@ fn widths_good(r: Row, m: usize) -> bool
 }
 
 // The bytes that the widest number of a hull takes.
-fn hull_width(powers: &[u64; 16], kind: Kind, h: Hull) -> usize
+pub fn hull_width(powers: &[u64; 16], kind: Kind, h: Hull) -> usize
     requires { ⌜ Tens (now powers) ⌝ }
     requires { ⌜ FewDecimals kind ⌝ }
     ensures { λ r. ⌜ r ≡ hullWidth kind h ⌝ }

@@ -153,7 +153,7 @@ fn hull_with(h: Hull, z: i64) -> Hull
 }
 
 // The least and the most of n numbers.
-fn hull_of(t: &[i64], at: usize, step: usize, n: usize) -> Hull
+pub fn hull_of(t: &[i64], at: usize, step: usize, n: usize) -> Hull
     requires { ⌜ Strided (now t) at step n × (1 ≤ n) ⌝ }
     ensures { λ r. ⌜ Hulled (strideAt (now (t .entry)) at step) n r ⌝ }
 {
