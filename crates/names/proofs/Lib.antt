@@ -1,2 +1,4 @@
 pub mod Keys
 pub mod Clashes
+pub mod Capitals
+pub mod Standards

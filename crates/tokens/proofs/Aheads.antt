@@ -138,6 +138,24 @@ module _ (d : List ℕ) where
     by (At n) e = quoted-in (from-text d n) q e
     by (Refused f) e = let z : _≡_ {A = ℕ} 0 1 = cc in absurd (omega arith)
 
+  -- behind a string stands at least its two quotes, so that a place of 0 tells that none was read
+  next-in : {n : ℕ} {t : Text} → From d n t → (q : Quoted) → stringIn t ≡ phrase.Is q → 2 ≤ q .next
+  unfolding stringIn
+  next-in at-stop q e = let z : _≡_ {A = ℕ} 0 1 = cc in absurd (omega arith)
+  next-in (at-sign {p = p} {b = b} {u = u} g l f r) q e = by (eqb b 34) (stringOf Plain u) (string-ahead d r Plain) e where
+    by : (x : Bool) (k : Skip) → Ahead (p + 1) k → cond x (ofSkip p k) (phrase.Not (fault 2 p)) ≡ phrase.Is q → 2 ≤ q .next
+    by true (Past m) (by-past h) e = let j : quote p m ≡ q = cc in rw (← j) (omega arith)
+    by true Unclosed h e = let z : _≡_ {A = ℕ} 0 1 = cc in absurd (omega arith)
+    by true (Bad o) h e = let z : _≡_ {A = ℕ} 0 1 = cc in absurd (omega arith)
+    by false k h e = let z : _≡_ {A = ℕ} 0 1 = cc in absurd (omega arith)
+
+  pub string-next : (t : Reading) (q : Quoted) → stringOn d t ≡ phrase.Is q → 2 ≤ q .next
+  unfolding stringOn
+  string-next t q = by (gapOn d t) where
+    by : (g : Reading) → phraseOn g (λ n. stringIn (text d n)) ≡ phrase.Is q → 2 ≤ q .next
+    by (At n) e = next-in (from-text d n) q e
+    by (Refused f) e = let z : _≡_ {A = ℕ} 0 1 = cc in absurd (omega arith)
+
   -- ---- a word that is due
   word-here : (t : Reading) (x : ℕ) (w : List ℕ) → left d (wordHere d t (x ∷ w)) ≤ left d t
   unfolding wordHere wordAt left

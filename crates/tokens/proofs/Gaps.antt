@@ -17,7 +17,19 @@ use Rattle.marks.specs.Marks.{commentOf}
 use Rattle.marks.proofs.Levels.{Ahead, by-past, by-none, by-bad, comment-ahead}
 use Rattle.tokens.specs.declared.Reading.{Reading}
 use Rattle.tokens.specs.declared.Reading.the-variants.{At, Refused}
-use Rattle.tokens.specs.Gap.{gapSkip, gapStep, gapAt}
+use Rattle.tokens.specs.declared.Pace.the-variants.{On, Over}
+use Rattle.tokens.specs.Gap.{gapSkip, gapStep, paceOf, gapAt}
+
+-- what the code's step says of the step
+pub pace-on : {s : Next ℕ Reading} {n : ℕ} → paceOf s ≡ On n → s ≡ Again n
+unfolding paceOf
+pace-on {s = Again m} e = cc
+pace-on {s = Done r} e = let z : _≡_ {A = ℕ} 0 1 = cc in absurd (omega arith)
+
+pub pace-over : {s : Next ℕ Reading} {r : Reading} → paceOf s ≡ Over r → s ≡ Done r
+unfolding paceOf
+pace-over {s = Again m} e = let z : _≡_ {A = ℕ} 0 1 = cc in absurd (omega arith)
+pace-over {s = Done r} e = cc
 
 skip-less : (p : ℕ) {n : ℕ} {r : Skip} → Ahead (p + 1) r → gapSkip p r ≡ Again n → p + 1 < n
 skip-less p {n = n} (by-past {n = m} h) e = let q : m ≡ n = cc in omega arith

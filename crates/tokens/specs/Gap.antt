@@ -14,6 +14,8 @@ use Rattle.marks.specs.Marks.{commentOf}
 use Rattle.tokens.specs.declared.Fault.{Fault}
 use Rattle.tokens.specs.declared.Reading.{Reading}
 use Rattle.tokens.specs.declared.Reading.the-variants.{At, Refused}
+use Rattle.tokens.specs.declared.Pace.{Pace}
+use Rattle.tokens.specs.declared.Pace.the-variants.{On, Over}
 
 abbrev pub fault : ℕ → ℕ → Fault
 fault n p = record { number = n; place = p }
@@ -27,6 +29,11 @@ gapSkip p (Bad q) = Done (Refused (fault 3 q))
 unfoldable pub gapStep : Text → Next ℕ Reading
 gapStep (stop p) = Done (At p)
 gapStep (sign p b t) = cond (isSpace b) (Again (p + 1)) (cond (eqb b 60) (gapSkip p (commentOf 1 t)) (Done (At p)))
+
+-- the same step as the code answers it
+unfoldable pub paceOf : Next ℕ Reading → Pace
+paceOf (Again n) = On n
+paceOf (Done r) = Over r
 
 -- spaces and comments from `at` on, as long as there are any: the place of the token behind them
 unfoldable pub gapAt : List ℕ → ℕ → Reading

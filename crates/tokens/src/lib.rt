@@ -6,7 +6,7 @@ use scan::Word;
 ghost use mathlib.Core.Path.{_≡_};
 ghost use Rattle.ascii.specs.Class.{Classes};
 ghost use Rattle.scan.specs.Text.{text};
-ghost use Rattle.tokens.specs.Gap.{gapAt, gapOn, spacesOn};
+ghost use Rattle.tokens.specs.Gap.{gapStep, paceOf, gapAt, gapOn, spacesOn};
 ghost use Rattle.tokens.specs.Token.{wordHere, wordOn, choiceOf, numberHere, numberOn, pastNumber, markOf, valueAt, valueHere, valueOn, pastValue, stringIn, stringOn, pastString, letterIn, letterOn};
 
 // A refusal: its number, and the place of the token at fault.
@@ -21,6 +21,37 @@ pub enum Reading {
     Refused(Fault),
 }
 
+// What stands at a place of a gap: a space or a comment, and the place after it; or the gap is over.
+pub enum Pace {
+    On(usize),
+    Over(Reading),
+}
+
+fn step_gap(classes: &[u8; 256], d: &[u8], at: usize) -> Pace
+    requires { ⌜ Classes (now classes) ⌝ }
+    ensures { λ r. ⌜ r ≡ paceOf (gapStep (text (now (d .entry)) at)) ⌝ }
+{
+    match scan::next_byte(classes, d, at) {
+        Step::Byte { byte, place, next } => {
+            if ascii::class_of(classes, byte) == ascii::SPACE {
+                return Pace::On(next);
+            }
+            if byte != 60 {
+                return Pace::Over(Reading::At(place));
+            }
+            match marks::comment(classes, d, next, 1) {
+                Skip::Past(m) => Pace::On(m),
+                Skip::Unclosed => Pace::Over(Reading::Refused(Fault { number: 3, place })),
+                Skip::Bad(p) => Pace::Over(Reading::Refused(Fault {
+                    number: 3,
+                    place: p,
+                })),
+            }
+        }
+        Step::End { place } => Pace::Over(Reading::At(place)),
+    }
+}
+
 // The spaces and comments from a place on: the place of the token behind them.
 pub fn skip_gap(classes: &[u8; 256], d: &[u8], at: usize) -> Reading
     requires { ⌜ Classes (now classes) ⌝ }
@@ -28,32 +59,12 @@ pub fn skip_gap(classes: &[u8; 256], d: &[u8], at: usize) -> Reading
 {
     let mut n = at;
     loop {
-        match scan::next_byte(classes, d, n) {
-            Step::Byte { byte, place, next } => {
-                if ascii::class_of(classes, byte) == ascii::SPACE {
-                    n = next;
-                } else {
-                    if byte != 60 {
-                        return Reading::At(place);
-                    }
-                    match marks::comment(classes, d, next, 1) {
-                        Skip::Past(m) => {
-                            n = m;
-                        }
-                        Skip::Unclosed => {
-                            return Reading::Refused(Fault { number: 3, place });
-                        }
-                        Skip::Bad(p) => {
-                            return Reading::Refused(Fault {
-                                number: 3,
-                                place: p,
-                            });
-                        }
-                    }
-                }
+        match step_gap(classes, d, n) {
+            Pace::On(m) => {
+                n = m;
             }
-            Step::End { place } => {
-                return Reading::At(place);
+            Pace::Over(r) => {
+                return r;
             }
         }
     }
