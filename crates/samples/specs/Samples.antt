@@ -127,6 +127,8 @@ abbrev pub broken : List Broken
 broken =
     -- another first number
     breaks counts (set good 0 (pos 12))
+    -- no rows at all
+    ∷ breaks counts (pos 11 ∷ pos 0 ∷ pos 0 ∷ pos 0 ∷ pos 6 ∷ pos 6 ∷ [])
     -- rows elsewhere
     ∷ breaks sums (set good 4 (pos 7))
     -- too short by one number
@@ -139,6 +141,10 @@ broken =
     ∷ breaks flags (set (set good 66 (pos 2)) 65 (pos 0))
     -- a SINGLE with subfields
     ∷ breaks lacked (set (set good 13 (pos 2)) 14 (pos 3))
+    -- a SINGLE with a decimal and its point
+    ∷ breaks lacked (set (set good 11 (pos 1)) 12 (pos 1))
+    -- a LOGICAL with a range
+    ∷ breaks lacked (set (set (set good 105 (pos 1)) 106 (pos 1)) 107 (pos 1))
     -- a decimal and no point
     ∷ breaks points (set (set good 66 (pos 0)) 64 (pos 3))
     -- a SINGLE with neither range nor line
