@@ -1,0 +1,55 @@
+-- "No two outcomes" for the calls whose promise is one equation: the test of a table, the next record, the judgement of a file. Those of
+-- reading and judging a record stand in crate `read_laws` (value-settled, verdict-settled), that of writing in Writing (one-outcome).
+use mathlib.Core.Path.{_≡_, refl, sym, ap, _∙_}
+use mathlib.Core.Bool.{Bool, cond}
+use mathlib.Core.List.{List}
+use Prim.Native.Nat.{ℕ}
+use lib.Dec.{eqb}
+use lib.IntN.{ℤ}
+use Rattle.sound.specs.Sound.{wellFormed}
+use Rattle.cuts.specs.Cut.{nextOf}
+use Rattle.cuts.specs.declared.Next.{Next}
+use Rattle.records.specs.Verdict.{Verdict, sound, refused, refusedAt, judgedAs}
+use Rattle.records.specs.declared.Judged.{Judged}
+use Rattle.records.specs.declared.Judged.the-variants as judged
+use Rattle.files.specs.declared.Judgement.{Judgement}
+use Rattle.files.specs.declared.Judgement.the-variants as J
+use Rattle.files.specs.File.{FileVerdict, soundWith, badTable, faultIn, fileSaid, fileVerdict}
+
+pub table-settled : (t : List ℤ) (r₁ r₂ : Bool) → r₁ ≡ wellFormed t → r₂ ≡ wellFormed t → r₁ ≡ r₂
+table-settled t r₁ r₂ a b = a ∙ sym b
+
+pub next-settled : (d : List ℕ) (from : ℕ) (r₁ r₂ : Next) → r₁ ≡ nextOf d from → r₂ ≡ nextOf d from → r₁ ≡ r₂
+next-settled d from r₁ r₂ a b = a ∙ sym b
+
+-- the answer that says a verdict on a file
+abbrev unfault : ℕ → Verdict → Judgement
+unfault n sound = J.Fault n judged.Sound
+unfault n (refused k) =
+    cond (eqb k 30) (J.Unended n) (cond (eqb k 31) (J.OtherLength n) (J.Fault n (cond (eqb k 20) judged.BadTable judged.ShortRecord)))
+unfault n (refusedAt k p) = J.Fault n (cond (eqb k 23) (judged.LowByte p) (judged.Illegal p))
+
+abbrev unsaid : FileVerdict → Judgement
+unsaid (soundWith n) = J.Sound n
+unsaid badTable = J.BadTable
+unsaid (faultIn n v) = unfault n v
+
+fault-back : (n : ℕ) (j : Judged) → unfault n (judgedAs j) ≡ J.Fault n j
+unfolding judgedAs
+fault-back n judged.Sound = refl
+fault-back n judged.BadTable = refl
+fault-back n judged.ShortRecord = refl
+fault-back n (judged.LowByte p) = refl
+fault-back n (judged.Illegal i) = refl
+
+said-back : (a : Judgement) → unsaid (fileSaid a) ≡ a
+unfolding fileSaid
+said-back (J.Sound n) = refl
+said-back J.BadTable = refl
+said-back (J.Unended n) = refl
+said-back (J.OtherLength n) = refl
+said-back (J.Fault n j) = fault-back n j
+
+-- JUDGING A FILE: one answer
+pub file-settled : (t : List ℤ) (d : List ℕ) (r₁ r₂ : Judgement) → fileSaid r₁ ≡ fileVerdict t d → fileSaid r₂ ≡ fileVerdict t d → r₁ ≡ r₂
+file-settled t d r₁ r₂ a b = sym (said-back r₁) ∙ ap unsaid (a ∙ sym b) ∙ said-back r₂
