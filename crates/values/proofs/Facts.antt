@@ -1,26 +1,37 @@
--- Facts of values: sizes, signs, the higher of two numbers, repeats.
+-- Facts of values: sizes, signs, repeats and marks.
 use mathlib.Core.Path.{_≡_, refl, _∙_, sym, ap}
+use mathlib.Core.Logic.{_⊎_, _≢_, ⊎-elim}
 use mathlib.Core.Bool.{Bool, true, false, cond, not, _&&_, _||_}
 use mathlib.Core.List.{List, []}
-use Prim.Native.Nat.{ℕ, zero, suc, _+_, _*_, _-_, _≤_, _<_}
+use Prim.Native.Nat.{ℕ, zero, suc, _+_, _*_, _-_, _%_, _≤_, _<_}
+use native.Mathlib.Nat.{eq-or-lt-of-le, mod-lt}
 use native.Mathlib.Omega.{arith}
 use lib.Dec.{ltb, leb, eqb}
 use lib.IntN.{ℤ, pos, negsuc, negℤ}
-use lib.Signed.{ltZ, leZ}
-use borrow.Author.Tests.{ltb-true, ltb-false, lt-ltb, le-ltb, le-leb}
-use Rattle.below.specs.Below.{same-bool, holds-not, anyBelow, any-none, any-next, any-fails, any-holds}
-use Rattle.cells.specs.Cell.{cell, numberOf, eqZ, same-true}
+use lib.Signed.{ltZ}
+use lib.ListN.{length, getD, set}
+use lib.Seq.{getD-set-same, getD-set-other}
+use borrow.Author.Tests.{ltb-true, ltb-false, lt-ltb, le-ltb, le-leb, eqb-true, eqb-false}
+use Rattle.below.specs.Below.{same-bool, holds-not, any-none, any-next, any-fails, any-holds, any-some}
+use Rattle.cells.specs.Cell.{cell, numberOf, signedOf, eqZ, same-true}
 use Rattle.scan.specs.Text.{Text, stop, sign, text}
 use Rattle.scan.specs.Number.{decimalOf}
 use Rattle.scan.specs.Order.{digitsTo, valueOf}
 use Rattle.tokens.specs.declared.Value.{Value}
 use Rattle.values.specs.declared.Block.{Block}
 use Rattle.values.specs.Value.{formOf, largeOf, trueOf}
-use Rattle.values.specs.Line.{higherOf, repeatedIn, Topped, lineFault}
+use Rattle.values.specs.Line.{repeatedIn, lineFault}
+use Rattle.values.specs.Room.{roomAt, slotOf, Marked}
 
 or-none : (a b : Bool) → (a || b) ≡ false → a ≡ false
 or-none true b e = holds-not refl e
 or-none false b e = refl
+
+pub slot-small : (z : ℤ) → slotOf z < 16384
+unfolding slotOf
+slot-small z =
+    let l : signedOf z .size % 16381 < 16381 = mod-lt (signedOf z .size) (omega arith) in
+    omega arith
 
 pub large-size : (quantity : Bool) (v : Value) → largeOf quantity v ≡ false → v .size ≤ 1000000000000000
 unfolding largeOf
@@ -86,51 +97,56 @@ module _ (d : List ℕ) (a b : Value) where
   unfolding trueOf numberOf
   less-plain e f g = g ∙ rw (e, f)
 
--- ---- the higher of two, told by a test of numbers that were read back from their bits
-told : (a b : ℤ) {a′ b′ : ℤ} {q : Bool} → a′ ≡ a → b′ ≡ b → q ≡ leZ a′ b′ → q ≡ leZ a b
-told a b {a′} {b′} ea eb e = e ∙ ap (λ (x : ℤ). leZ x b′) ea ∙ ap (λ (y : ℤ). leZ a y) eb
-
-module _ (a b : ℤ) {a′ b′ : ℤ} {q : Bool} (ea : a′ ≡ a) (eb : b′ ≡ b) (e : q ≡ leZ a′ b′) where
-  pub higher-yes : q ≡ true → b ≡ higherOf a b
-  higher-yes f = by (leZ a b) (sym (told a b ea eb e) ∙ f) where
-    by : (x : Bool) → x ≡ true → b ≡ cond x b a
-    by true g = refl
-    by false g = holds-not g refl
-
-  pub higher-no : q ≡ false → a ≡ higherOf a b
-  higher-no f = by (leZ a b) (sym (told a b ea eb e) ∙ f) where
-    by : (x : Bool) → x ≡ false → a ≡ cond x b a
-    by true g = holds-not refl g
-    by false g = refl
-
 -- ---- repeats
 module _ (room : List ℤ) (first last : ℕ) (z : ℤ) where
-  -- a number above the top is said by no line
-  pub none-above : (top : ℤ) {z′ top′ : ℤ} {q : Bool} → Topped room first last top → z′ ≡ z → top′ ≡ top → q ≡ leZ z′ top′ → q ≡ false → false ≡ repeatedIn room first last z
-  unfolding repeatedIn
-  none-above top t ez et e f = sym (any-fails (λ i. eqZ (cell room (4 * (first + i))) z) (last - first) (λ i h. by (cell room (4 * (first + i))) (eqZ (cell room (4 * (first + i))) z) refl (t .below i h))) where
-    by : (x : ℤ) (p : Bool) → eqZ x z ≡ p → leZ x top ≡ true → p ≡ false
-    by x false g k = refl
-    by x true g k = let s : x ≡ z = same-true x z g in holds-not (ap (λ (y : ℤ). leZ y top) (sym s) ∙ k) (sym (told z top ez et e) ∙ f)
-
   -- lines that do not say it
-  pub none-until : (i : ℕ) → first ≤ i → repeatedIn room first i z ≡ false → eqZ (cell room (4 * i)) z ≡ false → repeatedIn room first (i + 1) z ≡ false
-  unfolding repeatedIn
+  pub none-until : (i : ℕ) → first ≤ i → repeatedIn (roomAt room first) (i - first) z ≡ false → eqZ (cell room (4 * i)) z ≡ false → repeatedIn (roomAt room first) ((i + 1) - first) z ≡ false
+  unfolding repeatedIn roomAt
   none-until i h e f =
       let n : (i + 1) - first ≡ (i - first) + 1 = omega arith in
       let k : first + (i - first) ≡ i = omega arith in
-      rw (n, any-next (λ i. eqZ (cell room (4 * (first + i))) z) (i - first), e, k, f)
+      rw (n, any-next (λ i. eqZ (roomAt room first i) z) (i - first), e, k, f)
 
   -- a line that says it
-  pub one-says : (i : ℕ) → first ≤ i → i < last → eqZ (cell room (4 * i)) z ≡ true → true ≡ repeatedIn room first last z
-  unfolding repeatedIn
+  pub one-says : (i : ℕ) → first ≤ i → i < last → eqZ (cell room (4 * i)) z ≡ true → true ≡ repeatedIn (roomAt room first) (last - first) z
+  unfolding repeatedIn roomAt
   one-says i h l f =
       let k : first + (i - first) ≡ i = omega arith in
-      sym (any-holds (λ i. eqZ (cell room (4 * (first + i))) z) (last - first) (i - first) (omega arith) (rw k f))
+      sym (any-holds (λ i. eqZ (roomAt room first i) z) (last - first) (i - first) (omega arith) (rw k f))
 
-pub none-yet : (room : List ℤ) (first : ℕ) (z : ℤ) → repeatedIn room first first z ≡ false
+pub none-yet : (room : List ℤ) (first : ℕ) (z : ℤ) → repeatedIn (roomAt room first) (first - first) z ≡ false
 unfolding repeatedIn
-none-yet room first z = let n : first - first ≡ 0 = omega arith in rw n (any-none (λ i. eqZ (cell room (4 * (first + i))) z))
+none-yet room first z = let n : first - first ≡ 0 = omega arith in rw n (any-none (λ i. eqZ (roomAt room first i) z))
+
+-- where a number's slot has another mark, no line says it
+pub none-marked : (f : ℕ → ℤ) (n stamp : ℕ) (marks : List ℕ) (z : ℤ) (slot : ℕ) → Marked f n stamp marks → slot ≡ slotOf z → getD marks slot 0 ≢ stamp → false ≡ repeatedIn f n z
+unfolding repeatedIn
+none-marked f n stamp marks z slot m e g = sym (any-fails (λ i. eqZ (f i) z) n (λ i h. by i h (eqZ (f i) z) refl)) where
+  by : (i : ℕ) → i < n → (p : Bool) → eqZ (f i) z ≡ p → p ≡ false
+  by i h false q = refl
+  by i h true q = absurd (g (ap (λ (k : ℕ). getD marks k 0) (e ∙ ap slotOf (sym (same-true (f i) z q))) ∙ m .left i h))
+
+-- a test that looks at the same numbers
+pub repeated-alike : (f g : ℕ → ℤ) (n : ℕ) (z : ℤ) → ((i : ℕ) → i < n → f i ≡ g i) → repeatedIn f n z ≡ repeatedIn g n z
+unfolding repeatedIn
+repeated-alike f g n z h =
+    same-bool _ _
+    (λ e. any-some (λ i. eqZ (f i) z) n e (λ i k q. any-holds (λ i. eqZ (g i) z) n i k (ap (λ (x : ℤ). eqZ x z) (sym (h i k)) ∙ q)))
+    (λ e. any-some (λ i. eqZ (g i) z) n e (λ i k q. any-holds (λ i. eqZ (f i) z) n i k (ap (λ (x : ℤ). eqZ x z) (h i k) ∙ q)))
+
+-- one mark more
+pub marked-more : (f : ℕ → ℤ) (n stamp : ℕ) (marks : List ℕ) (z : ℤ) → length marks ≡ 16384 → z ≡ f n → Marked f n stamp marks → Marked f (n + 1) stamp (set marks (slotOf z) stamp)
+marked-more f n stamp marks z h e m = record { left = λ i k. go i (eqb (slotOf (f i)) (slotOf z)) refl (each i k) }
+  where
+    each : (i : ℕ) → i < n + 1 → (i ≡ n) ⊎ (i < n)
+    each i k = let g : i ≤ n = omega arith in eq-or-lt-of-le g
+
+    go : (i : ℕ) (b : Bool) → eqb (slotOf (f i)) (slotOf z) ≡ b → (i ≡ n) ⊎ (i < n) → getD (set marks (slotOf z) stamp) (slotOf (f i)) 0 ≡ stamp
+    go i true q c = rw (eqb-true (slotOf (f i)) (slotOf z) q) (getD-set-same marks (slotOf z) stamp 0 (omega (arith, h, slot-small z)))
+    go i false q c =
+        ⊎-elim (λ p. absurd (eqb-false (slotOf (f i)) (slotOf z) q (ap (λ (k : ℕ). slotOf (f k)) p ∙ ap slotOf (sym e))))
+        (λ l. getD-set-other marks (slotOf z) (slotOf (f i)) stamp 0 (eqb-false (slotOf (f i)) (slotOf z) q) ∙ m .left i l)
+        c
 
 -- a line with nothing wrong is not too large
 pub sound-small : (quantity : Bool) (b : Block) (v : Value) → lineFault quantity b v ≡ 0 → largeOf quantity v ≡ false

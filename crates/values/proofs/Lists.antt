@@ -1,21 +1,16 @@
--- Lines one after the other: what is stored fits, the room keeps its length, and no line lies above the top.
+-- Lines one after the other: what is stored fits; and what the code does with one line in the room is what the definition does with
+-- the list of lines.
 use mathlib.Core.Path.{_≡_, refl, _∙_, sym, ap}
-use mathlib.Core.Logic.{⊎-elim}
 use mathlib.Core.Bool.{Bool, true, false, cond}
-use mathlib.Core.List.{List, [], _∷_, _++_, append-assoc}
-use Prim.Native.Nat.{ℕ, zero, suc, _+_, _*_, _-_, _≤_, _<_}
-use native.Mathlib.Nat.{eq-or-lt-of-le}
+use mathlib.Core.List.{List, [], _∷_, _++_}
+use Prim.Native.Nat.{ℕ, suc, _+_, _*_, _-_, _≤_, _<_}
 use native.Mathlib.Omega.{arith}
 use lib.Dec.{leb, eqb}
-use lib.IntN.{ℤ, pos}
-use lib.Signed.{leZ}
-use lib.ListN.{length, take, drop, getD, length-append, length-take, length-drop, List·getD-append}
-use lib.Seq.{length-take-le, getD-at, getD-take}
-use borrow.Author.Tests.{leb-false, le-leb}
-use Rattle.below.specs.Below.{holds-not}
-use Rattle.cells.specs.Cell.{cell, pasted}
-use Rattle.cells.specs.Order.{le-self, le-join, le-else}
-use Rattle.scan.specs.Loop.{Next, Again, Done, loopOf}
+use lib.IntN.{ℤ}
+use lib.ListN.{length, set, length-set}
+use borrow.Author.Tests.{leb-false}
+use Rattle.cells.specs.Cell.{cell, pasted, paste-more, paste-none}
+use Rattle.scan.specs.Loop.{Next, Again, Done}
 use Rattle.scan.proofs.Loops.{loop-again, loop-done}
 use Rattle.tokens.specs.declared.Fault.{Fault}
 use Rattle.tokens.specs.declared.Reading.{Reading}
@@ -29,10 +24,9 @@ use Rattle.tokens.specs.declared.Amount.the-variants as amount
 use Rattle.tokens.specs.declared.Phrase.{Phrase}
 use Rattle.tokens.specs.declared.Phrase.the-variants as phrase
 use Rattle.tokens.specs.Gap.{fault, gapOn}
-use Rattle.tokens.specs.Token.{choiceOf, wordOn, pastValue, stringOn, pastString}
+use Rattle.tokens.specs.Token.{choiceOf, pastValue, stringOn, pastString}
 use Rattle.tokens.proofs.Aheads.{quoted-within}
-use Rattle.statements.specs.Words.{SPECIAL, END, VALUES}
-use Rattle.statements.specs.Note.{notesOn}
+use Rattle.statements.specs.Words.{SPECIAL}
 use Rattle.values.specs.Value.{scaledOf}
 use Rattle.values.specs.declared.Block.{Block}
 use Rattle.values.specs.declared.Said.{Said}
@@ -44,17 +38,27 @@ use Rattle.values.specs.declared.Turn.{Turn}
 use Rattle.values.specs.declared.Turn.the-variants as turn
 use Rattle.values.specs.declared.Listed.{Listed}
 use Rattle.values.specs.declared.Listed.the-variants as listed
-use Rattle.values.specs.Line.{saidOf, specialOr, lineRest, repeatedIn, Topped, lineFault, judgeLine, higherOf, grownBy, lineCells, endOf, endOr, moreOf, storable, Listing, stateOf, judgedTurn, readTurn, turnOf, judgedRoom, readRoom, roomAfter, listStep, lineStep, linesFrom}
+use Rattle.values.specs.Line.{Given, Is, Not, saidOf, specialOr, lineRest, numberOn, numberAt, repeatedIn, lineFault, judgeLine, grownBy, lineCells, cellsOf, moreOf, Listing, stateOf, after, judgedStep, readStep, lineStep, linesFrom, listedOf, Stored}
+use Rattle.values.specs.Block.{closedBy}
+use Rattle.values.specs.Room.{roomAt, slotOf, Marked, storable, judgedTurn, judgedRoom, judgedMarks, Standing, standAt, judgedAt, readTurn, readRoom, readMarks, turnOf, roomAfter, marksAfter}
+use Rattle.values.proofs.Facts.{repeated-alike, marked-more}
+use Rattle.values.proofs.Rooms.{line-length, cells-length, cells-more, count-more, number-before, number-last, length-pasted, room-number}
 
--- ---- a line that stands leaves room: it is no 4,097th
-pub good-left : (room : List ℤ) (first last : ℕ) (quantity : Bool) (b : Block) (v : Value) {z : ℤ} → judgeLine room first last quantity b v ≡ Good z → last < 4096
+-- ---- a line that stands: it says the number that was read, and it is no 4,097th
+module _ (f : ℕ → ℤ) (n first : ℕ) (quantity : Bool) (b : Block) (v : Value) {z : ℤ} where
+  pub good-line : judgeLine f n first quantity b v ≡ Good z → (z ≡ scaledOf v) × (first + n < 4096)
+  unfolding judgeLine
+  good-line = by (eqb (lineFault quantity b v) 0) (repeatedIn f n (scaledOf v)) (leb 4096 (first + n)) refl where
+    by : (x y w : Bool) → leb 4096 (first + n) ≡ w → cond x (cond y (Bad (fault 6 (v .place))) (cond w (Bad (fault 8 (v .place))) (Good (scaledOf v)))) (Bad (fault (lineFault quantity b v) (v .place))) ≡ Good z → (z ≡ scaledOf v) × (first + n < 4096)
+    by false y w g e = let z : _≡_ {A = ℕ} 0 1 = cc in absurd (omega arith)
+    by true true w g e = let z : _≡_ {A = ℕ} 0 1 = cc in absurd (omega arith)
+    by true false true g e = let z : _≡_ {A = ℕ} 0 1 = cc in absurd (omega arith)
+    by true false false g e = (cc, leb-false 4096 (first + n) g)
+
+-- a line is judged by the numbers of those before it
+pub judge-alike : (f g : ℕ → ℤ) (n first : ℕ) (quantity : Bool) (b : Block) (v : Value) → ((i : ℕ) → i < n → f i ≡ g i) → judgeLine f n first quantity b v ≡ judgeLine g n first quantity b v
 unfolding judgeLine
-good-left room first last quantity b v {z} = by (eqb (lineFault quantity b v) 0) (repeatedIn room first last (scaledOf v)) (leb 4096 last) refl where
-  by : (x y w : Bool) → leb 4096 last ≡ w → cond x (cond y (Bad (fault 6 (v .place))) (cond w (Bad (fault 8 (v .place))) (Good (scaledOf v)))) (Bad (fault (lineFault quantity b v) (v .place))) ≡ Good z → last < 4096
-  by false y w f e = let z : _≡_ {A = ℕ} 0 1 = cc in absurd (omega arith)
-  by true true w f e = let z : _≡_ {A = ℕ} 0 1 = cc in absurd (omega arith)
-  by true false true f e = let z : _≡_ {A = ℕ} 0 1 = cc in absurd (omega arith)
-  by true false false f e = leb-false 4096 last f
+judge-alike f g n first quantity b v h = rw (repeated-alike f g n (scaledOf v) h)
 
 -- ---- what a line says fits the table
 abbrev said : Value → Quoted → ℕ → ℕ → Said
@@ -80,135 +84,178 @@ module _ (d : List ℕ) (a : Amount) (s : Said) (h : length d ≤ 1048576) where
     by (Taken m) e = within (stringOn d (pastValue a)) 1 refl (omega arith) (said-text a (stringOn d (pastValue a)) 1 (At m) s e)
     by Left e = within (stringOn d (pastValue a)) 0 refl (omega arith) (said-text a (stringOn d (pastValue a)) 0 (gapOn d (pastString (stringOn d (pastValue a)))) s e)
 
--- ---- numbers over numbers
-module _ (l s : List ℤ) (at : ℕ) (h : at + length s ≤ length l) where
-  pub length-pasted : length (pasted l at s) ≡ length l
-  unfolding pasted
-  length-pasted = simp (length-append, length-take, length-drop) (omega arith)
-
-  pub cell-before : (k : ℕ) → k < at → cell (pasted l at s) k ≡ cell l k
-  unfolding pasted
-  cell-before k g =
-      let e : length (take at l) ≡ at = length-take-le at l (omega arith) in
-      rw (append-assoc (take at l) s (drop (at + length s) l))
-      (List·getD-append (take at l) (s ++ drop (at + length s) l) (pos 0) k (omega arith) ∙ getD-take at l k (pos 0) g)
-
-pub cell-first : (l t : List ℤ) (x : ℤ) (at : ℕ) → at ≤ length l → cell (pasted l at (x ∷ t)) at ≡ x
-unfolding pasted
-cell-first l t x at h =
-    rw (append-assoc (take at l) (x ∷ t) (drop (at + length (x ∷ t)) l))
-    (getD-at (take at l) x (t ++ drop (at + length (x ∷ t)) l) (pos 0) at (length-take-le at l h))
-
--- ---- the higher of two lies below neither
-pub above-left : (a b : ℤ) → leZ a (higherOf a b) ≡ true
-above-left a b = by (leZ a b) refl where
-  by : (x : Bool) → leZ a b ≡ x → leZ a (cond x b a) ≡ true
-  by true e = e
-  by false e = le-self a
-
-pub above-right : (a b : ℤ) → leZ b (higherOf a b) ≡ true
-above-right a b = by (leZ a b) refl where
-  by : (x : Bool) → leZ a b ≡ x → leZ b (cond x b a) ≡ true
-  by true e = le-self b
-  by false e = le-else a b e
-
--- one more line, and the top raised to it
-pub topped-more : (room t : List ℤ) (first last : ℕ) (top z : ℤ) → first ≤ last → 4 * last + length (z ∷ t) ≤ length room → Topped room first last top → Topped (pasted room (4 * last) (z ∷ t)) first (last + 1) (higherOf top z)
-topped-more room t first last top z h g p = record { below = at }
-  where
-    at : (i : ℕ) → i < (last + 1) - first → leZ (cell (pasted room (4 * last) (z ∷ t)) (4 * (first + i))) (higherOf top z) ≡ true
-    at i k = ⊎-elim same lower (eq-or-lt-of-le le)
-      where
-        le : first + i ≤ last
-        le = omega arith
-
-        same : first + i ≡ last → leZ (cell (pasted room (4 * last) (z ∷ t)) (4 * (first + i))) (higherOf top z) ≡ true
-        same e = ap (λ (x : ℤ). leZ x (higherOf top z)) (ap (λ (n : ℕ). cell (pasted room (4 * last) (z ∷ t)) (4 * n)) e ∙ cell-first room t z (4 * last) (omega arith)) ∙ above-right top z
-
-        lower : first + i < last → leZ (cell (pasted room (4 * last) (z ∷ t)) (4 * (first + i))) (higherOf top z) ≡ true
-        lower l = ap (λ (x : ℤ). leZ x (higherOf top z)) (cell-before room (z ∷ t) (4 * last) g (4 * (first + i)) (omega arith)) ∙ le-join (cell room (4 * (first + i))) top (higherOf top z) (p .below i (omega arith)) (above-left top z)
-
-pub topped-none : (room : List ℤ) (first : ℕ) (top : ℤ) → Topped room first first top
-topped-none room first top = record { below = λ i h. absurd (omega arith) }
-
--- ---- one turn: a further line was due, so that one was stored
-pub record Onward (first : ℕ) (l : Listing) (a : Amount) (b : Block) (room : List ℤ) : Type 0 where
-  pub more : l .last < 4096
+-- ---- where the code stands, beside the list of lines that the definition has
+pub record Holds (first : ℕ) (start room : List ℤ) (stamp : ℕ) (marks : List ℕ) (last : ℕ) (l : List Said) : Type 0 where
+  pub count : last ≡ first + length l
+  pub most : last ≤ 4096
+  pub begin : length start ≡ 16384
   pub kept : length room ≡ 16384
-  pub topped : Topped room first (l .last + 1) (b .top)
+  pub here : room ≡ pasted start (4 * first) (cellsOf l)
+  pub slots : length marks ≡ 16384
+  pub marked : Marked (numberAt l) (length l) stamp marks
 
-module _ (d : List ℕ) (quantity : Bool) (first : ℕ) (l : Listing) where
-  -- the block behind a further line is the one that the line made
-  more-block : (b : Block) (n : ℕ) {a : Amount} {c : Block} → moreOf d b n ≡ turn.More a c → b ≡ c
-  unfolding moreOf endOf
-  more-block b n {a} {c} = by (choiceOf d (notesOn d (At n)) END) where
-    over : (r : Reading) → endOf b r ≡ turn.More a c → b ≡ c
-    over (At m) e = let z : _≡_ {A = ℕ} 0 1 = cc in absurd (omega arith)
-    over (Refused f) e = let z : _≡_ {A = ℕ} 0 1 = cc in absurd (omega arith)
+module _ {first : ℕ} {start room : List ℤ} {stamp : ℕ} {marks : List ℕ} {last : ℕ} {l : List Said} (h : Holds first start room stamp marks last l) where
+  fits : 4 * first + length (cellsOf l) ≤ length start
+  fits = omega (arith, cells-length l, h .count, h .most, h .begin)
 
-    by : (k : Choice) → endOr d b (notesOn d (At n)) k ≡ turn.More a c → b ≡ c
-    by (Taken m) e = over (wordOn d (At m) VALUES) e
-    by Left e = cc
+  pub so-far : last - first ≡ length l
+  so-far = omega (arith, h .count)
 
-  module _ (k : length (l .room) ≡ 16384) (f : first ≤ l .last) (p : Topped (l .room) first (l .last) (l .block .top)) where
-    stored : (s : Said) (z : ℤ) {a : Amount} {b : Block} → l .last < 4096 → moreOf d (grownBy (l .block) (s .value) z) (s .next) ≡ turn.More a b → Onward first l a b (pasted (l .room) (4 * l .last) (lineCells z s))
-    unfolding lineCells grownBy
-    stored s z h e =
-        let g : 4 * l .last + 4 ≤ length (l .room) = omega arith in
-        let q = more-block (grownBy (l .block) (s .value) z) (s .next) e in
+  -- the room has the numbers of the lines
+  pub number-here : (i : ℕ) → i < length l → roomAt room first i ≡ numberAt l i
+  unfolding roomAt
+  number-here i k = rw (h .here) (room-number start first l (omega (arith, h .count, h .most, h .begin)) i k)
+
+  pub marked-here : Marked (roomAt room first) (last - first) stamp marks
+  marked-here = record { left = λ i k. rw (number-here i (omega (arith, so-far))) (h .marked .left i (omega (arith, so-far))) }
+
+  pub judged-here : (quantity : Bool) (b : Block) (v : Value) → judgeLine (roomAt room first) (last - first) first quantity b v ≡ judgeLine (numberAt l) (length l) first quantity b v
+  judged-here quantity b v = rw so-far (judge-alike (roomAt room first) (numberAt l) (length l) first quantity b v number-here)
+
+  -- one line more
+  pub one-more : (s : Said) → last < 4096 → Holds first start (pasted room (4 * last) (lineCells s)) stamp (set marks (slotOf (numberOn s)) stamp) (last + 1) (l ++ s ∷ [])
+  one-more s k = record {
+    count = omega (arith, h .count, count-more l s);
+    most = omega arith;
+    begin = h .begin;
+    kept = length-pasted room (lineCells s) (4 * last) room-left ∙ h .kept;
+    here = placed;
+    slots = simp length-set (h .slots);
+    marked = rw (count-more l s) (marked-more (numberAt (l ++ s ∷ [])) (length l) stamp marks (numberOn s) (h .slots) (sym (number-last l s)) before);
+  }
+    where
+      room-left : 4 * last + length (lineCells s) ≤ length room
+      room-left = omega (arith, h .kept, line-length s)
+
+      placed : pasted room (4 * last) (lineCells s) ≡ pasted start (4 * first) (cellsOf (l ++ s ∷ []))
+      placed =
+          let e : 4 * last ≡ 4 * first + length (cellsOf l) = omega (arith, h .count, cells-length l) in
+          rw (e, h .here, cells-more l s) (paste-more start (cellsOf l) (lineCells s) (4 * first) fits)
+
+      before : Marked (numberAt (l ++ s ∷ [])) (length l) stamp marks
+      before = record { left = λ i j. rw (number-before l s i j) (h .marked .left i j) }
+
+pub none-held : (first : ℕ) (start : List ℤ) (stamp : ℕ) (marks : List ℕ) → first ≤ 4096 → length start ≡ 16384 → length marks ≡ 16384 → Holds first start start stamp marks first []
+unfolding cellsOf
+none-held first start stamp marks h k m = record {
+  count = omega arith;
+  most = h;
+  begin = k;
+  kept = k;
+  here = paste-none start (4 * first);
+  slots = m;
+  marked = record { left = λ i j. absurd (omega arith) };
+}
+
+-- ---- one line: by what follows it, what the definition does, and where the code then stands
+pub record Onward (d : List ℕ) (quantity : Bool) (first : ℕ) (start room : List ℤ) (stamp : ℕ) (marks : List ℕ) (last : ℕ) (l : Listing) (t : Turn) : Type 0 where
+  pub line : Said
+  pub more : last < 4096
+  pub step : lineStep d quantity first l ≡ after (l .lines ++ line ∷ []) t
+  pub holds : Holds first start room stamp marks (last + 1) (l .lines ++ line ∷ [])
+
+module _ (d : List ℕ) (quantity : Bool) (first : ℕ) (a : Amount) (b : Block) {start room : List ℤ} {stamp : ℕ} {marks : List ℕ} {last : ℕ} {l : List Said} (h : Holds first start room stamp marks last l) where
+  abbrev at : Standing
+  at = standAt a b last room
+
+  -- what follows a line is refused, or the line stands
+  pub turned : (t : Turn) → t ≡ turnOf d quantity first at → ((f : Fault) → t ≡ turn.Not f → ⊥) → Onward d quantity first start (roomAfter d quantity first at) stamp (marksAfter d quantity first at marks stamp) last (stateOf a b l) t
+  unfolding turnOf roomAfter marksAfter lineStep
+  turned t = by (lineRest d a) refl where
+    judged : (s : Said) (v : Verdict) → lineRest d a ≡ lined.Is s → judgedAt quantity first at s ≡ v → t ≡ judgedTurn d b s v → ((f : Fault) → t ≡ turn.Not f → ⊥) → Onward d quantity first start (judgedRoom room last s v) stamp (judgedMarks marks stamp v) last (stateOf a b l) t
+    judged s (Good z) j i e n =
+        let g = good-line (roomAt room first) (last - first) first quantity b (s .value) i in
+        let k : last < 4096 = omega (arith, g .1, so-far h, h .count) in
         record {
-          more = h;
-          kept = length-pasted (l .room) (lineCells z s) (4 * l .last) g ∙ k;
-          topped = rw (← q) (topped-more (l .room) _ first (l .last) (l .block .top) z f g p);
+          line = s;
+          more = k;
+          step = rw (j, sym (judged-here h quantity b (s .value)) ∙ i, e);
+          holds = rw (g .0) (one-more h s k);
         }
+    judged s (Bad f) j i e n = absurd (n f e)
 
-    pub turn-more : {a : Amount} {b : Block} → turnOf d quantity first l ≡ turn.More a b → Onward first l a b (roomAfter d quantity first l)
-    unfolding turnOf roomAfter
-    turn-more {a} {b} = by (lineRest d (l .amount)) where
-      judged : (s : Said) (v : Verdict) → judgeLine (l .room) first (l .last) quantity (l .block) (s .value) ≡ v → judgedTurn d (l .block) s v ≡ turn.More a b → Onward first l a b (judgedRoom (l .room) (l .last) s v)
-      judged s (Good z) i e = stored s z (good-left (l .room) first (l .last) quantity (l .block) (s .value) i) e
-      judged s (Bad f) i e = let z : _≡_ {A = ℕ} 0 1 = cc in absurd (omega arith)
+    by : (r : Lined) → lineRest d a ≡ r → t ≡ readTurn d quantity first at r → ((f : Fault) → t ≡ turn.Not f → ⊥) → Onward d quantity first start (readRoom quantity first at r) stamp (readMarks quantity first at marks stamp r) last (stateOf a b l) t
+    by (lined.Is s) j e n = judged s (judgedAt quantity first at s) j refl e n
+    by (lined.Not f) j e n = absurd (n f e)
 
-      by : (r : Lined) → readTurn d quantity first l r ≡ turn.More a b → Onward first l a b (readRoom quantity first l r)
-      by (lined.Is s) e = judged s (judgeLine (l .room) first (l .last) quantity (l .block) (s .value)) refl e
-      by (lined.Not f) e = let z : _≡_ {A = ℕ} 0 1 = cc in absurd (omega arith)
+  -- the same of what the code gave back
+  module _ {t : Turn} {end : List ℤ} {ends : List ℕ} (e : t ≡ turnOf d quantity first at) (f : end ≡ roomAfter d quantity first at) (g : ends ≡ marksAfter d quantity first at marks stamp) where
+    pub went-more : {c : Amount} {k : Block} → t ≡ turn.More c k → Onward d quantity first start end stamp ends last (stateOf a b l) (turn.More c k)
+    went-more i = rw (f, g) (turned _ (sym i ∙ e) (λ q j. let z : _≡_ {A = ℕ} 0 1 = cc in absurd (omega arith)))
+
+    pub went-over : {k : Block} {n : ℕ} → t ≡ turn.Over k n → Onward d quantity first start end stamp ends last (stateOf a b l) (turn.Over k n)
+    went-over i = rw (f, g) (turned _ (sym i ∙ e) (λ q j. let z : _≡_ {A = ℕ} 0 1 = cc in absurd (omega arith)))
+
+  -- a refusal of the code is one of the definition
+  pub turned-not : {f : Fault} → turn.Not f ≡ turnOf d quantity first at → lineStep d quantity first (stateOf a b l) ≡ Done (Not f)
+  unfolding turnOf lineStep
+  turned-not {f} = by (lineRest d a) where
+    judged : (s : Said) (v : Verdict) → judgeLine (numberAt l) (length l) first quantity b (s .value) ≡ v → turn.Not f ≡ judgedTurn d b s v → judgedStep d (stateOf a b l) s v ≡ Done (Not f)
+    judged s (Good z) i e = rw (sym e)
+    judged s (Bad g) i e = cc
+
+    by : (r : Lined) → turn.Not f ≡ readTurn d quantity first at r → readStep d quantity first (stateOf a b l) r ≡ Done (Not f)
+    by (lined.Is s) e = judged s (judgeLine (numberAt l) (length l) first quantity b (s .value)) refl (rw (judged-here h quantity b (s .value)) at e)
+    by (lined.Not g) e = cc
 
 -- ---- all lines: the first, and then those behind it
 module _ (d : List ℕ) (quantity : Bool) (first : ℕ) where
-  turn-room : (l : Listing) {a : Amount} {b : Block} → turnOf d quantity first l ≡ turn.More a b → l .last < 4096
-  unfolding turnOf
-  turn-room l {a} {b} = by (lineRest d (l .amount)) where
-    judged : (s : Said) (v : Verdict) → judgeLine (l .room) first (l .last) quantity (l .block) (s .value) ≡ v → judgedTurn d (l .block) s v ≡ turn.More a b → l .last < 4096
-    judged s (Good z) i e = good-left (l .room) first (l .last) quantity (l .block) (s .value) i
+  abbrev left : Listing → ℕ
+  left l = 4096 - (first + length (l .lines))
+
+  falls : (l m : Listing) → lineStep d quantity first l ≡ Again m → left m < left l
+  unfolding lineStep
+  falls l m = by (lineRest d (l .amount)) where
+    on : (s : Said) (t : Turn) → first + length (l .lines) < 4096 → after (l .lines ++ s ∷ []) t ≡ Again m → left m < left l
+    on s (turn.More a b) h e =
+        let j : stateOf a b (l .lines ++ s ∷ []) ≡ m = cc in
+        rw (← j) (omega (arith, count-more (l .lines) s))
+    on s (turn.Over b n) h e = let z : _≡_ {A = ℕ} 0 1 = cc in absurd (omega arith)
+    on s (turn.Not f) h e = let z : _≡_ {A = ℕ} 0 1 = cc in absurd (omega arith)
+
+    judged : (s : Said) (v : Verdict) → judgeLine (numberAt (l .lines)) (length (l .lines)) first quantity (l .block) (s .value) ≡ v → judgedStep d l s v ≡ Again m → left m < left l
+    judged s (Good z) i e = on s (moreOf d (grownBy (l .block) (s .value)) (s .next)) (good-line (numberAt (l .lines)) (length (l .lines)) first quantity (l .block) (s .value) i .1) e
     judged s (Bad f) i e = let z : _≡_ {A = ℕ} 0 1 = cc in absurd (omega arith)
 
-    by : (r : Lined) → readTurn d quantity first l r ≡ turn.More a b → l .last < 4096
-    by (lined.Is s) e = judged s (judgeLine (l .room) first (l .last) quantity (l .block) (s .value)) refl e
+    by : (r : Lined) → readStep d quantity first l r ≡ Again m → left m < left l
+    by (lined.Is s) e = judged s (judgeLine (numberAt (l .lines)) (length (l .lines)) first quantity (l .block) (s .value)) refl e
     by (lined.Not f) e = let z : _≡_ {A = ℕ} 0 1 = cc in absurd (omega arith)
 
-  falls : (l m : Listing) → lineStep d quantity first l ≡ Again m → 4096 - m .last < 4096 - l .last
-  unfolding lineStep
-  falls l m = by (turnOf d quantity first l) refl where
-    by : (t : Turn) → turnOf d quantity first l ≡ t → listStep (l .last) (roomAfter d quantity first l) t ≡ Again m → 4096 - m .last < 4096 - l .last
-    by (turn.More a b) i e =
-        let h = turn-room l i in
-        let j : stateOf a b (l .last + 1) (roomAfter d quantity first l) ≡ m = cc in
-        rw (← j) (omega arith)
-    by (turn.Over b n) i e = let z : _≡_ {A = ℕ} 0 1 = cc in absurd (omega arith)
-    by (turn.Not f) i e = let z : _≡_ {A = ℕ} 0 1 = cc in absurd (omega arith)
+  pub lines-more : (l : Listing) {m : Listing} → lineStep d quantity first l ≡ Again m → linesFrom d quantity first l ≡ linesFrom d quantity first m
+  unfolding linesFrom
+  lines-more l {m} e = loop-again (lineStep d quantity first) (Not (fault 0 0)) left falls {s = l} {s′ = m} e
 
-  abbrev out : Listed × List ℤ
-  out = (listed.Not (fault 0 0), [])
+  pub lines-done : (l : Listing) {g : Given} → lineStep d quantity first l ≡ Done g → linesFrom d quantity first l ≡ g
+  unfolding linesFrom
+  lines-done l {g} e = loop-done (lineStep d quantity first) (Not (fault 0 0)) left falls {s = l} {a = g} e
 
-  module _ (l : Listing) {r : Turn} {room : List ℤ} (e : r ≡ turnOf d quantity first l) (g : room ≡ roomAfter d quantity first l) where
-    pub lines-more : {a : Amount} {b : Block} → r ≡ turn.More a b → linesFrom d quantity first l ≡ linesFrom d quantity first (stateOf a b (l .last + 1) room)
-    unfolding linesFrom lineStep
-    lines-more {a} {b} i = loop-again (lineStep d quantity first) out (λ l. 4096 - l .last) falls {s = l} {s′ = stateOf a b (l .last + 1) room} (rw (g, sym e ∙ i))
+-- ---- what the code gives back
+pub record Ran (d : List ℕ) (quantity : Bool) (first stamp : ℕ) (start : List ℤ) (a₀ : Amount) (b₀ : Block) (room : List ℤ) (marks : List ℕ) (a : Amount) (b : Block) (last : ℕ) : Type 0 where
+  pub lines : List Said
+  pub same : linesFrom d quantity first (stateOf a₀ b₀ []) ≡ linesFrom d quantity first (stateOf a b lines)
+  pub holds : Holds first start room stamp marks last lines
 
-    pub lines-over : {b : Block} {n : ℕ} → r ≡ turn.Over b n → linesFrom d quantity first l ≡ (listed.Is b (l .last + 1) n, room)
-    unfolding linesFrom lineStep
-    lines-over {b} {n} i = loop-done (lineStep d quantity first) out (λ l. 4096 - l .last) falls {s = l} {a = (listed.Is b (l .last + 1) n, room)} (rw (g, sym e ∙ i))
+pub listed-over : {first : ℕ} {start room : List ℤ} {stamp : ℕ} {marks : List ℕ} {last : ℕ} {l : List Said} {g : Given} {b : Block} {n : ℕ} → g ≡ Is b l n → Holds first start room stamp marks last l → (listed.Is b last n ≡ listedOf first g) × Stored first g start room
+unfolding listedOf
+listed-over {first} {start} {room} {l = l} {g = g} {b = b} {n = n} e h = (
+  rw (e, h .count),
+  record { stored = λ {b = b′} {l = l′} {n = n′} q. let j : l ≡ l′ = cc in h .here ∙ ap (λ (x : List Said). pasted start (4 * first) (cellsOf x)) j },
+)
 
-    pub lines-not : {f : Fault} → r ≡ turn.Not f → linesFrom d quantity first l ≡ (listed.Not f, room)
-    unfolding linesFrom lineStep
-    lines-not {f} i = loop-done (lineStep d quantity first) out (λ l. 4096 - l .last) falls {s = l} {a = (listed.Not f, room)} (rw (g, sym e ∙ i))
+pub stored-not : (first : ℕ) (f : Fault) (room end : List ℤ) → Stored first (Not f) room end
+stored-not first f room end = record { stored = λ {b} {l} {n} q. let z : _≡_ {A = ℕ} 0 1 = cc in absurd (omega arith) }
+
+pub listed-not : {g : Given} {f : Fault} (first : ℕ) (room end : List ℤ) → g ≡ Not f → (listed.Not f ≡ listedOf first g) × Stored first g room end
+unfolding listedOf
+listed-not {f = f} first room end e = (rw e, rw e (stored-not first f room end))
+
+-- a block without lines
+pub listed-none : (first : ℕ) (b : Block) (n : ℕ) → listed.Is b first n ≡ listedOf first (Is b [] n)
+unfolding listedOf
+listed-none first b n = let e : first ≡ first + 0 = omega arith in ap (λ (k : ℕ). listed.Is b k n) e
+
+pub stored-none : (first : ℕ) (b : Block) (t : Reading) (room : List ℤ) → Stored first (closedBy b t) room room
+unfolding closedBy cellsOf
+stored-none first b (At n) room =
+    record { stored = λ {b = b′} {l = l′} {n = n′} q. let j : [] ≡ l′ = cc in paste-none room (4 * first) ∙ ap (λ (x : List Said). pasted room (4 * first) (cellsOf x)) j }
+stored-none first b (Refused f) room = stored-not first f room room

@@ -1,4 +1,5 @@
 pub mod Value
 pub mod Range
 pub mod Line
+pub mod Room
 pub mod Block

@@ -1,13 +1,13 @@
 -- A line is a value, a string, and SPECIAL or not. 6 where its form is wrong, its decimals differ from those before it in the block,
 -- or an earlier line of the block says its number; 8 beyond its limit, or where 4,096 lines were read. Then follow notes, and another
 -- line or END VALUES.
-use Prim.Native.Nat.{ℕ, suc, _+_, _*_, _-_, _≤_, _<_}
+use Prim.Native.Nat.{ℕ, suc, _+_, _*_, _-_}
 use mathlib.Core.Path.{_≡_}
 use mathlib.Core.Bool.{Bool, true, false, cond, not, _&&_, _||_}
-use mathlib.Core.List.{List, [], _∷_}
+use mathlib.Core.List.{List, [], _∷_, _++_}
 use lib.Dec.{eqb, ltb, leb}
 use lib.IntN.{ℤ, pos}
-use lib.Signed.{leZ}
+use lib.ListN.{length}
 use Rattle.below.specs.Below.{anyBelow}
 use Rattle.cells.specs.Cell.{cell, eqZ, pasted}
 use Rattle.scan.specs.Loop.{Next, Again, Done, loopOf}
@@ -66,14 +66,22 @@ lineRest d a =
     let g = gapOn d (pastString q) in
     specialOr a q g (choiceOf d g SPECIAL)
 
--- ---- judging a line. The room holds the numbers of the lines so far, four a line; those of the block run from `first` to before
--- `last`
-unfoldable pub repeatedIn : List ℤ → ℕ → ℕ → ℤ → Bool
-repeatedIn room first last z = anyBelow (last - first) (λ i. eqZ (cell room (4 * (first + i))) z)
+-- ---- the numbers of lines
+-- the number that a line says, and those of lines one after the other
+abbrev pub numberOn : Said → ℤ
+numberOn s = scaledOf (s .value)
 
--- no line of the block lies above the top
-pub record Topped (room : List ℤ) (first last : ℕ) (top : ℤ) : Type 0 where
-  pub below : (i : ℕ) → i < last - first → leZ (cell room (4 * (first + i))) top ≡ true
+unfoldable pub numbers : List Said → List ℤ
+numbers [] = []
+numbers (s ∷ l) = numberOn s ∷ numbers l
+
+-- that of line i, from 0
+unfoldable pub numberAt : List Said → ℕ → ℤ
+numberAt l i = cell (numbers l) i
+
+-- ---- judging a line. Before its block stand `first` lines; the block has n lines so far, which say f 0, f 1, ..
+unfoldable pub repeatedIn : (ℕ → ℤ) → ℕ → ℤ → Bool
+repeatedIn f n z = anyBelow n (λ i. eqZ (f i) z)
 
 unfoldable pub lineFault : Bool → Block → Value → ℕ
 lineFault quantity b v =
@@ -83,32 +91,32 @@ lineFault quantity b v =
     6
 
 -- a value too large repeats none, so that it may be judged before the repeats
-unfoldable pub judgeLine : List ℤ → ℕ → ℕ → Bool → Block → Value → Verdict
-judgeLine room first last quantity b v =
+unfoldable pub judgeLine : (ℕ → ℤ) → ℕ → ℕ → Bool → Block → Value → Verdict
+judgeLine f n first quantity b v =
     cond (eqb (lineFault quantity b v) 0)
-    (cond (repeatedIn room first last (scaledOf v)) (Bad (fault 6 (v .place)))
-    (cond (leb 4096 last) (Bad (fault 8 (v .place)))
+    (cond (repeatedIn f n (scaledOf v)) (Bad (fault 6 (v .place)))
+    (cond (leb 4096 (first + n)) (Bad (fault 8 (v .place)))
     (Good (scaledOf v))))
     (Bad (fault (lineFault quantity b v) (v .place)))
 
 -- ---- what a line adds
-abbrev pub higherOf : ℤ → ℤ → ℤ
-higherOf a b = cond (leZ a b) b a
-
-unfoldable pub grownBy : Block → Value → ℤ → Block
-grownBy b v z = record {
+unfoldable pub grownBy : Block → Value → Block
+grownBy b v = record {
   ranged = b .ranged;
   from = b .from;
   to = b .to;
   known = true;
   decimals = v .decimals;
   point = pointOf (ltb 0 (b .point) || v .point);
-  top = higherOf (b .top) z;
 }
 
--- the four numbers of a line
-unfoldable pub lineCells : ℤ → Said → List ℤ
-lineCells z s = z ∷ pos (s .special) ∷ pos (s .text .place) ∷ pos (s .text .length) ∷ []
+-- the four numbers of a line in a table, and those of lines one after the other
+unfoldable pub lineCells : Said → List ℤ
+lineCells s = numberOn s ∷ pos (s .special) ∷ pos (s .text .place) ∷ pos (s .text .length) ∷ []
+
+unfoldable pub cellsOf : List Said → List ℤ
+cellsOf [] = []
+cellsOf (s ∷ l) = lineCells s ++ cellsOf l
 
 -- ---- what follows a line
 unfoldable pub endOf : Block → Reading → Turn
@@ -124,56 +132,47 @@ moreOf d b n =
     let t = notesOn d (At n) in
     endOr d b t (choiceOf d t END)
 
--- ---- lines one after the other, in the room that holds their numbers
--- a line's own numbers fit a table's
-pub record storable (s : Said) : Type 0 where
-  pub special : s .special ≤ 1000000000000000
-  pub place : s .text .place ≤ 1000000000000000
-  pub length : s .text .length ≤ 1000000000000000
+-- ---- lines one after the other
+-- what VALUES give: the block, its lines in the order of the file, and the place after END VALUES; or a refusal
+pub data Given : Type 0 where
+  Is : Block → List Said → ℕ → Given
+  Not : Fault → Given
 
--- where the reader of lines stands: the value of the line that comes, what the block has said, how many lines there are in all, and
--- the room
+-- where the reader of lines stands: the value of the line that comes, what the block has said, and its lines so far
 pub record Listing : Type 0 where
   pub amount : Amount
   pub block : Block
-  pub last : ℕ
-  pub room : List ℤ
+  pub lines : List Said
 
-abbrev pub stateOf : Amount → Block → ℕ → List ℤ → Listing
-stateOf a b n r = record { amount = a; block = b; last = n; room = r }
+abbrev pub stateOf : Amount → Block → List Said → Listing
+stateOf a b l = record { amount = a; block = b; lines = l }
 
-abbrev pub judgedTurn : List ℕ → Block → Said → Verdict → Turn
-judgedTurn d b s (Good z) = moreOf d (grownBy b (s .value) z) (s .next)
-judgedTurn d b s (Bad f) = turn.Not f
+abbrev pub after : List Said → Turn → Next Listing Given
+after l (turn.More a b) = Again (stateOf a b l)
+after l (turn.Over b n) = Done (Is b l n)
+after l (turn.Not f) = Done (Not f)
 
-abbrev pub readTurn : List ℕ → Bool → ℕ → Listing → Lined → Turn
-readTurn d quantity first l (lined.Is s) = judgedTurn d (l .block) s (judgeLine (l .room) first (l .last) quantity (l .block) (s .value))
-readTurn d quantity first l (lined.Not f) = turn.Not f
+abbrev pub judgedStep : List ℕ → Listing → Said → Verdict → Next Listing Given
+judgedStep d l s (Good z) = after (l .lines ++ s ∷ []) (moreOf d (grownBy (l .block) (s .value)) (s .next))
+judgedStep d l s (Bad f) = Done (Not f)
+
+abbrev pub readStep : List ℕ → Bool → ℕ → Listing → Lined → Next Listing Given
+readStep d quantity first l (lined.Is s) =
+    judgedStep d l s (judgeLine (numberAt (l .lines)) (length (l .lines)) first quantity (l .block) (s .value))
+readStep d quantity first l (lined.Not f) = Done (Not f)
 
 -- one line: read, judged, and what follows it
-unfoldable pub turnOf : List ℕ → Bool → ℕ → Listing → Turn
-turnOf d quantity first l = readTurn d quantity first l (lineRest d (l .amount))
+unfoldable pub lineStep : List ℕ → Bool → ℕ → Listing → Next Listing Given
+lineStep d quantity first l = readStep d quantity first l (lineRest d (l .amount))
 
-abbrev pub judgedRoom : List ℤ → ℕ → Said → Verdict → List ℤ
-judgedRoom room last s (Good z) = pasted room (4 * last) (lineCells z s)
-judgedRoom room last s (Bad f) = room
+-- and so on, until END VALUES or a refusal; the 4,097th is refused
+unfoldable pub linesFrom : List ℕ → Bool → ℕ → Listing → Given
+linesFrom d quantity first l = loopOf (lineStep d quantity first) (Not (fault 0 0)) (suc (4096 - (first + length (l .lines)))) l
 
-abbrev pub readRoom : Bool → ℕ → Listing → Lined → List ℤ
-readRoom quantity first l (lined.Is s) = judgedRoom (l .room) (l .last) s (judgeLine (l .room) first (l .last) quantity (l .block) (s .value))
-readRoom quantity first l (lined.Not f) = l .room
+-- ---- what the code gives back of it: how many lines there are in all, and their numbers in the room behind those of the first lines
+unfoldable pub listedOf : ℕ → Given → Listed
+listedOf first (Is b l n) = listed.Is b (first + length l) n
+listedOf first (Not f) = listed.Not f
 
--- the room after it: a line that stands goes in behind the others
-unfoldable pub roomAfter : List ℕ → Bool → ℕ → Listing → List ℤ
-roomAfter d quantity first l = readRoom quantity first l (lineRest d (l .amount))
-
--- and so on, until END VALUES or a refusal
-abbrev pub listStep : ℕ → List ℤ → Turn → Next Listing (Listed × List ℤ)
-listStep last room (turn.More a b) = Again (stateOf a b (last + 1) room)
-listStep last room (turn.Over b n) = Done (listed.Is b (last + 1) n, room)
-listStep last room (turn.Not f) = Done (listed.Not f, room)
-
-unfoldable pub lineStep : List ℕ → Bool → ℕ → Listing → Next Listing (Listed × List ℤ)
-lineStep d quantity first l = listStep (l .last) (roomAfter d quantity first l) (turnOf d quantity first l)
-
-unfoldable pub linesFrom : List ℕ → Bool → ℕ → Listing → Listed × List ℤ
-linesFrom d quantity first l = loopOf (lineStep d quantity first) (listed.Not (fault 0 0), []) (suc (4096 - l .last)) l
+pub record Stored (first : ℕ) (g : Given) (room end : List ℤ) : Type 0 where
+  pub stored : {b : Block} {l : List Said} {n : ℕ} → g ≡ Is b l n → end ≡ pasted room (4 * first) (cellsOf l)

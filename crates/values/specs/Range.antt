@@ -4,7 +4,6 @@ use Prim.Native.Nat.{ℕ}
 use mathlib.Core.Bool.{Bool, true, false, cond, _||_}
 use mathlib.Core.List.{List}
 use lib.Dec.{eqb}
-use lib.IntN.{ℤ, negsuc}
 use lib.Signed.{ltZ}
 use Rattle.tokens.specs.declared.Fault.{Fault}
 use Rattle.tokens.specs.declared.Reading.{Reading}
@@ -24,16 +23,10 @@ use Rattle.values.specs.declared.Judged.the-variants.{Good, Bad}
 use Rattle.values.specs.declared.Ranged.{Ranged}
 use Rattle.values.specs.declared.Ranged.the-variants.{Is, Not}
 
--- below every number that a line may say
-abbrev pub bottom : ℤ
-bottom = negsuc 999999999999999
-
-unfoldable pub judgeRange : List ℕ → Bool → Value → Value → Judged
-judgeRange d quantity a b =
-    cond (formOf quantity a) (cond (formOf quantity b)
-    (cond (eqb (a .decimals) (b .decimals))
-    (cond (ltZ (trueOf d b) (trueOf d a)) (Bad (fault 6 (b .place)))
-    (cond (largeOf quantity a) (Bad (fault 8 (a .place)))
+-- a range whose values have form and order: its limits, and what it says
+unfoldable pub limitRange : Bool → Value → Value → Judged
+limitRange quantity a b =
+    cond (largeOf quantity a) (Bad (fault 8 (a .place)))
     (cond (largeOf quantity b) (Bad (fault 8 (b .place)))
     (Good (record {
       ranged = true;
@@ -42,8 +35,14 @@ judgeRange d quantity a b =
       known = true;
       decimals = a .decimals;
       point = pointOf (a .point || b .point);
-      top = bottom;
-    })))))
+    })))
+
+unfoldable pub judgeRange : List ℕ → Bool → Value → Value → Judged
+judgeRange d quantity a b =
+    cond (formOf quantity a) (cond (formOf quantity b)
+    (cond (eqb (a .decimals) (b .decimals))
+    (cond (ltZ (trueOf d b) (trueOf d a)) (Bad (fault 6 (b .place)))
+    (limitRange quantity a b))
     (Bad (fault 6 (b .place))))
     (Bad (fault 6 (b .place))))
     (Bad (fault 6 (a .place)))

@@ -9,18 +9,20 @@ use tokens::Reading;
 use tokens::Value;
 ghost use mathlib.Core.Path.{_≡_};
 ghost use mathlib.Core.Bool.{false};
+ghost use mathlib.Core.List.{[]};
 ghost use Prim.Native.Nat.{_+_, _*_, _-_, _≤_, _<_};
-ghost use lib.ListN.{length, take};
+ghost use lib.ListN.{length, set};
 ghost use lib.Signed.{ltZ};
 ghost use Rattle.ascii.specs.Class.{Classes};
-ghost use Rattle.cells.specs.Cell.{cell, pasted};
+ghost use Rattle.cells.specs.Cell.{pasted};
 ghost use Rattle.values.specs.Value.{formOf, largeOf, trueOf, scaledOf, pointOf};
-ghost use Rattle.values.specs.Range.{judgeRange, settled, rangedOf, rangeRest};
-ghost use Rattle.values.specs.Line.{saidOf, lineRest, repeatedIn, Topped, lineFault, judgeLine, higherOf, grownBy, lineCells, endOf, moreOf, storable, stateOf, judgedTurn, judgedRoom, turnOf, roomAfter, linesFrom};
+ghost use Rattle.values.specs.Range.{limitRange, judgeRange, settled, rangedOf, rangeRest};
+ghost use Rattle.values.specs.Line.{saidOf, lineRest, numberOn, repeatedIn, lineFault, judgeLine, grownBy, lineCells, endOf, moreOf, stateOf, linesFrom, listedOf, Stored};
+ghost use Rattle.values.specs.Room.{roomAt, slotOf, Marked, storable, judgedTurn, judgedRoom, judgedMarks, standAt, turnOf, roomAfter, marksAfter};
 ghost use Rattle.values.specs.Block.{emptyBlock, closedBy, rangeThen, valuesOn};
 
 // What the values of a variable have said so far: whether there is a range, and its ends; whether a number was read, and then how
-// many decimals all have; the code of the point, 0 none, 1 one; and a number that no line's value lies above.
+// many decimals all have; and the code of the point, 0 none, 1 one.
 pub struct Block {
     pub ranged: bool,
     pub from: i64,
@@ -28,7 +30,6 @@ pub struct Block {
     pub known: bool,
     pub decimals: usize,
     pub point: usize,
-    pub top: i64,
 }
 
 // Whether a value has the form of its type: a category is digits alone, and above 0.
@@ -90,7 +91,36 @@ pub enum Judged {
     Bad(Fault),
 }
 
-// A range: 6 at each value of wrong form, and at the second where decimals differ or the range is reversed; then 8 at each.
+// A range whose values have form and order: 8 at each beyond its limit, or what the range says.
+fn limit_range(quantity: bool, a: Value, b: Value) -> Judged
+    ensures { λ r. ⌜ r ≡ limitRange quantity a b ⌝ }
+{
+    if large(quantity, a) {
+        return Judged::Bad(Fault {
+            number: 8,
+            place: a.place,
+        });
+    }
+    if large(quantity, b) {
+        return Judged::Bad(Fault {
+            number: 8,
+            place: b.place,
+        });
+    }
+    let from = scaled(quantity, a);
+    let to = scaled(quantity, b);
+    let point = point_code(a.point | b.point);
+    Judged::Good(Block {
+        ranged: true,
+        from,
+        to,
+        known: true,
+        decimals: a.decimals,
+        point,
+    })
+}
+
+// A range: 6 at each value of wrong form, and at the second where decimals differ or the range is reversed; then its limits.
 fn judge_range(classes: &[u8; 256], d: &[u8], quantity: bool, a: Value, b: Value) -> Judged
     requires { ⌜ Classes (now classes) ⌝ }
     ensures { λ r. ⌜ r ≡ judgeRange (now (d .entry)) quantity a b ⌝ }
@@ -119,30 +149,7 @@ fn judge_range(classes: &[u8; 256], d: &[u8], quantity: bool, a: Value, b: Value
             place: b.place,
         });
     }
-    if large(quantity, a) {
-        return Judged::Bad(Fault {
-            number: 8,
-            place: a.place,
-        });
-    }
-    if large(quantity, b) {
-        return Judged::Bad(Fault {
-            number: 8,
-            place: b.place,
-        });
-    }
-    let from = scaled(quantity, a);
-    let to = scaled(quantity, b);
-    let point = point_code(a.point | b.point);
-    Judged::Good(Block {
-        ranged: true,
-        from,
-        to,
-        known: true,
-        decimals: a.decimals,
-        point,
-        top: -1_000_000_000_000_000,
-    })
+    limit_range(quantity, a, b)
 }
 
 // A range that was read: what it says, whether WITH follows, and the place after it.
@@ -261,15 +268,11 @@ fn line_rest(classes: &[u8; 256], d: &[u8], a: Amount) -> Lined
     }
 }
 
-// Whether a line from the first to the last but one says z. Where z lies above them all none does.
-fn repeated(lines: &[i64], first: usize, last: usize, top: i64, z: i64) -> bool
+// Whether a line from the first to the last but one says z.
+fn repeated(lines: &[i64], first: usize, last: usize, z: i64) -> bool
     requires { ⌜ (4 * last ≤ length (now lines)) × (first ≤ last) × (last ≤ 4096) ⌝ }
-    requires { ⌜ Topped (now lines) first last top ⌝ }
-    ensures { λ r. ⌜ r ≡ repeatedIn (now (lines .entry)) first last z ⌝ }
+    ensures { λ r. ⌜ r ≡ repeatedIn (roomAt (now (lines .entry)) first) (last - first) z ⌝ }
 {
-    if !cells::not_above(z, top) {
-        return false;
-    }
     let mut i: usize = first;
     while i < last {
         let x = lines[4 * i];
@@ -279,6 +282,36 @@ fn repeated(lines: &[i64], first: usize, last: usize, top: i64, z: i64) -> bool
         i += 1;
     }
     false
+}
+
+// Where a number leaves its mark: equal numbers at the same place, and few others there too, since 16,381 is a prime.
+fn slot_of(z: i64) -> usize
+    ensures { λ r. ⌜ (r ≡ slotOf z) × (r < 16384) ⌝ }
+{
+    (cells::signed_of(z).size % 16_381) as usize
+}
+
+fn leave_mark(marks: &mut [u16], stamp: u16, z: i64)
+    requires { ⌜ length (now marks) ≡ 16384 ⌝ }
+    ensures { λ _. ⌜ now (marks .exit) ≡ set (now (marks .entry)) (slotOf z) stamp ⌝ }
+{
+    let slot = slot_of(z);
+    marks[slot] = stamp;
+}
+
+// The same as repeated. A line that says z has left its mark, so that the lines are looked at only where there is one.
+fn said_before(lines: &[i64], marks: &[u16], stamp: u16, first: usize, last: usize, z: i64) -> bool
+    requires { ⌜ (4 * last ≤ length (now lines)) × (first ≤ last) × (last ≤ 4096) ⌝ }
+    requires { ⌜ length (now marks) ≡ 16384 ⌝ }
+    requires { ⌜ Marked (roomAt (now lines) first) (last - first) stamp (now marks) ⌝ }
+    ensures { λ r. ⌜ r ≡ repeatedIn (roomAt (now (lines .entry)) first) (last - first) z ⌝ }
+{
+    let slot = slot_of(z);
+    let mark = marks[slot];
+    if mark != stamp {
+        return false;
+    }
+    repeated(lines, first, last, z)
 }
 
 // What is wrong with a line's value by itself: 6 for its form or its decimals, 8 for its size, 0 for nothing.
@@ -302,6 +335,8 @@ pub enum Verdict {
 // A line: a value too large repeats none, so that it may be judged first.
 fn judge_line(
     lines: &[i64],
+    marks: &[u16],
+    stamp: u16,
     first: usize,
     last: usize,
     quantity: bool,
@@ -309,8 +344,9 @@ fn judge_line(
     v: Value,
 ) -> Verdict
     requires { ⌜ (4 * last ≤ length (now lines)) × (first ≤ last) × (last ≤ 4096) ⌝ }
-    requires { ⌜ Topped (now lines) first last (b .top) ⌝ }
-    ensures { λ r. ⌜ r ≡ judgeLine (now (lines .entry)) first last quantity b v ⌝ }
+    requires { ⌜ length (now marks) ≡ 16384 ⌝ }
+    requires { ⌜ Marked (roomAt (now lines) first) (last - first) stamp (now marks) ⌝ }
+    ensures { λ r. ⌜ r ≡ judgeLine (roomAt (now (lines .entry)) first) (last - first) first quantity b v ⌝ }
 {
     let f = line_fault(quantity, b, v);
     if f != 0 {
@@ -320,7 +356,7 @@ fn judge_line(
         });
     }
     let z = scaled(quantity, v);
-    if repeated(lines, first, last, b.top, z) {
+    if said_before(lines, marks, stamp, first, last, z) {
         return Verdict::Bad(Fault {
             number: 6,
             place: v.place,
@@ -335,19 +371,12 @@ fn judge_line(
     Verdict::Good(z)
 }
 
-fn higher(a: i64, b: i64) -> i64
-    ensures { λ r. ⌜ r ≡ higherOf a b ⌝ }
-{
-    if cells::not_above(a, b) { b } else { a }
-}
-
-// A block with one more line, of the value v, which says z.
-fn grown(b: Block, v: Value, z: i64) -> Block
-    ensures { λ r. ⌜ r ≡ grownBy b v z ⌝ }
+// A block with one more line, of the value v.
+fn grown(b: Block, v: Value) -> Block
+    ensures { λ r. ⌜ r ≡ grownBy b v ⌝ }
 {
     let from = b.from;
     let to = b.to;
-    let top = higher(b.top, z);
     let point = point_code((0 < b.point) | v.point);
     Block {
         ranged: b.ranged,
@@ -356,7 +385,6 @@ fn grown(b: Block, v: Value, z: i64) -> Block
         known: true,
         decimals: v.decimals,
         point,
-        top,
     }
 }
 
@@ -396,11 +424,12 @@ fn more(classes: &[u8; 256], d: &[u8], b: Block, next: usize) -> Turn
     }
 }
 
-// The four numbers of a line at the place of the line with this number.
+// The four numbers of a line, which says z, at the place of the line with this number.
 fn store(lines: &mut [i64], last: usize, z: i64, s: Said)
     requires { ⌜ (4 * last + 4 ≤ length (now lines)) × (last ≤ 4096) ⌝ }
     requires { ⌜ storable s ⌝ }
-    ensures { λ _. ⌜ now (lines .exit) ≡ pasted (now (lines .entry)) (4 * last) (lineCells z s) ⌝ }
+    requires { ⌜ z ≡ numberOn s ⌝ }
+    ensures { λ _. ⌜ now (lines .exit) ≡ pasted (now (lines .entry)) (4 * last) (lineCells s) ⌝ }
 {
     let text = s.text;
     let numbers = [
@@ -422,19 +451,23 @@ fn place_line(
     b: Block,
     last: usize,
     lines: &mut [i64],
+    marks: &mut [u16],
+    stamp: u16,
 ) -> Turn
     requires { ⌜ Classes (now classes) ⌝ }
-    requires { ⌜ (length (now lines) ≡ 16384) × (first ≤ last) × (last ≤ 4096) ⌝ }
-    requires { ⌜ Topped (now lines) first last (b .top) ⌝ }
+    requires { ⌜ (length (now lines) ≡ 16384) × (first ≤ last) × (last ≤ 4096) × (length (now marks) ≡ 16384) ⌝ }
+    requires { ⌜ Marked (roomAt (now lines) first) (last - first) stamp (now marks) ⌝ }
     requires { ⌜ storable s ⌝ }
-    ensures { λ r. ⌜ r ≡ judgedTurn (now (d .entry)) b s (judgeLine (now (lines .entry)) first last quantity b (s .value)) ⌝ }
-    ensures { λ r. ⌜ now (lines .exit) ≡ judgedRoom (now (lines .entry)) last s (judgeLine (now (lines .entry)) first last quantity b (s .value)) ⌝ }
+    ensures { λ r. ⌜ r ≡ judgedTurn (now (d .entry)) b s (judgeLine (roomAt (now (lines .entry)) first) (last - first) first quantity b (s .value)) ⌝ }
+    ensures { λ r. ⌜ now (lines .exit) ≡ judgedRoom (now (lines .entry)) last s (judgeLine (roomAt (now (lines .entry)) first) (last - first) first quantity b (s .value)) ⌝ }
+    ensures { λ r. ⌜ now (marks .exit) ≡ judgedMarks (now (marks .entry)) stamp (judgeLine (roomAt (now (lines .entry)) first) (last - first) first quantity b (s .value)) ⌝ }
 {
     let v = s.value;
-    match judge_line(lines, first, last, quantity, b, v) {
+    match judge_line(lines, marks, stamp, first, last, quantity, b, v) {
         Verdict::Good(z) => {
             store(lines, last, z, s);
-            let g = grown(b, v, z);
+            leave_mark(marks, stamp, z);
+            let g = grown(b, v);
             more(classes, d, g, s.next)
         }
         Verdict::Bad(f) => Turn::Not(f),
@@ -451,16 +484,19 @@ fn one_line(
     b: Block,
     last: usize,
     lines: &mut [i64],
+    marks: &mut [u16],
+    stamp: u16,
 ) -> Turn
     requires { ⌜ Classes (now classes) ⌝ }
     requires { ⌜ length (now d) ≤ 1048576 ⌝ }
-    requires { ⌜ (length (now lines) ≡ 16384) × (first ≤ last) × (last ≤ 4096) ⌝ }
-    requires { ⌜ Topped (now lines) first last (b .top) ⌝ }
-    ensures { λ r. ⌜ r ≡ turnOf (now (d .entry)) quantity first (stateOf a b last (now (lines .entry))) ⌝ }
-    ensures { λ r. ⌜ now (lines .exit) ≡ roomAfter (now (d .entry)) quantity first (stateOf a b last (now (lines .entry))) ⌝ }
+    requires { ⌜ (length (now lines) ≡ 16384) × (first ≤ last) × (last ≤ 4096) × (length (now marks) ≡ 16384) ⌝ }
+    requires { ⌜ Marked (roomAt (now lines) first) (last - first) stamp (now marks) ⌝ }
+    ensures { λ r. ⌜ r ≡ turnOf (now (d .entry)) quantity first (standAt a b last (now (lines .entry))) ⌝ }
+    ensures { λ r. ⌜ now (lines .exit) ≡ roomAfter (now (d .entry)) quantity first (standAt a b last (now (lines .entry))) ⌝ }
+    ensures { λ r. ⌜ now (marks .exit) ≡ marksAfter (now (d .entry)) quantity first (standAt a b last (now (lines .entry))) (now (marks .entry)) stamp ⌝ }
 {
     match line_rest(classes, d, a) {
-        Lined::Is(s) => place_line(classes, d, quantity, first, s, b, last, lines),
+        Lined::Is(s) => { place_line(classes, d, quantity, first, s, b, last, lines, marks, stamp) }
         Lined::Not(f) => Turn::Not(f),
     }
 }
@@ -475,6 +511,7 @@ pub enum Listed {
     Not(Fault),
 }
 
+// The lines of this block leave the mark `stamp`, and what else the marks hold does not matter.
 pub fn read_lines(
     classes: &[u8; 256],
     d: &[u8],
@@ -483,18 +520,31 @@ pub fn read_lines(
     b: Block,
     first: usize,
     lines: &mut [i64],
+    marks: &mut [u16],
+    stamp: u16,
 ) -> Listed
     requires { ⌜ Classes (now classes) ⌝ }
     requires { ⌜ length (now d) ≤ 1048576 ⌝ }
-    requires { ⌜ (length (now lines) ≡ 16384) × (first ≤ 4096) ⌝ }
-    ensures { λ r. ⌜ r ≡ linesFrom (now (d .entry)) quantity first (stateOf a b first (now (lines .entry))) .0 ⌝ }
-    ensures { λ r. ⌜ now (lines .exit) ≡ linesFrom (now (d .entry)) quantity first (stateOf a b first (now (lines .entry))) .1 ⌝ }
+    requires { ⌜ (length (now lines) ≡ 16384) × (first ≤ 4096) × (length (now marks) ≡ 16384) ⌝ }
+    ensures { λ r. ⌜ r ≡ listedOf first (linesFrom (now (d .entry)) quantity first (stateOf a b [])) ⌝ }
+    ensures { λ r. ⌜ Stored first (linesFrom (now (d .entry)) quantity first (stateOf a b [])) (now (lines .entry)) (now (lines .exit)) ⌝ }
 {
     let mut amount = a;
     let mut block = b;
     let mut last = first;
     loop {
-        match one_line(classes, d, quantity, first, amount, block, last, lines) {
+        match one_line(
+            classes,
+            d,
+            quantity,
+            first,
+            amount,
+            block,
+            last,
+            lines,
+            marks,
+            stamp,
+        ) {
             Turn::More {
                 amount: x,
                 block: y,
@@ -528,18 +578,17 @@ pub fn empty_block() -> Block
         known: false,
         decimals: 0,
         point: 0,
-        top: -1_000_000_000_000_000,
     }
 }
 
 // A block without lines, behind its END VALUES.
-fn close_block(b: Block, last: usize, t: Reading) -> Listed
-    ensures { λ r. ⌜ r ≡ closedBy b last t ⌝ }
+fn close_block(b: Block, first: usize, t: Reading) -> Listed
+    ensures { λ r. ⌜ r ≡ listedOf first (closedBy b t) ⌝ }
 {
     match t {
         Reading::At(next) => Listed::Is {
             block: b,
-            last,
+            last: first,
             next,
         },
         Reading::Refused(f) => Listed::Not(f),
@@ -554,12 +603,14 @@ fn range_then(
     r: Ranged,
     first: usize,
     lines: &mut [i64],
+    marks: &mut [u16],
+    stamp: u16,
 ) -> Listed
     requires { ⌜ Classes (now classes) ⌝ }
     requires { ⌜ length (now d) ≤ 1048576 ⌝ }
-    requires { ⌜ (length (now lines) ≡ 16384) × (first ≤ 4096) ⌝ }
-    ensures { λ s. ⌜ s ≡ rangeThen (now (d .entry)) quantity r first (now (lines .entry)) .0 ⌝ }
-    ensures { λ s. ⌜ now (lines .exit) ≡ rangeThen (now (d .entry)) quantity r first (now (lines .entry)) .1 ⌝ }
+    requires { ⌜ (length (now lines) ≡ 16384) × (first ≤ 4096) × (length (now marks) ≡ 16384) ⌝ }
+    ensures { λ s. ⌜ s ≡ listedOf first (rangeThen (now (d .entry)) quantity first r) ⌝ }
+    ensures { λ s. ⌜ Stored first (rangeThen (now (d .entry)) quantity first r) (now (lines .entry)) (now (lines .exit)) ⌝ }
 {
     match r {
         Ranged::Not(f) => Listed::Not(f),
@@ -567,7 +618,7 @@ fn range_then(
             let t = statements::notes_on(classes, d, Reading::At(next));
             if with {
                 let a = tokens::value_here(classes, d, t);
-                return read_lines(classes, d, quantity, a, block, first, lines);
+                return read_lines(classes, d, quantity, a, block, first, lines, marks, stamp);
             }
             let e = tokens::word_here(classes, d, t, b"END");
             let v = tokens::word_on(classes, d, e, b"VALUES");
@@ -576,7 +627,8 @@ fn range_then(
     }
 }
 
-// VALUES to END VALUES.
+// VALUES to END VALUES, behind so many lines of other variables. The stamp is the variable's own, so that marks of others say nothing
+// here; if one does, it costs time alone.
 pub fn values_on(
     classes: &[u8; 256],
     d: &[u8],
@@ -584,12 +636,14 @@ pub fn values_on(
     t: Reading,
     first: usize,
     lines: &mut [i64],
+    marks: &mut [u16],
+    stamp: u16,
 ) -> Listed
     requires { ⌜ Classes (now classes) ⌝ }
     requires { ⌜ length (now d) ≤ 1048576 ⌝ }
-    requires { ⌜ (length (now lines) ≡ 16384) × (first ≤ 4096) ⌝ }
-    ensures { λ r. ⌜ r ≡ valuesOn (now (d .entry)) quantity t first (now (lines .entry)) .0 ⌝ }
-    ensures { λ r. ⌜ now (lines .exit) ≡ valuesOn (now (d .entry)) quantity t first (now (lines .entry)) .1 ⌝ }
+    requires { ⌜ (length (now lines) ≡ 16384) × (first ≤ 4096) × (length (now marks) ≡ 16384) ⌝ }
+    ensures { λ r. ⌜ r ≡ listedOf first (valuesOn (now (d .entry)) quantity first t) ⌝ }
+    ensures { λ r. ⌜ Stored first (valuesOn (now (d .entry)) quantity first t) (now (lines .entry)) (now (lines .exit)) ⌝ }
 {
     let w = statements::statement_on(classes, d, t, b"VALUES");
     let n = statements::notes_on(classes, d, w);
@@ -599,11 +653,11 @@ pub fn values_on(
     match tokens::perhaps(classes, d, g, b"TO") {
         Choice::Taken(m) => {
             let r = range_rest(classes, d, quantity, a, Reading::At(m));
-            range_then(classes, d, quantity, r, first, lines)
+            range_then(classes, d, quantity, r, first, lines, marks, stamp)
         }
         Choice::Left => {
             let b = empty_block();
-            read_lines(classes, d, quantity, a, b, first, lines)
+            read_lines(classes, d, quantity, a, b, first, lines, marks, stamp)
         }
     }
 }

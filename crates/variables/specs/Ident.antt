@@ -14,14 +14,20 @@ use Rattle.tokens.specs.Token.{numberOn}
 use Rattle.statements.specs.Words.{VARIABLE}
 use Rattle.statements.specs.Note.{statementOn}
 
-unfoldable pub wrongIdent : List ℕ → Figures → Bool
-wrongIdent seen x = cond (ltb 4 (x .count)) true (cond (ltb (x .size) 10000) (eqb (x .size) 0 || eqb (getD seen (x .size) 0) 1) true)
+-- `met` says of a number whether an earlier variable has it as its ident
+unfoldable pub wrongIdent : (ℕ → Bool) → Figures → Bool
+wrongIdent met x = cond (ltb 4 (x .count)) true (cond (ltb (x .size) 10000) (eqb (x .size) 0 || met (x .size)) true)
 
-unfoldable pub judgeIdent : List ℕ → ℕ → Number → Number
-judgeIdent seen count (Is x) =
-    cond (wrongIdent seen x) (Not (fault 5 (x .place)))
+-- `count` variables stand before it
+unfoldable pub judgeIdent : (ℕ → Bool) → ℕ → Number → Number
+judgeIdent met count (Is x) =
+    cond (wrongIdent met x) (Not (fault 5 (x .place)))
     (cond (leb 512 count) (Not (fault 8 (x .place))) (Is x))
-judgeIdent seen count (Not f) = Not f
+judgeIdent met count (Not f) = Not f
 
-unfoldable pub identOn : List ℕ → Reading → List ℕ → ℕ → Number
-identOn d t seen count = judgeIdent seen count (numberOn d (statementOn d t VARIABLE))
+unfoldable pub identOn : List ℕ → Reading → (ℕ → Bool) → ℕ → Number
+identOn d t met count = judgeIdent met count (numberOn d (statementOn d t VARIABLE))
+
+-- ---- the idents met are marked by a 1 in a list of 10,000
+abbrev pub marked : List ℕ → ℕ → Bool
+marked seen n = eqb (getD seen n 0) 1

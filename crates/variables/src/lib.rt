@@ -16,13 +16,13 @@ ghost use mathlib.Core.Path.{_≡_};
 ghost use Prim.Native.Nat.{_+_, _≤_, _<_};
 ghost use lib.ListN.{length};
 ghost use Rattle.ascii.specs.Class.{Classes};
-ghost use Rattle.variables.specs.Ident.{wrongIdent, judgeIdent, identOn};
+ghost use Rattle.variables.specs.Ident.{marked, wrongIdent, judgeIdent, identOn};
 ghost use Rattle.variables.specs.Head.{pastType, joinTitles, joinHead, headOn};
-ghost use Rattle.variables.specs.Rest.{joinValues, valuesRest, joinSize, joinNothing, spreadThen, restOf};
+ghost use Rattle.variables.specs.Rest.{valuesRest, joinSize, joinNothing, spreadThen, restOf, restedOf, Stored};
 
 // Whether an ident has more than four digits, is 0, or was met before.
 fn wrong_ident(seen: &[u8; 10000], x: Figures) -> bool
-    ensures { λ r. ⌜ r ≡ wrongIdent (now (seen .entry)) x ⌝ }
+    ensures { λ r. ⌜ r ≡ wrongIdent (marked (now (seen .entry))) x ⌝ }
 {
     if 4 < x.count {
         return true;
@@ -37,7 +37,7 @@ fn wrong_ident(seen: &[u8; 10000], x: Figures) -> bool
 
 // 5 comes before 8 at a 513th variable.
 fn judge_ident(seen: &[u8; 10000], count: usize, n: Number) -> Number
-    ensures { λ r. ⌜ r ≡ judgeIdent (now (seen .entry)) count n ⌝ }
+    ensures { λ r. ⌜ r ≡ judgeIdent (marked (now (seen .entry))) count n ⌝ }
 {
     match n {
         Number::Is(x) => {
@@ -68,7 +68,7 @@ pub fn ident_on(
     count: usize,
 ) -> Number
     requires { ⌜ Classes (now classes) ⌝ }
-    ensures { λ r. ⌜ r ≡ identOn (now (d .entry)) t (now (seen .entry)) count ⌝ }
+    ensures { λ r. ⌜ r ≡ identOn (now (d .entry)) t (marked (now (seen .entry))) count ⌝ }
 {
     let w = statements::statement_on(classes, d, t, b"VARIABLE");
     let n = tokens::number_on(classes, d, w);
@@ -194,10 +194,25 @@ pub enum Rested {
     Not(Fault),
 }
 
-fn join_values(l: Listed, subfields: u64, subwidth: u64) -> Rested
-    ensures { λ r. ⌜ r ≡ joinValues l subfields subwidth ⌝ }
+fn values_rest(
+    classes: &[u8; 256],
+    d: &[u8],
+    quantity: bool,
+    t: Reading,
+    subfields: u64,
+    subwidth: u64,
+    first: usize,
+    lines: &mut [i64],
+    marks: &mut [u16],
+    stamp: u16,
+) -> Rested
+    requires { ⌜ Classes (now classes) ⌝ }
+    requires { ⌜ length (now d) ≤ 1048576 ⌝ }
+    requires { ⌜ (length (now lines) ≡ 16384) × (first ≤ 4096) × (length (now marks) ≡ 16384) ⌝ }
+    ensures { λ r. ⌜ r ≡ restedOf first (valuesRest (now (d .entry)) quantity first t subfields subwidth) ⌝ }
+    ensures { λ r. ⌜ Stored first (valuesRest (now (d .entry)) quantity first t subfields subwidth) (now (lines .entry)) (now (lines .exit)) ⌝ }
 {
-    match l {
+    match values::values_on(classes, d, quantity, t, first, lines, marks, stamp) {
         Listed::Is { block, last, next } => Rested::Is(Rest {
             block,
             last,
@@ -210,29 +225,9 @@ fn join_values(l: Listed, subfields: u64, subwidth: u64) -> Rested
     }
 }
 
-fn values_rest(
-    classes: &[u8; 256],
-    d: &[u8],
-    quantity: bool,
-    t: Reading,
-    subfields: u64,
-    subwidth: u64,
-    first: usize,
-    lines: &mut [i64],
-) -> Rested
-    requires { ⌜ Classes (now classes) ⌝ }
-    requires { ⌜ length (now d) ≤ 1048576 ⌝ }
-    requires { ⌜ (length (now lines) ≡ 16384) × (first ≤ 4096) ⌝ }
-    ensures { λ r. ⌜ r ≡ valuesRest (now (d .entry)) quantity t subfields subwidth first (now (lines .entry)) .0 ⌝ }
-    ensures { λ r. ⌜ now (lines .exit) ≡ valuesRest (now (d .entry)) quantity t subfields subwidth first (now (lines .entry)) .1 ⌝ }
-{
-    let l = values::values_on(classes, d, quantity, t, first, lines);
-    join_values(l, subfields, subwidth)
-}
-
 // A variable without values: its size, or 0.
 fn join_size(n: Number, first: usize) -> Rested
-    ensures { λ r. ⌜ r ≡ joinSize n first ⌝ }
+    ensures { λ r. ⌜ r ≡ restedOf first (joinSize n) ⌝ }
 {
     match n {
         Number::Is(x) => {
@@ -251,7 +246,7 @@ fn join_size(n: Number, first: usize) -> Rested
 }
 
 fn join_nothing(t: Reading, first: usize) -> Rested
-    ensures { λ r. ⌜ r ≡ joinNothing t first ⌝ }
+    ensures { λ r. ⌜ r ≡ restedOf first (joinNothing t) ⌝ }
 {
     match t {
         Reading::At(next) => {
@@ -277,12 +272,14 @@ fn spread_then(
     width: u64,
     first: usize,
     lines: &mut [i64],
+    marks: &mut [u16],
+    stamp: u16,
 ) -> Rested
     requires { ⌜ Classes (now classes) ⌝ }
     requires { ⌜ length (now d) ≤ 1048576 ⌝ }
-    requires { ⌜ (length (now lines) ≡ 16384) × (first ≤ 4096) ⌝ }
-    ensures { λ r. ⌜ r ≡ spreadThen (now (d .entry)) t width first (now (lines .entry)) .0 ⌝ }
-    ensures { λ r. ⌜ now (lines .exit) ≡ spreadThen (now (d .entry)) t width first (now (lines .entry)) .1 ⌝ }
+    requires { ⌜ (length (now lines) ≡ 16384) × (first ≤ 4096) × (length (now marks) ≡ 16384) ⌝ }
+    ensures { λ r. ⌜ r ≡ restedOf first (spreadThen (now (d .entry)) first t width) ⌝ }
+    ensures { λ r. ⌜ Stored first (spreadThen (now (d .entry)) first t width) (now (lines .entry)) (now (lines .exit)) ⌝ }
 {
     let n = statements::notes_on(classes, d, t);
     match tokens::perhaps(classes, d, n, b"SPREAD") {
@@ -297,15 +294,18 @@ fn spread_then(
                     s.width,
                     first,
                     lines,
+                    marks,
+                    stamp,
                 )
             }
             Spreading::Not(f) => Rested::Not(f),
         },
-        Choice::Left => values_rest(classes, d, false, n, 0, 0, first, lines),
+        Choice::Left => values_rest(classes, d, false, n, 0, 0, first, lines, marks, stamp),
     }
 }
 
-// By type.
+// By type, for a position of `width` bytes, behind so many value lines of other variables. The lines of this one leave the mark
+// `stamp`, the variable's own.
 pub fn rest_on(
     classes: &[u8; 256],
     d: &[u8],
@@ -314,21 +314,23 @@ pub fn rest_on(
     width: u64,
     first: usize,
     lines: &mut [i64],
+    marks: &mut [u16],
+    stamp: u16,
 ) -> Rested
     requires { ⌜ Classes (now classes) ⌝ }
     requires { ⌜ length (now d) ≤ 1048576 ⌝ }
-    requires { ⌜ (length (now lines) ≡ 16384) × (first ≤ 4096) ⌝ }
-    ensures { λ r. ⌜ r ≡ restOf (now (d .entry)) kind t width first (now (lines .entry)) .0 ⌝ }
-    ensures { λ r. ⌜ now (lines .exit) ≡ restOf (now (d .entry)) kind t width first (now (lines .entry)) .1 ⌝ }
+    requires { ⌜ (length (now lines) ≡ 16384) × (first ≤ 4096) × (length (now marks) ≡ 16384) ⌝ }
+    ensures { λ r. ⌜ r ≡ restedOf first (restOf (now (d .entry)) first kind t width) ⌝ }
+    ensures { λ r. ⌜ Stored first (restOf (now (d .entry)) first kind t width) (now (lines .entry)) (now (lines .exit)) ⌝ }
 {
     if kind == 1 {
-        return values_rest(classes, d, false, t, 0, 0, first, lines);
+        return values_rest(classes, d, false, t, 0, 0, first, lines, marks, stamp);
     }
     if kind == 2 {
-        return spread_then(classes, d, t, width, first, lines);
+        return spread_then(classes, d, t, width, first, lines, marks, stamp);
     }
     if kind == 3 {
-        return values_rest(classes, d, true, t, 0, 0, first, lines);
+        return values_rest(classes, d, true, t, 0, 0, first, lines, marks, stamp);
     }
     if kind == 4 {
         let n = statements::size_on(classes, d, t);

@@ -1,6 +1,6 @@
 use mathlib.Core.Path.{_≡_, _∙_, sym}
-use mir.Syntax.{w64}
-use mir.Val.{toZ, ofZ}
+use Prim.Native.Nat.{ℕ, _+_, _-_, _≤_}
+use native.Mathlib.Omega.{arith}
 use mir.Facts.{toZ-ofZ}
 use borrow.Author.Needs.{needs, sfits-of}
 use borrow.Author.Tests.{eq-eqb, ne-eqb, le-leb, lt-leb}
@@ -16,31 +16,32 @@ returns c = rw (sym (c .before .line-fault .ensures), ne-eqb _ 0 (c .if1 .taken)
 scaled-requires : tie.Need-scaled-requires
 scaled-requires c κs = sound-small _ _ _ (sym (c .before .line-fault .ensures) ∙ c .if1 .left)
 
-top-back : (c : tie.After-struct-told) → toZ w64 (ofZ w64 (c .before .before .before .before .args .b .top)) ≡ c .before .before .before .before .args .b .top
-top-back c = search needs
+said-before-requires : tie.Need-said-before-requires
+said-before-requires c κs = c .before .before .before .before .pre
 
-repeated-requires : tie.Need-repeated-requires
-repeated-requires c κs = (c .before .before .before .before .pre .0, rw (top-back c) (c .before .before .before .before .pre .1))
+-- the lines in all
+all-lines : (first last : ℕ) → first ≤ last → first + (last - first) ≡ last
+all-lines first last h = omega arith
 
 returns-2 : tie.Need-returns-2
 unfolding judgeLine
 returns-2 c =
-    let e = rw (toZ-ofZ (sfits-of (c .before .before .before .scaled .ok))) at (sym (c .before .repeated .ensures) ∙ c .if2 .taken) in
-    rw (sym (c .before .before .before .before .before .line-fault .ensures), eq-eqb _ 0 (c .before .before .before .before .if1 .left), sym (c .before .before .before .scaled .ensures), e)
+    let e = rw (toZ-ofZ (sfits-of (c .before .before .scaled .ok))) at (sym (c .before .said-before .ensures) ∙ c .if2 .taken) in
+    rw (sym (c .before .before .before .before .line-fault .ensures), eq-eqb _ 0 (c .before .before .before .if1 .left), sym (c .before .before .scaled .ensures), e)
 
 returns-3 : tie.Need-returns-3
 unfolding judgeLine
 returns-3 c =
-    let e = rw (toZ-ofZ (sfits-of (c .before .before .before .before .scaled .ok))) at (sym (c .before .before .repeated .ensures) ∙ c .before .if2 .left) in
-    rw (sym (c .before .before .before .before .before .before .line-fault .ensures), eq-eqb _ 0 (c .before .before .before .before .before .if1 .left), sym (c .before .before .before .before .scaled .ensures), e, le-leb 4096 _ (c .if3 .taken))
+    let e = rw (toZ-ofZ (sfits-of (c .before .before .before .scaled .ok))) at (sym (c .before .before .said-before .ensures) ∙ c .before .if2 .left) in
+    rw (sym (c .before .before .before .before .before .line-fault .ensures), eq-eqb _ 0 (c .before .before .before .before .if1 .left), sym (c .before .before .before .scaled .ensures), e, all-lines _ _ (c .before .before .before .before .before .before .before .pre .0 .1), le-leb 4096 _ (c .if3 .taken))
 
 returns-4 : tie.Need-returns-4
 unfolding judgeLine
 returns-4 c =
-    let e = rw (toZ-ofZ (sfits-of (c .before .before .before .before .scaled .ok))) at (sym (c .before .before .repeated .ensures) ∙ c .before .if2 .left) in
-    rw (sym (c .before .before .before .before .before .before .line-fault .ensures), eq-eqb _ 0 (c .before .before .before .before .before .if1 .left), sym (c .before .before .before .before .scaled .ensures), e, lt-leb 4096 _ (c .if3 .left), toZ-ofZ (sfits-of (c .before .before .before .before .scaled .ok)))
+    let e = rw (toZ-ofZ (sfits-of (c .before .before .before .scaled .ok))) at (sym (c .before .before .said-before .ensures) ∙ c .before .if2 .left) in
+    rw (sym (c .before .before .before .before .before .line-fault .ensures), eq-eqb _ 0 (c .before .before .before .before .if1 .left), sym (c .before .before .before .scaled .ensures), e, all-lines _ _ (c .before .before .before .before .before .before .before .pre .0 .1), lt-leb 4096 _ (c .if3 .left), toZ-ofZ (sfits-of (c .before .before .before .scaled .ok)))
 
 pub judge-line-spec : {M : Type 1} → statement M
 judge-line-spec =
     tie.close
-    (tie.spec (λ c κs. search needs) returns scaled-requires repeated-requires returns-2 returns-3 returns-4)
+    (tie.spec (λ c κs. search needs) returns scaled-requires said-before-requires returns-2 returns-3 returns-4)

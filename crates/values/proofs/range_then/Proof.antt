@@ -1,30 +1,25 @@
 use mathlib.Core.Path.{_≡_, refl, _∙_, sym}
-use Rattle.values.specs.Block.{rangeThen}
 use borrow.Author.Needs.{needs}
+use Rattle.values.specs.Line.{listedOf}
+use Rattle.values.specs.Block.{rangeThen}
+use Rattle.values.proofs.Lists.{stored-none, stored-not}
 use Rattle.values.proofs.range_then.Statement.{statement}
 use Rattle.values.proofs.range_then.Tie as tie
 
 returns : tie.Need-returns
 unfolding rangeThen
-returns c = (
-  rw (c .before .before .before .before .before .before .before .r2 .given .1, sym (c .before .before .before .before .before .notes-on .ensures), c .before .before .before .before .if1 .taken, sym (c .before .before .before .value-here .ensures)) (c .before .read-lines .ensures .0),
-  rw (c .before .before .before .before .before .before .before .r2 .given .1, sym (c .before .before .before .before .before .notes-on .ensures), c .before .before .before .before .if1 .taken, sym (c .before .before .before .value-here .ensures)) (c .before .read-lines .ensures .1),
-)
+returns c = rw (c .before .before .before .before .before .before .before .before .before .before .r2 .given .1, sym (c .before .before .before .before .before .before .before .before .notes-on .ensures), c .before .before .before .before .before .before .before .if1 .taken, sym (c .before .before .before .before .before .before .value-here .ensures)) (c .before .before .before .read-lines .ensures)
 
 returns-2 : tie.Need-returns-2
-unfolding rangeThen
-returns-2 c = (
-  rw (c .before .r .given .1) (refl),
-  rw (c .before .r .given .1) (refl),
-)
+unfolding rangeThen listedOf
+returns-2 c = rw (c .before .r .given .1) (refl, stored-not _ _ _ _)
 
 returns-3 : tie.Need-returns-3
 unfolding rangeThen
-returns-3 c = (
-  rw (c .before .before .before .before .before .before .before .before .r2 .given .1, sym (c .before .before .before .before .before .before .notes-on .ensures), c .before .before .before .before .before .if1 .left, sym (c .before .before .before .word-here .ensures), sym (c .before .word-on .ensures)) (c .close-block .ensures),
-  rw (c .before .before .before .before .before .before .before .before .r2 .given .1, c .before .before .before .before .before .if1 .left),
-)
+returns-3 c =
+    rw (c .before .before .before .before .before .before .before .before .r2 .given .1, sym (c .before .before .before .before .before .before .notes-on .ensures), c .before .before .before .before .before .if1 .left, sym (c .before .before .before .word-here .ensures), sym (c .before .word-on .ensures))
+    (c .close-block .ensures, stored-none _ _ _ _)
 
 pub range-then-spec : {M : Type 1} → statement M
 range-then-spec =
-    tie.close (tie.spec (λ c. search needs) (λ c. search needs) (λ c κs. search needs) (λ c κs. search needs) (λ c κs. search needs) (λ c. search needs) returns (λ c. search needs) (λ c κs. search needs) (λ c. search needs) (λ c κs. search needs) (λ c κs. search needs) returns-2 returns-3)
+    tie.close (tie.spec (λ c. search needs) (λ c. search needs) (λ c κs. search needs) (λ c κs. search needs) (λ c κs. search needs) (λ c. search needs) (λ c. search needs) returns (λ c. search needs) (λ c κs. search needs) (λ c. search needs) (λ c κs. search needs) (λ c κs. search needs) returns-2 returns-3)

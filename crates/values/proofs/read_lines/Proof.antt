@@ -1,65 +1,56 @@
--- `values::read_lines` meets its contract. The invariant: the lines from here on end as all of them do, and no line of the block
--- lies above the top.
+-- `values::read_lines` meets its contract. The invariant: there are lines, which stand in the room behind the first ones and have left
+-- their marks, and what comes from here on, behind them, ends as all of them do.
 use mathlib.Core.Path.{_≡_, refl, _∙_, sym, ap}
-use Prim.Native.Nat.{_+_, _-_, _≤_, _<_}
-use lib.ListN.{length}
+use Prim.Native.Nat.{_-_}
 use native.Mathlib.Omega.{arith}
 use borrow.Author.Needs.{needs}
-use Rattle.values.specs.Line.{Topped, stateOf, linesFrom}
-use Rattle.values.proofs.Lists.{topped-none, turn-more, lines-more, lines-over, lines-not}
+use Rattle.values.specs.Line.{stateOf}
+use Rattle.values.proofs.Lists.{Ran, none-held, marked-here, went-more, went-over, turned-not, lines-more, lines-done, listed-over, listed-not}
 use Rattle.values.proofs.read_lines.Statement.{statement}
 use Rattle.values.proofs.read_lines.Tie as tie
 
 abbrev Inv-loop : tie.InvT-loop
-Inv-loop classes d quantity first lines₀ amount₀ block₀ last₀ lines amount block last =
-    (linesFrom d quantity first (stateOf amount₀ block₀ last₀ lines₀) ≡ linesFrom d quantity first (stateOf amount block last lines))
-    × (length lines ≡ 16384)
-    × (first ≤ last)
-    × (last ≤ 4096)
-    × Topped lines first last (block .top)
+Inv-loop classes d quantity first lines₀ marks₀ stamp amount₀ block₀ last₀ lines marks amount block last =
+    Ran d quantity first stamp lines₀ amount₀ block₀ lines marks amount block last
 
 abbrev μ-loop : tie.MeasureT-loop
-μ-loop classes d quantity first lines₀ amount₀ block₀ last₀ lines amount block last = 4096 - last
+μ-loop classes d quantity first lines₀ marks₀ stamp amount₀ block₀ last₀ lines marks amount block last = 4096 - last
 
 loop-holds : tie.Need-loop-holds Inv-loop μ-loop
-loop-holds c = (refl, c .before .pre .1 .1 .0, omega arith, omega arith, topped-none _ _ _)
+loop-holds c =
+    let p = c .before .before .pre .1 .1 in
+    record { lines = _; same = refl; holds = none-held _ _ _ _ (p .1) (p .0) (p .2) }
 
 one-line-requires : tie.Need-one-line-requires Inv-loop μ-loop
 one-line-requires c κs =
-    let i = c .before .loop .inv in
-    (c .before .before .before .pre .0, (c .before .before .before .pre .1 .0, ((i .1, i .2, i .3), i .4)))
-
-add-last : tie.Need-add-last Inv-loop μ-loop
-add-last c = omega arith
-
-loop-less : tie.Need-loop-less Inv-loop μ-loop
-loop-less c =
-    let i = c .before .before .before .before .before .before .loop .inv in
-    let o = turn-more _ _ _ _ (i .1) (i .2) (i .4) (sym (c .before .before .before .before .one-line .ensures .0) ∙ c .before .x .given .1) in
-    omega (arith, o .more)
+    let h = c .before .before .loop .inv .holds in
+    (c .before .before .before .before .before .pre .0, (c .before .before .before .before .before .pre .1 .0, ((h .kept, omega (arith, h .count), h .most, h .slots), marked-here h)))
 
 loop-again : tie.Need-loop-again Inv-loop μ-loop
 loop-again c =
-    let i = c .before .before .before .before .before .before .loop .inv in
-    let o = turn-more _ _ _ _ (i .1) (i .2) (i .4) (sym (c .before .before .before .before .one-line .ensures .0) ∙ c .before .x .given .1) in (
-      i .0 ∙ lines-more _ _ _ _ (c .before .before .before .before .one-line .ensures .0) (c .before .before .before .before .one-line .ensures .1) (c .before .x .given .1),
-      ap length (c .before .before .before .before .one-line .ensures .1) ∙ o .kept,
-      omega arith,
-      omega (arith, o .more),
-      rw (c .before .before .before .before .one-line .ensures .1) (o .topped),
-    )
+    let i = c .before .before .before .before .before .before .before .before .before .loop .inv in
+    let e = c .before .before .before .before .before .before .one-line .ensures in
+    let o = went-more _ _ _ _ _ (i .holds) (e .0) (e .1 .0) (e .1 .1) (c .before .x .given .1) in
+    record { lines = _; same = i .same ∙ lines-more _ _ _ _ (o .step); holds = o .holds }
+
+loop-less : tie.Need-loop-less Inv-loop μ-loop
+loop-less c =
+    let i = c .before .before .before .before .before .before .before .before .before .loop .inv in
+    let e = c .before .before .before .before .before .before .one-line .ensures in
+    let o = went-more _ _ _ _ _ (i .holds) (e .0) (e .1 .0) (e .1 .1) (c .before .x .given .1) in
+    omega (arith, o .more)
 
 returns : tie.Need-returns Inv-loop μ-loop
 returns c =
-    let i = c .before .before .before .before .before .before .loop .inv in
-    let e = i .0 ∙ lines-over _ _ _ _ (c .before .before .before .before .one-line .ensures .0) (c .before .before .before .before .one-line .ensures .1) (c .before .y .given .1) in
-    (sym (ap (λ p. p .0) e), sym (ap (λ p. p .1) e))
+    let i = c .before .before .before .before .before .before .before .before .before .loop .inv in
+    let e = c .before .before .before .before .before .before .one-line .ensures in
+    let o = went-over _ _ _ _ _ (i .holds) (e .0) (e .1 .0) (e .1 .1) (c .before .y .given .1) in
+    listed-over (i .same ∙ lines-done _ _ _ _ (o .step)) (o .holds)
 
 returns-2 : tie.Need-returns-2 Inv-loop μ-loop
 returns-2 c =
-    let i = c .before .before .before .before .before .before .loop .inv in
-    let e = i .0 ∙ lines-not _ _ _ _ (c .before .before .before .before .one-line .ensures .0) (c .before .before .before .before .one-line .ensures .1) (c .before .f .given .1) in
-    (sym (ap (λ p. p .0) e), sym (ap (λ p. p .1) e))
+    let i = c .before .before .before .before .before .before .before .before .before .loop .inv in
+    listed-not _ _ _ (i .same ∙ lines-done _ _ _ _ (turned-not _ _ _ _ _ (i .holds) (sym (c .before .f .given .1) ∙ c .before .before .before .before .before .before .one-line .ensures .0)))
 
 pub read-lines-spec : {M : Type 1} → statement M
 read-lines-spec =
@@ -70,13 +61,15 @@ read-lines-spec =
     loop-holds
     one-line-requires
     (λ c. search needs)
-    add-last
+    (λ c. omega (arith, c .before .before .before .before .before .before .before .before .before .loop .inv .holds .most))
     loop-less
     loop-again
     (λ c. search needs)
-    (λ c. omega arith)
+    (λ c. omega (arith, c .before .before .before .before .before .before .before .before .before .loop .inv .holds .most))
+    (λ c. search needs)
     (λ c. search needs)
     returns
+    (λ c. search needs)
     (λ c. search needs)
     (λ c. search needs)
     returns-2)

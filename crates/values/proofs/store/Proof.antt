@@ -15,7 +15,7 @@ returns c =
       toZ-ofZ (sfits-of (c .before .before .before .before .before .cell-of2 .ok)),
       toZ-ofZ (sfits-of (c .before .before .before .before .cell-of3 .ok)),
     )
-    (rw (c .before .before .before .before .before .before .cell-of .ensures, c .before .before .before .before .before .cell-of2 .ensures, c .before .before .before .before .cell-of3 .ensures))
+    (rw (c .before .before .before .before .before .before .cell-of .ensures, c .before .before .before .before .before .cell-of2 .ensures, c .before .before .before .before .cell-of3 .ensures, c .before .before .before .before .before .before .before .before .pre .1 .1))
 
 pub store-spec : {M : Type 1} → statement M
 store-spec =

@@ -1,21 +1,17 @@
 use mathlib.Core.Path.{_∙_, sym}
-use Rattle.variables.specs.Rest.{joinNothing}
 use borrow.Author.Needs.{needs}
+use Rattle.variables.specs.Rest.{joinNothing, restedOf}
+use Rattle.variables.proofs.Tellings.{rested-none}
 use Rattle.variables.proofs.join_nothing.Statement.{statement}
 use Rattle.variables.proofs.join_nothing.Tie as tie
 
 returns : tie.Need-returns
 unfolding joinNothing
-returns c =
-    rw (
-      c .before .before .t .given .1,
-      sym (c .empty-block .ensures),
-    )
+returns c = rw (c .before .before .t .given .1, c .empty-block .ensures) (rested-none _ _ _)
 
 returns-2 : tie.Need-returns-2
-unfolding joinNothing
-returns-2 c =
-    rw (c .before .t2 .given .1)
+unfolding joinNothing restedOf
+returns-2 c = rw (c .before .t2 .given .1)
 
 pub join-nothing-spec : {M : Type 1} → statement M
 join-nothing-spec =
