@@ -23,9 +23,13 @@ use Rattle.values.specs.Value.{formOf, largeOf, trueOf}
 use Rattle.values.specs.Line.{repeatedIn, lineFault}
 use Rattle.values.specs.Room.{roomAt, slotOf, Marked}
 
-or-none : (a b : Bool) → (a || b) ≡ false → a ≡ false
+pub or-none : (a b : Bool) → (a || b) ≡ false → a ≡ false
 or-none true b e = holds-not refl e
 or-none false b e = refl
+
+pub or-neither : (a b : Bool) → (a || b) ≡ false → b ≡ false
+or-neither true b e = holds-not refl e
+or-neither false b e = e
 
 pub slot-small : (z : ℤ) → slotOf z < 16384
 unfolding slotOf
