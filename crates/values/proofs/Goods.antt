@@ -3,11 +3,11 @@ use mathlib.Core.Path.{_≡_, refl, _∙_, sym, ap}
 use mathlib.Core.Logic.{_⊎_, inl, inr, ⊎-elim}
 use mathlib.Core.Bool.{Bool, true, false, cond, not, _&&_, _||_}
 use mathlib.Core.List.{List, [], _∷_, _++_}
-use Prim.Native.Nat.{ℕ, zero, suc, _+_, _*_, _-_, _≤_, _<_}
+use Prim.Native.Nat.{ℕ, zero, suc, _+_, _-_, _≤_, _<_}
 use native.Mathlib.Nat.{eq-or-lt-of-le}
 use native.Mathlib.Omega.{arith}
-use lib.Dec.{ltb, leb, eqb}
-use lib.IntN.{ℤ, pos, negsuc, negℤ}
+use lib.Dec.{ltb, eqb}
+use lib.IntN.{ℤ, pos, negsuc}
 use lib.ListN.{length}
 use lib.Signed.{leZ, ltZ}
 use borrow.Author.Tests.{ltb-true, ltb-false, le-leb, not-true}
@@ -49,7 +49,7 @@ use Rattle.values.specs.Range.{limitRange, judgeRange, settled, rangedOf
 use Rattle.values.specs.Line.{Given, Is, Not, lineRest, numberOn, numberAt, repeatedIn, lineFault, judgeLine, grownBy, endOf, endOr, moreOf, Listing, stateOf, after, judgedStep, readStep, lineStep, linesFrom}
 use Rattle.values.specs.Block.{emptyBlock, closedBy, rangeThen, toOr, valuesOn}
 use Rattle.values.specs.Good.{least, most, Limited, GoodBlock, GoodLine, EachGood, none, more, GoodLines, GoodValues}
-use Rattle.values.proofs.Facts.{or-none, or-neither}
+use Rattle.values.proofs.Facts.{or-none, or-neither, sound-value}
 use Rattle.values.proofs.Rooms.{count-more, number-before, number-last}
 use Rattle.values.proofs.Lists.{good-line, line-value, line-good}
 
@@ -302,15 +302,6 @@ module _ (d : List ℕ) (quantity : Bool) (first : ℕ) (h : length d ≤ 104857
     by (Taken m) = ends (wordOn d (At m) VALUES)
     by Left = on (record { value = value-genuine d (notesOn d (At n)); block = gb; lines = gl })
 
-  fault-none : (b : Block) (v : Value) → lineFault quantity b v ≡ 0 → (formOf quantity v ≡ true) × (largeOf quantity v ≡ false)
-  unfolding lineFault
-  fault-none b v = by (formOf quantity v) (b .known && not (eqb (v .decimals) (b .decimals))) (largeOf quantity v) where
-    by : (x y z : Bool) → _≡_ {A = ℕ} (cond x (cond y 6 (cond z 8 0)) 6) 0 → (x ≡ true) × (z ≡ false)
-    by false y z e = absurd (omega arith)
-    by true true z e = absurd (omega arith)
-    by true false true e = absurd (omega arith)
-    by true false false e = (refl, refl)
-
   step-keeps : (l : Listing) → Sofar l → Keeps (lineStep d quantity first l)
   unfolding lineStep
   step-keeps l k = by (lineRest d (l .amount)) refl where
@@ -318,7 +309,7 @@ module _ (d : List ℕ) (quantity : Bool) (first : ℕ) (h : length d ≤ 104857
     judge s (Good z) j i =
         let t = good-line (numberAt (l .lines)) (length (l .lines)) first quantity (l .block) (s .value) i in
         let g = k .value (s .value) (line-value d (l .amount) s j) in
-        let w = fault-none (l .block) (s .value) (t .sound) in
+        let w = sound-value quantity (l .block) (s .value) (t .sound) in
         let f = fits d quantity (s .value) g (w .0) (w .1) in
         more-keeps (grownBy (l .block) (s .value)) (l .lines ++ s ∷ []) (s .next)
         (grown-good quantity (l .block) (s .value) (k .block) g f)
