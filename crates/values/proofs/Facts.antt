@@ -23,9 +23,13 @@ use Rattle.values.specs.Value.{formOf, largeOf, trueOf}
 use Rattle.values.specs.Line.{repeatedIn, lineFault}
 use Rattle.values.specs.Room.{roomAt, slotOf, Marked}
 
-or-none : (a b : Bool) → (a || b) ≡ false → a ≡ false
+pub or-none : (a b : Bool) → (a || b) ≡ false → a ≡ false
 or-none true b e = holds-not refl e
 or-none false b e = refl
+
+pub or-neither : (a b : Bool) → (a || b) ≡ false → b ≡ false
+or-neither true b e = holds-not refl e
+or-neither false b e = e
 
 pub slot-small : (z : ℤ) → slotOf z < 16384
 unfolding slotOf
@@ -148,12 +152,12 @@ marked-more f n stamp marks z h e m = record { left = λ i k. go i (eqb (slotOf 
         (λ l. getD-set-other marks (slotOf z) (slotOf (f i)) stamp 0 (eqb-false (slotOf (f i)) (slotOf z) q) ∙ m .left i l)
         c
 
--- a line with nothing wrong is not too large
-pub sound-small : (quantity : Bool) (b : Block) (v : Value) → lineFault quantity b v ≡ 0 → largeOf quantity v ≡ false
+-- a line with nothing wrong has form, and is not too large
+pub sound-value : (quantity : Bool) (b : Block) (v : Value) → lineFault quantity b v ≡ 0 → (formOf quantity v ≡ true) × (largeOf quantity v ≡ false)
 unfolding lineFault
-sound-small quantity b v = by (formOf quantity v) (b .known && not (eqb (v .decimals) (b .decimals))) (largeOf quantity v) where
-  by : (x y z : Bool) → _≡_ {A = ℕ} (cond x (cond y 6 (cond z 8 0)) 6) 0 → z ≡ false
+sound-value quantity b v = by (formOf quantity v) (b .known && not (eqb (v .decimals) (b .decimals))) (largeOf quantity v) where
+  by : (x y z : Bool) → _≡_ {A = ℕ} (cond x (cond y 6 (cond z 8 0)) 6) 0 → (x ≡ true) × (z ≡ false)
   by false y z e = absurd (omega arith)
   by true true z e = absurd (omega arith)
   by true false true e = absurd (omega arith)
-  by true false false e = refl
+  by true false false e = (refl, refl)

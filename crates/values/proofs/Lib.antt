@@ -1,3 +1,4 @@
 pub mod Facts
 pub mod Rooms
 pub mod Lists
+pub mod Goods

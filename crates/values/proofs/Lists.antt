@@ -8,7 +8,7 @@ use native.Mathlib.Omega.{arith}
 use lib.Dec.{leb, eqb}
 use lib.IntN.{ℤ}
 use lib.ListN.{length, set, length-set}
-use borrow.Author.Tests.{leb-false}
+use borrow.Author.Tests.{leb-false, eqb-true}
 use Rattle.cells.specs.Cell.{cell, pasted, paste-more, paste-none}
 use Rattle.scan.specs.Loop.{Next, Again, Done}
 use Rattle.scan.proofs.Loops.{loop-again, loop-done}
@@ -41,48 +41,67 @@ use Rattle.values.specs.declared.Listed.the-variants as listed
 use Rattle.values.specs.Line.{Given, Is, Not, saidOf, specialOr, lineRest, numberOn, numberAt, repeatedIn, lineFault, judgeLine, grownBy, lineCells, cellsOf, moreOf, Listing, stateOf, after, judgedStep, readStep, lineStep, linesFrom, listedOf, Stored}
 use Rattle.values.specs.Block.{closedBy}
 use Rattle.values.specs.Room.{roomAt, slotOf, Marked, storable, judgedTurn, judgedRoom, judgedMarks, Standing, standAt, judgedAt, readTurn, readRoom, readMarks, turnOf, roomAfter, marksAfter}
+use Rattle.values.specs.Good.{GoodLine}
 use Rattle.values.proofs.Facts.{repeated-alike, marked-more}
 use Rattle.values.proofs.Rooms.{line-length, cells-length, cells-more, count-more, number-before, number-last, length-pasted, room-number}
 
--- ---- a line that stands: it says the number that was read, and it is no 4,097th
-module _ (f : ℕ → ℤ) (n first : ℕ) (quantity : Bool) (b : Block) (v : Value) {z : ℤ} where
-  pub good-line : judgeLine f n first quantity b v ≡ Good z → (z ≡ scaledOf v) × (first + n < 4096)
-  unfolding judgeLine
-  good-line = by (eqb (lineFault quantity b v) 0) (repeatedIn f n (scaledOf v)) (leb 4096 (first + n)) refl where
-    by : (x y w : Bool) → leb 4096 (first + n) ≡ w → cond x (cond y (Bad (fault 6 (v .place))) (cond w (Bad (fault 8 (v .place))) (Good (scaledOf v)))) (Bad (fault (lineFault quantity b v) (v .place))) ≡ Good z → (z ≡ scaledOf v) × (first + n < 4096)
-    by false y w g e = let z : _≡_ {A = ℕ} 0 1 = cc in absurd (omega arith)
-    by true true w g e = let z : _≡_ {A = ℕ} 0 1 = cc in absurd (omega arith)
-    by true false true g e = let z : _≡_ {A = ℕ} 0 1 = cc in absurd (omega arith)
-    by true false false g e = (cc, leb-false 4096 (first + n) g)
+-- ---- a line that stands: it says the number that was read, nothing is wrong with that, it repeats none, and it is no 4,097th
+pub record Stands (f : ℕ → ℤ) (n first : ℕ) (quantity : Bool) (b : Block) (v : Value) (z : ℤ) : Type 0 where
+  pub says : z ≡ scaledOf v
+  pub sound : lineFault quantity b v ≡ 0
+  pub fresh : repeatedIn f n (scaledOf v) ≡ false
+  pub few : first + n < 4096
+
+pub good-line : (f : ℕ → ℤ) (n first : ℕ) (quantity : Bool) (b : Block) (v : Value) {z : ℤ} → judgeLine f n first quantity b v ≡ Good z → Stands f n first quantity b v z
+unfolding judgeLine
+good-line f n first quantity b v {z} = by (eqb (lineFault quantity b v) 0) (repeatedIn f n (scaledOf v)) (leb 4096 (first + n)) refl refl refl where
+  by : (x y w : Bool) → eqb (lineFault quantity b v) 0 ≡ x → repeatedIn f n (scaledOf v) ≡ y → leb 4096 (first + n) ≡ w → cond x (cond y (Bad (fault 6 (v .place))) (cond w (Bad (fault 8 (v .place))) (Good (scaledOf v)))) (Bad (fault (lineFault quantity b v) (v .place))) ≡ Good z → Stands f n first quantity b v z
+  by false y w h k g e = let z : _≡_ {A = ℕ} 0 1 = cc in absurd (omega arith)
+  by true true w h k g e = let z : _≡_ {A = ℕ} 0 1 = cc in absurd (omega arith)
+  by true false true h k g e = let z : _≡_ {A = ℕ} 0 1 = cc in absurd (omega arith)
+  by true false false h k g e = record { says = cc; sound = eqb-true (lineFault quantity b v) 0 h; fresh = k; few = leb-false 4096 (first + n) g }
 
 -- a line is judged by the numbers of those before it
 pub judge-alike : (f g : ℕ → ℤ) (n first : ℕ) (quantity : Bool) (b : Block) (v : Value) → ((i : ℕ) → i < n → f i ≡ g i) → judgeLine f n first quantity b v ≡ judgeLine g n first quantity b v
 unfolding judgeLine
 judge-alike f g n first quantity b v h = rw (repeated-alike f g n (scaledOf v) h)
 
--- ---- what a line says fits the table
+-- ---- what a line says: its value is the one that stood there, and the rest fits the table
 abbrev said : Value → Quoted → ℕ → ℕ → Said
 said v q n m = record { value = v; text = q; special = n; next = m }
 
-said-text : (a : Amount) (q : Phrase) (n : ℕ) (end : Reading) (s : Said) → saidOf a q n end ≡ lined.Is s → (q ≡ phrase.Is (s .text)) × (s .special ≡ n)
+said-parts : (a : Amount) (q : Phrase) (n : ℕ) (end : Reading) (s : Said) → saidOf a q n end ≡ lined.Is s → (a ≡ amount.Is (s .value)) × (q ≡ phrase.Is (s .text)) × (s .special ≡ n)
 unfolding saidOf
-said-text (amount.Not f) q n end s e = let z : _≡_ {A = ℕ} 0 1 = cc in absurd (omega arith)
-said-text (amount.Is v) (phrase.Not f) n end s e = let z : _≡_ {A = ℕ} 0 1 = cc in absurd (omega arith)
-said-text (amount.Is v) (phrase.Is q) n (Refused f) s e = let z : _≡_ {A = ℕ} 0 1 = cc in absurd (omega arith)
-said-text (amount.Is v) (phrase.Is q) n (At m) s e = let j : said v q n m ≡ s = cc in rw (← j) (refl, refl)
+said-parts (amount.Not f) q n end s e = let z : _≡_ {A = ℕ} 0 1 = cc in absurd (omega arith)
+said-parts (amount.Is v) (phrase.Not f) n end s e = let z : _≡_ {A = ℕ} 0 1 = cc in absurd (omega arith)
+said-parts (amount.Is v) (phrase.Is q) n (Refused f) s e = let z : _≡_ {A = ℕ} 0 1 = cc in absurd (omega arith)
+said-parts (amount.Is v) (phrase.Is q) n (At m) s e = let j : said v q n m ≡ s = cc in rw (← j) (refl, refl, refl)
+
+module _ (d : List ℕ) (a : Amount) (s : Said) where
+  pub line-value : lineRest d a ≡ lined.Is s → a ≡ amount.Is (s .value)
+  unfolding lineRest
+  line-value = by (choiceOf d (gapOn d (pastString (stringOn d (pastValue a)))) SPECIAL) where
+    by : (k : Choice) → specialOr a (stringOn d (pastValue a)) (gapOn d (pastString (stringOn d (pastValue a)))) k ≡ lined.Is s → a ≡ amount.Is (s .value)
+    by (Taken m) e = said-parts a (stringOn d (pastValue a)) 1 (At m) s e .0
+    by Left e = said-parts a (stringOn d (pastValue a)) 0 (gapOn d (pastString (stringOn d (pastValue a)))) s e .0
 
 module _ (d : List ℕ) (a : Amount) (s : Said) (h : length d ≤ 1048576) where
-  within : (q : Phrase) (n : ℕ) → q ≡ stringOn d (pastValue a) → n ≤ 1 → (q ≡ phrase.Is (s .text)) × (s .special ≡ n) → storable s
+  within : (q : Phrase) (n : ℕ) → q ≡ stringOn d (pastValue a) → n ≤ 1 → (a ≡ amount.Is (s .value)) × (q ≡ phrase.Is (s .text)) × (s .special ≡ n) → GoodLine s
   within q n e l p =
-      let k = quoted-within d (pastValue a) (s .text) (sym e ∙ p .0) in
-      record { special = omega (arith, p .1); place = omega (arith, k .0); length = omega (arith, k .1) }
+      let k = quoted-within d (pastValue a) (s .text) (sym e ∙ p .1) in
+      record { special = omega (arith, p .2); text-place = omega (arith, k .0); text-length = omega (arith, k .1) }
+
+  pub line-good : lineRest d a ≡ lined.Is s → GoodLine s
+  unfolding lineRest
+  line-good = by (choiceOf d (gapOn d (pastString (stringOn d (pastValue a)))) SPECIAL) where
+    by : (k : Choice) → specialOr a (stringOn d (pastValue a)) (gapOn d (pastString (stringOn d (pastValue a)))) k ≡ lined.Is s → GoodLine s
+    by (Taken m) e = within (stringOn d (pastValue a)) 1 refl (omega arith) (said-parts a (stringOn d (pastValue a)) 1 (At m) s e)
+    by Left e = within (stringOn d (pastValue a)) 0 refl (omega arith) (said-parts a (stringOn d (pastValue a)) 0 (gapOn d (pastString (stringOn d (pastValue a)))) s e)
 
   pub line-storable : lineRest d a ≡ lined.Is s → storable s
-  unfolding lineRest
-  line-storable = by (choiceOf d (gapOn d (pastString (stringOn d (pastValue a)))) SPECIAL) where
-    by : (k : Choice) → specialOr a (stringOn d (pastValue a)) (gapOn d (pastString (stringOn d (pastValue a)))) k ≡ lined.Is s → storable s
-    by (Taken m) e = within (stringOn d (pastValue a)) 1 refl (omega arith) (said-text a (stringOn d (pastValue a)) 1 (At m) s e)
-    by Left e = within (stringOn d (pastValue a)) 0 refl (omega arith) (said-text a (stringOn d (pastValue a)) 0 (gapOn d (pastString (stringOn d (pastValue a)))) s e)
+  line-storable e =
+      let g = line-good e in
+      record { special = omega (arith, g .special); place = omega (arith, g .text-place); length = omega (arith, g .text-length) }
 
 -- ---- where the code stands, beside the list of lines that the definition has
 pub record Holds (first : ℕ) (start room : List ℤ) (stamp : ℕ) (marks : List ℕ) (last : ℕ) (l : List Said) : Type 0 where
@@ -165,12 +184,12 @@ module _ (d : List ℕ) (quantity : Bool) (first : ℕ) (a : Amount) (b : Block)
     judged : (s : Said) (v : Verdict) → lineRest d a ≡ lined.Is s → judgedAt quantity first at s ≡ v → t ≡ judgedTurn d b s v → ((f : Fault) → t ≡ turn.Not f → ⊥) → Onward d quantity first start (judgedRoom room last s v) stamp (judgedMarks marks stamp v) last (stateOf a b l) t
     judged s (Good z) j i e n =
         let g = good-line (roomAt room first) (last - first) first quantity b (s .value) i in
-        let k : last < 4096 = omega (arith, g .1, so-far h, h .count) in
+        let k : last < 4096 = omega (arith, g .few, so-far h, h .count) in
         record {
           line = s;
           more = k;
           step = rw (j, sym (judged-here h quantity b (s .value)) ∙ i, e);
-          holds = rw (g .0) (one-more h s k);
+          holds = rw (g .says) (one-more h s k);
         }
     judged s (Bad f) j i e n = absurd (n f e)
 
@@ -214,7 +233,7 @@ module _ (d : List ℕ) (quantity : Bool) (first : ℕ) where
     on s (turn.Not f) h e = let z : _≡_ {A = ℕ} 0 1 = cc in absurd (omega arith)
 
     judged : (s : Said) (v : Verdict) → judgeLine (numberAt (l .lines)) (length (l .lines)) first quantity (l .block) (s .value) ≡ v → judgedStep d l s v ≡ Again m → left m < left l
-    judged s (Good z) i e = on s (moreOf d (grownBy (l .block) (s .value)) (s .next)) (good-line (numberAt (l .lines)) (length (l .lines)) first quantity (l .block) (s .value) i .1) e
+    judged s (Good z) i e = on s (moreOf d (grownBy (l .block) (s .value)) (s .next)) (good-line (numberAt (l .lines)) (length (l .lines)) first quantity (l .block) (s .value) i .few) e
     judged s (Bad f) i e = let z : _≡_ {A = ℕ} 0 1 = cc in absurd (omega arith)
 
     by : (r : Lined) → readStep d quantity first l r ≡ Again m → left m < left l

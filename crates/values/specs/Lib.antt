@@ -3,3 +3,4 @@ pub mod Range
 pub mod Line
 pub mod Room
 pub mod Block
+pub mod Good

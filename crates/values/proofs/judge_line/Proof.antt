@@ -5,7 +5,7 @@ use mir.Facts.{toZ-ofZ}
 use borrow.Author.Needs.{needs, sfits-of}
 use borrow.Author.Tests.{eq-eqb, ne-eqb, le-leb, lt-leb}
 use Rattle.values.specs.Line.{judgeLine}
-use Rattle.values.proofs.Facts.{sound-small}
+use Rattle.values.proofs.Facts.{sound-value}
 use Rattle.values.proofs.judge_line.Statement.{statement}
 use Rattle.values.proofs.judge_line.Tie as tie
 
@@ -14,7 +14,7 @@ unfolding judgeLine
 returns c = rw (sym (c .before .line-fault .ensures), ne-eqb _ 0 (c .if1 .taken))
 
 scaled-requires : tie.Need-scaled-requires
-scaled-requires c κs = sound-small _ _ _ (sym (c .before .line-fault .ensures) ∙ c .if1 .left)
+scaled-requires c κs = sound-value _ _ _ (sym (c .before .line-fault .ensures) ∙ c .if1 .left) .1
 
 said-before-requires : tie.Need-said-before-requires
 said-before-requires c κs = c .before .before .before .before .pre

@@ -19,7 +19,7 @@ store-requires : tie.Need-store-requires
 store-requires c κs =
     let p = c .before .before .before .before .before .before .before .before .before .before .pre .1 .0 in
     let g = good-line _ _ _ _ _ _ (sym (c .before .before .before .before .judge-line .ensures) ∙ c .before .before .z .given .1) in
-    ((omega (arith, g .1, p .0, p .1), p .2), (c .before .before .before .before .before .before .before .before .before .before .pre .1 .1 .1, z-back (c .before) ∙ g .0))
+    ((omega (arith, g .few, p .0, p .1), p .2), (c .before .before .before .before .before .before .before .before .before .before .pre .1 .1 .1, z-back (c .before) ∙ g .says))
 
 returns : tie.Need-returns
 returns c =
