@@ -1,2 +1,5 @@
 pub mod Heads
 pub mod Spreads
+pub mod Tellings
+pub mod Columns
+pub mod Entries
