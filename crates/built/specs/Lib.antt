@@ -1,0 +1,4 @@
+pub mod Same
+pub mod Standing
+pub mod Nth
+pub mod Cells
