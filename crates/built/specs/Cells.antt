@@ -1,25 +1,22 @@
 -- The numbers of a table that a survey's table was laid over: its header, its rows, its lines, and what stands behind them.
 use mathlib.Core.Path.{_≡_, refl, sym, ap, _∙_}
 use mathlib.Core.List.{List, [], _∷_, _++_, append-assoc}
-use Prim.Native.Nat.{ℕ, _+_, _*_, _-_, _≤_, _<_}
+use Prim.Native.Nat.{ℕ, _+_, _*_, _<_}
 use native.Mathlib.Omega.{arith}
 use lib.IntN.{ℤ, pos}
-use lib.ListN.{length, drop, length-append, length-drop}
-use lib.Seq.{getD-drop}
-use Rattle.cells.specs.Cell.{cell, countOf, pasted}
-use Rattle.layout.specs.Layout.{headerSize, rowSize, lineSize, rowBase, linesBase, lineBase, headerOf, columnsAt, lineAt}
-use Rattle.layout.specs.declared.Line.{Line}
+use lib.ListN.{length, drop, length-append}
+use Rattle.cells.specs.Cell.{countOf, pasted}
+use Rattle.layout.specs.Layout.{headerSize, rowSize, lineSize, rowBase, lineBase, headerOf, lineAt}
 use Rattle.rows.specs.Cells.{rowCells, headerCells}
-use Rattle.sound.specs.Sound.{columnsOf, valueAt, linesAt, finishAt, linesBefore, highestFinish}
+use Rattle.sound.specs.Sound.{columnsOf, valueAt}
 use Rattle.strides.specs.Stride.{strideAt}
 use Rattle.values.specs.Line.{numberAt, cellsOf}
-use Rattle.values.proofs.Rooms.{cells-length, cells-number, length-pasted}
-use Rattle.survey.specs.Survey.{Variable, linesIn, columnsIn, linesAll, highestIn, headerFor, rowsFrom, allLines, tableOf}
+use Rattle.values.proofs.Rooms.{cells-length, cells-number}
+use Rattle.survey.specs.Survey.{Variable, linesIn, columnsIn, linesAll, headerFor, rowsFrom, allLines, tableOf}
 use Rattle.survey.specs.Width.{fullColumns, widened, plainColumns}
-use Rattle.survey.specs.Good.{Good}
-use Rattle.survey.proofs.Snoc.{rows-length, lines-length, table-length}
+use Rattle.survey.proofs.Snoc.{rows-length, lines-length}
 use Rattle.built.specs.Standing.{Stands, inside, cell-there, columns-there, line-there}
-use Rattle.built.specs.Nth.{Nth, further, nth, sum-all, highest-all, lines-join}
+use Rattle.built.specs.Nth.{Nth}
 
 -- the table of a survey, laid over t
 abbrev pub laid : List ℤ → List Variable → List ℤ
@@ -53,10 +50,13 @@ module _ (t : List ℤ) {l : List Variable} {i : ℕ} (r : Nth l i) where
   row-stands : Stands (laid t l) (rowBase i) (rowCells (columnsIn (linesAll (r .before)) (r .variable)))
   unfolding tableOf rowsFrom headerCells
   row-stands =
+      let front = headerCells (headerFor l) in
+      let b = linesAll (r .before) in
+      let own = rowCells (columnsIn b (r .variable)) in
       let rows : Stands (laid t l) headerSize (rowsFrom 0 l) =
-      inside (table-stands t l) (headerCells (headerFor l)) (rowsFrom 0 l) (allLines l) headerSize (append-assoc (headerCells (headerFor l)) (rowsFrom 0 l) (allLines l)) refl in
-      let z : 0 + linesAll (r .before) ≡ linesAll (r .before) = omega arith in
-      inside rows (rowsFrom 0 (r .before)) (rowCells (columnsIn (linesAll (r .before)) (r .variable))) (rowsFrom (linesAll (r .before) + length (linesIn (r .variable))) (r .behind)) (rowBase i)
+      inside (table-stands t l) front (rowsFrom 0 l) (allLines l) headerSize (append-assoc front (rowsFrom 0 l) (allLines l)) refl in
+      let z : 0 + b ≡ b = omega arith in
+      inside rows (rowsFrom 0 (r .before)) own (rowsFrom (b + length (linesIn (r .variable))) (r .behind)) (rowBase i)
       (ap (rowsFrom 0) (r .is) ∙ rows-join 0 (r .before) (r .variable ∷ r .behind) ∙ rw z)
       (rw (rows-length 0 (r .before), r .here))
 
@@ -80,10 +80,19 @@ module _ (t : List ℤ) {l : List Variable} {i : ℕ} (r : Nth l i) where
       (ap (λ (s : List ℤ). front ++ s) e ∙ sym (append-assoc front (allLines (r .before)) (lines ++ allLines (r .behind))))
       (rw (length-append front (allLines (r .before)), lines-length (r .before), rows-length 0 l) (omega arith))
 
-  pub value-of : (k : ℕ) → k < length (linesIn (r .variable)) → valueAt (laid t l) (length l) (linesAll (r .before)) k ≡ numberAt (linesIn (r .variable)) k
-  value-of k h = cell-there lines-stand (4 * k) (omega (arith, cells-length (linesIn (r .variable)))) ∙ cells-number (linesIn (r .variable)) k h
+  pub value-of :
+      (k : ℕ)
+      → k < length (linesIn (r .variable))
+      → valueAt (laid t l) (length l) (linesAll (r .before)) k ≡ numberAt (linesIn (r .variable)) k
+  value-of k h =
+      cell-there lines-stand (lineSize * k) (omega (arith, cells-length (linesIn (r .variable))))
+      ∙ cells-number (linesIn (r .variable)) k h
 
-  pub line-of : (k : ℕ) → k < length (linesIn (r .variable)) → lineAt (laid t l) (lineBase (length l) (linesAll (r .before) + k)) ≡ lineAt (cellsOf (linesIn (r .variable))) (lineSize * k)
+  pub line-of :
+      (k : ℕ)
+      → k < length (linesIn (r .variable))
+      → lineAt (laid t l) (lineBase (length l) (linesAll (r .before) + k)) ≡ lineAt (cellsOf (linesIn (r .variable))) (lineSize * k)
   line-of k h =
-      let e : lineBase (length l) (linesAll (r .before) + k) ≡ lineBase (length l) (linesAll (r .before)) + 4 * k = omega arith in
-      rw e (line-there lines-stand (4 * k) (omega (arith, cells-length (linesIn (r .variable)))))
+      let b = linesAll (r .before) in
+      let e : lineBase (length l) (b + k) ≡ lineBase (length l) b + lineSize * k = omega arith in
+      rw e (line-there lines-stand (lineSize * k) (omega (arith, cells-length (linesIn (r .variable)))))

@@ -2,3 +2,5 @@ pub mod Same
 pub mod Standing
 pub mod Nth
 pub mod Cells
+pub mod Rows
+pub mod Built

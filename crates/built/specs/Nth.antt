@@ -1,14 +1,15 @@
 -- Each variable of a survey, with those before it and those behind it: what is known of it, and what these are in all.
 use mathlib.Core.Path.{_≡_, refl, sym, ap, _∙_}
-use mathlib.Core.Logic.{_⊎_, ⊎-elim}
+use mathlib.Core.Logic.{⊎-elim}
 use mathlib.Core.Bool.{Bool, true, false, _||_}
 use mathlib.Core.List.{List, [], _∷_, _++_, append-assoc}
-use Prim.Native.Nat.{ℕ, suc, _+_, _≤_, _<_, max}
+use Prim.Native.Nat.{ℕ, _+_, _≤_, _<_}
 use native.Mathlib.Nat.{eq-or-lt-of-le}
 use native.Mathlib.Omega.{arith}
+use borrow.Author.Tests.{ne-eqb, eqb-false}
 use lib.Dec.{eqb}
-use lib.ListN.{length, length-append}
-use Rattle.below.specs.Below.{sumBelow, sum-none, sum-more, maxBelow, max-none, max-more, or-true, holds-not}
+use lib.ListN.{length}
+use Rattle.below.specs.Below.{sumBelow, sum-none, sum-more, maxBelow, max-none, max-more, holds-not}
 use Rattle.layout.specs.Layout.{mostRows, mostLines}
 use Rattle.survey.specs.Survey.{Variable, linesIn, linesAll, highestIn, identMet}
 use Rattle.survey.specs.Good.{GoodVariable, Good}
@@ -40,7 +41,12 @@ further r s e = record {
 }
 
 -- the last one
-abbrev last : {l : List Variable} {v : Variable} → Good l → GoodVariable (linesAll l) v → identMet l (v .head .ident) ≡ false → Nth (added l v) (length l)
+abbrev last :
+    {l : List Variable} {v : Variable}
+    → Good l
+    → GoodVariable (linesAll l) v
+    → identMet l (v .head .ident) ≡ false
+    → Nth (added l v) (length l)
 last {l} {v} g w f = record { before = l; variable = v; behind = []; is = refl; here = refl; earlier = g; good = w; new = f }
 
 pub nth : {l : List Variable} → Good l → (i : ℕ) → i < length l → Nth l i
@@ -63,14 +69,24 @@ few-lines none = omega arith
 few-lines (more {l} {v} g w f few) = omega (arith, lines-with l v, w .few)
 
 -- ---- what is counted variable by variable
-pub sum-all : {l : List Variable} → Good l → (f : ℕ → ℕ) → ((i : ℕ) (r : Nth l i) → f i ≡ length (linesIn (r .variable))) → sumBelow (length l) f ≡ linesAll l
+pub sum-all :
+    {l : List Variable}
+    → Good l
+    → (f : ℕ → ℕ)
+    → ((i : ℕ) (r : Nth l i) → f i ≡ length (linesIn (r .variable)))
+    → sumBelow (length l) f ≡ linesAll l
 unfolding linesAll
 sum-all none f same = sum-none f
 sum-all (more {l} {v} g w e few) f same =
     let z : f (length l) ≡ length (linesIn v) = same (length l) (last g w e) in
     rw (length-with l v, lines-with l v, sum-more f (length l), sum-all g f (λ i r. same i (further r (v ∷ []) refl)), z)
 
-pub highest-all : {l : List Variable} → Good l → (f : ℕ → ℕ) → ((i : ℕ) (r : Nth l i) → f i ≡ r .variable .head .finish) → maxBelow (length l) f ≡ highestIn l
+pub highest-all :
+    {l : List Variable}
+    → Good l
+    → (f : ℕ → ℕ)
+    → ((i : ℕ) (r : Nth l i) → f i ≡ r .variable .head .finish)
+    → maxBelow (length l) f ≡ highestIn l
 unfolding highestIn
 highest-all none f same = max-none f
 highest-all (more {l} {v} g w e few) f same =
@@ -83,7 +99,10 @@ lines-join [] q = omega arith
 lines-join (v ∷ p) q = omega (arith, lines-join p q)
 
 -- ---- no ident twice
-not-met : (p : List Variable) (v : Variable) (q : List Variable) (n : ℕ) → identMet (p ++ v ∷ q) n ≡ false → eqb (v .head .ident) n ≡ false
+not-met :
+    (p : List Variable) (v : Variable) (q : List Variable) (n : ℕ)
+    → identMet (p ++ v ∷ q) n ≡ false
+    → eqb (v .head .ident) n ≡ false
 unfolding identMet
 not-met [] v q n e = go (eqb (v .head .ident) n) e
   where
@@ -97,5 +116,10 @@ not-met (w ∷ p) v q n e = not-met p v q n (go (eqb (w .head .ident) n) e)
     go false e = e
 
 -- the ident of a variable is that of none before it
-pub ident-new : {l : List Variable} {i j : ℕ} (r : Nth l i) (s : Nth (r .before) j) → eqb (s .variable .head .ident) (r .variable .head .ident) ≡ false
-ident-new r s = not-met (s .before) (s .variable) (s .behind) (r .variable .head .ident) (rw (← s .is) (r .new))
+pub ident-new :
+    {l : List Variable} {i j : ℕ} (r : Nth l i) (s : Nth (r .before) j)
+    → eqb (r .variable .head .ident) (s .variable .head .ident) ≡ false
+ident-new r s =
+    let m = r .variable .head .ident in
+    let n = s .variable .head .ident in
+    ne-eqb m n (λ e. eqb-false n m (not-met (s .before) (s .variable) (s .behind) m (rw (← s .is) (r .new))) (sym e))

@@ -1,10 +1,10 @@
 -- What is asked of the first n numbers of a row of numbers does not turn on any others.
 use mathlib.Core.Path.{_≡_, refl}
-use mathlib.Core.Bool.{Bool, true, false}
+use mathlib.Core.Bool.{true}
 use Prim.Native.Nat.{ℕ, zero, suc, _<_}
 use native.Mathlib.Omega.{arith}
 use lib.IntN.{ℤ}
-use Rattle.below.specs.Below.{allBelow, maxBelow, all-of, all-at}
+use Rattle.below.specs.Below.{maxBelow, all-of, all-at}
 use Rattle.strides.specs.Stride.{unlike, numberNew, allDiffer}
 use Rattle.layout.specs.declared.Kind.{Kind}
 use Rattle.widths.specs.Width.{fitsKind}

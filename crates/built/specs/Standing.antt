@@ -1,10 +1,10 @@
 -- Numbers that stand somewhere in a table: what a part of them is there; a row and a line read back from where they stand.
-use mathlib.Core.Path.{_≡_, refl, sym, ap, _∙_}
-use mathlib.Core.List.{List, [], _∷_, _++_, append-assoc}
-use Prim.Native.Nat.{ℕ, _+_, _*_, _≤_, _<_}
+use mathlib.Core.Path.{_≡_, ap, _∙_}
+use mathlib.Core.List.{List, _++_, append-assoc}
+use Prim.Native.Nat.{ℕ, _+_, _≤_, _<_}
 use native.Mathlib.Omega.{arith}
 use lib.IntN.{ℤ, pos}
-use lib.ListN.{length, getD, length-append, List·getD-append}
+use lib.ListN.{length, length-append, List·getD-append}
 use lib.Seq.{getD-append-add}
 use Rattle.cells.specs.Cell.{cell, countOf}
 use Rattle.layout.specs.Layout.{columnsAt, lineAt, lineSize}
@@ -19,7 +19,13 @@ pub record Stands (t : List ℤ) (at : ℕ) (s : List ℤ) : Type 0 where
   pub here : length front ≡ at
 
 -- so does a part of them
-pub inside : {t w : List ℤ} {at : ℕ} → Stands t at w → (a s b : List ℤ) (n : ℕ) → w ≡ a ++ (s ++ b) → at + length a ≡ n → Stands t n s
+pub inside :
+    {t w : List ℤ} {at : ℕ}
+    → Stands t at w
+    → (a s b : List ℤ) (n : ℕ)
+    → w ≡ a ++ (s ++ b)
+    → at + length a ≡ n
+    → Stands t n s
 inside p a s b n e h = record {
   front = p .front ++ a;
   rest = b ++ p .rest;
