@@ -4,3 +4,4 @@ pub mod Nth
 pub mod Cells
 pub mod Rows
 pub mod Built
+pub mod Sample
