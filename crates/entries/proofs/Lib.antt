@@ -3,3 +3,4 @@ pub mod Spreads
 pub mod Tellings
 pub mod Columns
 pub mod Entries
+pub mod Goods

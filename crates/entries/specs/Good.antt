@@ -1,12 +1,15 @@
--- What is known of what stands behind the position of a variable that was read.
+-- What is known of a variable that was read, and of what stands behind its position. The theorem stands in proofs/Goods: `entry-good`.
 use mathlib.Core.Path.{_≡_}
 use mathlib.Core.Logic.{_⊎_}
-use mathlib.Core.Bool.{true, false}
-use Prim.Native.Nat.{ℕ, _≤_}
+use mathlib.Core.Bool.{Bool, true, false}
+use Prim.Native.Nat.{ℕ, _≤_, _<_}
 use lib.Dec.{eqb}
 use lib.ListN.{length}
+use Rattle.layout.specs.Layout.{mostRows}
 use Rattle.values.specs.Good.{GoodBlock, GoodLines}
 use Rattle.variables.specs.Rest.{Telling}
+use Rattle.survey.specs.Survey.{Variable}
+use Rattle.survey.specs.Good.{GoodVariable}
 
 -- of a variable of a type, before whose lines `first` others stand
 pub record GoodTelling (kind first : ℕ) (x : Telling) : Type 0 where
@@ -19,3 +22,9 @@ pub record GoodTelling (kind first : ℕ) (x : Telling) : Type 0 where
   pub subfields : ((x .subfields ≡ 0) × (x .subwidth ≡ 0)) ⊎ ((kind ≡ 2) × (1 ≤ x .subfields) × (1 ≤ x .subwidth))
   pub size : x .size ≤ 4096
   pub sized : kind ≡ 4 → 1 ≤ x .size
+
+-- of a variable behind `count` others with `before` lines, where `met` says of a number whether it is the ident of one of them
+pub record EntryGood (met : ℕ → Bool) (count before : ℕ) (v : Variable) : Type 0 where
+  pub good : GoodVariable before v
+  pub fresh : met (v .head .ident) ≡ false
+  pub left : count < mostRows
