@@ -297,3 +297,13 @@ entry-good d t met count before v n long few = by (headOn d (identOn d t met cou
   by : (q : Headed) → headOn d (identOn d t met count) ≡ q → headThen q (restThen d before) ≡ entry.Is v n → EntryGood met count before v
   by (headed.Not f) i e = none cc
   by (headed.Is h) i e = rest-then d t met count before v n long few h (head-good d (identOn d t met count) h i) e
+
+-- no variable is a 513th
+pub entry-left : (d : List ℕ) (t : Reading) (met : ℕ → Bool) (count before : ℕ) (v : Variable) (n : ℕ) → entryOf d t met count before ≡ entry.Is v n → count < 512
+unfolding entryOf identOn
+entry-left d t met count before v n = by (headOn d (identOn d t met count)) refl where
+  by : (q : Headed) → headOn d (identOn d t met count) ≡ q → headThen q (restThen d before) ≡ entry.Is v n → count < 512
+  by (headed.Is h) i e =
+      let g = head-good d (identOn d t met count) h i in
+      ident-judged met count _ (g .figures) (g .given) .left
+  by (headed.Not f) i e = none cc

@@ -98,7 +98,7 @@ pub fn variable_on(
     powers: &[u64; 16],
     d: &[u8],
     t: Reading,
-    seen: &[u8; 10000],
+    seen: &[u8],
     count: usize,
     before: usize,
     lines: &mut [i64],
@@ -109,6 +109,7 @@ pub fn variable_on(
     requires { ⌜ Tens (now powers) ⌝ }
     requires { ⌜ length (now d) ≤ 1048576 ⌝ }
     requires { ⌜ (length (now lines) ≡ 16384) × (before ≤ 4096) × (length (now marks) ≡ 16384) ⌝ }
+    requires { ⌜ length (now seen) ≡ 10000 ⌝ }
     ensures { λ s. ⌜ s ≡ stoodOf before (entryOf (now (d .entry)) t (marked (now (seen .entry))) count before) ⌝ }
     ensures { λ s. ⌜ Stored before (entryOf (now (d .entry)) t (marked (now (seen .entry))) count before) (now (lines .entry)) (now (lines .exit)) ⌝ }
 {

@@ -21,7 +21,8 @@ ghost use Rattle.variables.specs.Head.{pastType, joinTitles, joinHead, h
 ghost use Rattle.variables.specs.Rest.{valuesRest, joinSize, joinNothing, spreadThen, restOf, restedOf, Stored};
 
 // Whether an ident has more than four digits, is 0, or was met before.
-fn wrong_ident(seen: &[u8; 10000], x: Figures) -> bool
+fn wrong_ident(seen: &[u8], x: Figures) -> bool
+    requires { ⌜ length (now seen) ≡ 10000 ⌝ }
     ensures { λ r. ⌜ r ≡ wrongIdent (marked (now (seen .entry))) x ⌝ }
 {
     if 4 < x.count {
@@ -36,7 +37,8 @@ fn wrong_ident(seen: &[u8; 10000], x: Figures) -> bool
 }
 
 // 5 comes before 8 at a 513th variable.
-fn judge_ident(seen: &[u8; 10000], count: usize, n: Number) -> Number
+fn judge_ident(seen: &[u8], count: usize, n: Number) -> Number
+    requires { ⌜ length (now seen) ≡ 10000 ⌝ }
     ensures { λ r. ⌜ r ≡ judgeIdent (marked (now (seen .entry))) count n ⌝ }
 {
     match n {
@@ -60,14 +62,9 @@ fn judge_ident(seen: &[u8; 10000], count: usize, n: Number) -> Number
 }
 
 // VARIABLE and its ident, where so many variables were read before, whose idents are marked.
-pub fn ident_on(
-    classes: &[u8; 256],
-    d: &[u8],
-    t: Reading,
-    seen: &[u8; 10000],
-    count: usize,
-) -> Number
+pub fn ident_on(classes: &[u8; 256], d: &[u8], t: Reading, seen: &[u8], count: usize) -> Number
     requires { ⌜ Classes (now classes) ⌝ }
+    requires { ⌜ length (now seen) ≡ 10000 ⌝ }
     ensures { λ r. ⌜ r ≡ identOn (now (d .entry)) t (marked (now (seen .entry))) count ⌝ }
 {
     let w = statements::statement_on(classes, d, t, b"VARIABLE");

@@ -1,0 +1,9 @@
+pub mod Small
+pub mod Turns
+pub mod Keys
+pub mod Courses
+pub mod Rans
+pub mod Settles
+pub mod Goods
+pub mod Lows
+pub mod Wholes

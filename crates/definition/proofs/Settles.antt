@@ -1,0 +1,168 @@
+-- After END SSS: the rooms hold the variables, so that what is laid over the table is the table of the survey, and the names judged
+-- are its names.
+use mathlib.Core.Path.{_≡_, refl, sym, ap, _∙_}
+use mathlib.Core.Bool.{Bool, true, false, cond}
+use mathlib.Core.List.{List, [], _∷_, _++_, append-assoc}
+use Prim.Native.Nat.{ℕ, zero, suc, _+_, _-_, _*_, _≤_, _<_}
+use native.Mathlib.Omega.{arith}
+use native.Mathlib.Nat.{le-of-suc-le-suc, not-suc-le-zero}
+use borrow.Author.Tests.{ltb-true, ltb-false, lt-ltb, le-ltb}
+use lib.Dec.{ltb}
+use lib.IntN.{ℤ, pos}
+use lib.ListN.{length, take, getD, length-append}
+use lib.Seq.{getD-append-add, getD-take}
+use Rattle.cells.specs.Cell.{cell, countOf, pasted, paste-more}
+use Rattle.scan.specs.Text.{text}
+use Rattle.marks.specs.declared.Inside.the-variants.{Plain}
+use Rattle.marks.specs.Spelling.{decodeOf}
+use Rattle.layout.specs.Layout.{headerSize, rowSize, lineSize, linesBase, lineBase}
+use Rattle.layout.specs.declared.Header.{Header}
+use Rattle.definition.proofs.Rans.{at-start}
+use Rattle.rows.specs.Cells.{rowCells, headerCells}
+use Rattle.names.specs.Standard.{nameAt, nameFault}
+use Rattle.survey.specs.Width.{fullColumns, widened, plainColumns}
+use Rattle.survey.specs.Survey.{Variable, linesIn, columnsIn, linesAll, highestIn, headerFor, rowsFrom, allLines, tableOf}
+use Rattle.survey.proofs.Snoc.{row-length, rows-length, lines-length, table-length}
+use Rattle.definition.specs.declared.Tally.{Tally}
+use Rattle.definition.specs.declared.Answer.{Answer}
+use Rattle.definition.specs.declared.Answer.the-variants as answer
+use Rattle.definition.specs.Definition.{namesOf, quoteAt, Outcome, Built, Refusal, fitting, named, answerOf, tableAfter}
+use Rattle.definition.specs.Code.{tallyOf, Held, nameIn, NamesJudged, headerBy, laidOver, fillSays, fillLeaves, Settled}
+
+-- ---- the place of the name of variable i
+unfoldable placeAt : List Variable → ℕ → ℕ
+placeAt [] i = 0
+placeAt (v ∷ l) zero = v .head .name .place
+placeAt (v ∷ l) (suc i) = placeAt l i
+
+place-in : (b : ℕ) (l : List Variable) (i : ℕ) → i < length l → countOf (cell (rowsFrom b l) (rowSize * i + 14)) ≡ placeAt l i
+unfolding placeAt rowsFrom rowCells columnsIn fullColumns widened plainColumns countOf
+place-in b [] i h = absurd (not-suc-le-zero h)
+place-in b (v ∷ l) zero h = first b v (rowsFrom (b + length (linesIn v)) l)
+  where
+    first : (b : ℕ) (v : Variable) (s : List ℤ) → countOf (cell (rowCells (columnsIn b v) ++ s) (rowSize * 0 + 14)) ≡ v .head .name .place
+    first b v s = refl
+place-in b (v ∷ l) (suc i) h =
+    let e : rowSize * suc i + 14 ≡ length (rowCells (columnsIn b v)) + (rowSize * i + 14) = omega (arith, row-length b v) in
+    rw (e, getD-append-add (rowCells (columnsIn b v)) (rowsFrom (b + length (linesIn v)) l) (rowSize * i + 14) (pos 0)) (place-in (b + length (linesIn v)) l i (le-of-suc-le-suc h))
+
+name-at : (d : List ℕ) (l : List Variable) (i : ℕ) → i < length l → nameAt (namesOf d l) i ≡ decodeOf Plain 0 (text d (placeAt l i))
+unfolding placeAt namesOf
+name-at d [] i h = absurd (not-suc-le-zero h)
+name-at d (v ∷ l) zero h = refl
+name-at d (v ∷ l) (suc i) h = name-at d l i (le-of-suc-le-suc h)
+
+quote-is : (l : List Variable) (i : ℕ) → quoteAt l i ≡ placeAt l i - 1
+unfolding placeAt quoteAt
+quote-is [] i = refl
+quote-is (v ∷ l) zero = refl
+quote-is (v ∷ l) (suc i) = quote-is l i
+
+names-count : (d : List ℕ) (l : List Variable) → length (namesOf d l) ≡ length l
+unfolding namesOf
+names-count d [] = refl
+names-count d (v ∷ l) = ap suc (names-count d l)
+
+header-length : (h : Header) → length (headerCells h) ≡ 6
+unfolding headerCells
+header-length h = refl
+
+-- ---- what the rooms hold
+module _ (d : List ℕ) (y : Tally) (rows lines : List ℤ) (l : List Variable) (h : Held l y rows lines) where
+  count-is : y .rows ≡ length l
+  unfolding tallyOf
+  count-is = ap (λ (z : Tally). z .rows) (h .tally)
+
+  lines-is : y .lines ≡ linesAll l
+  unfolding tallyOf
+  lines-is = ap (λ (z : Tally). z .lines) (h .tally)
+
+  place-here : (i : ℕ) → i < length l → countOf (cell rows (rowSize * i + 14)) ≡ placeAt l i
+  place-here i k =
+      let a : rowSize * i + 14 < rowSize * length l = omega arith in
+      ap countOf (sym (getD-take (rowSize * length l) rows (rowSize * i + 14) (pos 0) a) ∙ ap (λ (s : List ℤ). cell s (rowSize * i + 14)) (h .rows-held)) ∙ place-in 0 l i k
+
+  -- the first name at fault
+  fault-here : (r : ℕ) → NamesJudged d rows (y .rows) r → r ≡ nameFault (namesOf d l)
+  unfolding nameIn
+  fault-here r j =
+      j .fault-is (namesOf d l) (names-count d l ∙ sym count-is)
+      (λ i k. let q : i < length l = omega (arith, count-is) in ap (λ (p : ℕ). decodeOf Plain 0 (text d p)) (place-here i q) ∙ sym (name-at d l i q))
+
+  -- the numbers laid over the table are those of the survey
+  module _ (t : List ℤ) where
+    laid-table : length (tableOf l) ≤ length t → laidOver t y rows lines ≡ pasted t 0 (tableOf l)
+    unfolding laidOver headerBy tallyOf headerFor tableOf headerCells allLines rowsFrom
+    laid-table g = ap (λ (z : Tally). laidOver t z rows lines) (h .tally) ∙ rw (h .rows-held, h .lines-held) (two ∙ ap (pasted t 0) (append-assoc head (rowsFrom 0 l) (allLines l)))
+      where
+        head : List ℤ
+        head = headerCells (headerFor l)
+
+        six : length head ≡ 6
+        six = header-length (headerFor l)
+
+        front : length (head ++ rowsFrom 0 l) ≡ linesBase (length l)
+        front = length-append head (rowsFrom 0 l) ∙ rw (six, rows-length 0 l)
+
+        room : lineBase (length l) (linesAll l) ≤ length t
+        room = rw (← table-length l) g
+
+        two : pasted (pasted (pasted t 0 head) headerSize (rowsFrom 0 l)) (linesBase (length l)) (allLines l) ≡ pasted t 0 ((head ++ rowsFrom 0 l) ++ allLines l)
+        two =
+            ap (λ (s : List ℤ). pasted s (linesBase (length l)) (allLines l)) (at-start t head (rowsFrom 0 l) headerSize (sym six) (omega (arith, six, room)))
+            ∙ at-start t (head ++ rowsFrom 0 l) (allLines l) (linesBase (length l)) (sym front) (omega (arith, front, room))
+
+    says-fit : fillSays y (length t) ≡ answerOf (fitting (length t) l)
+    unfolding fillSays fitting answerOf
+    says-fit = rw (count-is, lines-is, table-length l) (by (ltb (length t) (lineBase (length l) (linesAll l))))
+      where
+        by : (b : Bool) → cond b (answer.Refused 10 0) (answer.Read (length l) (linesAll l)) ≡ answerOf (cond b (Refusal 10 0) (Built l))
+        by true = refl
+        by false = refl
+
+    base-is : lineBase (y .rows) (y .lines) ≡ length (tableOf l)
+    base-is = rw (count-is, lines-is) (sym (table-length l))
+
+    leaves-fit : fillLeaves y rows lines t ≡ tableAfter (fitting (length t) l) t
+    unfolding fillLeaves fitting tableAfter
+    leaves-fit = rw base-is (by (ltb (length t) (length (tableOf l))) refl)
+      where
+        by : (b : Bool) → ltb (length t) (length (tableOf l)) ≡ b → cond b t (laidOver t y rows lines) ≡ tableAfter (cond b (Refusal 10 0) (Built l)) t
+        by true e = refl
+        by false e = laid-table (ltb-false (length t) (length (tableOf l)) e)
+
+    -- without STANDARD NAMES
+    pub plain-says : fillSays y (length t) ≡ answerOf (named d (length t) false l)
+    unfolding named
+    plain-says = says-fit
+
+    pub plain-leaves : fillLeaves y rows lines t ≡ tableAfter (named d (length t) false l) t
+    unfolding named
+    plain-leaves = leaves-fit
+
+    -- with them, where all names are good
+    module _ (r : ℕ) (j : NamesJudged d rows (y .rows) r) where
+      good-outcome : y .rows ≤ r → named d (length t) true l ≡ fitting (length t) l
+      unfolding named
+      good-outcome k = rw (← fault-here r j, le-ltb r (length l) (omega (arith, count-is)))
+
+      pub good-says : y .rows ≤ r → fillSays y (length t) ≡ answerOf (named d (length t) true l)
+      good-says k = says-fit ∙ ap answerOf (sym (good-outcome k))
+
+      pub good-leaves : y .rows ≤ r → fillLeaves y rows lines t ≡ tableAfter (named d (length t) true l) t
+      good-leaves k = leaves-fit ∙ ap (λ (o : Outcome). tableAfter o t) (sym (good-outcome k))
+
+      -- or one is not
+      bad-outcome : r < y .rows → named d (length t) true l ≡ Refusal 9 (countOf (cell rows (rowSize * r + 14)) - 1)
+      unfolding named
+      bad-outcome k =
+          let q : r < length l = omega (arith, count-is) in
+          rw (← fault-here r j, lt-ltb r (length l) q, quote-is l r, ← place-here r q)
+
+      pub bad-says : (p q : ℕ) → r < y .rows → p ≡ countOf (cell rows (rowSize * r + 14)) → q ≡ p - 1 → answer.Refused 9 q ≡ answerOf (named d (length t) true l)
+      unfolding answerOf
+      bad-says p q k e f = rw (f, e, bad-outcome k)
+
+      pub bad-leaves : r < y .rows → t ≡ tableAfter (named d (length t) true l) t
+      unfolding tableAfter
+      bad-leaves k = rw (bad-outcome k)

@@ -1,0 +1,22 @@
+use mathlib.Core.Path.{_∙_, sym}
+use Rattle.definition.specs.Code.{fillSays, fillLeaves}
+use borrow.Author.Needs.{needs}
+use borrow.Author.Tests.{lt-ltb, le-ltb}
+use Rattle.definition.proofs.fill.Statement.{statement}
+use Rattle.definition.proofs.fill.Tie as tie
+
+returns : tie.Need-returns
+unfolding fillSays fillLeaves
+returns c =
+    let e = lt-ltb _ _ (rw (c .before .base .ensures) at (c .if1 .taken)) in
+    (rw e, rw e)
+
+returns-2 : tie.Need-returns-2
+unfolding fillSays fillLeaves
+returns-2 c =
+    let e = le-ltb _ _ (rw (c .before .before .before .before .base .ensures) at (c .before .before .before .if1 .left)) in
+    (rw e, rw e (c .before .lay .ensures))
+
+pub fill-spec : {M : Type 1} → statement M
+fill-spec =
+    tie.close (tie.spec (λ c κs. search needs) returns (λ c κs. search needs) (λ c. search needs) returns-2)

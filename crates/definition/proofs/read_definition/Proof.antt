@@ -1,0 +1,41 @@
+use mathlib.Core.Path.{_≡_, refl, _∙_}
+use mathlib.Core.Bool.{true, false}
+use lib.Dec.{ltb}
+use lib.ListN.{length}
+use borrow.Author.Needs.{needs}
+use borrow.Author.Tests.{lt-ltb, le-ltb}
+use Rattle.definition.specs.Definition.{outcomeOf, answerOf, tableAfter}
+use Rattle.definition.specs.Code.{zeros}
+use Rattle.definition.proofs.read_definition.Statement.{statement}
+use Rattle.definition.proofs.read_definition.Tie as tie
+
+returns : tie.Need-returns
+unfolding outcomeOf answerOf tableAfter
+returns c =
+    let e : ltb 1048576 (length (c .before .before .args .d .now)) ≡ true = lt-ltb _ _ (c .if1 .taken) in
+    (rw e, rw e)
+
+read-in-requires : tie.Need-read-in-requires
+unfolding zeros
+read-in-requires c κs = (c .before .before .before .before .before .before .before .before .classes .ensures, (c .before .before .before .before .before .before .before .powers .ensures, (c .before .before .before .before .before .before .before .before .before .if1 .left, ((refl, refl, refl), refl))))
+
+returns-2 : tie.Need-returns-2
+unfolding outcomeOf
+returns-2 c =
+    let e : ltb 1048576 (length (c .before .before .before .before .before .before .before .before .before .before .before .before .before .before .before .before .before .args .d .now)) ≡ false = le-ltb _ _ (c .before .before .before .before .before .before .before .before .before .before .before .before .before .before .before .if1 .left) in
+    (rw e (c .before .before .before .before .before .read-in .ensures .0), rw e (c .before .before .before .before .before .read-in .ensures .1))
+
+pub read-definition-spec : {M : Type 1} → statement M
+read-definition-spec =
+    tie.close
+    (tie.spec
+    returns
+    (λ c κs. search needs)
+    (λ c κs. search needs)
+    (λ c. search needs)
+    (λ c. search needs)
+    (λ c. search needs)
+    (λ c. search needs)
+    read-in-requires
+    (λ c. search needs)
+    returns-2)

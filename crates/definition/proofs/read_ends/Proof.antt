@@ -1,0 +1,20 @@
+use mathlib.Core.Path.{_∙_, sym}
+use Rattle.definition.specs.Definition.{endsOn}
+use borrow.Author.Needs.{needs}
+use Rattle.definition.proofs.read_ends.Statement.{statement}
+use Rattle.definition.proofs.read_ends.Tie as tie
+
+returns : tie.Need-returns
+unfolding endsOn
+returns c =
+    rw (
+      sym (c .before .before .before .before .before .before .before .before .word-on .ensures),
+      sym (c .before .before .before .before .before .before .statement-on .ensures),
+      sym (c .before .before .before .before .word-on2 .ensures),
+      sym (c .before .before .statement-on2 .ensures),
+      sym (c .word-on3 .ensures),
+    )
+
+pub read-ends-spec : {M : Type 1} → statement M
+read-ends-spec =
+    tie.close (tie.spec (λ c. search needs) (λ c κs. search needs) (λ c. search needs) (λ c κs. search needs) (λ c. search needs) (λ c κs. search needs) (λ c. search needs) (λ c κs. search needs) (λ c. search needs) (λ c κs. search needs) returns)

@@ -1,0 +1,120 @@
+-- What the code keeps of the variables: counts, and their rows and lines in rooms of its own.
+use mathlib.Core.Path.{_≡_}
+use mathlib.Core.Bool.{Bool, true, false, cond}
+use mathlib.Core.List.{List, [], _∷_, _++_}
+use Prim.Native.Nat.{ℕ, zero, suc, _+_, _-_, _*_, _≤_, _<_, max}
+use lib.Dec.{ltb}
+use lib.IntN.{ℤ}
+use lib.ListN.{length, take}
+use Rattle.cells.specs.Cell.{cell, countOf, pasted}
+use Rattle.scan.specs.Text.{text}
+use Rattle.marks.specs.declared.Inside.the-variants.{Plain}
+use Rattle.marks.specs.Spelling.{decodeOf}
+use Rattle.layout.specs.Layout.{mark, headerSize, rowSize, lineSize, linesBase, lineBase}
+use Rattle.layout.specs.declared.Columns.{Columns}
+use Rattle.layout.specs.declared.Header.{Header}
+use Rattle.rows.specs.Cells.{rowCells, headerCells}
+use Rattle.tokens.specs.declared.Fault.{Fault}
+use Rattle.tokens.specs.declared.Reading.{Reading}
+use Rattle.tokens.specs.declared.Reading.the-variants.{At, Refused}
+use Rattle.tokens.specs.declared.Choice.{Choice}
+use Rattle.tokens.specs.declared.Choice.the-variants.{Taken, Left}
+use Rattle.tokens.specs.Token.{choiceOf}
+use Rattle.statements.specs.Words.{END}
+use Rattle.statements.specs.Note.{notesOn}
+use Rattle.names.specs.Standard.{nameAt, nameFault}
+use Rattle.survey.specs.Survey.{Variable, linesIn, columnsIn, linesAll, highestIn, rowsFrom, allLines}
+use Rattle.survey.specs.Good.{Good}
+use Rattle.entries.specs.Entry.{Entry}
+use Rattle.entries.specs.Entry as entry
+use Rattle.definition.specs.Definition.{Variables, Outcome, Refusal, named, answerOf, tableAfter}
+use Rattle.definition.specs.Definition as variables
+use Rattle.definition.specs.declared.Tally.{Tally}
+use Rattle.definition.specs.declared.Turn.{Turn}
+use Rattle.definition.specs.declared.Turn.the-variants as turn
+use Rattle.definition.specs.declared.Run.{Run}
+use Rattle.definition.specs.declared.Run.the-variants as run
+use Rattle.definition.specs.declared.Answer.{Answer}
+use Rattle.definition.specs.declared.Answer.the-variants as answer
+
+-- nothing marked yet
+unfoldable pub zeros : ℕ → List ℕ
+zeros zero = []
+zeros (suc n) = 0 ∷ zeros n
+
+-- ---- counts
+unfoldable pub tallyOf : List Variable → Tally
+tallyOf l = record { rows = length l; lines = linesAll l; length = highestIn l }
+
+-- with one variable more, of these columns, after which there are `last` lines
+unfoldable pub tallyWith : Tally → Columns → ℕ → Tally
+tallyWith y c last = record { rows = y .rows + 1; lines = last; length = max (y .length) (c .finish) }
+
+-- ---- one variable, and what follows it
+abbrev pub turnOr : ℕ → Tally → Reading → Choice → Turn
+turnOr ident y t (Taken m) = turn.Over y m
+turnOr ident y t Left = turn.More ident y t
+
+unfoldable pub followed : List ℕ → ℕ → Tally → ℕ → Turn
+followed d ident y n = turnOr ident y (notesOn d (At n)) (choiceOf d (notesOn d (At n)) END)
+
+unfoldable pub turnAfter : List ℕ → Tally → Entry → Turn
+turnAfter d y (entry.Is v n) =
+    let c = columnsIn (y .lines) v in
+    followed d (c .ident) (tallyWith y c (y .lines + length (linesIn v))) n
+turnAfter d y (entry.Not f) = turn.Not f
+
+-- its row stands behind those before it
+pub record RowStored (y : Tally) (e : Entry) (room end : List ℤ) : Type 0 where
+  pub row-stored : {v : Variable} {n : ℕ} → e ≡ entry.Is v n → end ≡ pasted room (rowSize * y .rows) (rowCells (columnsIn (y .lines) v))
+
+-- ---- all variables
+unfoldable pub runOf : Variables → Run
+runOf (variables.Is l m) = run.Is (tallyOf l) m
+runOf (variables.Not f) = run.Not f
+
+-- their rows and lines stand at the start of the rooms
+pub record Laid (v : Variables) (rows rows-end lines lines-end : List ℤ) : Type 0 where
+  pub rows-laid : {l : List Variable} {m : ℕ} → v ≡ variables.Is l m → rows-end ≡ pasted rows 0 (rowsFrom 0 l)
+  pub lines-laid : {l : List Variable} {m : ℕ} → v ≡ variables.Is l m → lines-end ≡ pasted lines 0 (allLines l)
+
+-- ---- what is done with them after END SSS
+-- the rooms hold variables that were read
+pub record Held (l : List Variable) (y : Tally) (rows lines : List ℤ) : Type 0 where
+  pub tally : y ≡ tallyOf l
+  pub rows-held : take (rowSize * length l) rows ≡ rowsFrom 0 l
+  pub lines-held : take (lineSize * linesAll l) lines ≡ allLines l
+  pub good : Good l
+
+-- the name of row i, by its place in the room
+unfoldable pub nameIn : List ℕ → List ℤ → ℕ → List ℕ
+nameIn d rows i = decodeOf Plain 0 (text d (countOf (cell rows (rowSize * i + 14))))
+
+pub record NamesJudged (d : List ℕ) (rows : List ℤ) (count r : ℕ) : Type 0 where
+  pub fault-is : (names : List (List ℕ)) → length names ≡ count → ((i : ℕ) → i < count → nameIn d rows i ≡ nameAt names i) → r ≡ nameFault names
+
+unfoldable pub headerBy : Tally → Header
+headerBy y = record {
+  mark = mark;
+  rows = y .rows;
+  lines = y .lines;
+  length = y .length;
+  «rows_at» = headerSize;
+  «lines_at» = linesBase (y .rows);
+}
+
+unfoldable pub laidOver : List ℤ → Tally → List ℤ → List ℤ → List ℤ
+laidOver t y rows lines =
+    pasted (pasted (pasted t 0 (headerCells (headerBy y))) headerSize (take (rowSize * y .rows) rows)) (linesBase (y .rows)) (take (lineSize * y .lines) lines)
+
+-- 10 where the table is too short, else they are laid over it
+unfoldable pub fillSays : Tally → ℕ → Answer
+fillSays y n = cond (ltb n (lineBase (y .rows) (y .lines))) (answer.Refused 10 0) (answer.Read (y .rows) (y .lines))
+
+unfoldable pub fillLeaves : Tally → List ℤ → List ℤ → List ℤ → List ℤ
+fillLeaves y rows lines t = cond (ltb (length t) (lineBase (y .rows) (y .lines))) t (laidOver t y rows lines)
+
+-- the outcome is that of the variables which the rooms hold
+pub record Settled (d : List ℕ) (standard : Bool) (y : Tally) (rows lines t end : List ℤ) (r : Answer) : Type 0 where
+  pub says : (l : List Variable) → Held l y rows lines → r ≡ answerOf (named d (length t) standard l)
+  pub leaves : (l : List Variable) → Held l y rows lines → end ≡ tableAfter (named d (length t) standard l) t

@@ -1,0 +1,351 @@
+// A Triple-S 1.1 definition read into a lent table: the public call. The text is read once, into rows and lines of the call's own,
+// so that every refusal keeps the table; they are laid into it at the end. Above it stand the face and the lister.
+use entries::Stood;
+use layout::Columns;
+use layout::Header;
+use layout::Line;
+use layout::Row;
+use tokens::Choice;
+use tokens::Fault;
+use tokens::Reading;
+ghost use mathlib.Core.Path.{_≡_};
+ghost use mathlib.Core.List.{[]};
+ghost use Prim.Native.Nat.{_+_, _-_, _*_, _≤_, _<_};
+ghost use lib.ListN.{length, take};
+ghost use Rattle.ascii.specs.Class.{Classes};
+ghost use Rattle.ascii.specs.Tens.{Tens};
+ghost use Rattle.cells.specs.Cell.{cell, countOf};
+ghost use Rattle.layout.specs.Layout.{rowSize, lineSize, lineBase};
+ghost use Rattle.variables.specs.Ident.{marked};
+ghost use Rattle.entries.specs.Entry.{entryOf, Stored};
+ghost use Rattle.definition.specs.Definition.{course, variablesFrom, endsOn, judged, surveyOf, outcomeOf, answerOf, tableAfter};
+ghost use Rattle.definition.specs.Code.{zeros, tallyWith, followed, turnAfter, RowStored, runOf, Laid, NamesJudged, laidOver, fillSays, fillLeaves, Settled};
+
+// The outcome: how many variables and value lines were read; or the refusal's number and place.
+pub enum Answer {
+    Read { rows: usize, lines: usize },
+    Refused { number: usize, place: usize },
+}
+
+// What the variables so far come to: how many they are, their value lines in all, and the highest finish.
+pub struct Tally {
+    pub rows: usize,
+    pub lines: usize,
+    pub length: usize,
+}
+
+// With one variable more, after which there are so many lines.
+fn tally_with(y: Tally, c: Columns, last: usize) -> Tally
+    requires { ⌜ y .rows < 512 ⌝ }
+    ensures { λ r. ⌜ r ≡ tallyWith y c last ⌝ }
+{
+    Tally {
+        rows: y.rows + 1,
+        lines: last,
+        length: sound::larger(y.length, c.finish),
+    }
+}
+
+// What follows a variable: another one, or END and the place after it.
+pub enum Turn {
+    More {
+        ident: usize,
+        tally: Tally,
+        at: Reading,
+    },
+    Over {
+        tally: Tally,
+        next: usize,
+    },
+    Not(Fault),
+}
+
+fn follow(classes: &[u8; 256], d: &[u8], ident: usize, y: Tally, next: usize) -> Turn
+    requires { ⌜ Classes (now classes) ⌝ }
+    ensures { λ r. ⌜ r ≡ followed (now (d .entry)) ident y next ⌝ }
+{
+    let n = statements::notes_on(classes, d, Reading::At(next));
+    match tokens::perhaps(classes, d, n, b"END") {
+        Choice::Taken(m) => Turn::Over { tally: y, next: m },
+        Choice::Left => Turn::More {
+            ident,
+            tally: y,
+            at: n,
+        },
+    }
+}
+
+// One variable: read, its row and lines stored behind those before, and what follows it.
+fn one_variable(
+    classes: &[u8; 256],
+    powers: &[u64; 16],
+    d: &[u8],
+    at: Reading,
+    seen: &[u8],
+    y: Tally,
+    rows: &mut [i64],
+    lines: &mut [i64],
+    marks: &mut [u16],
+) -> Turn
+    requires { ⌜ Classes (now classes) ⌝ }
+    requires { ⌜ Tens (now powers) ⌝ }
+    requires { ⌜ length (now d) ≤ 1048576 ⌝ }
+    requires { ⌜ (y .rows ≤ 512) × (y .lines ≤ 4096) ⌝ }
+    requires { ⌜ (length (now rows) ≡ 9216) × (length (now lines) ≡ 16384) × (length (now marks) ≡ 16384) ⌝ }
+    requires { ⌜ length (now seen) ≡ 10000 ⌝ }
+    ensures { λ r. ⌜ r ≡ turnAfter (now (d .entry)) y (entryOf (now (d .entry)) at (marked (now (seen .entry))) (y .rows) (y .lines)) ⌝ }
+    ensures { λ r. ⌜ RowStored y (entryOf (now (d .entry)) at (marked (now (seen .entry))) (y .rows) (y .lines)) (now (rows .entry)) (now (rows .exit)) ⌝ }
+    ensures { λ r. ⌜ Stored (y .lines) (entryOf (now (d .entry)) at (marked (now (seen .entry))) (y .rows) (y .lines)) (now (lines .entry)) (now (lines .exit)) ⌝ }
+{
+    let count = y.rows;
+    let stamp = (count + 1) as u16;
+    match entries::variable_on(
+        classes,
+        powers,
+        d,
+        at,
+        seen,
+        count,
+        y.lines,
+        lines,
+        marks,
+        stamp,
+    ) {
+        Stood::Is {
+            columns,
+            last,
+            next,
+        } => {
+            rows::put_row(rows, Row::SIZE * count, columns);
+            let more = tally_with(y, columns, last);
+            follow(classes, d, columns.ident, more, next)
+        }
+        Stood::Not(f) => Turn::Not(f),
+    }
+}
+
+// The variables and the END behind them, with the place after it.
+pub enum Run {
+    Is { tally: Tally, next: usize },
+    Not(Fault),
+}
+
+fn read_variables(
+    classes: &[u8; 256],
+    powers: &[u64; 16],
+    d: &[u8],
+    t: Reading,
+    rows: &mut [i64],
+    lines: &mut [i64],
+    marks: &mut [u16],
+    seen: &mut [u8],
+) -> Run
+    requires { ⌜ Classes (now classes) ⌝ }
+    requires { ⌜ Tens (now powers) ⌝ }
+    requires { ⌜ length (now d) ≤ 1048576 ⌝ }
+    requires { ⌜ (length (now rows) ≡ 9216) × (length (now lines) ≡ 16384) × (length (now marks) ≡ 16384) ⌝ }
+    requires { ⌜ now seen ≡ zeros 10000 ⌝ }
+    ensures { λ r. ⌜ r ≡ runOf (variablesFrom (now (d .entry)) (course t [])) ⌝ }
+    ensures { λ r. ⌜ Laid (variablesFrom (now (d .entry)) (course t [])) (now (rows .entry)) (now (rows .exit)) (now (lines .entry)) (now (lines .exit)) ⌝ }
+{
+    let mut at = t;
+    let mut y = Tally {
+        rows: 0,
+        lines: 0,
+        length: 0,
+    };
+    loop {
+        match one_variable(classes, powers, d, at, seen, y, rows, lines, marks) {
+            Turn::More {
+                ident,
+                tally,
+                at: next,
+            } => {
+                seen[ident] = 1;
+                y = tally;
+                at = next;
+            }
+            Turn::Over { tally, next } => {
+                return Run::Is { tally, next };
+            }
+            Turn::Not(f) => {
+                return Run::Not(f);
+            }
+        }
+    }
+}
+
+// END RECORD, END SURVEY, END SSS, behind the first END.
+fn read_ends(classes: &[u8; 256], d: &[u8], next: usize) -> Reading
+    requires { ⌜ Classes (now classes) ⌝ }
+    ensures { λ r. ⌜ r ≡ endsOn (now (d .entry)) next ⌝ }
+{
+    let a = tokens::word_on(classes, d, Reading::At(next), b"RECORD");
+    let b = statements::statement_on(classes, d, a, b"END");
+    let c = tokens::word_on(classes, d, b, b"SURVEY");
+    let e = statements::statement_on(classes, d, c, b"END");
+    tokens::word_on(classes, d, e, b"SSS")
+}
+
+// The place of a row's name.
+fn name_place(rows: &[i64], i: usize) -> usize
+    requires { ⌜ (i < 512) × (length (now rows) ≡ 9216) ⌝ }
+    ensures { λ r. ⌜ r ≡ countOf (cell (now (rows .entry)) (rowSize * i + 14)) ⌝ }
+{
+    cells::count_at(rows, Row::SIZE * i + Row::NAME)
+}
+
+// The first row whose name breaks STANDARD NAMES; the count where none does.
+fn names_fault(classes: &[u8; 256], d: &[u8], rows: &[i64], count: usize) -> usize
+    requires { ⌜ Classes (now classes) ⌝ }
+    requires { ⌜ (count ≤ 512) × (length (now rows) ≡ 9216) ⌝ }
+    ensures { λ r. ⌜ NamesJudged (now (d .entry)) (now (rows .entry)) count r ⌝ }
+{
+    let mut keys = [0u64; 512];
+    let mut i: usize = 0;
+    while i < count {
+        keys[i] = names::name_key(classes, d, name_place(rows, i));
+        i += 1;
+    }
+    names::first_fault(&keys, count)
+}
+
+// Header, rows and lines at the start of the table.
+fn lay(table: &mut [i64], rows: &[i64], lines: &[i64], y: Tally)
+    requires { ⌜ (y .rows ≤ 512) × (y .lines ≤ 4096) × (y .length ≤ 16384) ⌝ }
+    requires { ⌜ (length (now rows) ≡ 9216) × (length (now lines) ≡ 16384) × (lineBase (y .rows) (y .lines) ≤ length (now table)) ⌝ }
+    ensures { λ _. ⌜ now (table .exit) ≡ laidOver (now (table .entry)) y (now (rows .entry)) (now (lines .entry)) ⌝ }
+{
+    let h = Header {
+        mark: Header::MARK,
+        rows: y.rows,
+        lines: y.lines,
+        length: y.length,
+        rows_at: Header::SIZE,
+        lines_at: Row::base(y.rows),
+    };
+    rows::put_header(table, h);
+    cells::paste(table, Header::SIZE, &rows[..Row::SIZE * y.rows]);
+    cells::paste(table, Row::base(y.rows), &lines[..Line::SIZE * y.lines]);
+}
+
+// 10 where the table is too short; else it is filled.
+fn fill(rows: &[i64], lines: &[i64], y: Tally, table: &mut [i64]) -> Answer
+    requires { ⌜ (y .rows ≤ 512) × (y .lines ≤ 4096) × (y .length ≤ 16384) ⌝ }
+    requires { ⌜ (length (now rows) ≡ 9216) × (length (now lines) ≡ 16384) ⌝ }
+    ensures { λ r. ⌜ r ≡ fillSays y (length (now (table .entry))) ⌝ }
+    ensures { λ r. ⌜ now (table .exit) ≡ fillLeaves y (now (rows .entry)) (now (lines .entry)) (now (table .entry)) ⌝ }
+{
+    if table.len() < Line::base(y.rows, y.lines) {
+        return Answer::Refused {
+            number: 10,
+            place: 0,
+        };
+    }
+    lay(table, rows, lines, y);
+    Answer::Read {
+        rows: y.rows,
+        lines: y.lines,
+    }
+}
+
+// The opening quote before a text.
+fn quote_before(place: usize) -> usize
+    ensures { λ r. ⌜ r ≡ place - 1 ⌝ }
+{
+    if place == 0 { 0 } else { place - 1 }
+}
+
+// After END SSS: 9, then 10.
+fn settle(
+    classes: &[u8; 256],
+    d: &[u8],
+    standard: bool,
+    y: Tally,
+    rows: &[i64],
+    lines: &[i64],
+    table: &mut [i64],
+) -> Answer
+    requires { ⌜ Classes (now classes) ⌝ }
+    requires { ⌜ (y .rows ≤ 512) × (y .lines ≤ 4096) × (y .length ≤ 16384) ⌝ }
+    requires { ⌜ (length (now rows) ≡ 9216) × (length (now lines) ≡ 16384) ⌝ }
+    ensures { λ r. ⌜ Settled (now (d .entry)) standard y (now (rows .entry)) (now (lines .entry)) (now (table .entry)) (now (table .exit)) r ⌝ }
+{
+    if !standard {
+        return fill(rows, lines, y, table);
+    }
+    let i = names_fault(classes, d, rows, y.rows);
+    if i < y.rows {
+        return Answer::Refused {
+            number: 9,
+            place: quote_before(name_place(rows, i)),
+        };
+    }
+    fill(rows, lines, y, table)
+}
+
+// The whole definition, with rooms for rows and lines.
+fn read_in(
+    classes: &[u8; 256],
+    powers: &[u64; 16],
+    d: &[u8],
+    rows: &mut [i64],
+    lines: &mut [i64],
+    marks: &mut [u16],
+    seen: &mut [u8],
+    table: &mut [i64],
+) -> Answer
+    requires { ⌜ Classes (now classes) ⌝ }
+    requires { ⌜ Tens (now powers) ⌝ }
+    requires { ⌜ length (now d) ≤ 1048576 ⌝ }
+    requires { ⌜ (length (now rows) ≡ 9216) × (length (now lines) ≡ 16384) × (length (now marks) ≡ 16384) ⌝ }
+    requires { ⌜ now seen ≡ zeros 10000 ⌝ }
+    ensures { λ r. ⌜ r ≡ answerOf (judged (now (d .entry)) (length (now (table .entry))) (surveyOf (now (d .entry)))) ⌝ }
+    ensures { λ r. ⌜ now (table .exit) ≡ tableAfter (judged (now (d .entry)) (length (now (table .entry))) (surveyOf (now (d .entry)))) (now (table .entry)) ⌝ }
+{
+    let front = heading::read_front(classes, d);
+    let h = front.heading;
+    let t = front.next;
+    match read_variables(classes, powers, d, t, rows, lines, marks, seen) {
+        Run::Is { tally, next } => match read_ends(classes, d, next) {
+            Reading::At(_) => settle(classes, d, h.standard, tally, rows, lines, table),
+            Reading::Refused(f) => Answer::Refused {
+                number: f.number,
+                place: f.place,
+            },
+        },
+        Run::Not(f) => Answer::Refused {
+            number: f.number,
+            place: f.place,
+        },
+    }
+}
+
+// Reads a definition into a lent table. The table is filled from its start, or kept whole.
+pub fn read_definition(d: &[u8], table: &mut [i64]) -> Answer
+    ensures { λ r. ⌜ r ≡ answerOf (outcomeOf (now (d .entry)) (length (now (table .entry)))) ⌝ }
+    ensures { λ r. ⌜ now (table .exit) ≡ tableAfter (outcomeOf (now (d .entry)) (length (now (table .entry)))) (now (table .entry)) ⌝ }
+{
+    if 1_048_576 < d.len() {
+        return Answer::Refused {
+            number: 1,
+            place: 0,
+        };
+    }
+    let classes = ascii::classes();
+    let powers = ascii::powers();
+    let mut rows = [0i64; 9216];
+    let mut lines = [0i64; 16384];
+    let mut marks = [0u16; 16384];
+    let mut seen = [0u8; 10000];
+    read_in(
+        &classes,
+        &powers,
+        d,
+        &mut rows,
+        &mut lines,
+        &mut marks,
+        &mut seen,
+        table,
+    )
+}
