@@ -15,6 +15,7 @@ use Rattle.cells.specs.Cell.{eqZ, same-true, same-self}
 use Rattle.fields.specs.Number.{Said, blank, says, wrong, allSpaces, codeOf}
 use Rattle.fields.specs.Field.{missing, members, text, truth, holds, illegal, allPlain, unended, textField, truthField}
 use Rattle.fields.specs.Field.{entryGood, entryIs, allEntries, someEntry, passing, spreadSet, spreadField, isMember, risingFrom}
+use Rattle.fieldlaws.specs.TextLaws.{unended-blank}
 use Rattle.read_laws.specs.Forms.{Spaces, CodeForm, code-exactly, code-blank-exactly, spaces-all, all-spaces}
 
 -- ---- CHARACTER
@@ -27,11 +28,6 @@ pub record TextForm (s x : List ℕ) : Type 0 where
   pub made : s ≡ x ++ gap
   pub no-space : last ≡ 32 → ⊥
   pub blank-gap : Spaces gap
-
-none-left : (s : List ℕ) → allSpaces s ≡ true → unended s ≡ []
-unfolding unended
-none-left [] e = refl
-none-left (b ∷ s) e = rw e
 
 more-left : (b : ℕ) (s : List ℕ) → allSpaces (b ∷ s) ≡ false → unended (b ∷ s) ≡ b ∷ unended s
 unfolding unended
@@ -59,8 +55,8 @@ text-split (b ∷ s) e = go (allSpaces s) refl (λ q. text-split s q)
       front = [];
       last = b;
       gap = s;
-      ends = more-left b s e ∙ rw (none-left s a);
-      made = rw (more-left b s e, none-left s a);
+      ends = more-left b s e ∙ rw (unended-blank s a);
+      made = rw (more-left b s e, unended-blank s a);
       no-space = head-not b s e a;
       blank-gap = all-spaces s a;
     }
@@ -84,7 +80,7 @@ text-joined : (front : List ℕ) (last : ℕ) (gap : List ℕ) → (last ≡ 32 
     → (allSpaces (front ++ (last ∷ gap)) ≡ false) × (unended (front ++ (last ∷ gap)) ≡ front ++ (last ∷ []))
 text-joined [] last gap h g =
     let n = one-not last gap h in
-    (n, more-left last gap n ∙ rw (none-left gap (spaces-all g)))
+    (n, more-left last gap n ∙ rw (unended-blank gap (spaces-all g)))
 text-joined (b ∷ front) last gap h g =
     let r = text-joined front last gap h g in
     let n = not-all b (front ++ (last ∷ gap)) (r .0) in
