@@ -157,7 +157,8 @@ module _ (f : ℕ → Bool) where
   pub any-some : {A : Type 0} (n : ℕ) → anyBelow n f ≡ true → ((k : ℕ) → k < n → f k ≡ true → A) → A
   unfolding anyBelow
   any-some zero e g = holds-not e refl
-  any-some (suc n) e g = ⊎-elim (λ p. any-some n p (λ k h. g k (omega arith))) (λ p. g n (omega arith) p) (either-true (anyBelow n f) (f n) e)
+  any-some (suc n) e g =
+      ⊎-elim (λ p. any-some n p (λ k h. g k (omega arith))) (λ p. g n (omega arith) p) (either-true (anyBelow n f) (f n) e)
 
   -- it holds nowhere below n
   pub any-fails : (n : ℕ) → ((k : ℕ) → k < n → f k ≡ false) → anyBelow n f ≡ false

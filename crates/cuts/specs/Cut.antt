@@ -103,7 +103,8 @@ module _ (d : List ℕ) (i : ℕ) where
     unfolding endFrom
     end-here start h e = let e′ = rw (drop-cons d i 0 h) at e in rw (drop-cons d i 0 h, e′)
 
-    pub end-on : (start : ℕ) → i < length d → beginsAt w (drop i d) ≡ false → endFrom w start i (drop i d) ≡ endFrom w start (i + 1) (drop (i + 1) d)
+    pub end-on : (start : ℕ) → i < length d → beginsAt w (drop i d) ≡ false
+        → endFrom w start i (drop i d) ≡ endFrom w start (i + 1) (drop (i + 1) d)
     unfolding endFrom
     end-on start h e = let e′ = rw (drop-cons d i 0 h) at e in rw (drop-cons d i 0 h, e′, add-one i)
 

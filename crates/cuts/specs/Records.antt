@@ -15,7 +15,8 @@ use Rattle.below.specs.Below.{and-left, and-right, holds-not, lt-or-le}
 use Rattle.cuts.specs.declared.Terminator.{Terminator}
 use Rattle.cuts.specs.declared.Next.{Next}
 use Rattle.cuts.specs.declared.Next.the-variants.{Ended, Unended, Nothing}
-use Rattle.cuts.specs.Cut.{beginsWith, wholeAt, beginsAt, endFrom, nextFrom, terminatorOf, end-here, end-on, end-none, next-some, next-none}
+use Rattle.cuts.specs.Cut.{beginsWith, wholeAt, beginsAt, endFrom, nextFrom}
+use Rattle.cuts.specs.Cut.{terminatorOf, end-here, end-on, end-none, next-some, next-none}
 
 pub data Records : Type 0 where
   over : Records
@@ -75,7 +76,9 @@ unfolding beginsWith
 pair-bytes w [] z e = holds-not e refl
 pair-bytes w (c ∷ s) z e = rw (eqb-true c (w .second) e, z)
 
-rest-bytes : (w : Terminator) (s : List ℕ) (q : Bool) → eqb (w .size) 2 ≡ q → cond q (beginsWith (w .second) s) (eqb (w .size) 1) ≡ true → w .first ∷ s ≡ cond q (w .first ∷ w .second ∷ []) (w .first ∷ []) ++ drop (w .size - 1) s
+rest-bytes : (w : Terminator) (s : List ℕ) (q : Bool) → eqb (w .size) 2 ≡ q
+    → cond q (beginsWith (w .second) s) (eqb (w .size) 1) ≡ true
+    → w .first ∷ s ≡ cond q (w .first ∷ w .second ∷ []) (w .first ∷ []) ++ drop (w .size - 1) s
 rest-bytes w s true z e = ap (λ (l : List ℕ). w .first ∷ l) (pair-bytes w s (eqb-true (w .size) 2 z) e)
 rest-bytes w s false z e = let q : w .size ≡ 1 = eqb-true (w .size) 1 e in rw q
 
@@ -92,7 +95,9 @@ module _ (w : Terminator) where
   laid-cut (b ∷ s) (suc k) r = laid-cut s k r
   laid-cut (b ∷ s) zero r = go (beginsAt w (b ∷ s)) refl (laid-cut s (w .size - 1) []) (laid-cut s 0 (r ++ b ∷ []))
     where
-      go : (q : Bool) → beginsAt w (b ∷ s) ≡ q → laid w (cut w (w .size - 1) [] s) ≡ drop (w .size - 1) s → laid w (cut w 0 (r ++ b ∷ []) s) ≡ (r ++ b ∷ []) ++ s → laid w (cond q (record-and r (cut w (w .size - 1) [] s)) (cut w 0 (r ++ b ∷ []) s)) ≡ r ++ (b ∷ s)
+      go : (q : Bool) → beginsAt w (b ∷ s) ≡ q → laid w (cut w (w .size - 1) [] s) ≡ drop (w .size - 1) s
+          → laid w (cut w 0 (r ++ b ∷ []) s) ≡ (r ++ b ∷ []) ++ s
+          → laid w (cond q (record-and r (cut w (w .size - 1) [] s)) (cut w 0 (r ++ b ∷ []) s)) ≡ r ++ (b ∷ s)
       go true e h g = rw (h, append-assoc r (terminatorBytes w) (drop (w .size - 1) s), whole-bytes w b s e)
       go false e h g = g ∙ append-assoc r (b ∷ []) s
 
@@ -135,10 +140,12 @@ begins-sized w b s e = go (eqb (w .size) 2) refl (and-right (eqb b (w .first)) _
 
 module _ (d : List ℕ) (w : Terminator) (start : ℕ) where
   -- at the end of the data, at a terminator, and at any other byte
-  ends-none : (i : ℕ) → length d ≤ i → {a e n : ℕ} → endFrom w start i (drop i d) ≡ Ended a e n → EndedAt d w start (cut w 0 (part d start i) (drop i d)) a e n
+  ends-none : (i : ℕ) → length d ≤ i → {a e n : ℕ} → endFrom w start i (drop i d) ≡ Ended a e n
+      → EndedAt d w start (cut w 0 (part d start i) (drop i d)) a e n
   ends-none i h q = let z : _≡_ {A = ℕ} 0 1 = cc (end-none d i w start h) in absurd (omega arith)
 
-  ends-here : (i : ℕ) → start ≤ i → i < length d → beginsAt w (drop i d) ≡ true → {a e n : ℕ} → endFrom w start i (drop i d) ≡ Ended a e n → EndedAt d w start (cut w 0 (part d start i) (drop i d)) a e n
+  ends-here : (i : ℕ) → start ≤ i → i < length d → beginsAt w (drop i d) ≡ true → {a e n : ℕ}
+      → endFrom w start i (drop i d) ≡ Ended a e n → EndedAt d w start (cut w 0 (part d start i) (drop i d)) a e n
   unfolding cut
   ends-here i h l b {a} {e} {n} q =
       let p = sym (end-here d i w start l b) ∙ q in
@@ -156,21 +163,28 @@ module _ (d : List ℕ) (w : Terminator) (start : ℕ) where
         sized = s;
         records =
             rw (← qe, drop-cons d i 0 l, b′)
-            (ap (record-and (part d start i)) (skip-drop w (w .size - 1) [] (drop (suc i) d) ∙ ap (cut w 0 []) (drop-drop (w .size - 1) (suc i) d ∙ ap (λ (x : ℕ). drop x d) m)));
+            (ap (record-and (part d start i))
+            (skip-drop w (w .size - 1) [] (drop (suc i) d)
+            ∙ ap (cut w 0 []) (drop-drop (w .size - 1) (suc i) d ∙ ap (λ (x : ℕ). drop x d) m)));
       }
 
   -- a byte that is no terminator's is the record's
-  cut-on : (i : ℕ) → start ≤ i → i < length d → beginsAt w (drop i d) ≡ false → cut w 0 (part d start i) (drop i d) ≡ cut w 0 (part d start (i + 1)) (drop (i + 1) d)
+  cut-on : (i : ℕ) → start ≤ i → i < length d → beginsAt w (drop i d) ≡ false
+      → cut w 0 (part d start i) (drop i d) ≡ cut w 0 (part d start (i + 1)) (drop (i + 1) d)
   unfolding cut
   cut-on i h l b =
       let b′ = rw (drop-cons d i 0 l) at b in
       rw (drop-cons d i 0 l, b′, part-more d start i h l, add-one i)
 
-  ends : (k i : ℕ) → length d - i ≡ k → start ≤ i → {a e n : ℕ} → endFrom w start i (drop i d) ≡ Ended a e n → EndedAt d w start (cut w 0 (part d start i) (drop i d)) a e n
+  ends : (k i : ℕ) → length d - i ≡ k → start ≤ i → {a e n : ℕ} → endFrom w start i (drop i d) ≡ Ended a e n
+      → EndedAt d w start (cut w 0 (part d start i) (drop i d)) a e n
   ends zero i z h q = ends-none i (omega arith) q
   ends (suc k) i z h {a} {e} {n} q = go (beginsAt w (drop i d)) refl (λ p. ends k (i + 1) (omega arith) (omega arith) p)
     where
-      go : (b : Bool) → beginsAt w (drop i d) ≡ b → (endFrom w start (i + 1) (drop (i + 1) d) ≡ Ended a e n → EndedAt d w start (cut w 0 (part d start (i + 1)) (drop (i + 1) d)) a e n) → EndedAt d w start (cut w 0 (part d start i) (drop i d)) a e n
+      go : (b : Bool) → beginsAt w (drop i d) ≡ b
+          → (endFrom w start (i + 1) (drop (i + 1) d) ≡ Ended a e n
+          → EndedAt d w start (cut w 0 (part d start (i + 1)) (drop (i + 1) d)) a e n)
+          → EndedAt d w start (cut w 0 (part d start i) (drop i d)) a e n
       go true b ih = ends-here i h (omega arith) b q
       go false b ih = rw (cut-on i h (omega arith) b) (ih (sym (end-on d i w start (omega arith) b) ∙ q))
 
@@ -186,7 +200,8 @@ module _ (d : List ℕ) (w : Terminator) (start : ℕ) where
       let m : length (drop start d) ≤ length d - start = rw (length-drop start d) (omega arith) in
       rw (take-all (length d - start) (drop start d) m, drop-cons d start 0 h)
 
-  unends-at : (i : ℕ) → i ≡ length d → start < length d → {a e : ℕ} → endFrom w start i (drop i d) ≡ Unended a e → UnendedAt (cut w 0 (part d start i) (drop i d)) a e
+  unends-at : (i : ℕ) → i ≡ length d → start < length d → {a e : ℕ} → endFrom w start i (drop i d) ≡ Unended a e
+      → UnendedAt (cut w 0 (part d start i) (drop i d)) a e
   unfolding cut
   unends-at i z h {a} {e} q =
       let p = sym (end-none d i w start (omega arith)) ∙ q in
@@ -198,11 +213,14 @@ module _ (d : List ℕ) (w : Terminator) (start : ℕ) where
         records = rw (z, drop-of-length-le d {i = length d} (omega arith)) (all-left h);
       }
 
-  unends : (k i : ℕ) → length d - i ≡ k → start ≤ i → i ≤ length d → start < length d → {a e : ℕ} → endFrom w start i (drop i d) ≡ Unended a e → UnendedAt (cut w 0 (part d start i) (drop i d)) a e
+  unends : (k i : ℕ) → length d - i ≡ k → start ≤ i → i ≤ length d → start < length d → {a e : ℕ}
+      → endFrom w start i (drop i d) ≡ Unended a e → UnendedAt (cut w 0 (part d start i) (drop i d)) a e
   unends zero i z h l m q = unends-at i (omega arith) m q
   unends (suc k) i z h l m {a} {e} q = go (beginsAt w (drop i d)) refl (λ p. unends k (i + 1) (omega arith) (omega arith) (omega arith) m p)
     where
-      go : (b : Bool) → beginsAt w (drop i d) ≡ b → (endFrom w start (i + 1) (drop (i + 1) d) ≡ Unended a e → UnendedAt (cut w 0 (part d start (i + 1)) (drop (i + 1) d)) a e) → UnendedAt (cut w 0 (part d start i) (drop i d)) a e
+      go : (b : Bool) → beginsAt w (drop i d) ≡ b
+          → (endFrom w start (i + 1) (drop (i + 1) d) ≡ Unended a e → UnendedAt (cut w 0 (part d start (i + 1)) (drop (i + 1) d)) a e)
+          → UnendedAt (cut w 0 (part d start i) (drop i d)) a e
       go true b ih = let p = sym (end-here d i w start (omega arith) b) ∙ q in let z : _≡_ {A = ℕ} 0 1 = cc in absurd (omega arith)
       go false b ih = rw (cut-on i h (omega arith) b) (ih (sym (end-on d i w start (omega arith) b) ∙ q))
 
@@ -217,7 +235,8 @@ module _ (d : List ℕ) (w : Terminator) (start : ℕ) where
   pub next-unended : {a e : ℕ} → nextFrom w start (drop start d) ≡ Unended a e → UnendedAt (recordsFrom w (drop start d)) a e
   next-unended q =
       ⊎-elim
-      (λ l. rw (part-none d start) at (unends (length d - start) start refl (omega arith) (omega arith) l (sym (next-some d start w l) ∙ q)))
+      (λ l. rw (part-none d start) at
+      (unends (length d - start) start refl (omega arith) (omega arith) l (sym (next-some d start w l) ∙ q)))
       (λ l. let p = sym (next-none d start w l) ∙ q in let z : _≡_ {A = ℕ} 0 1 = cc in absurd (omega arith))
       (lt-or-le start (length d))
 
@@ -227,7 +246,8 @@ module _ (d : List ℕ) (w : Terminator) (start : ℕ) where
   ends-some [] i q = let z : _≡_ {A = ℕ} 0 1 = cc in omega arith
   ends-some (b ∷ s) i q = go (beginsAt w (b ∷ s)) (λ p. ends-some s (i + 1) p) q
     where
-      go : (c : Bool) → (endFrom w start (i + 1) s ≡ Nothing → ⊥) → cond c (Ended start i (i + w .size)) (endFrom w start (i + 1) s) ≡ Nothing → ⊥
+      go : (c : Bool) → (endFrom w start (i + 1) s ≡ Nothing → ⊥)
+          → cond c (Ended start i (i + w .size)) (endFrom w start (i + 1) s) ≡ Nothing → ⊥
       go true ih q = let z : _≡_ {A = ℕ} 0 1 = cc in omega arith
       go false ih q = ih q
 

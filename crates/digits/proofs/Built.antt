@@ -19,10 +19,6 @@ use Rattle.fields.specs.Number.{padded, amountBytes, quantityBytes}
 use Rattle.digits.specs.Room.{Room, Wide}
 use Rattle.fieldlaws.specs.NumberLaws.{length-padded}
 
-pub tail-pointed : (f : Format) → (f .point ≡ 0 → ⊥) → tailOf f ≡ f .decimals + 1
-unfolding tailOf
-tail-pointed f e = rw (ne-eqb (f .point) 0 e)
-
 module _ (f : Format) (s : List ℕ) (at w n : ℕ) where
   pub built-plain : f .point ≡ 0
       → put s (run at (w - tailOf f)) (padded (w - tailOf f) (n / 10 ^ f .decimals)) ≡ put s (run at w) (amountBytes f w n)

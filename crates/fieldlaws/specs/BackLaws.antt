@@ -23,8 +23,11 @@ use Rattle.layout.specs.declared.Kind.the-variants.{Single, Multiple, Quantity,
 use Rattle.layout.specs.declared.Row.{Row}
 use Rattle.fields.specs.Legal.{legal}
 use Rattle.fields.specs.Number.{allSpaces, Said, blank, says, wrong, codeOf, codeAfter, codeBytes, quantityOf, quantityAfter}
-use Rattle.fields.specs.Field.{Value, missing, number, members, text, truth, holds, illegal, numberField, singleSays, singleField, quantitySays, setBits, allBits, bitsField, allEntries, spreadSet, spreadField, allPlain, unended, textField, truthField, spaces, setFits, textFits}
-use Rattle.fields.specs.Row.{categories, placesBy, placesOf, fieldBy, fieldOf, fits, otherType, notLegal, tooMany, legalFit, fitsBy, fitOf, bytesBy, bytesOf}
+use Rattle.fields.specs.Field.{Value, missing, number, members, text, truth, holds, illegal, numberField}
+use Rattle.fields.specs.Field.{singleSays, singleField, quantitySays, setBits, allBits, bitsField, allEntries}
+use Rattle.fields.specs.Field.{spreadSet, spreadField, allPlain, unended, textField, truthField, spaces, setFits, textFits}
+use Rattle.fields.specs.Row.{categories, placesBy, placesOf, fieldBy, fieldOf, fits}
+use Rattle.fields.specs.Row.{otherType, notLegal, tooMany, legalFit, fitsBy, fitOf, bytesBy, bytesOf}
 use Rattle.fields.specs.Facts.{KindFacts, RowFacts}
 use Rattle.fieldlaws.specs.Tests.{counts-differ}
 use Rattle.fieldlaws.specs.PlaceLaws.{length-bits, length-spread}
@@ -32,7 +35,8 @@ use Rattle.fieldlaws.specs.NumberLaws.{code-back, length-code, quantity-
 use Rattle.fieldlaws.specs.RisingLaws.{Rising, rising-of, legal-of}
 use Rattle.fieldlaws.specs.BitLaws.{length-bit-bytes, some-defined, bits-back, bits-fit}
 use Rattle.fieldlaws.specs.SpreadLaws.{length-spread-bytes, spread-back, spread-few, spread-fit}
-use Rattle.fieldlaws.specs.TextLaws.{length-spaces, spaces-blank, spaces-nothing, fitting, text-back, text-fit, length-text, truth-back, length-truth}
+use Rattle.fieldlaws.specs.TextLaws.{length-spaces, spaces-blank, spaces-nothing, fitting}
+use Rattle.fieldlaws.specs.TextLaws.{text-back, text-fit, length-text, truth-back, length-truth}
 
 -- a bitstring has a category: its width is the largest
 pub record Topped (k : Kind) (t : List ℤ) (v : ℕ) (r : Row) : Type 0 where
@@ -73,7 +77,8 @@ counted (negsuc n) a b = holds-not a refl
 within-digits : (n w : ℕ) → n ≤ 9999 → digitsOf n ≤ w → n < 10 ^ w
 within-digits n w few h = lt-of-lt-of-le (digits-hold n (omega arith)) (pow-le-pow-right (lit< tt) h)
 
-quantity-few : (z : ℤ) → leZ (negsuc 999999999999998) z ≡ true → leZ z (pos 999999999999999) ≡ true → sizeOf z < 10 ^ 16
+-- a quantity has at most 16 digits
+pub quantity-few : (z : ℤ) → leZ (negsuc 999999999999998) z ≡ true → leZ z (pos 999999999999999) ≡ true → sizeOf z < 10 ^ 16
 unfolding signedOf
 quantity-few (pos n) a b = omega (arith, leb-true n 999999999999999 b)
 quantity-few (negsuc n) a b = omega (arith, leb-true n 999999999999998 a)
@@ -114,10 +119,12 @@ module _ (t : List ℤ) (v : ℕ) (r : Row) where
   bits-members l ms e =
       rising-of (legal t v r) (r .width) (λ z q. top-bits (r .width) (counted z (l .least z q) (l .most z q)) (l .room z q)) (l .least) ms e
 
-  pub spread-members : (n b : ℕ) → Limits (Multiple (Fields n b)) t v r → (ms : List ℤ) → setFits (legal t v r) ms ≡ true → Rising 1 (10 ^ r .width - 1) ms
+  pub spread-members : (n b : ℕ) → Limits (Multiple (Fields n b)) t v r → (ms : List ℤ) → setFits (legal t v r) ms ≡ true
+      → Rising 1 (10 ^ r .width - 1) ms
   unfolding lowest highest need
   spread-members n b l ms e =
-      rising-of (legal t v r) (10 ^ r .width - 1) (λ z q. top-digits (r .width) (counted z (l .least z q) (l .most z q)) (l .room z q)) (l .least) ms e
+      rising-of (legal t v r) (10 ^ r .width - 1)
+      (λ z q. top-digits (r .width) (counted z (l .least z q) (l .most z q)) (l .room z q)) (l .least) ms e
 
   spread-code : (n b : ℕ) → Limits (Multiple (Fields n b)) t v r → (z : ℤ) → legal t v r z ≡ true → codeOf (codeBytes (r .width) z) ≡ says z
   unfolding lowest highest need
@@ -171,7 +178,8 @@ module _ (t : List ℤ) (v : ℕ) (r : Row) where
   back-truth (Quantity f) b e = no-other e
   back-truth Character b e = no-other e
 
-  back-by : (k : Kind) → Limits k t v r → Topped k t v r → (x : Value) → fitsBy k t v r x ≡ fits → fieldBy k t v r (bytesBy k t v r x) ≡ holds x
+  back-by : (k : Kind) → Limits k t v r → Topped k t v r → (x : Value) → fitsBy k t v r x ≡ fits
+      → fieldBy k t v r (bytesBy k t v r x) ≡ holds x
   unfolding bytesBy
   back-by k l top missing e = missing-back k t v r (length (placesBy k t v r))
   back-by k l top (number z) e = back-number k l z e
@@ -185,12 +193,14 @@ module _ (t : List ℤ) (v : ℕ) (r : Row) where
   unfolding bytesBy fitsBy placesBy need
   length-number Single l z e = length-code (r .width) z ∙ sym (length-run (r .finish - r .width) (r .width))
   length-number (Quantity f) l z e =
-      length-quantity f (r .width) (l .kind .plain) z (l .room z (fit-legal (legal t v r z) e)) ∙ sym (length-run (r .finish - r .width) (r .width))
+      length-quantity f (r .width) (l .kind .plain) z (l .room z (fit-legal (legal t v r z) e))
+      ∙ sym (length-run (r .finish - r .width) (r .width))
   length-number (Multiple s) l z e = no-other e
   length-number Character l z e = no-other e
   length-number Logical l z e = no-other e
 
-  length-members : (k : Kind) (ms : List ℤ) → fitsBy k t v r (members ms) ≡ fits → length (bytesBy k t v r (members ms)) ≡ length (placesBy k t v r)
+  length-members : (k : Kind) (ms : List ℤ) → fitsBy k t v r (members ms) ≡ fits
+      → length (bytesBy k t v r (members ms)) ≡ length (placesBy k t v r)
   unfolding bytesBy fitsBy placesBy
   length-members (Multiple Bits) ms e = length-bit-bytes ms (categories t v r) ∙ sym (length-bits (r .start - 1) (categories t v r))
   length-members (Multiple (Fields n b)) ms e = length-spread-bytes (r .width) n ms ∙ sym (length-spread b (r .width) (r .start - 1) n)
@@ -236,7 +246,8 @@ module _ (t : List ℤ) (v : ℕ) (r : Row) (x : Value) where
   unfolding fitsBy
   missing-fits k e = rw (← held e)
 
-  number-fits : (k : Kind) (z : ℤ) → (legal t v r z ≡ true → fitsBy k t v r (number z) ≡ fits) → numberField (legal t v r) z ≡ holds x → fitsBy k t v r x ≡ fits
+  number-fits : (k : Kind) (z : ℤ) → (legal t v r z ≡ true → fitsBy k t v r (number z) ≡ fits)
+      → numberField (legal t v r) z ≡ holds x → fitsBy k t v r x ≡ fits
   unfolding numberField
   number-fits k z g e = go (legal t v r z) refl e
     where
@@ -288,7 +299,8 @@ module _ (t : List ℤ) (v : ℕ) (r : Row) (x : Value) where
   unfolding truthField fitsBy
   truth-fits s e = go (allSpaces s) (eqb (getD s 0 0) 49) (eqb (getD s 0 0) 48) e
     where
-      go : (a b c : Bool) → cond a (holds missing) (cond b (holds (truth true)) (cond c (holds (truth false)) illegal)) ≡ holds x → fitsBy Logical t v r x ≡ fits
+      go : (a b c : Bool) → cond a (holds missing) (cond b (holds (truth true)) (cond c (holds (truth false)) illegal)) ≡ holds x
+          → fitsBy Logical t v r x ≡ fits
       go true b c e = missing-fits Logical e
       go false true c e = rw (← held e)
       go false false true e = rw (← held e)
@@ -314,5 +326,6 @@ module _ {t : List ℤ} {v len : ℕ} (r : Row) (facts : RowFacts t v len r) (x 
   bytes-say top e = back-by t v r (r .kind) (limits facts) top x e
 
 -- what a row's field holds fits the row
-pub held-fits : (t : List ℤ) (v : ℕ) (r : Row) (x : Value) (s : List ℕ) → length s ≡ length (placesOf t v r) → fieldOf t v r s ≡ holds x → fitOf t v r x ≡ fits
+pub held-fits : (t : List ℤ) (v : ℕ) (r : Row) (x : Value) (s : List ℕ) → length s ≡ length (placesOf t v r)
+    → fieldOf t v r s ≡ holds x → fitOf t v r x ≡ fits
 held-fits t v r x s n e = held-by t v r x (r .kind) s n e

@@ -9,11 +9,11 @@ use native.Mathlib.Omega.{arith}
 use lib.Dec.{eqb}
 use lib.IntN.{ℤ, pos}
 use lib.ListN.{length}
-use Rattle.below.specs.Below.{holds-not}
+use Rattle.below.specs.Below.{holds-not, and-true}
 use Rattle.fields.specs.Number.{allSpaces}
 use Rattle.fields.specs.Field.{members, holds, allBits, setBits, bitsField, bitBytes, isMember, passing, allLegal, setFits}
 use Rattle.fields.specs.Row.{defined}
-use Rattle.fieldlaws.specs.Tests.{either, both-true}
+use Rattle.fieldlaws.specs.Tests.{either}
 use Rattle.fieldlaws.specs.RisingLaws.{Rising, none, skip, keep, rising-empty, fits-of, members-back, not-member}
 
 pub length-bit-bytes : (ms : List ℤ) (cs : List ℕ) → length (bitBytes ms cs) ≡ length cs
@@ -26,7 +26,8 @@ unfolding bitBytes allBits
 bytes-bits ms [] = refl
 bytes-bits ms (c ∷ cs) = go (isMember ms (pos c)) (bytes-bits ms cs)
   where
-    go : (b : Bool) → allBits (bitBytes ms cs) ≡ true → ((eqb (cond b 49 48) 48 || eqb (cond b 49 48) 49) && allBits (bitBytes ms cs)) ≡ true
+    go : (b : Bool) → allBits (bitBytes ms cs) ≡ true
+        → ((eqb (cond b 49 48) 48 || eqb (cond b 49 48) 49) && allBits (bitBytes ms cs)) ≡ true
     go true e = e
     go false e = e
 
@@ -45,7 +46,8 @@ unfolding defined
 some-defined ok c zero k h l e = absurd (omega arith)
 some-defined ok c (suc n) k h l e = go (ok (pos c)) refl (λ g. some-defined ok (suc c) n k g (omega arith) e)
   where
-    go : (b : Bool) → ok (pos c) ≡ b → (suc c ≤ k → 0 < length (defined ok (suc c) n)) → 0 < length (cond b (c ∷ defined ok (suc c) n) (defined ok (suc c) n))
+    go : (b : Bool) → ok (pos c) ≡ b → (suc c ≤ k → 0 < length (defined ok (suc c) n))
+        → 0 < length (cond b (c ∷ defined ok (suc c) n) (defined ok (suc c) n))
     go true q r = omega arith
     go false q r = ⊎-elim (λ s. holds-not e (ap (λ (i : ℕ). ok (pos i)) (sym s) ∙ q)) r (eq-or-lt-of-le h)
 
@@ -57,14 +59,16 @@ module _ (ok : ℤ → Bool) (ms : List ℤ) (legal : allLegal ok ms ≡ true) w
     where
       go : (a b : Bool) → ok (pos c) ≡ a → isMember ms (pos c) ≡ b
           → setBits (defined ok (suc c) n) (bitBytes ms (defined ok (suc c) n)) ≡ passing (isMember ms) (suc c) n
-          → setBits (cond a (c ∷ defined ok (suc c) n) (defined ok (suc c) n)) (bitBytes ms (cond a (c ∷ defined ok (suc c) n) (defined ok (suc c) n)))
+          → setBits (cond a (c ∷ defined ok (suc c) n) (defined ok (suc c) n))
+          (bitBytes ms (cond a (c ∷ defined ok (suc c) n) (defined ok (suc c) n)))
           ≡ cond b (pos c ∷ passing (isMember ms) (suc c) n) (passing (isMember ms) (suc c) n)
       go true true p q e = rw q (ap (λ (l : List ℤ). pos c ∷ l) e)
       go true false p q e = rw q e
       go false true p q e = holds-not q (not-member ok ms (pos c) legal p)
       go false false p q e = e
 
-  pub bits-back : (w : ℕ) → Rising 1 w ms → 0 < length (defined ok 1 w) → bitsField (defined ok 1 w) (bitBytes ms (defined ok 1 w)) ≡ holds (members ms)
+  pub bits-back : (w : ℕ) → Rising 1 w ms → 0 < length (defined ok 1 w)
+      → bitsField (defined ok 1 w) (bitBytes ms (defined ok 1 w)) ≡ holds (members ms)
   unfolding bitsField
   bits-back w rising some =
       rw (bytes-seen ms (defined ok 1 w) some, bytes-bits ms (defined ok 1 w), set-members 1 w, members-back rising)
@@ -93,8 +97,9 @@ module _ (ok : ℤ → Bool) where
           → allLegal ok (setBits (cond a (c ∷ defined ok (suc c) n) (defined ok (suc c) n)) s) ≡ true
       go true q [] ih = refl
       go true q (b ∷ s) ih =
-          either (λ (l : List ℤ). allLegal ok l ≡ true) (eqb b 49) (pos c ∷ setBits (defined ok (suc c) n) s) (setBits (defined ok (suc c) n) s)
-          (both-true (ok (pos c)) (allLegal ok (setBits (defined ok (suc c) n) s)) q (ih s)) (ih s)
+          either (λ (l : List ℤ). allLegal ok l ≡ true) (eqb b 49) (pos c ∷ setBits (defined ok (suc c) n) s)
+          (setBits (defined ok (suc c) n) s)
+          (and-true (ok (pos c)) (allLegal ok (setBits (defined ok (suc c) n) s)) q (ih s)) (ih s)
       go false q s ih = ih s
 
   pub bits-fit : (w : ℕ) (s : List ℕ) → setFits ok (setBits (defined ok 1 w) s) ≡ true

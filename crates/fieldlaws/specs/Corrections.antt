@@ -3,7 +3,7 @@
 use mathlib.Core.Path.{_≡_, refl, sym, ap, _∙_}
 use mathlib.Core.Bool.{Bool, true, false, cond}
 use mathlib.Core.List.{List, [], _∷_}
-use Prim.Native.Nat.{ℕ, suc, _-_, _≤_}
+use Prim.Native.Nat.{ℕ, _-_, _≤_}
 use native.Mathlib.Omega.{arith}
 use borrow.Author.Tests.{eqb-true}
 use lib.Dec.{eqb}
@@ -11,23 +11,20 @@ use lib.IntN.{ℤ}
 use lib.ListN.{length, getD}
 use lib.Seq.{set-getD}
 use Rattle.places.specs.Places.{pick, put, Out, Apart, Below}
-use Rattle.places.specs.Laws.{length-put, keeps, last, commute, back, apart, length-run}
+use Rattle.places.specs.Laws.{length-put, keeps, last, commute, back, apart, length-run, length-pick}
 use Rattle.layout.specs.declared.Spread.the-variants.{Bits}
 use Rattle.layout.specs.declared.Kind.{Kind}
 use Rattle.layout.specs.declared.Kind.the-variants.{Multiple, Character, Logical}
 use Rattle.layout.specs.declared.Row.{Row}
 use Rattle.fields.specs.Legal.{legal}
 use Rattle.fields.specs.Number.{allSpaces}
-use Rattle.fields.specs.Field.{Value, missing, members, text, truth, holds, illegal, allBits, setBits, bitsField, allPlain, unended, textField, truthField, spaces}
+use Rattle.fields.specs.Field.{Value, missing, members, text, truth, holds, illegal, allBits}
+use Rattle.fields.specs.Field.{setBits, bitsField, allPlain, unended, textField, truthField, spaces}
 use Rattle.fields.specs.Row.{categories, placesBy, placesOf, fieldBy, fieldOf, readingOf, fits, fitOf, bytesBy, bytesOf, writtenOf}
 use Rattle.fields.specs.Facts.{RowFacts}
 use Rattle.fieldlaws.specs.PlaceLaws.{places-once, places-inside, length-bits}
 use Rattle.fieldlaws.specs.BackLaws.{Topped, bytes-many, bytes-say, missing-back, held-fits, held, illegal-holds}
 use Rattle.fieldlaws.specs.KeptLaws.{spaces-kept, text-kept, bits-kept, truth-kept}
-
-pub length-pick : (r ps : List ℕ) → length (pick r ps) ≡ length ps
-length-pick r [] = refl
-length-pick r (p ∷ ps) = ap suc (length-pick r ps)
 
 -- a record that has the places has more
 below-more : (m n : ℕ) (ps : List ℕ) → m ≤ n → Below m ps → Below n ps
@@ -51,7 +48,8 @@ module _ (t : List ℤ) (v : ℕ) (r : Row) (x : Value) (old : List ℕ) where
   written-keeps q o = keeps old (placesOf t v r) (bytesOf t v r x) q o
 
   -- and each row that shares none of them reads as before
-  pub others-read : (other : Row) → Apart (placesOf t v other) (placesOf t v r) → readingOf t v other (writtenOf t v r x old) ≡ readingOf t v other old
+  pub others-read : (other : Row) → Apart (placesOf t v other) (placesOf t v r)
+      → readingOf t v other (writtenOf t v r x old) ≡ readingOf t v other old
   unfolding writtenOf readingOf
   others-read other o = ap (fieldOf t v other) (apart old (placesOf t v r) (bytesOf t v r x) (placesOf t v other) o)
 
@@ -68,14 +66,16 @@ module _ {t : List ℤ} {v len : ℕ} (r : Row) (facts : RowFacts t v len r) (ol
   last-counts x y e = last old (placesOf t v r) (bytesOf t v r x) (bytesOf t v r y) (places-once r facts) (bytes-many r facts y e)
 
   -- the bytes at the value places are then the value's own, whatever stood there
-  pub written-bytes : (x : Value) → len ≤ length old → fitOf t v r x ≡ fits → pick (writtenOf t v r x old) (placesOf t v r) ≡ bytesOf t v r x
+  pub written-bytes : (x : Value) → len ≤ length old → fitOf t v r x ≡ fits
+      → pick (writtenOf t v r x old) (placesOf t v r) ≡ bytesOf t v r x
   unfolding writtenOf
   written-bytes x h e =
       back old (placesOf t v r) (bytesOf t v r x) (places-once r facts)
       (below-more len (length old) (placesOf t v r) h (places-inside r facts)) (bytes-many r facts x e)
 
   -- READ-BACK: a value that fits reads back as itself
-  pub reads-back : Topped (r .kind) t v r → (x : Value) → len ≤ length old → fitOf t v r x ≡ fits → readingOf t v r (writtenOf t v r x old) ≡ holds x
+  pub reads-back : Topped (r .kind) t v r → (x : Value) → len ≤ length old → fitOf t v r x ≡ fits
+      → readingOf t v r (writtenOf t v r x old) ≡ holds x
   unfolding readingOf
   reads-back top x h e = rw (written-bytes x h e) (bytes-say r facts x top e)
 
@@ -116,7 +116,8 @@ module _ (t : List ℤ) (v : ℕ) (r : Row) (x : Value) (s : List ℕ) where
   missing-kept k n b e = rw (← held e, ← n) (spaces-kept s b)
 
   bits-same : length s ≡ length (categories t v r) → (a b : Bool) → allSpaces s ≡ a → allBits s ≡ b
-      → cond a (holds missing) (cond b (holds (members (setBits (categories t v r) s))) illegal) ≡ holds x → bytesBy (Multiple Bits) t v r x ≡ s
+      → cond a (holds missing) (cond b (holds (members (setBits (categories t v r) s))) illegal) ≡ holds x
+      → bytesBy (Multiple Bits) t v r x ≡ s
   unfolding bytesBy placesBy
   bits-same n true b p q e = missing-kept (Multiple Bits) (n ∙ sym (length-bits (r .start - 1) (categories t v r))) p e
   bits-same n false true p q e = rw (← held e) (bits-kept (legal t v r) 1 (r .width) s n q)
@@ -143,7 +144,8 @@ module _ (t : List ℤ) (v : ℕ) (r : Row) (x : Value) (s : List ℕ) where
   same-bytes character n e = text-same (n ∙ length-run (r .start - 1) (r .width)) (allSpaces s) (allPlain s) refl e
   same-bytes logical n e = truth-same n (allSpaces s) (eqb (getD s 0 0) 49) (eqb (getD s 0 0) 48) refl refl refl e
 
-pub writes-back-bytes : (t : List ℤ) (v : ℕ) (r : Row) (x : Value) (old : List ℕ) → Plain (r .kind) → readingOf t v r old ≡ holds x → writtenOf t v r x old ≡ old
+pub writes-back-bytes : (t : List ℤ) (v : ℕ) (r : Row) (x : Value) (old : List ℕ) → Plain (r .kind)
+    → readingOf t v r old ≡ holds x → writtenOf t v r x old ≡ old
 unfolding readingOf writtenOf
 writes-back-bytes t v r x old p e =
     rw (same-bytes t v r x (pick old (placesOf t v r)) p (length-pick old (placesOf t v r)) e) (put-picked old (placesOf t v r))

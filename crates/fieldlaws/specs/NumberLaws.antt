@@ -3,7 +3,8 @@ use mathlib.Core.Path.{_≡_, refl, sym, ap, _∙_}
 use mathlib.Core.Bool.{Bool, true, false, cond}
 use mathlib.Core.List.{List, [], _∷_, _++_, append-nil}
 use Prim.Native.Nat.{ℕ, zero, suc, _+_, _-_, _*_, _/_, _%_, _^_, _≤_, _<_}
-use native.Mathlib.Nat.{pow-succ', add-mul, mul-assoc, add-assoc, mod-lt, mod-eq-of-lt, div-add-mod', div-one, lt-of-lt-of-le, lt-of-le-of-lt, div-le-self, pow-le-pow-right, zero-mul, zero-add, sub-zero}
+use native.Mathlib.Nat.{pow-succ', add-mul, mul-assoc, add-assoc, mod-lt, mod-eq-of-lt, div-add-mod', div-one}
+use native.Mathlib.Nat.{lt-of-lt-of-le, lt-of-le-of-lt, div-le-self, pow-le-pow-right, zero-mul, zero-add, sub-zero}
 use native.Mathlib.Omega.{arith}
 use borrow.Author.Tests.{lt-ltb, ne-eqb, eqb-true, le-leb}
 use lib.Arith.{mod-mul}
@@ -15,7 +16,8 @@ use Rattle.ascii.specs.Tens.{digitsOf, digits-hold, digits-some}
 use Rattle.cells.specs.Cell.{numberOf, signedOf}
 use Rattle.widths.specs.Width.{tailOf, ten-some, wholeDigits, quantityWidth, sizeOf, minusOf}
 use Rattle.layout.specs.declared.Format.{Format}
-use Rattle.fields.specs.Number.{unspaced, digitsOnly, decimalFrom, decimal, says, codeAfter, codeOf, amountForm, amountSize, amountOf, quantityAfter, quantityOf, padded, amountBytes, quantityBytes, codeBytes}
+use Rattle.fields.specs.Number.{unspaced, digitsOnly, decimalFrom, decimal, says, codeAfter, codeOf, amountForm}
+use Rattle.fields.specs.Number.{amountSize, amountOf, quantityAfter, quantityOf, padded, amountBytes, quantityBytes, codeBytes}
 
 -- ---- digits
 pub length-padded : (k n : ℕ) → length (padded k n) ≡ k
@@ -88,7 +90,8 @@ module _ (f : Format) where
   unfolding amountBytes
   bytes-pointed w n e = rw e
 
-  length-pointed : (w a n : ℕ) → eqb (f .point) 0 ≡ false → tailOf f ≤ w → length (padded (w - tailOf f) a ++ 46 ∷ padded (f .decimals) n) ≡ w
+  length-pointed : (w a n : ℕ) → eqb (f .point) 0 ≡ false → tailOf f ≤ w
+      → length (padded (w - tailOf f) a ++ 46 ∷ padded (f .decimals) n) ≡ w
   length-pointed w a n e h = rw (length-append, length-padded) (simp length-padded (omega (arith, tail-pointed e)))
 
   pub length-amount : (w n : ℕ) → tailOf f ≤ w → length (amountBytes f w n) ≡ w
@@ -125,7 +128,8 @@ module _ (f : Format) where
       let q : w - f .decimals ≡ length xs + 1 = omega (arith, length-padded k a, tail-pointed e) in
       let back : drop (w - f .decimals) s ≡ ys = ap (λ (i : ℕ). drop i s) q ∙ drop-append-add xs (46 ∷ ys) 1 in
       let said : decimal (xs ++ ys) ≡ n =
-      said-append xs 0 ys ∙ ap (λ (i : ℕ). decimalFrom i ys) (decimal-padded k a l) ∙ said-padded (f .decimals) a n ∙ div-add-mod' n (10 ^ f .decimals) in
+      said-append xs 0 ys ∙ ap (λ (i : ℕ). decimalFrom i ys) (decimal-padded k a l) ∙ said-padded (f .decimals) a n
+      ∙ div-add-mod' n (10 ^ f .decimals) in
       rw (size, e, front, mark, back) (rw (lt-ltb (tailOf f) w h, padded-digits k a, padded-digits (f .decimals) n, said))
 
   -- what is written without its minus reads back as written
@@ -153,7 +157,8 @@ led f w n h =
 whole-few : (f : Format) (n v : ℕ) → n < 10 ^ 16 → wholeDigits f n ≤ v → n / 10 ^ f .decimals < 10 ^ v
 unfolding wholeDigits
 whole-few f n v few h =
-    lt-of-lt-of-le (digits-hold (n / 10 ^ f .decimals) (lt-of-le-of-lt (div-le-self n (10 ^ f .decimals)) few)) (pow-le-pow-right (lit< tt) h)
+    lt-of-lt-of-le (digits-hold (n / 10 ^ f .decimals) (lt-of-le-of-lt (div-le-self n (10 ^ f .decimals)) few))
+    (pow-le-pow-right (lit< tt) h)
 
 whole-some : (f : Format) (n : ℕ) → 1 ≤ wholeDigits f n
 unfolding wholeDigits
@@ -180,7 +185,8 @@ module _ (f : Format) (w : ℕ) (plain : f .point ≡ 0 → f .decimals ≡ 0) w
   length-quantity z h = quantity-length f w z (omega arith)
 
 -- ---- a code of at most w digits
-pub code-read : (w : ℕ) (z : ℤ) → 1 ≤ w → 0 < sizeOf z → sizeOf z < 10 ^ 16 → signedOf z .minus ≡ false → digitsOf (sizeOf z) ≤ w → codeOf (codeBytes w z) ≡ says z
+pub code-read : (w : ℕ) (z : ℤ) → 1 ≤ w → 0 < sizeOf z → sizeOf z < 10 ^ 16 → signedOf z .minus ≡ false → digitsOf (sizeOf z) ≤ w
+    → codeOf (codeBytes w z) ≡ says z
 unfolding codeBytes signedOf
 code-read w (pos n) some p few m h = code-back w n some (lt-of-lt-of-le (digits-hold n few) (pow-le-pow-right (lit< tt) h))
 code-read w (negsuc n) some p few m h = let x : _≡_ {A = ℕ} 0 1 = cc in absurd (omega arith)

@@ -36,7 +36,8 @@ module _ (ok : ℤ → Bool) (p : ℕ) where
   out-bits q c zero h l = tt
   out-bits q c (suc n) h l =
       let o = out-bits q (suc c) n (omega arith) (omega arith) in
-      either (λ (cs : List ℕ). Out q (bitPlaces p cs)) (ok (pos c)) (c ∷ defined ok (suc c) n) (defined ok (suc c) n) (λ e. omega arith, o) o
+      either (λ (cs : List ℕ). Out q (bitPlaces p cs)) (ok (pos c)) (c ∷ defined ok (suc c) n) (defined ok (suc c) n)
+      (λ e. omega arith, o) o
 
   once-bits : (c n : ℕ) → 1 ≤ c → Once (bitPlaces p (defined ok c n))
   unfolding bitPlaces defined
@@ -64,7 +65,8 @@ module _ (b w : ℕ) (holds : w ≤ b) where
   unfolding spreadPlaces
   out-spread q p zero h = tt
   out-spread q p (suc n) h =
-      out-append q (run (p + (b - w)) w) (spreadPlaces (p + b) b w n) (out-run q (p + (b - w)) w (omega arith)) (out-spread q (p + b) n (omega arith))
+      out-append q (run (p + (b - w)) w) (spreadPlaces (p + b) b w n) (out-run q (p + (b - w)) w (omega arith))
+      (out-spread q (p + b) n (omega arith))
 
   apart-spread : (a k p n : ℕ) → a + k ≤ p → Apart (run a k) (spreadPlaces p b w n)
   apart-spread a zero p n h = tt
@@ -82,7 +84,8 @@ module _ (b w : ℕ) (holds : w ≤ b) where
   below-spread m p zero h = tt
   below-spread m p (suc n) h =
       let l : p + b + n * b ≤ m = omega (arith, suc-mul n b) in
-      below-append m (run (p + (b - w)) w) (spreadPlaces (p + b) b w n) (below-run m (p + (b - w)) w (omega arith)) (below-spread m (p + b) n l)
+      below-append m (run (p + (b - w)) w) (spreadPlaces (p + b) b w n) (below-run m (p + (b - w)) w (omega arith))
+      (below-spread m (p + b) n l)
 
 pub length-spread : (b w p n : ℕ) → length (spreadPlaces p b w n) ≡ n * w
 unfolding spreadPlaces

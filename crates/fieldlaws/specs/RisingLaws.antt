@@ -9,10 +9,9 @@ use native.Mathlib.Omega.{arith}
 use borrow.Author.Tests.{eq-eqb, ne-eqb, ltb-true, lt-ltb, leb-true}
 use lib.IntN.{ℤ, pos, negsuc}
 use lib.Signed.{ltZ, leZ}
-use Rattle.below.specs.Below.{holds-not}
+use Rattle.below.specs.Below.{holds-not, and-left, and-right, and-true}
 use Rattle.cells.specs.Cell.{eqZ, same-true}
 use Rattle.fields.specs.Field.{passing, isMember, risingFrom, allLegal, setFits}
-use Rattle.fieldlaws.specs.Tests.{both-left, both-right, both-true}
 
 pub data Rising : ℕ → ℕ → List ℤ → Type 0 where
   none : {c : ℕ} → Rising c zero []
@@ -27,36 +26,36 @@ rising-empty c (suc n) = skip (rising-empty (suc c) n)
 module _ (a m : ℤ) (ms : List ℤ) where
   pub rises-here : risingFrom a (m ∷ ms) ≡ true → ltZ a m ≡ true
   unfolding risingFrom
-  rises-here e = both-left (ltZ a m) (risingFrom m ms) e
+  rises-here e = and-left (ltZ a m) (risingFrom m ms) e
 
   pub rises-next : risingFrom a (m ∷ ms) ≡ true → risingFrom m ms ≡ true
   unfolding risingFrom
-  rises-next e = both-right (ltZ a m) (risingFrom m ms) e
+  rises-next e = and-right (ltZ a m) (risingFrom m ms) e
 
   pub rises-both : ltZ a m ≡ true → risingFrom m ms ≡ true → risingFrom a (m ∷ ms) ≡ true
   unfolding risingFrom
-  rises-both e f = both-true (ltZ a m) (risingFrom m ms) e f
+  rises-both e f = and-true (ltZ a m) (risingFrom m ms) e f
 
 module _ (ok : ℤ → Bool) (m : ℤ) (ms : List ℤ) where
   pub legal-here : allLegal ok (m ∷ ms) ≡ true → ok m ≡ true
   unfolding allLegal
-  legal-here e = both-left (ok m) (allLegal ok ms) e
+  legal-here e = and-left (ok m) (allLegal ok ms) e
 
   pub legal-next : allLegal ok (m ∷ ms) ≡ true → allLegal ok ms ≡ true
   unfolding allLegal
-  legal-next e = both-right (ok m) (allLegal ok ms) e
+  legal-next e = and-right (ok m) (allLegal ok ms) e
 
   pub legal-both : ok m ≡ true → allLegal ok ms ≡ true → allLegal ok (m ∷ ms) ≡ true
   unfolding allLegal
-  legal-both e f = both-true (ok m) (allLegal ok ms) e f
+  legal-both e f = and-true (ok m) (allLegal ok ms) e f
 
   fits-rise : setFits ok (m ∷ ms) ≡ true → risingFrom m ms ≡ true
   unfolding setFits
-  fits-rise e = both-left (risingFrom m ms) (allLegal ok (m ∷ ms)) e
+  fits-rise e = and-left (risingFrom m ms) (allLegal ok (m ∷ ms)) e
 
   fits-legal : setFits ok (m ∷ ms) ≡ true → allLegal ok (m ∷ ms) ≡ true
   unfolding setFits
-  fits-legal e = both-right (risingFrom m ms) (allLegal ok (m ∷ ms)) e
+  fits-legal e = and-right (risingFrom m ms) (allLegal ok (m ∷ ms)) e
 
 -- ---- "strictly rising with legal members", where every legal number is one of 1 to top, is to be some of these
 module _ (ok : ℤ → Bool) (top : ℕ) (most : (z : ℤ) → ok z ≡ true → leZ z (pos top) ≡ true) where
@@ -116,12 +115,14 @@ passing-rises f c (suc n) = go (f (pos c)) (passing-rises f (suc c) n)
     go true s = keep s
     go false s = skip s
 
-pub passing-legal : (f ok : ℤ → Bool) (c n : ℕ) → ((x : ℕ) → c ≤ x → f (pos x) ≡ true → ok (pos x) ≡ true) → allLegal ok (passing f c n) ≡ true
+pub passing-legal : (f ok : ℤ → Bool) (c n : ℕ) → ((x : ℕ) → c ≤ x → f (pos x) ≡ true → ok (pos x) ≡ true)
+    → allLegal ok (passing f c n) ≡ true
 unfolding passing allLegal
 passing-legal f ok c zero e = refl
 passing-legal f ok c (suc n) e = go (f (pos c)) refl (passing-legal f ok (suc c) n (λ x h. e x (omega arith)))
   where
-    go : (b : Bool) → f (pos c) ≡ b → allLegal ok (passing f (suc c) n) ≡ true → allLegal ok (cond b (pos c ∷ passing f (suc c) n) (passing f (suc c) n)) ≡ true
+    go : (b : Bool) → f (pos c) ≡ b → allLegal ok (passing f (suc c) n) ≡ true
+        → allLegal ok (cond b (pos c ∷ passing f (suc c) n) (passing f (suc c) n)) ≡ true
     go true q l = rw (e c (omega arith) q) l
     go false q l = l
 

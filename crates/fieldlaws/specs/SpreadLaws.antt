@@ -9,14 +9,16 @@ use borrow.Author.Tests.{ne-eqb}
 use lib.IntN.{ℤ, pos}
 use lib.ListN.{length, take, drop, length-append}
 use lib.Seq.{take-at, drop-at}
-use Rattle.below.specs.Below.{holds-not}
+use Rattle.below.specs.Below.{holds-not, and-left, and-right, or-true}
 use Rattle.cells.specs.Cell.{eqZ, same-true, signedOf}
 use Rattle.widths.specs.Width.{ten-some}
 use Rattle.fields.specs.Number.{Said, blank, says, wrong, allSpaces, codeOf, padded, codeBytes}
-use Rattle.fields.specs.Field.{members, holds, entryGood, entryIs, allEntries, someEntry, spreadSet, spreadField, spreadBytes, isMember, passing, allLegal, setFits}
-use Rattle.fieldlaws.specs.Tests.{both-left, both-right, or-right, counts-differ}
+use Rattle.fields.specs.Field.{members, holds, entryGood, entryIs, allEntries, someEntry}
+use Rattle.fields.specs.Field.{spreadSet, spreadField, spreadBytes, isMember, passing, allLegal, setFits}
+use Rattle.fieldlaws.specs.Tests.{counts-differ}
 use Rattle.fieldlaws.specs.NumberLaws.{length-code, code-back}
-use Rattle.fieldlaws.specs.RisingLaws.{Rising, fits-of, members-back, passing-same, passing-rises, passing-legal, legal-here, legal-next}
+use Rattle.fieldlaws.specs.RisingLaws.{Rising, fits-of, members-back, passing-same}
+use Rattle.fieldlaws.specs.RisingLaws.{passing-rises, passing-legal, legal-here, legal-next}
 
 pub length-spread-bytes : (w n : ℕ) (ms : List ℤ) → length (spreadBytes w n ms) ≡ n * w
 unfolding spreadBytes
@@ -63,7 +65,7 @@ module _ (ok : ℤ → Bool) (w : ℕ) (wide : 1 ≤ w) (reads : (z : ℤ) → o
   bytes-good (suc n) (m ∷ ms) l =
       let here : ok m ≡ true = legal-here ok m ms l in
       rw (front w m (spreadBytes w n ms), others w m (spreadBytes w n ms), reads m here)
-      (rw (here, or-right) (bytes-good n ms (legal-next ok m ms l)))
+      (rw (here, or-true) (bytes-good n ms (legal-next ok m ms l)))
 
   unused-none : (n c : ℕ) → 1 ≤ c → someEntry (pos c) w n (spreadBytes w n []) ≡ false
   unfolding someEntry spreadBytes entryIs eqZ
@@ -73,7 +75,8 @@ module _ (ok : ℤ → Bool) (w : ℕ) (wide : 1 ≤ w) (reads : (z : ℤ) → o
       (rw (ne-eqb 0 c (λ e. omega arith)) (unused-none n c h))
 
   -- a subfield holds c where c is a member
-  bytes-some : (n c : ℕ) (ms : List ℤ) → 1 ≤ c → allLegal ok ms ≡ true → length ms ≤ n → someEntry (pos c) w n (spreadBytes w n ms) ≡ isMember ms (pos c)
+  bytes-some : (n c : ℕ) (ms : List ℤ) → 1 ≤ c → allLegal ok ms ≡ true → length ms ≤ n
+      → someEntry (pos c) w n (spreadBytes w n ms) ≡ isMember ms (pos c)
   unfolding someEntry spreadBytes entryIs isMember
   bytes-some n c [] h l few = unused-none n c h
   bytes-some zero c (m ∷ ms) h l few = absurd (omega arith)
@@ -107,9 +110,10 @@ module _ (ok : ℤ → Bool) (c : ℕ) (some : 1 ≤ c) where
   some-legal w (suc n) s g e =
       let x = codeOf (take w s) in
       let a = allEntries ok w n (drop w s) in
-      go (entryIs (pos c) x) refl (both-left (entryGood ok x) a g) e (some-legal w n (drop w s) (both-right (entryGood ok x) a g))
+      go (entryIs (pos c) x) refl (and-left (entryGood ok x) a g) e (some-legal w n (drop w s) (and-right (entryGood ok x) a g))
     where
-      go : (b : Bool) → entryIs (pos c) (codeOf (take w s)) ≡ b → entryGood ok (codeOf (take w s)) ≡ true → (b || someEntry (pos c) w n (drop w s)) ≡ true
+      go : (b : Bool) → entryIs (pos c) (codeOf (take w s)) ≡ b → entryGood ok (codeOf (take w s)) ≡ true
+          → (b || someEntry (pos c) w n (drop w s)) ≡ true
           → (someEntry (pos c) w n (drop w s) ≡ true → ok (pos c) ≡ true) → ok (pos c) ≡ true
       go true q g e ih = entry-legal (codeOf (take w s)) g q
       go false q g e ih = ih e
@@ -129,7 +133,8 @@ one-passes y c (suc n) = go (eqZ y (pos c)) refl (one-passes y (suc c) n)
         → length (cond b (pos c ∷ passing (λ z. eqZ y z) (suc c) n) (passing (λ z. eqZ y z) (suc c) n)) ≤ 1
     go true q h =
         let s : y ≡ pos c = same-true y (pos c) q in
-        let e : passing (λ z. eqZ y z) (suc c) n ≡ [] = none-passes (λ z. eqZ y z) (suc c) n (λ x l. rw s (counts-differ c x (λ e. omega arith))) in
+        let e : passing (λ z. eqZ y z) (suc c) n ≡ [] =
+        none-passes (λ z. eqZ y z) (suc c) n (λ x l. rw s (counts-differ c x (λ e. omega arith))) in
         rw e (omega arith)
     go false q h = h
 
@@ -146,7 +151,8 @@ either-passes f g c (suc n) = go (f (pos c)) (g (pos c)) (either-passes f g (suc
   where
     go : (a b : Bool) → length (passing (λ z. f z || g z) (suc c) n) ≤ length (passing f (suc c) n) + length (passing g (suc c) n)
         → length (cond (a || b) (pos c ∷ passing (λ z. f z || g z) (suc c) n) (passing (λ z. f z || g z) (suc c) n))
-        ≤ length (cond a (pos c ∷ passing f (suc c) n) (passing f (suc c) n)) + length (cond b (pos c ∷ passing g (suc c) n) (passing g (suc c) n))
+        ≤ length (cond a (pos c ∷ passing f (suc c) n) (passing f (suc c) n))
+        + length (cond b (pos c ∷ passing g (suc c) n) (passing g (suc c) n))
     go true true h = omega arith
     go true false h = omega arith
     go false true h = omega arith

@@ -7,10 +7,9 @@ use native.Mathlib.Omega.{arith}
 use borrow.Author.Tests.{ne-eqb, eqb-false, le-leb, leb-true, lt-ltb, ltb-true}
 use lib.Dec.{eqb, leb, ltb}
 use lib.ListN.{length, getD, length-append}
-use Rattle.below.specs.Below.{holds-not}
+use Rattle.below.specs.Below.{holds-not, and-left, and-right, and-true}
 use Rattle.fields.specs.Number.{allSpaces, unspaced}
 use Rattle.fields.specs.Field.{text, truth, holds, allPlain, unended, textField, truthField, spaces, textBytes, truthBytes, textFits}
-use Rattle.fieldlaws.specs.Tests.{both-left, both-right, both-true}
 
 -- ---- spaces
 pub length-spaces : (n : ℕ) → length (spaces n) ≡ n
@@ -50,7 +49,8 @@ module _ (k : ℕ) where
   unended-back (b ∷ []) zero e h = rw (solid (b ∷ []) zero e h) (ap (λ (l : List ℕ). b ∷ l) (unended-blank (spaces k) (spaces-blank k)))
   unended-back (b ∷ []) (suc n) e h = absurd (omega arith)
   unended-back (b ∷ c ∷ s) zero e h = absurd (omega arith)
-  unended-back (b ∷ c ∷ s) (suc n) e h = rw (solid (b ∷ c ∷ s) (suc n) e h) (ap (λ (l : List ℕ). b ∷ l) (unended-back (c ∷ s) n (omega arith) h))
+  unended-back (b ∷ c ∷ s) (suc n) e h =
+      rw (solid (b ∷ c ∷ s) (suc n) e h) (ap (λ (l : List ℕ). b ∷ l) (unended-back (c ∷ s) n (omega arith) h))
 
 spaces-plain : (n : ℕ) → allPlain (spaces n) ≡ true
 unfolding spaces allPlain
@@ -60,7 +60,9 @@ spaces-plain (suc n) = spaces-plain n
 plain-append : (s t : List ℕ) → allPlain s ≡ true → allPlain t ≡ true → allPlain (s ++ t) ≡ true
 unfolding allPlain
 plain-append [] t e f = f
-plain-append (b ∷ s) t e f = both-true (leb 32 b) (allPlain (s ++ t)) (both-left (leb 32 b) (allPlain s) e) (plain-append s t (both-right (leb 32 b) (allPlain s) e) f)
+plain-append (b ∷ s) t e f =
+    and-true (leb 32 b) (allPlain (s ++ t)) (and-left (leb 32 b) (allPlain s) e)
+    (plain-append s t (and-right (leb 32 b) (allPlain s) e) f)
 
 -- what a text that may be written is, in parts
 pub record Fitting (w : ℕ) (s : List ℕ) : Type 0 where
@@ -76,13 +78,13 @@ module _ (w : ℕ) (s : List ℕ) where
       let b₃ = ltb 32 (getD s (length s - 1) 0) in
       let b₂ = allPlain s && b₃ in
       let b₁ = leb (length s) w && b₂ in
-      let e₁ : b₁ ≡ true = both-right (ltb 0 (length s)) b₁ e in
-      let e₂ : b₂ ≡ true = both-right (leb (length s) w) b₂ e₁ in
+      let e₁ : b₁ ≡ true = and-right (ltb 0 (length s)) b₁ e in
+      let e₂ : b₂ ≡ true = and-right (leb (length s) w) b₂ e₁ in
       record {
-        some = ltb-true 0 (length s) (both-left (ltb 0 (length s)) b₁ e);
-        few = leb-true (length s) w (both-left (leb (length s) w) b₂ e₁);
-        plain = both-left (allPlain s) b₃ e₂;
-        ended = ltb-true 32 (getD s (length s - 1) 0) (both-right (allPlain s) b₃ e₂);
+        some = ltb-true 0 (length s) (and-left (ltb 0 (length s)) b₁ e);
+        few = leb-true (length s) w (and-left (leb (length s) w) b₂ e₁);
+        plain = and-left (allPlain s) b₃ e₂;
+        ended = ltb-true 32 (getD s (length s - 1) 0) (and-right (allPlain s) b₃ e₂);
       }
 
   pub fits-text : Fitting w s → textFits w s ≡ true
@@ -123,7 +125,9 @@ unended-plain : (s : List ℕ) → allPlain s ≡ true → allPlain (unended s) 
 unfolding unended allPlain
 unended-plain [] e = refl
 unended-plain (b ∷ s) e =
-    go (allSpaces (b ∷ s)) (both-true (leb 32 b) (allPlain (unended s)) (both-left (leb 32 b) (allPlain s) e) (unended-plain s (both-right (leb 32 b) (allPlain s) e)))
+    go (allSpaces (b ∷ s))
+    (and-true (leb 32 b) (allPlain (unended s)) (and-left (leb 32 b) (allPlain s) e)
+    (unended-plain s (and-right (leb 32 b) (allPlain s) e)))
   where
     go : (a : Bool) → (leb 32 b && allPlain (unended s)) ≡ true → allPlain (cond a [] (b ∷ unended s)) ≡ true
     go true h = refl
@@ -147,14 +151,14 @@ above b n h = omega arith
 unended-ended : (s : List ℕ) → allSpaces s ≡ false → allPlain s ≡ true → 32 < getD (unended s) (length (unended s) - 1) 0
 unfolding unended allSpaces allPlain
 unended-ended [] e p = holds-not refl e
-unended-ended (b ∷ s) e p = rw e (go (allSpaces s) refl (λ q. unended-ended s q (both-right (leb 32 b) (allPlain s) p)))
+unended-ended (b ∷ s) e p = rw e (go (allSpaces s) refl (λ q. unended-ended s q (and-right (leb 32 b) (allPlain s) p)))
   where
     go : (a : Bool) → allSpaces s ≡ a → (allSpaces s ≡ false → 32 < getD (unended s) (length (unended s) - 1) 0)
         → 32 < getD (b ∷ unended s) (length (b ∷ unended s) - 1) 0
     go true q ih =
         let n : unended s ≡ [] = unended-blank s q in
         let x : eqb b 32 ≡ false = not-both q e in
-        let y : 32 ≤ b = leb-true 32 b (both-left (leb 32 b) (allPlain s) p) in
+        let y : 32 ≤ b = leb-true 32 b (and-left (leb 32 b) (allPlain s) p) in
         rw n (above b (eqb-false b 32 x) y)
     go false q ih = rw (last-cons b (unended s) (unended-some s q)) (ih q)
 

@@ -15,7 +15,9 @@ use Rattle.layout.specs.declared.Kind.the-variants.{Single, Multiple, Quantity,
 use Rattle.layout.specs.declared.Row.{Row}
 use Rattle.fields.specs.Legal.{legal}
 use Rattle.fields.specs.Number.{codeBytes, quantityBytes}
-use Rattle.fields.specs.Field.{Value, missing, number, members, text, truth, Field, holds, illegal, singleField, quantityField, bitsField, spreadField, textField, truthField, spaces, bitBytes, spreadBytes, textBytes, truthBytes, setFits, textFits}
+use Rattle.fields.specs.Field.{Value, missing, number, members, text, truth, Field, holds, illegal}
+use Rattle.fields.specs.Field.{singleField, quantityField, bitsField, spreadField, textField}
+use Rattle.fields.specs.Field.{truthField, spaces, bitBytes, spreadBytes, textBytes, truthBytes, setFits, textFits}
 
 -- of the n numbers from c on, those that pass
 unfoldable pub defined : (ℤ → Bool) → ℕ → ℕ → List ℕ

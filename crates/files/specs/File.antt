@@ -106,7 +106,9 @@ module _ (t : List ℤ) (n first : ℕ) (rs : Records) where
   unfolding recordsVerdict
   records-unended e = rw e
 
-  pub records-next : {r : List ℕ} {rest : Records} → rs ≡ record-and r rest → recordsVerdict t n first rs ≡ goOn (recordVerdict t (firstLength n first (length r)) r) n (recordsVerdict t (n + 1) (firstLength n first (length r)) rest)
+  pub records-next : {r : List ℕ} {rest : Records} → rs ≡ record-and r rest → recordsVerdict t n first rs
+      ≡ goOn (recordVerdict t (firstLength n first (length r)) r) n
+      (recordsVerdict t (n + 1) (firstLength n first (length r)) rest)
   unfolding recordsVerdict
   records-next e = rw e
 

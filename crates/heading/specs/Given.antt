@@ -22,7 +22,8 @@ given k (j ∷ s) = eqb k j || given k s
 -- the headings that the statements of a list, read one after another, come to
 pub data Reached (d : List ℕ) : List ℕ → Heading → Type 0 where
   none : Reached d [] noHeading
-  text : {s : List ℕ} {h : Heading} {k : ℕ} {q : Quoted} (t : Reading) (m : ℕ) → Reached d s h → k ≤ 3 → onceOf d (textAt h k) t m ≡ Is q → Reached d (k ∷ s) (withText h k q)
+  text : {s : List ℕ} {h : Heading} {k : ℕ} {q : Quoted} (t : Reading) (m : ℕ) → Reached d s h → k ≤ 3
+      → onceOf d (textAt h k) t m ≡ Is q → Reached d (k ∷ s) (withText h k q)
   names : {s : List ℕ} {h : Heading} → Reached d s h → Reached d (4 ∷ s) (named h)
 
 -- behind the statements of a list, one statement more: it was given, or it was refused

@@ -69,7 +69,9 @@ unfoldable pub named : Heading → Heading
 named h = record { date = h .date; time = h .time; origin = h .origin; user = h .user; standard = true }
 
 unfoldable pub nameEntry : List ℕ → Heading → Reading → ℕ → Entered
-nameEntry d h t m = cond (h .standard) (record { heading = named h; next = again t }) (record { heading = named h; next = notesOn d (wordOn d (At m) NAMES) })
+nameEntry d h t m =
+    cond (h .standard) (record { heading = named h; next = again t })
+    (record { heading = named h; next = notesOn d (wordOn d (At m) NAMES) })
 
 -- ---- all of them, up to a statement that is none
 abbrev pub noText : Quoted

@@ -28,7 +28,8 @@ use Rattle.writes.specs.declared.Wrote.the-variants.{Done}
 use Rattle.writes.specs.Public.{Written}
 use Rattle.laws.specs.Writing.{done-accepted, keeps-length, read-back, bytes-put}
 
-module _ {t : List ℤ} {i : ℕ} {x : Value} {old new : List ℕ} (w : Written t i x old new Done) {list list′ : List ℤ} {r : Answer} (read : ValueRead t i new list list′ r) where
+module _ {t : List ℤ} {i : ℕ} {x : Value} {old new : List ℕ} (w : Written t i x old new Done) {list list′ : List ℤ} {r : Answer}
+    (read : ValueRead t i new list list′ r) where
   long : lengthOf t ≤ length new
   long = rw (keeps-length w) (done-accepted w .sound .long)
 
@@ -74,7 +75,8 @@ module _ {t : List ℤ} {i : ℕ} {old new : List ℕ} {list list′ : List ℤ}
   truth-back w read = reads-written w read
 
 -- ---- a text: the bytes where the answer says are the text
-text-kind : (k : Kind) (t : List ℤ) (v : ℕ) (r : Row) (s : List ℕ) → fitsBy k t v r (text s) ≡ fits → (k ≡ Character) × (textFits (r .width) s ≡ true)
+text-kind : (k : Kind) (t : List ℤ) (v : ℕ) (r : Row) (s : List ℕ) → fitsBy k t v r (text s) ≡ fits
+    → (k ≡ Character) × (textFits (r .width) s ≡ true)
 unfolding fitsBy
 text-kind Character t v r s e = (refl, fit-legal (textFits (r .width) s) e)
 text-kind Single t v r s e = let z : _≡_ {A = ℕ} 0 1 = cc in absurd (omega arith)
@@ -82,7 +84,8 @@ text-kind (Multiple x) t v r s e = let z : _≡_ {A = ℕ} 0 1 = cc in absurd (o
 text-kind (Quantity f) t v r s e = let z : _≡_ {A = ℕ} 0 1 = cc in absurd (omega arith)
 text-kind Logical t v r s e = let z : _≡_ {A = ℕ} 0 1 = cc in absurd (omega arith)
 
-text-bytes : (k : Kind) (t : List ℤ) (v : ℕ) (r : Row) (s new : List ℕ) → k ≡ Character → pick new (placesBy k t v r) ≡ bytesBy k t v r (text s)
+text-bytes : (k : Kind) (t : List ℤ) (v : ℕ) (r : Row) (s new : List ℕ) → k ≡ Character
+    → pick new (placesBy k t v r) ≡ bytesBy k t v r (text s)
     → pick new (run (r .start - 1) (r .width)) ≡ textBytes (r .width) s
 unfolding placesBy bytesBy
 text-bytes k t v r s new e q = rw e at q
@@ -108,6 +111,7 @@ module _ {t : List ℤ} {i : ℕ} {s : List ℕ} {old new : List ℕ} (w : Writt
       let f = row-facts t (a .sound .formed) i (a .sound .row) in
       let k = text-kind (r .kind) t (rowsOf t) r s (a .fitting) in
       let g = text-room (r .kind) r (k .0) (f .kind) in
-      let n : r .start - 1 + r .width ≤ length new = omega (arith, keeps-length w, a .sound .long, f .position .inside, f .position .from-one, g .room) in
+      let n : r .start - 1 + r .width ≤ length new =
+      omega (arith, keeps-length w, a .sound .long, f .position .inside, f .position .from-one, g .room) in
       text-first (r .width) (r .start - 1) s new (fitting (r .width) s (k .1) .few)
       (sym (pick-run new (r .start - 1) (r .width) n) ∙ text-bytes (r .kind) t (rowsOf t) r s new (k .0) (bytes-put w))

@@ -4,11 +4,12 @@ use mathlib.Core.Bool.{Bool, true, false, cond, not, _&&_, _||_}
 use mathlib.Core.List.{List}
 use Prim.Native.Nat.{ℕ, zero, suc, _≤_, _<_, max}
 use native.Mathlib.Omega.{arith}
-use borrow.Author.Tests.{leb-true, leb-false, le-leb, eqb-true}
+use borrow.Author.Tests.{leb-true, leb-false, eqb-true}
 use lib.Dec.{leb}
 use lib.IntN.{ℤ, pos, negsuc}
 use lib.Signed.{leZ}
-use Rattle.below.specs.Below.{maxBelow, any-holds, all-at, and-both, holds-not}
+use Rattle.cells.specs.Order.{le-self}
+use Rattle.below.specs.Below.{maxBelow, any-holds, all-at, and-both, holds-not, and-left}
 use Rattle.cells.specs.Cell.{eqZ, same-self, signedOf}
 use Rattle.widths.specs.Width.{need, sizeOf, lowest, fitsKind}
 use Rattle.layout.specs.Layout.{headerOf}
@@ -19,9 +20,9 @@ use Rattle.layout.specs.declared.Kind.the-variants.{Multiple}
 use Rattle.layout.specs.declared.Spread.the-variants.{Bits}
 use Rattle.fields.specs.Legal.{lineValue, inRange, onLine, legal}
 use Rattle.fields.specs.Facts.{RowFacts, KindFacts, WidthFacts}
-use Rattle.fieldlaws.specs.Tests.{both-left}
 use Rattle.fieldlaws.specs.BackLaws.{Topped}
-use Rattle.sound.specs.Sound.{wellFormed, rowsGood, rowGood, goodAt, columnsOf, linesBefore, valuesGood, widthsGood, rangeGood, rangeWidth, widest, widthGood, valueAt}
+use Rattle.sound.specs.Sound.{wellFormed, rowsGood, rowGood, goodAt, columnsOf, linesBefore}
+use Rattle.sound.specs.Sound.{valuesGood, widthsGood, rangeGood, rangeWidth, widest, widthGood, valueAt}
 use Rattle.sound.specs.Rows.{rowsOf, parts, row-facts, line-value}
 
 -- the largest of some numbers is one of them
@@ -39,13 +40,10 @@ unfolding maxBelow
 attained f zero h = absurd (omega arith)
 attained f (suc n) h = go (leb (maxBelow n f) (f n)) refl (λ q. attained f n q)
   where
-    go : (b : Bool) → leb (maxBelow n f) (f n) ≡ b → (0 < maxBelow n f → Attained f n (maxBelow n f)) → Attained f (suc n) (max (maxBelow n f) (f n))
+    go : (b : Bool) → leb (maxBelow n f) (f n) ≡ b → (0 < maxBelow n f → Attained f n (maxBelow n f))
+        → Attained f (suc n) (max (maxBelow n f) (f n))
     go true e ih = let l : maxBelow n f ≤ f n = leb-true (maxBelow n f) (f n) e in at n (omega arith) (omega arith)
     go false e ih = let l : f n < maxBelow n f = leb-false (maxBelow n f) (f n) e in later (omega arith) (ih (omega arith))
-
-le-self : (z : ℤ) → leZ z z ≡ true
-le-self (pos n) = le-leb n n (omega arith)
-le-self (negsuc n) = le-leb n n (omega arith)
 
 or-left : (a b : Bool) → a ≡ true → (a || b) ≡ true
 or-left a b e = rw e
@@ -74,10 +72,12 @@ module _ (t : List ℤ) (v : ℕ) (r : Row) where
       (any-holds (λ j. eqZ (lineValue t v r j) (lineValue t v r k)) (r .lines) k h (same-self (lineValue t v r k)))
 
   -- a legal category of this size is the size
-  size-legal : {len : ℕ} → RowFacts t v len r → r .kind ≡ Multiple Bits → (z : ℤ) → legal t v r z ≡ true → sizeOf z ≡ r .width → legal t v r (pos (r .width)) ≡ true
+  size-legal : {len : ℕ} → RowFacts t v len r → r .kind ≡ Multiple Bits → (z : ℤ) → legal t v r z ≡ true → sizeOf z ≡ r .width
+      → legal t v r (pos (r .width)) ≡ true
   unfolding signedOf lowest
   size-legal f k (pos n) e q = ap (λ (m : ℕ). legal t v r (pos m)) (sym q) ∙ e
-  size-legal f k (negsuc n) e q = let h : leZ (lowest (Multiple Bits)) (negsuc n) ≡ true = rw k at (f .least (negsuc n) e) in holds-not h refl
+  size-legal f k (negsuc n) e q =
+      let h : leZ (lowest (Multiple Bits)) (negsuc n) ≡ true = rw k at (f .least (negsuc n) e) in holds-not h refl
 
   module _ {len : ℕ} (facts : RowFacts t v len r) (bits : r .kind ≡ Multiple Bits) where
     some : 1 ≤ r .width
@@ -95,7 +95,8 @@ module _ (t : List ℤ) (v : ℕ) (r : Row) where
     unfolding rangeWidth
     range-top g q = go (r .range) refl q
       where
-        wider : (e : r .range ≡ true) → leZ (r .from) (r .to) ≡ true → (b : Bool) → leb (need (r .kind) (r .from)) (need (r .kind) (r .to)) ≡ b
+        wider : (e : r .range ≡ true) → leZ (r .from) (r .to) ≡ true → (b : Bool)
+            → leb (need (r .kind) (r .from)) (need (r .kind) (r .to)) ≡ b
             → max (need (r .kind) (r .from)) (need (r .kind) (r .to)) ≡ r .width → legal t v r (pos (r .width)) ≡ true
         wider e h true l m =
             let l′ : need (r .kind) (r .from) ≤ need (r .kind) (r .to) = leb-true _ _ l in
@@ -104,10 +105,11 @@ module _ (t : List ℤ) (v : ℕ) (r : Row) where
             let l′ : need (r .kind) (r .to) < need (r .kind) (r .from) = leb-false _ _ l in
             need-legal (r .from) (from-legal e h) (omega arith)
 
-        go : (b : Bool) → r .range ≡ b → cond b (max (need (r .kind) (r .from)) (need (r .kind) (r .to))) 0 ≡ r .width → legal t v r (pos (r .width)) ≡ true
+        go : (b : Bool) → r .range ≡ b → cond b (max (need (r .kind) (r .from)) (need (r .kind) (r .to))) 0 ≡ r .width
+            → legal t v r (pos (r .width)) ≡ true
         go true e m =
             let h = not-or (r .range) (leZ (r .from) (r .to) && (fitsKind (r .kind) (r .from) && fitsKind (r .kind) (r .to))) e g in
-            wider e (both-left (leZ (r .from) (r .to)) (fitsKind (r .kind) (r .from) && fitsKind (r .kind) (r .to)) h)
+            wider e (and-left (leZ (r .from) (r .to)) (fitsKind (r .kind) (r .from) && fitsKind (r .kind) (r .to)) h)
             (leb (need (r .kind) (r .from)) (need (r .kind) (r .to))) refl m
         go false e m = absurd (omega (arith, some))
 
@@ -145,7 +147,8 @@ module _ (t : List ℤ) (good : wellFormed t ≡ true) (i : ℕ) (here : i < row
   unfolding rowGood widthsGood
   width-is k = go (rowAt t i .kind) k (and-both (and-both (and-both row-good .1) .1) .0)
     where
-      go : (k : Kind) → k ≡ Multiple Bits → widthGood k (rowAt t i .width) (widest t (rowsOf t) (rowAt t i)) ≡ true → rowAt t i .width ≡ widest t (rowsOf t) (rowAt t i)
+      go : (k : Kind) → k ≡ Multiple Bits → widthGood k (rowAt t i .width) (widest t (rowsOf t) (rowAt t i)) ≡ true
+          → rowAt t i .width ≡ widest t (rowsOf t) (rowAt t i)
       go k e g = width-bits _ _ (rw e at g)
 
   pub row-topped : Topped (rowAt t i .kind) t (rowsOf t) (rowAt t i)

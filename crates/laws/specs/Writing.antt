@@ -15,7 +15,8 @@ use Rattle.fields.specs.Field.{Value, missing, holds}
 use Rattle.fields.specs.Number.{allSpaces}
 use Rattle.fields.specs.Row.{Fit, fits, otherType, notLegal, tooMany, placesOf, readingOf, fitOf, bytesOf, writtenOf}
 use Rattle.fields.specs.Facts.{RowFacts}
-use Rattle.fieldlaws.specs.Corrections.{written-length, written-keeps, others-read, either-order, last-counts, written-bytes, reads-back, read-fits, Plain, writes-back-bytes, blank-reads, blank-kept}
+use Rattle.fieldlaws.specs.Corrections.{written-length, written-keeps, others-read, either-order, last-counts}
+use Rattle.fieldlaws.specs.Corrections.{written-bytes, reads-back, read-fits, Plain, writes-back-bytes, blank-reads, blank-kept}
 use Rattle.sound.specs.Sound.{wellFormed}
 use Rattle.sound.specs.Rows.{rowsOf, lengthOf, row-facts}
 use Rattle.writes.specs.declared.Wrote.{Wrote}
@@ -53,7 +54,8 @@ module _ (t : List ℤ) (i : ℕ) (x : Value) (n : ℕ) where
       longer : wellFormed t ≡ true → i < rowsOf t → (b : Bool) → ltb n (lengthOf t) ≡ b
           → Outcome t i x n (cond b 22 (fitNumber (fitOf t (rowsOf t) (rowAt t i) x)))
       longer g h true e = too-short g h (ltb-true n (lengthOf t) e)
-      longer g h false e = fitted (record { formed = g; row = h; long = ltb-false n (lengthOf t) e }) (fitOf t (rowsOf t) (rowAt t i) x) refl
+      longer g h false e =
+          fitted (record { formed = g; row = h; long = ltb-false n (lengthOf t) e }) (fitOf t (rowsOf t) (rowAt t i) x) refl
 
       rowed : wellFormed t ≡ true → (b : Bool) → leb (rowsOf t) i ≡ b
           → Outcome t i x n (cond b 21 (cond (ltb n (lengthOf t)) 22 (fitNumber (fitOf t (rowsOf t) (rowAt t i) x))))
@@ -61,7 +63,8 @@ module _ (t : List ℤ) (i : ℕ) (x : Value) (n : ℕ) where
       rowed g false e = longer g (leb-false (rowsOf t) i e) (ltb n (lengthOf t)) refl
 
       formed : (b : Bool) → wellFormed t ≡ b
-          → Outcome t i x n (cond b (cond (leb (rowsOf t) i) 21 (cond (ltb n (lengthOf t)) 22 (fitNumber (fitOf t (rowsOf t) (rowAt t i) x)))) 20)
+          → Outcome t i x n
+          (cond b (cond (leb (rowsOf t) i) 21 (cond (ltb n (lengthOf t)) 22 (fitNumber (fitOf t (rowsOf t) (rowAt t i) x)))) 20)
       formed true g = rowed g (leb (rowsOf t) i) refl
       formed false g = not-formed g
 
@@ -106,7 +109,10 @@ unfolding numberOf
 same-answer a b e = back a ∙ ap answer e ∙ sym (back b)
   where
     answer : ℕ → Wrote
-    answer k = cond (eqb k 0) Done (cond (eqb k 20) NotWellFormed (cond (eqb k 21) NoRow (cond (eqb k 22) TooShort (cond (eqb k 26) OtherType (cond (eqb k 27) NotLegal TooMany)))))
+    answer k =
+        cond (eqb k 0) Done
+        (cond (eqb k 20) NotWellFormed
+        (cond (eqb k 21) NoRow (cond (eqb k 22) TooShort (cond (eqb k 26) OtherType (cond (eqb k 27) NotLegal TooMany)))))
 
     back : (a : Wrote) → a ≡ answer (numberOf a)
     back Done = refl
@@ -158,9 +164,11 @@ module _ {t : List ℤ} {i : ℕ} {x : Value} {old new : List ℕ} where
   locality w q o = ap (λ (l : List ℕ). getD l q 0) (done-written w) ∙ written-keeps t (rowsOf t) (rowAt t i) x old q o
 
   -- each row that shares none of them reads as before
-  pub others-unchanged : Written t i x old new Done → (j : ℕ) → Apart (placesOf t (rowsOf t) (rowAt t j)) (placesOf t (rowsOf t) (rowAt t i))
+  pub others-unchanged : Written t i x old new Done → (j : ℕ)
+      → Apart (placesOf t (rowsOf t) (rowAt t j)) (placesOf t (rowsOf t) (rowAt t i))
       → readingOf t (rowsOf t) (rowAt t j) new ≡ readingOf t (rowsOf t) (rowAt t j) old
-  others-unchanged w j o = ap (readingOf t (rowsOf t) (rowAt t j)) (done-written w) ∙ others-read t (rowsOf t) (rowAt t i) x old (rowAt t j) o
+  others-unchanged w j o =
+      ap (readingOf t (rowsOf t) (rowAt t j)) (done-written w) ∙ others-read t (rowsOf t) (rowAt t i) x old (rowAt t j) o
 
 -- ---- WRITING READS NO BYTE OF THE RECORD: of two records of one length the answers are equal, and so are the bytes put
 module _ {t : List ℤ} {i : ℕ} {x : Value} {old old′ new new′ : List ℕ} {a a′ : Wrote} where
@@ -196,7 +204,8 @@ either-way {t} {i} {j} {x} {y} {old} o w₁ w₂ w₃ w₄ =
     ∙ sym (ap (writtenOf t (rowsOf t) (rowAt t i) x) (done-written w₃)) ∙ sym (done-written w₄)
 
 -- ---- READ-BACK: an accepted write reads back as its value; missing as missing
-pub read-back : {t : List ℤ} {i : ℕ} {x : Value} {old new : List ℕ} → Written t i x old new Done → readingOf t (rowsOf t) (rowAt t i) new ≡ holds x
+pub read-back : {t : List ℤ} {i : ℕ} {x : Value} {old new : List ℕ} → Written t i x old new Done
+    → readingOf t (rowsOf t) (rowAt t i) new ≡ holds x
 read-back {t} {i} {x} {old} w =
     let a = done-accepted w in
     ap (readingOf t (rowsOf t) (rowAt t i)) (done-written w)
@@ -209,16 +218,19 @@ pub write-back-accepted : {t : List ℤ} {i : ℕ} {x : Value} {old new : List �
     → readingOf t (rowsOf t) (rowAt t i) old ≡ holds x → Written t i x old new a → a ≡ Done
 write-back-accepted {t} {i} {x} {old} s e w = accepted-done (record { sound = s; fitting = read-fits t (rowsOf t) (rowAt t i) x old e }) w
 
-pub write-back : {t : List ℤ} {i : ℕ} {x : Value} {old new : List ℕ} → readingOf t (rowsOf t) (rowAt t i) old ≡ holds x → Written t i x old new Done
+pub write-back : {t : List ℤ} {i : ℕ} {x : Value} {old new : List ℕ} → readingOf t (rowsOf t) (rowAt t i) old ≡ holds x
+    → Written t i x old new Done
     → readingOf t (rowsOf t) (rowAt t i) new ≡ readingOf t (rowsOf t) (rowAt t i) old
 write-back e w = read-back w ∙ sym e
 
-pub write-back-bytes : {t : List ℤ} {i : ℕ} {x : Value} {old new : List ℕ} → Plain (rowAt t i .kind) → readingOf t (rowsOf t) (rowAt t i) old ≡ holds x
+pub write-back-bytes : {t : List ℤ} {i : ℕ} {x : Value} {old new : List ℕ} → Plain (rowAt t i .kind)
+    → readingOf t (rowsOf t) (rowAt t i) old ≡ holds x
     → Written t i x old new Done → new ≡ old
 write-back-bytes {t} {i} {x} {old} p e w = done-written w ∙ writes-back-bytes t (rowsOf t) (rowAt t i) x old p e
 
 -- spaces at all value places read as missing, and missing written back keeps every byte, in every kind
-pub blank-back : {t : List ℤ} {i : ℕ} {old new : List ℕ} → allSpaces (pick old (placesOf t (rowsOf t) (rowAt t i))) ≡ true → Written t i missing old new Done
+pub blank-back : {t : List ℤ} {i : ℕ} {old new : List ℕ} → allSpaces (pick old (placesOf t (rowsOf t) (rowAt t i))) ≡ true
+    → Written t i missing old new Done
     → (readingOf t (rowsOf t) (rowAt t i) old ≡ holds missing) × (new ≡ old)
 blank-back {t} {i} {old} b w =
     (blank-reads t (rowsOf t) (rowAt t i) old b, done-written w ∙ blank-kept t (rowsOf t) (rowAt t i) old b)

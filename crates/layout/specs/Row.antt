@@ -47,7 +47,9 @@ rowAt t i = rowOf (columnsAt t (rowBase i))
 -- ---- laws
 -- what holds of each kind, under what its type's number and subfields say, holds of a row's kind
 module _ (c : Columns) (P : Kind → Type 0) where
-  multiple-cases : (c .subfields ≡ 0 → P (Multiple Bits)) → ((c .subfields ≡ 0 → ⊥) → P (Multiple (Fields (c .subfields) (c .subwidth)))) → P (Multiple (spreadOf (c .subfields) (c .subwidth)))
+  multiple-cases : (c .subfields ≡ 0 → P (Multiple Bits))
+      → ((c .subfields ≡ 0 → ⊥) → P (Multiple (Fields (c .subfields) (c .subwidth))))
+      → P (Multiple (spreadOf (c .subfields) (c .subwidth)))
   unfolding spreadOf
   multiple-cases m2 m3 = go (eqb (c .subfields) 0) refl
     where
@@ -67,7 +69,10 @@ module _ (c : Columns) (P : Kind → Type 0) where
   kind-cases m1 m2 m3 m4 m5 m6 =
       go (eqb (c .kind) 1) (eqb (c .kind) 2) (eqb (c .kind) 3) (eqb (c .kind) 4) refl refl refl refl
     where
-      go : (p q r s : Bool) → eqb (c .kind) 1 ≡ p → eqb (c .kind) 2 ≡ q → eqb (c .kind) 3 ≡ r → eqb (c .kind) 4 ≡ s → P (cond p Single (cond q (Multiple (spreadOf (c .subfields) (c .subwidth))) (cond r (Quantity (record { decimals = c .decimals; point = c .point })) (cond s Character Logical))))
+      go : (p q r s : Bool) → eqb (c .kind) 1 ≡ p → eqb (c .kind) 2 ≡ q → eqb (c .kind) 3 ≡ r → eqb (c .kind) 4 ≡ s
+          → P (cond p Single
+          (cond q (Multiple (spreadOf (c .subfields) (c .subwidth)))
+          (cond r (Quantity (record { decimals = c .decimals; point = c .point })) (cond s Character Logical))))
       go true q r s e f g h = m1 (eqb-true (c .kind) 1 e)
       go false true r s e f g h = multiple-cases (m2 (eqb-true (c .kind) 2 f)) (m3 (eqb-true (c .kind) 2 f))
       go false false true s e f g h = m4 (eqb-true (c .kind) 3 g)

@@ -38,7 +38,7 @@ fn kept_bytes(s: &[u8]) -> usize
 }
 
 // Whether no byte is below 32.
-fn plain(s: &[u8]) -> bool
+pub fn plain(s: &[u8]) -> bool
     ensures { λ r. ⌜ r ≡ allPlain (now (s .entry)) ⌝ }
 {
     let mut i: usize = 0;

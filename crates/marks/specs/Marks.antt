@@ -19,7 +19,9 @@ isHex b = cond (isDigit b) true (cond (ltb (upperOf b) 65) false (leb (upperOf b
 -- a string's next byte b, at place p: {"} {{} {NL} { hex pairs }, else the form that opened at o is bad
 unfoldable pub insideOf : Inside → ℕ → ℕ → Move
 insideOf Plain b p = cond (eqb b 34) Closed (cond (eqb b 123) (Go (Opened p)) (Go Plain))
-insideOf (Opened o) b p = cond (eqb b 34) (Go (Shut o)) (cond (eqb b 123) (Go (Shut o)) (cond (eqb b 78) (Go (Ell o)) (cond (isHex b) (Go (Low o)) (Wrong o))))
+insideOf (Opened o) b p =
+    cond (eqb b 34) (Go (Shut o))
+    (cond (eqb b 123) (Go (Shut o)) (cond (eqb b 78) (Go (Ell o)) (cond (isHex b) (Go (Low o)) (Wrong o))))
 insideOf (Shut o) b p = cond (eqb b 125) (Go Plain) (Wrong o)
 insideOf (Ell o) b p = cond (eqb b 76) (Go (Shut o)) (Wrong o)
 insideOf (Pair o) b p = cond (eqb b 125) (Go Plain) (cond (isHex b) (Go (Low o)) (Wrong o))
@@ -49,7 +51,8 @@ levelsOf base l between (sign p b t) =
     (cond (eqb b 34) (levelsOf base l (within-string Plain) t)
     (cond (eqb b 60) (cond (ltb l 32) (levelsOf base (l + 1) between t) (Bad p))
     (levelsOf base l between t)))
-levelsOf base l (within-string s) (sign p b t) = moved (insideOf s b p) (λ s. levelsOf base l (within-string s) t) (levelsOf base l between t)
+levelsOf base l (within-string s) (sign p b t) =
+    moved (insideOf s b p) (λ s. levelsOf base l (within-string s) t) (levelsOf base l between t)
 
 unfoldable pub commentOf : ℕ → Text → Skip
 commentOf l t = levelsOf l l between t

@@ -28,7 +28,8 @@ pairOf a b = hexOf a * 16 + hexOf b
 -- a text is hex pairs, one or more, and a closing brace, which say the bytes m, and then u
 pub data Pairs : Text → List ℕ → Text → Type 0 where
   last : {p q r a b : ℕ} {u : Text} → isHex a ≡ true → isHex b ≡ true → Pairs (sign p a (sign q b (sign r 125 u))) (pairOf a b ∷ []) u
-  more : {p q a b : ℕ} {m : List ℕ} {t u : Text} → isHex a ≡ true → isHex b ≡ true → Pairs t m u → Pairs (sign p a (sign q b t)) (pairOf a b ∷ m) u
+  more : {p q a b : ℕ} {m : List ℕ} {t u : Text} → isHex a ≡ true → isHex b ≡ true → Pairs t m u
+      → Pairs (sign p a (sign q b t)) (pairOf a b ∷ m) u
 
 -- a text is a piece of a string, which says the bytes m, and then u
 pub data Piece : Text → List ℕ → Text → Type 0 where
@@ -113,9 +114,12 @@ partFrom s a (sign p b t) = parted (insideOf s b p) (givesOf s a b) (p + 1) (λ 
 -- place after it
 pub data Comment (d : List ℕ) : ℕ → ℕ → ℕ → Type 0 where
   over : {l at p : ℕ} → text d at ≡ sign p 62 (text d (p + 1)) → Comment d l at (p + 1)
-  byte : {l at n p b : ℕ} → text d at ≡ sign p b (text d (p + 1)) → (b ≡ 62 → ⊥) → (b ≡ 34 → ⊥) → (b ≡ 60 → ⊥) → Comment d l (p + 1) n → Comment d l at n
-  string : {l at n p k : ℕ} {m : List ℕ} → text d at ≡ sign p 34 (text d (p + 1)) → Spelt (text d (p + 1)) m k → Comment d l k n → Comment d l at n
-  comment : {l at n p k : ℕ} → text d at ≡ sign p 60 (text d (p + 1)) → l < 32 → Comment d (l + 1) (p + 1) k → Comment d l k n → Comment d l at n
+  byte : {l at n p b : ℕ} → text d at ≡ sign p b (text d (p + 1)) → (b ≡ 62 → ⊥) → (b ≡ 34 → ⊥) → (b ≡ 60 → ⊥)
+      → Comment d l (p + 1) n → Comment d l at n
+  string : {l at n p k : ℕ} {m : List ℕ} → text d at ≡ sign p 34 (text d (p + 1)) → Spelt (text d (p + 1)) m k → Comment d l k n
+      → Comment d l at n
+  comment : {l at n p k : ℕ} → text d at ≡ sign p 60 (text d (p + 1)) → l < 32 → Comment d (l + 1) (p + 1) k → Comment d l k n
+      → Comment d l at n
 
 -- a text that goes on with another
 unfoldable pub joined : Text → Text → Text

@@ -14,7 +14,7 @@ use lib.Pow.{pow-add}
 use lib.Seq.{length-take-le, take-all, take-length, drop-length, drop-cons}
 use Rattle.cells.specs.Cell.{numberOf}
 use Rattle.layout.specs.declared.Format.{Format}
-use Rattle.widths.specs.Width.{tailOf}
+use Rattle.widths.specs.Width.{tailOf, tail-point}
 use Rattle.fields.specs.Number.{blank, says, wrong, digitsOnly, decimalFrom, decimal, unspaced, codeAfter, codeOf, amountForm, amountSize, amountOf, quantityAfter, quantityOf}
 use Rattle.numbers.specs.Numeral.{digitsRead, decimalsRead}
 use Rattle.numbers.specs.Room.{decimal-room}
@@ -70,15 +70,11 @@ decimals-room s k n h l e =
     let q : k + (length s - (k + 1)) ≤ 18 = omega arith in
     rw d (le-trans (mul-le-mul-right (10 ^ (length s - (k + 1))) v) (rw (← pow-add 10 k (length s - (k + 1))) (pow-le-pow-right {n = 10} (omega arith) q)))
 
-pub tail-some : (f : Format) → (f .point ≡ 0 → ⊥) → tailOf f ≡ f .decimals + 1
-unfolding tailOf
-tail-some f q = rw (ne-eqb _ _ q)
-
 -- ---- a code
-nonempty : (x : List ℕ) → 0 < length x → codeAfter x ≡ cond (digitsOnly x) (says (pos (decimal x))) wrong
+pub code-nonempty : (x : List ℕ) → 0 < length x → codeAfter x ≡ cond (digitsOnly x) (says (pos (decimal x))) wrong
 unfolding codeAfter
-nonempty [] h = absurd (omega arith)
-nonempty (b ∷ x) h = refl
+code-nonempty [] h = absurd (omega arith)
+code-nonempty (b ∷ x) h = refl
 
 module _ (s : List ℕ) (p : ℕ) (skip : unspaced s ≡ drop p s) where
   pub code-none : length s ≤ p → codeOf s ≡ blank
@@ -90,11 +86,11 @@ module _ (s : List ℕ) (p : ℕ) (skip : unspaced s ≡ drop p s) where
 
   pub code-says : (n : ℕ) → p < length s → digitsRead 0 (drop p s) ≡ digits.Value n → codeOf s ≡ says (pos n)
   unfolding codeOf
-  code-says n h e = rw skip (nonempty (drop p s) (left h) ∙ rw (value-only 0 (drop p s) n e, value-is 0 (drop p s) n e))
+  code-says n h e = rw skip (code-nonempty (drop p s) (left h) ∙ rw (value-only 0 (drop p s) n e, value-is 0 (drop p s) n e))
 
   pub code-wrong : p < length s → digitsRead 0 (drop p s) ≡ digits.Wrong → codeOf s ≡ wrong
   unfolding codeOf
-  code-wrong h e = rw skip (nonempty (drop p s) (left h) ∙ rw (wrong-only 0 (drop p s) e))
+  code-wrong h e = rw skip (code-nonempty (drop p s) (left h) ∙ rw (wrong-only 0 (drop p s) e))
 
   -- ---- a quantity by its sign
   module _ (f : Format) where
@@ -148,7 +144,7 @@ module _ (f : Format) (minus : Bool) (s : List ℕ) where
       pub amount-decimals : (f .point ≡ 0 → ⊥) → getD s k 0 ≡ 46 → amountOf f minus s ≡ decimalsRead minus n (drop (k + 1) s)
       unfolding amountOf amountForm amountSize decimalsRead
       amount-decimals p g =
-          let t : tailOf f ≡ f .decimals + 1 = tail-some f p in
+          let t : tailOf f ≡ f .decimals + 1 = tail-point f p in
           let d : length s - f .decimals ≡ k + 1 = omega arith in
           rw (lt-ltb _ _ room, ← at, value-only 0 (take k s) n whole, ne-eqb _ _ p, eq-eqb _ _ g, d)
           (rw (decimal-append 0 (take k s) (drop (k + 1) s), value-is 0 (take k s) n whole))

@@ -37,4 +37,5 @@ decimal-room n [] e = rw (pow-zero, mul-one) (omega arith)
 decimal-room n (b ∷ s) e =
     let p = first-digit b s e in
     let d = is-digit b (p .0) in
-    le-trans (decimal-room (n * 10 + (b - 48)) s (p .1)) (step-room n (b - 48) (length s) ((n + 1) * 10 ^ suc (length s)) (omega arith) (omega arith))
+    le-trans (decimal-room (n * 10 + (b - 48)) s (p .1))
+    (step-room n (b - 48) (length s) ((n + 1) * 10 ^ suc (length s)) (omega arith) (omega arith))

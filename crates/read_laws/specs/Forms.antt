@@ -12,12 +12,15 @@ use lib.Dec.{eqb, ltb}
 use lib.IntN.{ℤ, pos}
 use lib.ListN.{length, take, drop, getD, length-append, length-drop, take-append-drop}
 use lib.Seq.{take-append-seam, drop-append-add, getD-append-seam, take-length, drop-length, drop-cons, length-take-le}
+use Rattle.numbers.proofs.Laws.{code-nonempty}
 use Rattle.below.specs.Below.{_and_, and-both, holds-not}
 use Rattle.ascii.specs.Class.{within}
 use Rattle.cells.specs.Cell.{numberOf}
 use Rattle.layout.specs.declared.Format.{Format}
-use Rattle.widths.specs.Width.{tailOf}
-use Rattle.fields.specs.Number.{Said, blank, says, wrong, allSpaces, unspaced, digitsOnly, decimalFrom, decimal, codeAfter, codeOf, wholePart, decimalPart, pointStands, amountForm, amountSize, amountOf, quantityAfter, quantityOf}
+use Rattle.widths.specs.Width.{tailOf, tail-point}
+use Rattle.fields.specs.Number.{Said, blank, says, wrong, allSpaces, unspaced, digitsOnly}
+use Rattle.fields.specs.Number.{decimalFrom, decimal, codeAfter, codeOf, wholePart, decimalPart}
+use Rattle.fields.specs.Number.{pointStands, amountForm, amountSize, amountOf, quantityAfter, quantityOf}
 use Rattle.numbers.specs.Numeral.{FormatFacts}
 use Rattle.numbers.specs.Room.{is-digit, first-digit}
 
@@ -78,7 +81,8 @@ digits-read m (b ∷ s) e =
     let p = first-digit b s e in
     let d = is-digit b (p .0) in
     let q : b ≡ 48 + (b - 48) = omega arith in
-    subst (λ (x : ℕ). Digits m (x ∷ s) (decimalFrom (m * 10 + (b - 48)) s)) (sym q) (digit (omega arith) (digits-read (m * 10 + (b - 48)) s (p .1)))
+    subst (λ (x : ℕ). Digits m (x ∷ s) (decimalFrom (m * 10 + (b - 48)) s)) (sym q)
+    (digit (omega arith) (digits-read (m * 10 + (b - 48)) s (p .1)))
 
 digit-within : (d : ℕ) → d ≤ 9 → within 48 57 (48 + d) ≡ true
 digit-within d h = rw (le-leb 48 (48 + d) (omega arith), le-leb (48 + d) 57 (omega arith))
@@ -141,11 +145,6 @@ all-gap none = refl
 all-gap (space r) = all-gap r
 
 -- ---- SINGLE
-code-nonempty : (x : List ℕ) → 0 < length x → codeAfter x ≡ cond (digitsOnly x) (says (pos (decimal x))) wrong
-unfolding codeAfter
-code-nonempty [] h = absurd (omega arith)
-code-nonempty (b ∷ x) h = refl
-
 -- a digit is no space, no minus
 digit-not : (b d : ℕ) → b < 48 → 48 + d ≡ b → ⊥
 digit-not b d h e = omega arith
@@ -205,7 +204,8 @@ three (says z) b s = absurd (s z refl)
 three wrong b s = refl
 
 pub code-wrong-exactly : (s : List ℕ)
-    → (codeOf s ≡ wrong → (Spaces s → ⊥) × ((z : ℤ) → CodeForm s z → ⊥)) × ((Spaces s → ⊥) → ((z : ℤ) → CodeForm s z → ⊥) → codeOf s ≡ wrong)
+    → (codeOf s ≡ wrong → (Spaces s → ⊥) × ((z : ℤ) → CodeForm s z → ⊥)) × ((Spaces s → ⊥) → ((z : ℤ) → CodeForm s z → ⊥)
+    → codeOf s ≡ wrong)
 code-wrong-exactly s = (
   λ e. (
     λ r. let q = code-blank-exactly s .1 r in let k : _≡_ {A = ℕ} 0 1 = cc in omega arith,
@@ -249,10 +249,6 @@ four true true false d e = holds-not e refl
 digit-first : {m n : ℕ} (c : ℕ) (s : List ℕ) → Digits m (c ∷ s) n → 48 ≤ c
 digit-first c s (digit h r) = omega arith
 
-tail-point : (f : Format) → (f .point ≡ 0 → ⊥) → tailOf f ≡ f .decimals + 1
-unfolding tailOf
-tail-point f p = rw (ne-eqb _ _ p)
-
 module _ (f : Format) (facts : FormatFacts f) where
   tail-size : {t ds : List ℕ} → Tail f t ds → length t ≡ tailOf f
   unfolding tailOf
@@ -260,7 +256,8 @@ module _ (f : Format) (facts : FormatFacts f) where
   tail-size (point {ds} p n) = rw (ne-eqb _ _ p) (omega (arith, n))
 
   -- an amount of this form is read as what it says
-  complete : (neg : Bool) (w t ds : List ℕ) (n : ℕ) → 0 < length w → Tail f t ds → Digits 0 (w ++ ds) n → amountOf f neg (w ++ t) ≡ says (numberOf neg n)
+  complete : (neg : Bool) (w t ds : List ℕ) (n : ℕ) → 0 < length w → Tail f t ds → Digits 0 (w ++ ds) n
+      → amountOf f neg (w ++ t) ≡ says (numberOf neg n)
   unfolding amountOf amountForm amountSize digitsOnly
   complete neg w t ds n some (without p) d =
       let z : tailOf f ≡ 0 = sym (tail-size (without p)) in
@@ -361,7 +358,9 @@ module _ (f : Format) (facts : FormatFacts f) where
 
   quantity-complete : (s : List ℕ) (z : ℤ) → QuantityForm f s z → quantityOf f s ≡ says z
   quantity-complete s z q =
-      rw (q .made, q .is) (after-complete (q .negative) (q .gap) (q .sign) (q .whole) (q .tail) (q .decimals) (q .size) (q .blank-gap) (q .signed) (q .some) (q .tailed) (q .said))
+      rw (q .made, q .is)
+      (after-complete (q .negative) (q .gap) (q .sign) (q .whole) (q .tail) (q .decimals) (q .size) (q .blank-gap) (q .signed)
+      (q .some) (q .tailed) (q .said))
 
   from-amount : (neg : Bool) (s sg x : List ℕ) (z : ℤ) → Sign neg sg → unspaced s ≡ sg ++ x → AmountForm f neg x z → QuantityForm f s z
   from-amount neg s sg x z g u a = record {
@@ -391,7 +390,8 @@ module _ (f : Format) (facts : FormatFacts f) where
       go false q r = from-amount false s [] (b ∷ x) z plain u (sound-amount false (b ∷ x) z r)
 
   -- THE BYTES OF A QUANTITY SAY z EXACTLY WHEN they have its form and the form says z
-  pub quantity-exactly : (s : List ℕ) (z : ℤ) → (quantityOf f s ≡ says z → QuantityForm f s z) × (QuantityForm f s z → quantityOf f s ≡ says z)
+  pub quantity-exactly : (s : List ℕ) (z : ℤ)
+      → (quantityOf f s ≡ says z → QuantityForm f s z) × (QuantityForm f s z → quantityOf f s ≡ says z)
   unfolding quantityOf
   quantity-exactly s z = (λ e. quantity-by s (unspaced s) z refl e, quantity-complete s z)
 
@@ -419,7 +419,8 @@ module _ (f : Format) (facts : FormatFacts f) where
 
   -- wrong exactly when neither form fits
   pub quantity-wrong-exactly : (s : List ℕ)
-      → (quantityOf f s ≡ wrong → (Spaces s → ⊥) × ((z : ℤ) → QuantityForm f s z → ⊥)) × ((Spaces s → ⊥) → ((z : ℤ) → QuantityForm f s z → ⊥) → quantityOf f s ≡ wrong)
+      → (quantityOf f s ≡ wrong → (Spaces s → ⊥) × ((z : ℤ) → QuantityForm f s z → ⊥)) × ((Spaces s → ⊥)
+      → ((z : ℤ) → QuantityForm f s z → ⊥) → quantityOf f s ≡ wrong)
   quantity-wrong-exactly s = (
     λ e. (
       λ r. let q = quantity-blank-exactly s .1 r in let k : _≡_ {A = ℕ} 0 1 = cc in omega arith,

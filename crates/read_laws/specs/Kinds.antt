@@ -14,7 +14,8 @@ use Rattle.below.specs.Below.{holds-not}
 use Rattle.cells.specs.Cell.{eqZ, same-true, same-self}
 use Rattle.layout.specs.declared.Format.{Format}
 use Rattle.fields.specs.Number.{Said, blank, says, wrong, allSpaces, codeOf, quantityOf}
-use Rattle.fields.specs.Field.{missing, number, members, holds, illegal, numberField, singleSays, singleField, quantitySays, quantityField, allBits, setBits, bitsField}
+use Rattle.fields.specs.Field.{missing, number, members, holds, illegal, numberField, singleSays}
+use Rattle.fields.specs.Field.{singleField, quantitySays, quantityField, allBits, setBits, bitsField}
 use Rattle.numbers.specs.Numeral.{FormatFacts}
 use Rattle.read_laws.specs.Forms.{Spaces, CodeForm, QuantityForm, code-exactly, code-blank-exactly, quantity-exactly}
 
@@ -42,7 +43,8 @@ module _ (ok : ℤ → Bool) (s : List ℕ) (z : ℤ) where
   single-by wrong u e = let k : _≡_ {A = ℕ} 0 1 = cc in absurd (omega arith)
   single-by (says y) u e = go (eqZ y (pos 0)) refl (ok y) refl e
     where
-      go : (c : Bool) → eqZ y (pos 0) ≡ c → (d : Bool) → ok y ≡ d → cond c (holds missing) (cond d (holds (number y)) illegal) ≡ holds (number z) → SingleForm
+      go : (c : Bool) → eqZ y (pos 0) ≡ c → (d : Bool) → ok y ≡ d
+          → cond c (holds missing) (cond d (holds (number y)) illegal) ≡ holds (number z) → SingleForm
       go true a d b q = let k : _≡_ {A = ℕ} 0 1 = cc in absurd (omega arith)
       go false a false b q = let k : _≡_ {A = ℕ} 0 1 = cc in absurd (omega arith)
       go false a true b q =
@@ -72,7 +74,8 @@ module _ (ok : ℤ → Bool) (s : List ℕ) (z : ℤ) where
     unfolding quantitySays numberField
     quantity-of g l = rw (quantity-exactly f facts s z .1 g, l)
 
-    pub quantity-number-exactly : (quantityField f ok s ≡ holds (number z) → QuantityForm f s z × (ok z ≡ true)) × (QuantityForm f s z → ok z ≡ true → quantityField f ok s ≡ holds (number z))
+    pub quantity-number-exactly : (quantityField f ok s ≡ holds (number z)
+        → QuantityForm f s z × (ok z ≡ true)) × (QuantityForm f s z → ok z ≡ true → quantityField f ok s ≡ holds (number z))
     quantity-number-exactly = (λ e. quantity-by (quantityOf f s) refl e, quantity-of)
 
 module _ (ok : ℤ → Bool) (s : List ℕ) where
@@ -83,7 +86,8 @@ module _ (ok : ℤ → Bool) (s : List ℕ) where
   missing-by wrong u e = let k : _≡_ {A = ℕ} 0 1 = cc in absurd (omega arith)
   missing-by (says y) u e = go (eqZ y (pos 0)) refl (ok y) e
     where
-      go : (c : Bool) → eqZ y (pos 0) ≡ c → (d : Bool) → cond c (holds missing) (cond d (holds (number y)) illegal) ≡ holds missing → Spaces s ⊎ CodeForm s (pos 0)
+      go : (c : Bool) → eqZ y (pos 0) ≡ c → (d : Bool)
+          → cond c (holds missing) (cond d (holds (number y)) illegal) ≡ holds missing → Spaces s ⊎ CodeForm s (pos 0)
       go true a d q = inr (code-exactly s (pos 0) .0 (u ∙ ap says (same-true y (pos 0) a)))
       go false a true q = let k : _≡_ {A = ℕ} 0 1 = cc in absurd (omega arith)
       go false a false q = let k : _≡_ {A = ℕ} 0 1 = cc in absurd (omega arith)
@@ -96,7 +100,8 @@ module _ (ok : ℤ → Bool) (s : List ℕ) where
   unfolding singleSays
   zero-missing f = rw (code-exactly s (pos 0) .1 f, same-self (pos 0))
 
-  pub single-missing-exactly : (singleField ok s ≡ holds missing → Spaces s ⊎ CodeForm s (pos 0)) × (Spaces s ⊎ CodeForm s (pos 0) → singleField ok s ≡ holds missing)
+  pub single-missing-exactly : (singleField ok s ≡ holds missing
+      → Spaces s ⊎ CodeForm s (pos 0)) × (Spaces s ⊎ CodeForm s (pos 0) → singleField ok s ≡ holds missing)
   single-missing-exactly = (λ e. missing-by (codeOf s) refl e, λ w. ⊎-elim blank-missing zero-missing w)
 
 -- ---- a bitstring's bytes, one for each defined category: `0`, or `1` for a member
@@ -142,10 +147,12 @@ bits-of (c ∷ cs) [] n e = absurd (omega arith)
 bits-of (c ∷ cs) (b ∷ s) n e =
     let p = first-bit b s e in
     let r = bits-of cs s (omega arith) (p .1) in
-    bit-case b (BitForm (c ∷ cs) (b ∷ s) (cond (eqb b 49) (pos c ∷ setBits cs s) (setBits cs s))) (p .0) (λ q. rw q (zero-bit r)) (λ q. rw q (one-bit r))
+    bit-case b (BitForm (c ∷ cs) (b ∷ s) (cond (eqb b 49) (pos c ∷ setBits cs s) (setBits cs s))) (p .0) (λ q. rw q (zero-bit r))
+    (λ q. rw q (one-bit r))
 
 module _ (cs s : List ℕ) (even : length cs ≡ length s) (ms : List ℤ) where
-  set-by : (c d : Bool) → allSpaces s ≡ c → allBits s ≡ d → cond c (holds missing) (cond d (holds (members (setBits cs s))) illegal) ≡ holds (members ms)
+  set-by : (c d : Bool) → allSpaces s ≡ c → allBits s ≡ d
+      → cond c (holds missing) (cond d (holds (members (setBits cs s))) illegal) ≡ holds (members ms)
       → BitForm cs s ms × (allSpaces s ≡ false)
   set-by true d a b e = let k : _≡_ {A = ℕ} 0 1 = cc in absurd (omega arith)
   set-by false false a b e = let k : _≡_ {A = ℕ} 0 1 = cc in absurd (omega arith)
@@ -153,6 +160,7 @@ module _ (cs s : List ℕ) (even : length cs ≡ length s) (ms : List ℤ) where
 
   -- A BITSTRING reads as this set exactly when each byte is `0` or `1`, `1` for its members in rising order; of no bytes at all it is
   -- missing, which no table has
-  pub bits-exactly : (bitsField cs s ≡ holds (members ms) → BitForm cs s ms × (allSpaces s ≡ false)) × (BitForm cs s ms → allSpaces s ≡ false → bitsField cs s ≡ holds (members ms))
+  pub bits-exactly : (bitsField cs s ≡ holds (members ms) → BitForm cs s ms × (allSpaces s ≡ false)) × (BitForm cs s ms
+      → allSpaces s ≡ false → bitsField cs s ≡ holds (members ms))
   unfolding bitsField
   bits-exactly = (λ e. set-by (allSpaces s) (allBits s) refl refl e, λ f n. rw (n, bits-all f, bits-set f))

@@ -10,7 +10,8 @@ use Rattle.layout.specs.declared.Kind.the-variants.{Single, Multiple, Quantity,
 use Rattle.layout.specs.declared.Row.{Row}
 use Rattle.places.specs.Places.{pick}
 use Rattle.fields.specs.Number.{codeOf, codeAfter, quantityOf, quantityAfter}
-use Rattle.fields.specs.Field.{Value, missing, Field, holds, illegal, singleSays, quantitySays, bitsField, spreadField, textField, truthField}
+use Rattle.fields.specs.Field.{Value, missing, Field, holds, illegal, singleSays}
+use Rattle.fields.specs.Field.{quantitySays, bitsField, spreadField, textField, truthField}
 use Rattle.fields.specs.Row.{fieldBy, placesOf, readingOf}
 use Rattle.read_laws.specs.Forms.{Spaces, spaces-all, all-gap}
 
@@ -25,7 +26,8 @@ spaces-missing Character t v r s a = rw (spaces-all a)
 spaces-missing Logical t v r s a = rw (spaces-all a)
 
 -- a row whose value places are all spaces is missing
-pub row-missing : (t : List ℤ) (v : ℕ) (r : Row) (bytes : List ℕ) → Spaces (pick bytes (placesOf t v r)) → readingOf t v r bytes ≡ holds missing
+pub row-missing : (t : List ℤ) (v : ℕ) (r : Row) (bytes : List ℕ) → Spaces (pick bytes (placesOf t v r))
+    → readingOf t v r bytes ≡ holds missing
 unfolding readingOf
 row-missing t v r bytes a = spaces-missing (r .kind) t v r (pick bytes (placesOf t v r)) a
 

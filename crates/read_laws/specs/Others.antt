@@ -13,7 +13,9 @@ use lib.ListN.{take, drop}
 use Rattle.below.specs.Below.{holds-not}
 use Rattle.cells.specs.Cell.{eqZ, same-true, same-self}
 use Rattle.fields.specs.Number.{Said, blank, says, wrong, allSpaces, codeOf}
-use Rattle.fields.specs.Field.{missing, members, text, truth, holds, illegal, allPlain, unended, textField, truthField, entryGood, entryIs, allEntries, someEntry, passing, spreadSet, spreadField, isMember, risingFrom}
+use Rattle.fields.specs.Field.{missing, members, text, truth, holds, illegal, allPlain, unended, textField, truthField}
+use Rattle.fields.specs.Field.{entryGood, entryIs, allEntries, someEntry, passing, spreadSet, spreadField, isMember, risingFrom}
+use Rattle.fieldlaws.specs.TextLaws.{unended-blank}
 use Rattle.read_laws.specs.Forms.{Spaces, CodeForm, code-exactly, code-blank-exactly, spaces-all, all-spaces}
 
 -- ---- CHARACTER
@@ -26,11 +28,6 @@ pub record TextForm (s x : List ℕ) : Type 0 where
   pub made : s ≡ x ++ gap
   pub no-space : last ≡ 32 → ⊥
   pub blank-gap : Spaces gap
-
-none-left : (s : List ℕ) → allSpaces s ≡ true → unended s ≡ []
-unfolding unended
-none-left [] e = refl
-none-left (b ∷ s) e = rw e
 
 more-left : (b : ℕ) (s : List ℕ) → allSpaces (b ∷ s) ≡ false → unended (b ∷ s) ≡ b ∷ unended s
 unfolding unended
@@ -58,8 +55,8 @@ text-split (b ∷ s) e = go (allSpaces s) refl (λ q. text-split s q)
       front = [];
       last = b;
       gap = s;
-      ends = more-left b s e ∙ rw (none-left s a);
-      made = rw (more-left b s e, none-left s a);
+      ends = more-left b s e ∙ rw (unended-blank s a);
+      made = rw (more-left b s e, unended-blank s a);
       no-space = head-not b s e a;
       blank-gap = all-spaces s a;
     }
@@ -83,14 +80,15 @@ text-joined : (front : List ℕ) (last : ℕ) (gap : List ℕ) → (last ≡ 32 
     → (allSpaces (front ++ (last ∷ gap)) ≡ false) × (unended (front ++ (last ∷ gap)) ≡ front ++ (last ∷ []))
 text-joined [] last gap h g =
     let n = one-not last gap h in
-    (n, more-left last gap n ∙ rw (none-left gap (spaces-all g)))
+    (n, more-left last gap n ∙ rw (unended-blank gap (spaces-all g)))
 text-joined (b ∷ front) last gap h g =
     let r = text-joined front last gap h g in
     let n = not-all b (front ++ (last ∷ gap)) (r .0) in
     (n, more-left b (front ++ (last ∷ gap)) n ∙ rw (r .1))
 
 module _ (s x : List ℕ) where
-  text-by : (c d : Bool) → allSpaces s ≡ c → allPlain s ≡ d → cond c (holds missing) (cond d (holds (text (unended s))) illegal) ≡ holds (text x)
+  text-by : (c d : Bool) → allSpaces s ≡ c → allPlain s ≡ d
+      → cond c (holds missing) (cond d (holds (text (unended s))) illegal) ≡ holds (text x)
       → TextForm s x × (allPlain s ≡ true)
   text-by true d a b e = let k : _≡_ {A = ℕ} 0 1 = cc in absurd (omega arith)
   text-by false false a b e = let k : _≡_ {A = ℕ} 0 1 = cc in absurd (omega arith)
@@ -106,7 +104,8 @@ module _ (s x : List ℕ) where
       rw (a, p, u)
 
   -- A TEXT reads as x exactly when its bytes are x, which ends in no space, and spaces, and none is below 32
-  pub text-exactly : (textField s ≡ holds (text x) → TextForm s x × (allPlain s ≡ true)) × (TextForm s x → allPlain s ≡ true → textField s ≡ holds (text x))
+  pub text-exactly : (textField s ≡ holds (text x) → TextForm s x × (allPlain s ≡ true)) × (TextForm s x → allPlain s ≡ true
+      → textField s ≡ holds (text x))
   unfolding textField
   text-exactly = (λ e. text-by (allSpaces s) (allPlain s) refl refl e, text-of)
 
@@ -230,7 +229,8 @@ module _ (f : ℤ → Bool) where
   passing-has (suc n) c k e = go (f (pos c)) refl e (λ q. passing-has n (suc c) k q)
     where
       go : (b : Bool) → f (pos c) ≡ b → isMember (cond b (pos c ∷ passing f (suc c) n) (passing f (suc c) n)) (pos k) ≡ true
-          → (isMember (passing f (suc c) n) (pos k) ≡ true → (suc c ≤ k) × (k < suc c + n) × (f (pos k) ≡ true)) → (c ≤ k) × (k < c + suc n) × (f (pos k) ≡ true)
+          → (isMember (passing f (suc c) n) (pos k) ≡ true → (suc c ≤ k) × (k < suc c + n) × (f (pos k) ≡ true))
+          → (c ≤ k) × (k < c + suc n) × (f (pos k) ≡ true)
       go true p q ih =
           either-true (eqZ (pos c) (pos k)) (isMember (passing f (suc c) n) (pos k)) q
           (λ a. let w : c ≡ k = pos-same c k a in (omega arith, omega arith, rw w at p))
@@ -246,7 +246,8 @@ module _ (f : ℤ → Bool) where
       (λ l. go (f (pos c)) (passing-of n (suc c) k l (omega arith) e))
       (eq-or-lt-of-le a)
     where
-      go : (b : Bool) → isMember (passing f (suc c) n) (pos k) ≡ true → isMember (cond b (pos c ∷ passing f (suc c) n) (passing f (suc c) n)) (pos k) ≡ true
+      go : (b : Bool) → isMember (passing f (suc c) n) (pos k) ≡ true
+          → isMember (cond b (pos c ∷ passing f (suc c) n) (passing f (suc c) n)) (pos k) ≡ true
       go true r = rw r (or-true (eqZ (pos c) (pos k)))
       go false r = r
 
@@ -262,7 +263,8 @@ module _ (w n : ℕ) (s : List ℕ) where
   spread-rises = passing-rises (λ c. someEntry c w n s) (10 ^ w - 1) 1 0 (omega arith)
 
 module _ (ok : ℤ → Bool) (w n : ℕ) (s : List ℕ) (ms : List ℤ) where
-  spread-by : (c d : Bool) → allSpaces s ≡ c → allEntries ok w n s ≡ d → cond c (holds missing) (cond d (holds (members (spreadSet w n s))) illegal) ≡ holds (members ms)
+  spread-by : (c d : Bool) → allSpaces s ≡ c → allEntries ok w n s ≡ d
+      → cond c (holds missing) (cond d (holds (members (spreadSet w n s))) illegal) ≡ holds (members ms)
       → (allSpaces s ≡ false) × Entries ok w n s × (ms ≡ spreadSet w n s)
   spread-by true d a b e = let k : _≡_ {A = ℕ} 0 1 = cc in absurd (omega arith)
   spread-by false false a b e = let k : _≡_ {A = ℕ} 0 1 = cc in absurd (omega arith)

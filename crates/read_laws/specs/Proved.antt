@@ -11,49 +11,72 @@ use Rattle.layout.specs.Layout.{headerOf, columnsAt, lineAt}
 use Rattle.layout.specs.Row.{rowOf, rowAt, kindOf, spreadOf}
 use Rattle.widths.specs.Width.{need, tailOf, wholeDigits, quantityWidth, lowest, highest}
 use Rattle.strides.specs.Stride.{allDiffer, numberNew}
-use Rattle.sound.specs.Sound.{linesPlain, valuesFit, rangeWidth, widest, widthGood, roomGood, linesGood, valuesGood, widthsGood, countsGood, placesGood, columnsGood, rowGood, columnsOf, identsDiffer, rowsGood, wellFormed}
+use Rattle.sound.specs.Sound.{linesPlain, valuesFit, rangeWidth, widest, widthGood, roomGood, linesGood, valuesGood}
+use Rattle.sound.specs.Sound.{widthsGood, countsGood, placesGood, columnsGood, rowGood, columnsOf, identsDiffer, rowsGood}
+use Rattle.sound.specs.Sound.{wellFormed}
 use Rattle.fields.specs.Legal.{inRange, onLine, legal}
-use Rattle.fields.specs.Number.{allSpaces, unspaced, digitsOnly, decimalFrom, codeAfter, codeOf, amountForm, amountSize, amountOf, quantityAfter, quantityOf}
-use Rattle.fields.specs.Field.{numberField, singleSays, quantitySays, allBits, setBits, bitsField, entryGood, entryIs, allEntries, someEntry, passing, spreadField, truthField}
+use Rattle.fields.specs.Number.{allSpaces, unspaced, digitsOnly, decimalFrom, codeAfter}
+use Rattle.fields.specs.Number.{codeOf, amountForm, amountSize, amountOf, quantityAfter, quantityOf}
+use Rattle.fields.specs.Field.{numberField, singleSays, quantitySays, allBits, setBits, bitsField}
+use Rattle.fields.specs.Field.{entryGood, entryIs, allEntries, someEntry, passing, spreadField, truthField}
 use Rattle.fields.specs.Row.{defined, bitPlaces, spreadPlaces, placesBy, fieldBy, readingOf}
 use Rattle.sets.specs.Sets.{filledOf, listAfter}
 use Rattle.records.specs.Value.{nothing, numberIs, setOf, truthIs, refused, outcomeOf, readAs, listAs}
 
 -- SINGLE from 1 to 20 in two bytes
 abbrev singleTo20 : List ℤ
-singleTo20 = pos 11 ∷ pos 1 ∷ pos 0 ∷ pos 2 ∷ pos 6 ∷ pos 24 ∷ pos 1 ∷ pos 1 ∷ pos 1 ∷ pos 2 ∷ pos 2 ∷ pos 0 ∷ pos 0 ∷ pos 0 ∷ pos 0 ∷ pos 1 ∷ pos 1 ∷ pos 20 ∷ pos 0 ∷ pos 0 ∷ pos 0 ∷ pos 0 ∷ pos 0 ∷ pos 0 ∷ []
+singleTo20 =
+    pos 11 ∷ pos 1 ∷ pos 0 ∷ pos 2 ∷ pos 6 ∷ pos 24 ∷ pos 1 ∷ pos 1 ∷ pos 1 ∷ pos 2 ∷ pos 2 ∷ pos 0 ∷ pos 0 ∷ pos 0 ∷ pos 0
+    ∷ pos 1 ∷ pos 1 ∷ pos 20 ∷ pos 0 ∷ pos 0 ∷ pos 0 ∷ pos 0 ∷ pos 0 ∷ pos 0 ∷ []
 
 -- a bitstring of 1, 2, 3 and 9 in nine bytes
 abbrev bitsOfFour : List ℤ
-bitsOfFour = pos 11 ∷ pos 1 ∷ pos 4 ∷ pos 9 ∷ pos 6 ∷ pos 24 ∷ pos 1 ∷ pos 2 ∷ pos 1 ∷ pos 9 ∷ pos 9 ∷ pos 0 ∷ pos 0 ∷ pos 0 ∷ pos 0 ∷ pos 0 ∷ pos 0 ∷ pos 0 ∷ pos 0 ∷ pos 4 ∷ pos 0 ∷ pos 0 ∷ pos 0 ∷ pos 0 ∷ pos 1 ∷ pos 0 ∷ pos 0 ∷ pos 0 ∷ pos 2 ∷ pos 0 ∷ pos 0 ∷ pos 0 ∷ pos 3 ∷ pos 0 ∷ pos 0 ∷ pos 0 ∷ pos 9 ∷ pos 0 ∷ pos 0 ∷ pos 0 ∷ []
+bitsOfFour =
+    pos 11 ∷ pos 1 ∷ pos 4 ∷ pos 9 ∷ pos 6 ∷ pos 24 ∷ pos 1 ∷ pos 2 ∷ pos 1 ∷ pos 9 ∷ pos 9 ∷ pos 0 ∷ pos 0 ∷ pos 0 ∷ pos 0
+    ∷ pos 0 ∷ pos 0 ∷ pos 0 ∷ pos 0 ∷ pos 4 ∷ pos 0 ∷ pos 0 ∷ pos 0 ∷ pos 0 ∷ pos 1 ∷ pos 0 ∷ pos 0 ∷ pos 0 ∷ pos 2 ∷ pos 0
+    ∷ pos 0 ∷ pos 0 ∷ pos 3 ∷ pos 0 ∷ pos 0 ∷ pos 0 ∷ pos 9 ∷ pos 0 ∷ pos 0 ∷ pos 0 ∷ []
 
 -- a bitstring from 1 to 9 in nine bytes
 abbrev bitsTo9 : List ℤ
-bitsTo9 = pos 11 ∷ pos 1 ∷ pos 0 ∷ pos 9 ∷ pos 6 ∷ pos 24 ∷ pos 1 ∷ pos 2 ∷ pos 1 ∷ pos 9 ∷ pos 9 ∷ pos 0 ∷ pos 0 ∷ pos 0 ∷ pos 0 ∷ pos 1 ∷ pos 1 ∷ pos 9 ∷ pos 0 ∷ pos 0 ∷ pos 0 ∷ pos 0 ∷ pos 0 ∷ pos 0 ∷ []
+bitsTo9 =
+    pos 11 ∷ pos 1 ∷ pos 0 ∷ pos 9 ∷ pos 6 ∷ pos 24 ∷ pos 1 ∷ pos 2 ∷ pos 1 ∷ pos 9 ∷ pos 9 ∷ pos 0 ∷ pos 0 ∷ pos 0 ∷ pos 0
+    ∷ pos 1 ∷ pos 1 ∷ pos 9 ∷ pos 0 ∷ pos 0 ∷ pos 0 ∷ pos 0 ∷ pos 0 ∷ pos 0 ∷ []
 
 -- a spread of 2 subfields of 3 bytes, from 1 to 999
 abbrev spreadTo999 : List ℤ
-spreadTo999 = pos 11 ∷ pos 1 ∷ pos 0 ∷ pos 6 ∷ pos 6 ∷ pos 24 ∷ pos 1 ∷ pos 2 ∷ pos 1 ∷ pos 6 ∷ pos 3 ∷ pos 0 ∷ pos 0 ∷ pos 2 ∷ pos 3 ∷ pos 1 ∷ pos 1 ∷ pos 999 ∷ pos 0 ∷ pos 0 ∷ pos 0 ∷ pos 0 ∷ pos 0 ∷ pos 0 ∷ []
+spreadTo999 =
+    pos 11 ∷ pos 1 ∷ pos 0 ∷ pos 6 ∷ pos 6 ∷ pos 24 ∷ pos 1 ∷ pos 2 ∷ pos 1 ∷ pos 6 ∷ pos 3 ∷ pos 0 ∷ pos 0 ∷ pos 2 ∷ pos 3
+    ∷ pos 1 ∷ pos 1 ∷ pos 999 ∷ pos 0 ∷ pos 0 ∷ pos 0 ∷ pos 0 ∷ pos 0 ∷ pos 0 ∷ []
 
 -- a spread of 2 subfields of 2 bytes, from 1 to 9
 abbrev spreadTo9 : List ℤ
-spreadTo9 = pos 11 ∷ pos 1 ∷ pos 0 ∷ pos 4 ∷ pos 6 ∷ pos 24 ∷ pos 1 ∷ pos 2 ∷ pos 1 ∷ pos 4 ∷ pos 1 ∷ pos 0 ∷ pos 0 ∷ pos 2 ∷ pos 2 ∷ pos 1 ∷ pos 1 ∷ pos 9 ∷ pos 0 ∷ pos 0 ∷ pos 0 ∷ pos 0 ∷ pos 0 ∷ pos 0 ∷ []
+spreadTo9 =
+    pos 11 ∷ pos 1 ∷ pos 0 ∷ pos 4 ∷ pos 6 ∷ pos 24 ∷ pos 1 ∷ pos 2 ∷ pos 1 ∷ pos 4 ∷ pos 1 ∷ pos 0 ∷ pos 0 ∷ pos 2 ∷ pos 2
+    ∷ pos 1 ∷ pos 1 ∷ pos 9 ∷ pos 0 ∷ pos 0 ∷ pos 0 ∷ pos 0 ∷ pos 0 ∷ pos 0 ∷ []
 
 -- a quantity from -99 to 99 in three bytes
 abbrev quantityTo99 : List ℤ
-quantityTo99 = pos 11 ∷ pos 1 ∷ pos 0 ∷ pos 3 ∷ pos 6 ∷ pos 24 ∷ pos 1 ∷ pos 3 ∷ pos 1 ∷ pos 3 ∷ pos 3 ∷ pos 0 ∷ pos 0 ∷ pos 0 ∷ pos 0 ∷ pos 1 ∷ negsuc 98 ∷ pos 99 ∷ pos 0 ∷ pos 0 ∷ pos 0 ∷ pos 0 ∷ pos 0 ∷ pos 0 ∷ []
+quantityTo99 =
+    pos 11 ∷ pos 1 ∷ pos 0 ∷ pos 3 ∷ pos 6 ∷ pos 24 ∷ pos 1 ∷ pos 3 ∷ pos 1 ∷ pos 3 ∷ pos 3 ∷ pos 0 ∷ pos 0 ∷ pos 0 ∷ pos 0
+    ∷ pos 1 ∷ negsuc 98 ∷ pos 99 ∷ pos 0 ∷ pos 0 ∷ pos 0 ∷ pos 0 ∷ pos 0 ∷ pos 0 ∷ []
 
 -- a quantity from -1.00 to 99.99 in six bytes
 abbrev quantityOfCents : List ℤ
-quantityOfCents = pos 11 ∷ pos 1 ∷ pos 0 ∷ pos 6 ∷ pos 6 ∷ pos 24 ∷ pos 1 ∷ pos 3 ∷ pos 1 ∷ pos 6 ∷ pos 5 ∷ pos 2 ∷ pos 1 ∷ pos 0 ∷ pos 0 ∷ pos 1 ∷ negsuc 99 ∷ pos 9999 ∷ pos 0 ∷ pos 0 ∷ pos 0 ∷ pos 0 ∷ pos 0 ∷ pos 0 ∷ []
+quantityOfCents =
+    pos 11 ∷ pos 1 ∷ pos 0 ∷ pos 6 ∷ pos 6 ∷ pos 24 ∷ pos 1 ∷ pos 3 ∷ pos 1 ∷ pos 6 ∷ pos 5 ∷ pos 2 ∷ pos 1 ∷ pos 0 ∷ pos 0
+    ∷ pos 1 ∷ negsuc 99 ∷ pos 9999 ∷ pos 0 ∷ pos 0 ∷ pos 0 ∷ pos 0 ∷ pos 0 ∷ pos 0 ∷ []
 
 -- a quantity from 0 to 999 in two bytes
 abbrev quantityTooWide : List ℤ
-quantityTooWide = pos 11 ∷ pos 1 ∷ pos 0 ∷ pos 2 ∷ pos 6 ∷ pos 24 ∷ pos 1 ∷ pos 3 ∷ pos 1 ∷ pos 2 ∷ pos 3 ∷ pos 0 ∷ pos 0 ∷ pos 0 ∷ pos 0 ∷ pos 1 ∷ pos 0 ∷ pos 999 ∷ pos 0 ∷ pos 0 ∷ pos 0 ∷ pos 0 ∷ pos 0 ∷ pos 0 ∷ []
+quantityTooWide =
+    pos 11 ∷ pos 1 ∷ pos 0 ∷ pos 2 ∷ pos 6 ∷ pos 24 ∷ pos 1 ∷ pos 3 ∷ pos 1 ∷ pos 2 ∷ pos 3 ∷ pos 0 ∷ pos 0 ∷ pos 0 ∷ pos 0
+    ∷ pos 1 ∷ pos 0 ∷ pos 999 ∷ pos 0 ∷ pos 0 ∷ pos 0 ∷ pos 0 ∷ pos 0 ∷ pos 0 ∷ []
 
 -- a truth in two bytes
 abbrev truthInTwo : List ℤ
-truthInTwo = pos 11 ∷ pos 1 ∷ pos 0 ∷ pos 2 ∷ pos 6 ∷ pos 24 ∷ pos 1 ∷ pos 5 ∷ pos 1 ∷ pos 2 ∷ pos 1 ∷ pos 0 ∷ pos 0 ∷ pos 0 ∷ pos 0 ∷ pos 0 ∷ pos 0 ∷ pos 0 ∷ pos 0 ∷ pos 0 ∷ pos 0 ∷ pos 0 ∷ pos 0 ∷ pos 0 ∷ []
+truthInTwo =
+    pos 11 ∷ pos 1 ∷ pos 0 ∷ pos 2 ∷ pos 6 ∷ pos 24 ∷ pos 1 ∷ pos 5 ∷ pos 1 ∷ pos 2 ∷ pos 1 ∷ pos 0 ∷ pos 0 ∷ pos 0 ∷ pos 0
+    ∷ pos 0 ∷ pos 0 ∷ pos 0 ∷ pos 0 ∷ pos 0 ∷ pos 0 ∷ pos 0 ∷ pos 0 ∷ pos 0 ∷ []
 
 -- a list of nine that stands for what it held before
 abbrev nine : List ℤ
@@ -68,19 +91,29 @@ pub proved-readings :
     × (readAs singleTo20 0 (48 ∷ 48 ∷ []) 9 ≡ nothing)
     × (readAs singleTo20 0 (55 ∷ 32 ∷ []) 9 ≡ refused 24)
     × (readAs bitsOfFour 0 (49 ∷ 48 ∷ 48 ∷ 120 ∷ 120 ∷ 120 ∷ 120 ∷ 120 ∷ 48 ∷ []) 9 ≡ setOf 1)
-    × (listAs bitsOfFour 0 (49 ∷ 48 ∷ 48 ∷ 120 ∷ 120 ∷ 120 ∷ 120 ∷ 120 ∷ 48 ∷ []) nine ≡ (pos 1 ∷ pos 71 ∷ pos 72 ∷ pos 73 ∷ pos 74 ∷ pos 75 ∷ pos 76 ∷ pos 77 ∷ pos 78 ∷ []))
+    × (listAs bitsOfFour 0 (49 ∷ 48 ∷ 48 ∷ 120 ∷ 120 ∷ 120 ∷ 120 ∷ 120 ∷ 48 ∷ []) nine
+    ≡ (pos 1 ∷ pos 71 ∷ pos 72 ∷ pos 73 ∷ pos 74 ∷ pos 75 ∷ pos 76 ∷ pos 77 ∷ pos 78 ∷ []))
     × (readAs bitsOfFour 0 (32 ∷ 32 ∷ 32 ∷ 120 ∷ 120 ∷ 120 ∷ 120 ∷ 120 ∷ 32 ∷ []) 9 ≡ nothing)
     × (readAs bitsTo9 0 (48 ∷ 48 ∷ 48 ∷ 48 ∷ 48 ∷ 48 ∷ 48 ∷ 48 ∷ 48 ∷ []) 9 ≡ setOf 0)
-    × (listAs bitsTo9 0 (48 ∷ 48 ∷ 48 ∷ 48 ∷ 48 ∷ 48 ∷ 48 ∷ 48 ∷ 48 ∷ []) nine ≡ (pos 70 ∷ pos 71 ∷ pos 72 ∷ pos 73 ∷ pos 74 ∷ pos 75 ∷ pos 76 ∷ pos 77 ∷ pos 78 ∷ []))
+    × (listAs bitsTo9 0 (48 ∷ 48 ∷ 48 ∷ 48 ∷ 48 ∷ 48 ∷ 48 ∷ 48 ∷ 48 ∷ []) nine
+    ≡ (pos 70 ∷ pos 71 ∷ pos 72 ∷ pos 73 ∷ pos 74 ∷ pos 75 ∷ pos 76 ∷ pos 77 ∷ pos 78 ∷ []))
     × (readAs spreadTo999 0 (48 ∷ 48 ∷ 49 ∷ 48 ∷ 52 ∷ 50 ∷ []) 9 ≡ setOf 2)
-    × (listAs spreadTo999 0 (48 ∷ 48 ∷ 49 ∷ 48 ∷ 52 ∷ 50 ∷ []) nine ≡ (pos 1 ∷ pos 42 ∷ pos 72 ∷ pos 73 ∷ pos 74 ∷ pos 75 ∷ pos 76 ∷ pos 77 ∷ pos 78 ∷ []))
+    × (listAs spreadTo999 0 (48 ∷ 48 ∷ 49 ∷ 48 ∷ 52 ∷ 50 ∷ []) nine
+    ≡ (pos 1 ∷ pos 42 ∷ pos 72 ∷ pos 73 ∷ pos 74 ∷ pos 75 ∷ pos 76 ∷ pos 77 ∷ pos 78 ∷ []))
     × (readAs spreadTo9 0 (120 ∷ 49 ∷ 120 ∷ 48 ∷ []) 9 ≡ setOf 1)
-    × (listAs spreadTo9 0 (120 ∷ 49 ∷ 120 ∷ 48 ∷ []) nine ≡ (pos 1 ∷ pos 71 ∷ pos 72 ∷ pos 73 ∷ pos 74 ∷ pos 75 ∷ pos 76 ∷ pos 77 ∷ pos 78 ∷ []))
+    × (listAs spreadTo9 0 (120 ∷ 49 ∷ 120 ∷ 48 ∷ []) nine
+    ≡ (pos 1 ∷ pos 71 ∷ pos 72 ∷ pos 73 ∷ pos 74 ∷ pos 75 ∷ pos 76 ∷ pos 77 ∷ pos 78 ∷ []))
     × (readAs quantityTo99 0 (45 ∷ 48 ∷ 55 ∷ []) 9 ≡ numberIs (negsuc 6))
     × (readAs quantityOfCents 0 (120 ∷ 45 ∷ 49 ∷ 46 ∷ 48 ∷ 48 ∷ []) 9 ≡ numberIs (negsuc 99))
     × (roomGood (kindOf (columnsOf quantityTooWide 0)) (rowAt quantityTooWide 0) ≡ false)
     × (widest quantityTooWide 1 (rowAt quantityTooWide 0) ≡ 3)
     × (readAs quantityTooWide 0 (49 ∷ 55 ∷ []) 9 ≡ refused 20)
     × (readAs truthInTwo 0 (120 ∷ 49 ∷ []) 9 ≡ truthIs true)
-unfolding wellFormed rowsGood rowGood columnsGood countsGood placesGood valuesGood linesGood widthsGood linesPlain valuesFit allDiffer numberNew rangeWidth widest widthGood roomGood identsDiffer _and_ allBelow anyBelow sumBelow maxBelow countOf signedOf numberOf eqZ headerOf columnsAt lineAt rowOf kindOf spreadOf need tailOf wholeDigits quantityWidth lowest highest digitsOf countFrom inRange onLine legal allSpaces unspaced digitsOnly decimalFrom codeAfter codeOf amountForm amountSize amountOf quantityAfter quantityOf numberField singleSays quantitySays allBits setBits bitsField entryGood entryIs allEntries someEntry passing spreadField truthField defined bitPlaces spreadPlaces placesBy fieldBy readingOf filledOf listAfter outcomeOf readAs listAs
+unfolding wellFormed rowsGood rowGood columnsGood countsGood placesGood valuesGood linesGood widthsGood linesPlain valuesFit
+    allDiffer numberNew rangeWidth widest widthGood roomGood identsDiffer _and_ allBelow anyBelow sumBelow maxBelow countOf
+    signedOf numberOf eqZ headerOf columnsAt lineAt rowOf kindOf spreadOf need tailOf wholeDigits quantityWidth lowest highest
+    digitsOf countFrom inRange onLine legal allSpaces unspaced digitsOnly decimalFrom codeAfter codeOf amountForm amountSize
+    amountOf quantityAfter quantityOf numberField singleSays quantitySays allBits setBits bitsField entryGood entryIs allEntries
+    someEntry passing spreadField truthField defined bitPlaces spreadPlaces placesBy fieldBy readingOf filledOf listAfter
+    outcomeOf readAs listAs
 proved-readings = (refl, refl, refl, refl, refl, refl, refl, refl, refl, refl, refl, refl, refl, refl, refl, refl, refl, refl, refl, refl)

@@ -34,7 +34,8 @@ module _ (f : ℕ → Bool) where
   none-found zero i e j a b = absurd (omega arith)
   none-found (suc n) i e j a b = go (f i) refl e (λ q. none-found n (suc i) q)
     where
-      go : (c : Bool) → f i ≡ c → cond c (At i) (firstFrom f (suc i) n) ≡ Nothing → (firstFrom f (suc i) n ≡ Nothing → (j : ℕ) → suc i ≤ j → j < suc i + n → f j ≡ false) → f j ≡ false
+      go : (c : Bool) → f i ≡ c → cond c (At i) (firstFrom f (suc i) n) ≡ Nothing
+          → (firstFrom f (suc i) n ≡ Nothing → (j : ℕ) → suc i ≤ j → j < suc i + n → f j ≡ false) → f j ≡ false
       go true q p ih = let z : _≡_ {A = ℕ} 0 1 = cc in absurd (omega arith)
       go false q p ih = ⊎-elim (λ s. ap f (sym s) ∙ q) (λ l. ih p j l (omega arith)) (eq-or-lt-of-le a)
 
@@ -48,14 +49,21 @@ module _ (f : ℕ → Bool) where
   first-is zero i k e = let z : _≡_ {A = ℕ} 0 1 = cc in absurd (omega arith)
   first-is (suc n) i k e = go (f i) refl e (λ q. first-is n (suc i) k q)
     where
-      go : (c : Bool) → f i ≡ c → cond c (At i) (firstFrom f (suc i) n) ≡ At k → (firstFrom f (suc i) n ≡ At k → IsFirst f (suc i) n k) → IsFirst f i (suc n) k
+      go : (c : Bool) → f i ≡ c → cond c (At i) (firstFrom f (suc i) n) ≡ At k
+          → (firstFrom f (suc i) n ≡ At k → IsFirst f (suc i) n k) → IsFirst f i (suc n) k
       go true q p ih =
           let s : i ≡ k = cc in
           record { from = omega arith; below = omega arith; passes = ap f (sym s) ∙ q; none = λ j a b. absurd (omega arith) }
       go false q p ih =
           let r = ih p in
           let x = r .from in let y = r .below in
-          record { from = omega arith; below = omega arith; passes = r .passes; none = λ j a b. ⊎-elim (λ s. ap f (sym s) ∙ q) (λ l. r .none j l b) (eq-or-lt-of-le a) }
+          record {
+            from = omega arith;
+            below = omega arith;
+            passes = r .passes;
+            none = λ j a b. ⊎-elim (λ s. ap f (sym s) ∙ q)
+                (λ l. r .none j l b) (eq-or-lt-of-le a);
+          }
 
 -- ---- a whole record
 module _ (t : List ℤ) (good : wellFormed t ≡ true) (bytes : List ℕ) where
@@ -76,7 +84,8 @@ module _ (t : List ℤ) (good : wellFormed t ≡ true) (bytes : List ℕ) where
         nothing-found (badRow t (rowsOf t) bytes) (rowsOf t) 0 (λ j a b. p .legal-rows j (omega arith)),
       )
 
-  by-rows : lengthOf t ≤ length bytes → firstFrom (lowAt bytes) 0 (length bytes) ≡ Nothing → (x : Found) → firstFrom (badRow t (rowsOf t) bytes) 0 (rowsOf t) ≡ x
+  by-rows : lengthOf t ≤ length bytes → firstFrom (lowAt bytes) 0 (length bytes) ≡ Nothing → (x : Found)
+      → firstFrom (badRow t (rowsOf t) bytes) 0 (rowsOf t) ≡ x
       → rowVerdict x ≡ sound → Passes
   unfolding rowVerdict
   by-rows l q (At i) r v = let z : _≡_ {A = ℕ} 0 1 = cc in absurd (omega arith)
@@ -117,7 +126,8 @@ module _ (t : List ℤ) (good : wellFormed t ≡ true) (bytes : List ℕ) where
     low-first p e = first-is (lowAt bytes) (length bytes) 0 p e
 
     -- 24 with the lowest illegal row, where no byte is below 32
-    pub row-refused : (i : ℕ) → firstFrom (lowAt bytes) 0 (length bytes) ≡ Nothing → firstFrom (badRow t (rowsOf t) bytes) 0 (rowsOf t) ≡ At i → verdictOf t bytes ≡ refusedAt 24 i
+    pub row-refused : (i : ℕ) → firstFrom (lowAt bytes) 0 (length bytes) ≡ Nothing
+        → firstFrom (badRow t (rowsOf t) bytes) 0 (rowsOf t) ≡ At i → verdictOf t bytes ≡ refusedAt 24 i
     unfolding verdictOf rowsVerdict byteVerdict rowVerdict
     row-refused i q e = rw (good, le-leb _ _ long, q, e)
 

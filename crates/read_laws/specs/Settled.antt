@@ -64,5 +64,6 @@ pub judged-one : (a b : Judged) → judgedAs a ≡ judgedAs b → a ≡ b
 judged-one a b e = sym (judged-back a) ∙ ap unjudged e ∙ judged-back b
 
 -- JUDGING A RECORD: one answer
-pub verdict-settled : (t : List ℤ) (bytes : List ℕ) (r₁ r₂ : Judged) → judgedAs r₁ ≡ verdictOf t bytes → judgedAs r₂ ≡ verdictOf t bytes → r₁ ≡ r₂
+pub verdict-settled : (t : List ℤ) (bytes : List ℕ) (r₁ r₂ : Judged) → judgedAs r₁ ≡ verdictOf t bytes
+    → judgedAs r₂ ≡ verdictOf t bytes → r₁ ≡ r₂
 verdict-settled t bytes r₁ r₂ a b = judged-one r₁ r₂ (a ∙ sym b)

@@ -12,7 +12,8 @@ use Rattle.sets.specs.Sets.{listAfter}
 use Rattle.sets.specs.declared.SetRead.{SetRead}
 use Rattle.sets.specs.declared.SetRead.the-variants as set
 use Rattle.readings.specs.declared.Answer.{Answer}
-use Rattle.readings.specs.declared.Answer.the-variants.{Missing, Number, Set, Text, Truth, BadTable, NoRow, ShortRecord, Illegal, ShortList}
+use Rattle.readings.specs.declared.Answer.the-variants.{Missing, Number, Set, Text, Truth}
+use Rattle.readings.specs.declared.Answer.the-variants.{BadTable, NoRow, ShortRecord, Illegal, ShortList}
 
 -- the answer of a field whose first value place is p, with room for n members
 unfoldable pub answerOf : ℕ → ℕ → Field → Answer

@@ -3,7 +3,8 @@
 // says the same. `x` stands in the bytes that are ignored, and all round the field.
 use readings::Answer;
 
-// A table of one row whose position starts at 21, with up to four lines.
+// A table of one row whose position starts at 21, with up to four lines: f is its decimals, point, subfields and their width; range is
+// whether it has one, and its ends; lines are how many and what they say.
 fn table(
     kind: i64,
     finish: i64,
@@ -12,48 +13,18 @@ fn table(
     range: [i64; 3],
     lines: [i64; 5],
 ) -> [i64; 40] {
-    [
-        11,
-        1,
-        lines[0],
-        finish,
-        6,
-        24,
-        1,
-        kind,
-        21,
-        finish,
-        w,
-        f[0],
-        f[1],
-        f[2],
-        f[3],
-        range[0],
-        range[1],
-        range[2],
-        0,
-        lines[0],
-        0,
-        0,
-        0,
-        0,
-        lines[1],
-        0,
-        0,
-        0,
-        lines[2],
-        0,
-        0,
-        0,
-        lines[3],
-        0,
-        0,
-        0,
-        lines[4],
-        0,
-        0,
-        0,
-    ]
+    let head = [11, 1, lines[0], finish, 6, 24];
+    let ends = [1, kind, 21, finish, w, f[0], f[1], f[2], f[3]];
+    let rest = [range[0], range[1], range[2], 0, lines[0]];
+    let mut t = [0i64; 40];
+    cells::paste(&mut t, 0, &head);
+    cells::paste(&mut t, 6, &ends);
+    cells::paste(&mut t, 15, &rest);
+    t[24] = lines[1];
+    t[28] = lines[2];
+    t[32] = lines[3];
+    t[36] = lines[4];
+    t
 }
 
 // A record with the data from byte 21 on.
@@ -154,6 +125,12 @@ fn singles() {
         &table(1, 21, 2, none, to20, no_lines),
         b"7",
     );
+}
+
+fn wide_singles() {
+    let to20 = [1, 1, 20];
+    let none = [0i64; 4];
+    let no_lines = [0i64; 5];
     number(
         b"single 7 of 20, 21 to 24, xx07",
         &table(1, 24, 2, none, to20, no_lines),
@@ -192,7 +169,6 @@ fn bitstrings() {
     let nine = table(2, 29, 9, none, [1, 1, 9], [0i64; 5]);
     let wide = table(2, 30, 9, none, [1, 1, 9], [0i64; 5]);
     let four = table(2, 29, 9, none, [0i64; 3], [4, 1, 2, 3, 9]);
-    let narrow = table(2, 24, 9, none, [0i64; 3], [4, 1, 2, 3, 9]);
     members(
         b"bits 1 of 1 to 9, 100000000",
         &nine,
@@ -228,6 +204,13 @@ fn bitstrings() {
         2,
         [2, 8],
     );
+}
+
+fn more_bitstrings() {
+    let none = [0i64; 4];
+    let nine = table(2, 29, 9, none, [1, 1, 9], [0i64; 5]);
+    let four = table(2, 29, 9, none, [0i64; 3], [4, 1, 2, 3, 9]);
+    let narrow = table(2, 24, 9, none, [0i64; 3], [4, 1, 2, 3, 9]);
     refused(
         b"bits 2 of 1, 2, 3 and 9, 21 to 24, illegal",
         &narrow,
@@ -280,7 +263,6 @@ fn spreads() {
 fn wide_spreads() {
     let two = table(2, 24, 1, [0, 0, 2, 2], [1, 1, 9], [0i64; 5]);
     let four = table(2, 24, 1, [0, 0, 2, 1], [0i64; 3], [4, 1, 2, 3, 9]);
-    let large = table(2, 26, 3, [0, 0, 2, 3], [1, 1, 999], [0i64; 5]);
     members(
         b"spread 1 of 1 to 9, 2 of 2, x1x0",
         &two,
@@ -309,6 +291,10 @@ fn wide_spreads() {
         1,
         [2, 0],
     );
+}
+
+fn large_spreads() {
+    let large = table(2, 26, 3, [0, 0, 2, 3], [1, 1, 999], [0i64; 5]);
     members(
         b"spread 1, 42 of 1 to 999, 2 of 3, 001042",
         &large,
@@ -373,6 +359,11 @@ fn more_quantities() {
         b"x-1.00",
         -100,
     );
+}
+
+fn other_quantities() {
+    let whole = [0i64; 4];
+    let no_lines = [0i64; 5];
     refused(
         b"quantity 17 of 0 to 999, 21 to 22, illegal",
         &table(3, 22, 3, whole, [1, 0, 999], no_lines),
@@ -409,11 +400,15 @@ fn others() {
 
 fn main() {
     singles();
+    wide_singles();
     large_singles();
     bitstrings();
+    more_bitstrings();
     spreads();
     wide_spreads();
+    large_spreads();
     quantities();
     more_quantities();
+    other_quantities();
     others();
 }

@@ -9,6 +9,7 @@ use native.Mathlib.Omega.{arith}
 use borrow.Author.Tests.{lt-ltb, le-ltb, le-leb, lt-leb}
 use lib.IntN.{ℤ}
 use lib.ListN.{length}
+use native.Mathlib.Nat.{sub-eq-zero-of-le}
 use Rattle.layout.specs.Layout.{headerOf}
 use Rattle.layout.specs.Row.{rowAt}
 use Rattle.layout.specs.declared.Header.{Header}
@@ -39,12 +40,9 @@ module _ (f : ℕ → Bool) (n i : ℕ) (h : i < n) where
   unfolding firstFrom
   first-on e = rw (more, e, add-one i)
 
-nothing-left : (n i : ℕ) → n ≤ i → n - i ≡ 0
-nothing-left n i h = omega arith
-
 pub first-none : (f : ℕ → Bool) (n i : ℕ) → n ≤ i → firstFrom f i (n - i) ≡ Nothing
 unfolding firstFrom
-first-none f n i h = rw (nothing-left n i h)
+first-none f n i h = rw (sub-eq-zero-of-le h)
 
 -- ---- reading one row
 module _ (t : List ℤ) (i : ℕ) (bytes : List ℕ) (list : List ℤ) where

@@ -63,7 +63,8 @@ readAs t i bytes n =
 -- the list after it: changed only by a set that it has room for
 unfoldable pub listAs : List ℤ → ℕ → List ℕ → List ℤ → List ℤ
 listAs t i bytes list =
-    cond (wellFormed t) (cond (ltb i (rowsOf t)) (cond (leb (lengthOf t) (length bytes)) (listAfter (readingAt t i bytes) list) list) list) list
+    cond (wellFormed t)
+    (cond (ltb i (rowsOf t)) (cond (leb (lengthOf t) (length bytes)) (listAfter (readingAt t i bytes) list) list) list) list
 
 -- THE PROMISE of the call
 pub record ValueRead (t : List ℤ) (i : ℕ) (bytes : List ℕ) (list list′ : List ℤ) (r : Answer) : Type 0 where

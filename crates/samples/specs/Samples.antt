@@ -15,7 +15,12 @@ use Rattle.layout.specs.declared.Columns.{Columns}
 use Rattle.layout.specs.declared.Row.{Row}
 use Rattle.widths.specs.Width.{need, tailOf, wholeDigits, quantityWidth, lowest, highest}
 use Rattle.strides.specs.Stride.{numberNew, allDiffer}
-use Rattle.sound.specs.Sound.{headCounts, headSums, typeKnown, decimalsFew, flagsPlain, lackedZero, pointGiven, valuesGiven, identGood, positionGood, subfieldsGood, textsGood, rangeLacked, rangeGood, linesPlain, valuesFit, valueAt, rangeWidth, widest, widthGood, roomGood, linesGood, valuesGood, widthsGood, countsGood, placesGood, columnsGood, rowGood, columnsOf, linesBefore, highestFinish, identsDiffer, rowsGood, wellFormed}
+use Rattle.sound.specs.Sound.{headCounts, headSums, typeKnown, decimalsFew, flagsPlain, lackedZero}
+use Rattle.sound.specs.Sound.{pointGiven, valuesGiven, identGood, positionGood, subfieldsGood, textsGood}
+use Rattle.sound.specs.Sound.{rangeLacked, rangeGood, linesPlain, valuesFit, valueAt, rangeWidth, widest}
+use Rattle.sound.specs.Sound.{widthGood, roomGood, linesGood, valuesGood, widthsGood, countsGood}
+use Rattle.sound.specs.Sound.{placesGood, columnsGood, rowGood, columnsOf, linesBefore, highestFinish, identsDiffer, rowsGood}
+use Rattle.sound.specs.Sound.{wellFormed}
 
 -- ---- a sound table: a SINGLE from 1 to 12; a bitstring of 1, 2 and 4; a spread of two subfields of three bytes, from 1 to 9; a quantity
 -- from -1.0 to 99.5 with 999.0 on a line; a text of ten bytes; a truth
@@ -23,25 +28,39 @@ abbrev head : List ℤ
 head = pos 11 ∷ pos 6 ∷ pos 4 ∷ pos 29 ∷ pos 6 ∷ pos 114 ∷ []
 
 abbrev single : List ℤ
-single = pos 1 ∷ pos 1 ∷ pos 1 ∷ pos 2 ∷ pos 2 ∷ pos 0 ∷ pos 0 ∷ pos 0 ∷ pos 0 ∷ pos 1 ∷ pos 1 ∷ pos 12 ∷ pos 0 ∷ pos 0 ∷ pos 40 ∷ pos 4 ∷ pos 53 ∷ pos 4 ∷ []
+single =
+    pos 1 ∷ pos 1 ∷ pos 1 ∷ pos 2 ∷ pos 2 ∷ pos 0 ∷ pos 0 ∷ pos 0 ∷ pos 0 ∷ pos 1 ∷ pos 1 ∷ pos 12 ∷ pos 0 ∷ pos 0 ∷ pos 40
+    ∷ pos 4 ∷ pos 53 ∷ pos 4 ∷ []
 
 abbrev bits : List ℤ
-bits = pos 2 ∷ pos 2 ∷ pos 3 ∷ pos 6 ∷ pos 4 ∷ pos 0 ∷ pos 0 ∷ pos 0 ∷ pos 0 ∷ pos 0 ∷ pos 0 ∷ pos 0 ∷ pos 0 ∷ pos 3 ∷ pos 140 ∷ pos 4 ∷ pos 153 ∷ pos 4 ∷ []
+bits =
+    pos 2 ∷ pos 2 ∷ pos 3 ∷ pos 6 ∷ pos 4 ∷ pos 0 ∷ pos 0 ∷ pos 0 ∷ pos 0 ∷ pos 0 ∷ pos 0 ∷ pos 0 ∷ pos 0 ∷ pos 3 ∷ pos 140
+    ∷ pos 4 ∷ pos 153 ∷ pos 4 ∷ []
 
 abbrev spread : List ℤ
-spread = pos 3 ∷ pos 2 ∷ pos 7 ∷ pos 12 ∷ pos 1 ∷ pos 0 ∷ pos 0 ∷ pos 2 ∷ pos 3 ∷ pos 1 ∷ pos 1 ∷ pos 9 ∷ pos 3 ∷ pos 0 ∷ pos 240 ∷ pos 4 ∷ pos 253 ∷ pos 4 ∷ []
+spread =
+    pos 3 ∷ pos 2 ∷ pos 7 ∷ pos 12 ∷ pos 1 ∷ pos 0 ∷ pos 0 ∷ pos 2 ∷ pos 3 ∷ pos 1 ∷ pos 1 ∷ pos 9 ∷ pos 3 ∷ pos 0 ∷ pos 240
+    ∷ pos 4 ∷ pos 253 ∷ pos 4 ∷ []
 
 abbrev quantity : List ℤ
-quantity = pos 4 ∷ pos 3 ∷ pos 13 ∷ pos 18 ∷ pos 5 ∷ pos 1 ∷ pos 1 ∷ pos 0 ∷ pos 0 ∷ pos 1 ∷ negsuc 9 ∷ pos 995 ∷ pos 3 ∷ pos 1 ∷ pos 340 ∷ pos 4 ∷ pos 353 ∷ pos 4 ∷ []
+quantity =
+    pos 4 ∷ pos 3 ∷ pos 13 ∷ pos 18 ∷ pos 5 ∷ pos 1 ∷ pos 1 ∷ pos 0 ∷ pos 0 ∷ pos 1 ∷ negsuc 9 ∷ pos 995 ∷ pos 3 ∷ pos 1
+    ∷ pos 340 ∷ pos 4 ∷ pos 353 ∷ pos 4 ∷ []
 
 abbrev text : List ℤ
-text = pos 5 ∷ pos 4 ∷ pos 19 ∷ pos 28 ∷ pos 10 ∷ pos 0 ∷ pos 0 ∷ pos 0 ∷ pos 0 ∷ pos 0 ∷ pos 0 ∷ pos 0 ∷ pos 4 ∷ pos 0 ∷ pos 440 ∷ pos 4 ∷ pos 453 ∷ pos 4 ∷ []
+text =
+    pos 5 ∷ pos 4 ∷ pos 19 ∷ pos 28 ∷ pos 10 ∷ pos 0 ∷ pos 0 ∷ pos 0 ∷ pos 0 ∷ pos 0 ∷ pos 0 ∷ pos 0 ∷ pos 4 ∷ pos 0 ∷ pos 440
+    ∷ pos 4 ∷ pos 453 ∷ pos 4 ∷ []
 
 abbrev truth : List ℤ
-truth = pos 6 ∷ pos 5 ∷ pos 29 ∷ pos 29 ∷ pos 1 ∷ pos 0 ∷ pos 0 ∷ pos 0 ∷ pos 0 ∷ pos 0 ∷ pos 0 ∷ pos 0 ∷ pos 4 ∷ pos 0 ∷ pos 540 ∷ pos 4 ∷ pos 553 ∷ pos 4 ∷ []
+truth =
+    pos 6 ∷ pos 5 ∷ pos 29 ∷ pos 29 ∷ pos 1 ∷ pos 0 ∷ pos 0 ∷ pos 0 ∷ pos 0 ∷ pos 0 ∷ pos 0 ∷ pos 0 ∷ pos 4 ∷ pos 0 ∷ pos 540
+    ∷ pos 4 ∷ pos 553 ∷ pos 4 ∷ []
 
 abbrev lines : List ℤ
-lines = pos 1 ∷ pos 0 ∷ pos 160 ∷ pos 1 ∷ pos 2 ∷ pos 0 ∷ pos 166 ∷ pos 1 ∷ pos 4 ∷ pos 0 ∷ pos 172 ∷ pos 1 ∷ pos 9990 ∷ pos 1 ∷ pos 372 ∷ pos 2 ∷ []
+lines =
+    pos 1 ∷ pos 0 ∷ pos 160 ∷ pos 1 ∷ pos 2 ∷ pos 0 ∷ pos 166 ∷ pos 1 ∷ pos 4 ∷ pos 0 ∷ pos 172 ∷ pos 1 ∷ pos 9990 ∷ pos 1
+    ∷ pos 372 ∷ pos 2 ∷ []
 
 abbrev pub good : List ℤ
 good = head ++ single ++ bits ++ spread ++ quantity ++ text ++ truth ++ lines
@@ -112,7 +131,9 @@ failing t =
 
 -- nothing fails on the sound table; numbers beyond it are not looked at; the empty table is refused
 pub decided : (wellFormed good ≡ true) × (failing good ≡ []) × (wellFormed (good ++ negsuc 6 ∷ pos 3 ∷ []) ≡ true) × (wellFormed [] ≡ false)
-unfolding wellFormed rowsGood rowGood columnsGood countsGood placesGood valuesGood linesGood widthsGood linesPlain valuesFit allDiffer numberNew rangeWidth widest widthGood roomGood identsDiffer _and_ allBelow sumBelow maxBelow countOf signedOf eqZ headerOf columnsAt lineAt rowOf kindOf spreadOf need tailOf wholeDigits quantityWidth lowest highest digitsOf countFrom
+unfolding wellFormed rowsGood rowGood columnsGood countsGood placesGood valuesGood linesGood widthsGood linesPlain valuesFit
+    allDiffer numberNew rangeWidth widest widthGood roomGood identsDiffer _and_ allBelow sumBelow maxBelow countOf signedOf eqZ
+    headerOf columnsAt lineAt rowOf kindOf spreadOf need tailOf wholeDigits quantityWidth lowest highest digitsOf countFrom
 decided = (refl, refl, refl, refl)
 
 -- ---- tables that break one clause each
@@ -215,5 +236,7 @@ alone (b ∷ bs) = (b .clause ∷ []) ∷ alone bs
 
 -- each is refused, and for its one clause alone
 pub each-breaks-one : (refused broken ≡ never broken) × (failings broken ≡ alone broken)
-unfolding wellFormed rowsGood rowGood columnsGood countsGood placesGood valuesGood linesGood widthsGood linesPlain valuesFit allDiffer numberNew rangeWidth widest widthGood roomGood identsDiffer _and_ allBelow sumBelow maxBelow countOf signedOf eqZ headerOf columnsAt lineAt rowOf kindOf spreadOf need tailOf wholeDigits quantityWidth lowest highest digitsOf countFrom
+unfolding wellFormed rowsGood rowGood columnsGood countsGood placesGood valuesGood linesGood widthsGood linesPlain valuesFit
+    allDiffer numberNew rangeWidth widest widthGood roomGood identsDiffer _and_ allBelow sumBelow maxBelow countOf signedOf eqZ
+    headerOf columnsAt lineAt rowOf kindOf spreadOf need tailOf wholeDigits quantityWidth lowest highest digitsOf countFrom
 each-breaks-one = (refl, refl)

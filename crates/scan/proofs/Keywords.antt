@@ -6,6 +6,7 @@ use mathlib.Core.List.{List, [], _∷_}
 use Prim.Native.Nat.{ℕ, _+_, _-_, _≤_}
 use native.Mathlib.Omega.{arith}
 use lib.Dec.{ltb, leb, eqb}
+use Rattle.below.specs.Below.{holds-not}
 use Rattle.ascii.specs.Class.{upperOf}
 use borrow.Author.Tests.{lt-ltb, le-ltb, le-leb, ltb-true, ltb-false, leb-true, leb-false, eqb-true, eq-eqb}
 use Rattle.scan.specs.Text.{Text, stop, sign, text}
@@ -17,16 +18,13 @@ record Capital (x : ℕ) (w : List ℕ) : Type 0 where
   high : x ≤ 90
   rest : capitals w ≡ true
 
-no : {A : Type 0} → false ≡ true → A
-no e = let z : _≡_ {A = ℕ} 0 1 = cc in absurd (omega arith)
-
 capital-of : (x : ℕ) (w : List ℕ) → capitals (x ∷ w) ≡ true → Capital x w
 unfolding capitals
 capital-of x w = by (leb 65 x) (leb x 90) refl refl where
   by : (p q : Bool) → leb 65 x ≡ p → leb x 90 ≡ q → cond p (cond q (capitals w) false) false ≡ true → Capital x w
   by true true f g e = record { low = leb-true 65 x f; high = leb-true x 90 g; rest = e }
-  by true false f g e = no e
-  by false q f g e = no e
+  by true false f g e = holds-not e refl
+  by false q f g e = holds-not e refl
 
 either-of : (x b : ℕ) → 65 ≤ x → x ≤ 90 → upperOf b ≡ x → Either x b
 unfolding upperOf

@@ -7,6 +7,7 @@ use native.Mathlib.Omega.{arith}
 use lib.Dec.{ltb, leb, eqb}
 use lib.ListN.{length}
 use borrow.Author.Tests.{lt-ltb, le-ltb, ltb-true, ltb-false, eqb-true, eqb-false, eq-eqb, ne-eqb, le-leb, lt-leb, leb-true, leb-false}
+use Rattle.below.specs.Below.{holds-not}
 use Rattle.ascii.specs.Class.{classOf, within}
 use Rattle.scan.specs.Text.{Text, stop, sign, text}
 use Rattle.scan.specs.declared.Figure.{Figure}
@@ -22,25 +23,22 @@ pub data All : List ℕ → Type 0 where
   none : All []
   one : {b : ℕ} {s : List ℕ} → 48 ≤ b → b ≤ 57 → All s → All (b ∷ s)
 
-no : {A : Type 0} → false ≡ true → A
-no e = let z : _≡_ {A = ℕ} 0 1 = cc in absurd (omega arith)
-
 class-two : (x y w l q br an : Bool) → eqb (cond x 0 (cond y 1 (cond w 2 (cond l 3 (cond q 4 (cond br 5 (cond an 6 7))))))) 2 ≡ true → w ≡ true
-class-two true y w l q br an e = no e
-class-two false true w l q br an e = no e
+class-two true y w l q br an e = holds-not e refl
+class-two false true w l q br an e = holds-not e refl
 class-two false false true l q br an e = refl
-class-two false false false true q br an e = no e
-class-two false false false false true br an e = no e
-class-two false false false false false true an e = no e
-class-two false false false false false false true e = no e
-class-two false false false false false false false e = no e
+class-two false false false true q br an e = holds-not e refl
+class-two false false false false true br an e = holds-not e refl
+class-two false false false false false true an e = holds-not e refl
+class-two false false false false false false true e = holds-not e refl
+class-two false false false false false false false e = holds-not e refl
 
 both : (x y : ℕ) (b : ℕ) → within x y b ≡ true → (x ≤ b) × (b ≤ y)
 both x y b = by (leb x b) (leb b y) refl refl where
   by : (p q : Bool) → leb x b ≡ p → leb b y ≡ q → (p && q) ≡ true → (x ≤ b) × (b ≤ y)
   by true true f g e = (leb-true x b f, leb-true b y g)
-  by true false f g e = no e
-  by false q f g e = no e
+  by true false f g e = holds-not e refl
+  by false q f g e = holds-not e refl
 
 pub digit-bounds : (b : ℕ) → isDigit b ≡ true → (48 ≤ b) × (b ≤ 57)
 unfolding isDigit classOf

@@ -6,7 +6,7 @@ use mathlib.Core.List.{List, [], _∷_}
 use Prim.Native.Nat.{ℕ, suc, _+_, _-_, _≤_, _<_}
 use native.Mathlib.Omega.{arith}
 use native.Mathlib.Numerals.{add-one}
-use native.Mathlib.Nat.{zero-add, add-zero}
+use native.Mathlib.Nat.{zero-add, add-zero, sub-eq-zero-of-le}
 use borrow.Author.Tests.{eq-eqb, ne-eqb}
 use lib.IntN.{ℤ, pos}
 use lib.ListN.{length, getD}
@@ -91,12 +91,9 @@ module _ (ok : ℤ → Bool) (w : ℕ) (i : ℕ) (h : i < w) where
     unfolding counting allBits
     count-wrong n e q p = rw (byte e, ne-eqb _ _ q, ne-eqb _ _ p)
 
-none : (w i : ℕ) → w ≤ i → w - i ≡ 0
-none w i h = omega arith
-
 pub no-more : (ok : ℤ → Bool) (w i : ℕ) → w ≤ i → restOf ok w i ≡ []
 unfolding defined
-no-more ok w i h = rw (none w i h)
+no-more ok w i h = rw (sub-eq-zero-of-le h)
 
 pub count-start : (cs s : List ℕ) → counting 0 cs s ≡ bitsCounted cs s
 unfolding counting bitsCounted

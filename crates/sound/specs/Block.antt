@@ -13,7 +13,9 @@ use lib.Dec.{eqb, ltb, leb}
 use lib.IntN.{ℤ, pos, negsuc}
 use lib.ListN.{length}
 use lib.Signed.{leZ, ltZ}
-use Rattle.below.specs.Below.{_and_, and-both, both-and, and-no, and-nor, and-yes, allBelow, all-none, all-more, all-at, all-of, maxBelow, max-none, max-at, max-least, same-bool, holds-not, or-true, and-true, and-left, and-right}
+use Rattle.below.specs.Below.{_and_, and-both, both-and, and-no, and-nor, and-yes, allBelow, all-none, all-more, all-at, all-of}
+use Rattle.below.specs.Below.{maxBelow, max-none, max-at, max-least, same-bool, holds-not, or-true, and-true, and-left}
+use Rattle.below.specs.Below.{and-right}
 use Rattle.cells.specs.Cell.{eqZ, same-true, signedOf}
 use Rattle.ascii.specs.Tens.{digits-few}
 use Rattle.cells.specs.Order.{le-self, le-join, le-else}
@@ -22,8 +24,10 @@ use Rattle.layout.specs.declared.Row.{Row}
 use Rattle.layout.specs.declared.Spread.the-variants.{Bits, Fields}
 use Rattle.layout.specs.declared.Kind.{Kind}
 use Rattle.layout.specs.declared.Kind.the-variants.{Single, Multiple, Quantity, Character, Logical}
-use Rattle.widths.specs.Width.{need, need-between, fitsKind, lowest, highest, sizeOf, size-small, FewDecimals, quantityWidth, wholeDigits, decimalsOf, tail-few}
-use Rattle.sound.specs.Sound.{valuesFit, widthGood, linesPlain, linesGood, valuesGood, widthsGood, valueAt, rangeGood, rangeWidth, widest}
+use Rattle.widths.specs.Width.{need, need-between, fitsKind, lowest, highest, sizeOf}
+use Rattle.widths.specs.Width.{size-small, FewDecimals, quantityWidth, wholeDigits, decimalsOf, tail-few}
+use Rattle.sound.specs.Sound.{valuesFit, widthGood, linesPlain, linesGood}
+use Rattle.sound.specs.Sound.{valuesGood, widthsGood, valueAt, rangeGood, rangeWidth, widest}
 use Rattle.strides.specs.declared.Hull.{Hull}
 use Rattle.strides.specs.Stride.{Strided, allDiffer}
 use Rattle.strides.specs.Hull.{Hulled}
@@ -151,7 +155,8 @@ pub range-few : (r : Row) → FewDecimals (r .kind) → rangeGood r ≡ true →
 unfolding rangeWidth
 range-few r d = go (r .range)
   where
-    go : (b : Bool) → (not b || (leZ (r .from) (r .to) && (fitsKind (r .kind) (r .from) && fitsKind (r .kind) (r .to)))) ≡ true → cond b (max (need (r .kind) (r .from)) (need (r .kind) (r .to))) 0 ≤ 9999
+    go : (b : Bool) → (not b || (leZ (r .from) (r .to) && (fitsKind (r .kind) (r .from) && fitsKind (r .kind) (r .to)))) ≡ true
+        → cond b (max (need (r .kind) (r .from)) (need (r .kind) (r .to))) 0 ≤ 9999
     go true e =
         let both = and-right (leZ (r .from) (r .to)) (fitsKind (r .kind) (r .from) && fitsKind (r .kind) (r .to)) e in
         omega (
@@ -198,7 +203,9 @@ module _ (t : List ℤ) (v : ℕ) (r : Row) where
   unfolding linedGood linesGood
   lined-differ e = and-no _ _ (and-nor _ _ e)
 
-  pub lined-width : linesPlain t v (r .before) (r .lines) ≡ true → valuesFit (r .kind) (valueAt t v (r .before)) (r .lines) ≡ true → allDiffer (valueAt t v (r .before)) (r .lines) ≡ true → linedGood t v r ≡ widthsGood t v r
+  pub lined-width : linesPlain t v (r .before) (r .lines) ≡ true
+      → valuesFit (r .kind) (valueAt t v (r .before)) (r .lines) ≡ true → allDiffer (valueAt t v (r .before)) (r .lines) ≡ true
+      → linedGood t v r ≡ widthsGood t v r
   unfolding linedGood linesGood
   lined-width e f g = and-yes _ _ (both-and (both-and e f) g)
 

@@ -18,7 +18,9 @@ use Rattle.layout.specs.declared.Spread.the-variants.{Bits, Fields}
 use Rattle.layout.specs.declared.Kind.{Kind}
 use Rattle.layout.specs.declared.Kind.the-variants.{Single, Multiple, Quantity, Character, Logical}
 use Rattle.widths.specs.Width.{FewDecimals, decimalsOf}
-use Rattle.sound.specs.Sound.{typeKnown, decimalsFew, flagsPlain, lackedZero, pointGiven, valuesGiven, countsGood, identGood, positionGood, subfieldsGood, textsGood, placesGood, columnsGood, rowGood, headCounts, headSums, rowsGood, identsDiffer, wellFormed}
+use Rattle.sound.specs.Sound.{typeKnown, decimalsFew, flagsPlain, lackedZero, pointGiven, valuesGiven}
+use Rattle.sound.specs.Sound.{countsGood, identGood, positionGood, subfieldsGood, textsGood, placesGood}
+use Rattle.sound.specs.Sound.{columnsGood, rowGood, headCounts, headSums, rowsGood, identsDiffer, wellFormed}
 use Rattle.sound.specs.Block.{Standing, Subfielded, Placed, Ready}
 
 -- the clauses of a row's columns that the values of a row lean on
@@ -64,18 +66,30 @@ module _ (e before : ℕ) (c : Columns) (g : columnsGood e before c ≡ true) wh
             (either-true (eqb (c .decimals) 0) (eqb (c .point) 1) (n4 .1));
         given =
             ⊎-elim (λ x. inl (leb-true 4 (c .kind) x))
-            (λ x. inr (⊎-elim (λ y. inl (eqb-true (c .range) 1 y)) (λ y. inr (leb-true 1 (c .lines) y)) (either-true (eqb (c .range) 1) (leb 1 (c .lines)) x)))
+            (λ x. inr (⊎-elim (λ y. inl (eqb-true (c .range) 1 y)) (λ y. inr (leb-true 1 (c .lines) y))
+            (either-true (eqb (c .range) 1) (leb 1 (c .lines)) x)))
             (either-true (leb 4 (c .kind)) (eqb (c .range) 1 || leb 1 (c .lines)) (n5 .1));
         lacked =
             ⊎-elim (λ x. inl (leb-true (c .kind) 3 x))
-            (λ x. inr (eqb-true (c .range) 0 (and-left (eqb (c .range) 0) (eqb (c .lines) 0) x), eqb-true (c .lines) 0 (and-right (eqb (c .range) 0) (eqb (c .lines) 0) x)))
+            (λ x. inr (
+              eqb-true (c .range) 0 (and-left (eqb (c .range) 0) (eqb (c .lines) 0) x),
+              eqb-true (c .lines) 0
+                  (and-right (eqb (c .range) 0) (eqb (c .lines) 0) x),
+            ))
             (either-true (leb (c .kind) 3) (eqb (c .range) 0 && eqb (c .lines) 0)
             (and-right
-            ((eqb (c .kind) 3 || eqb (c .decimals) 0 && eqb (c .point) 0) && (eqb (c .kind) 2 || eqb (c .subfields) 0 && eqb (c .subwidth) 0))
+            ((eqb (c .kind) 3 || eqb (c .decimals) 0 && eqb (c .point) 0)
+            && (eqb (c .kind) 2 || eqb (c .subfields) 0 && eqb (c .subwidth) 0))
             (leb (c .kind) 3 || eqb (c .range) 0 && eqb (c .lines) 0)
             (n3 .1)));
-        from-one = leb-true 1 (c .start) (and-left (leb 1 (c .start)) (leb (c .start) (c .finish)) (and-left (leb 1 (c .start) && leb (c .start) (c .finish)) (leb (c .finish) 16384) (p1 .1)));
-        ordered = leb-true (c .start) (c .finish) (and-right (leb 1 (c .start)) (leb (c .start) (c .finish)) (and-left (leb 1 (c .start) && leb (c .start) (c .finish)) (leb (c .finish) 16384) (p1 .1)));
+        from-one =
+            leb-true 1 (c .start)
+            (and-left (leb 1 (c .start)) (leb (c .start) (c .finish))
+            (and-left (leb 1 (c .start) && leb (c .start) (c .finish)) (leb (c .finish) 16384) (p1 .1)));
+        ordered =
+            leb-true (c .start) (c .finish)
+            (and-right (leb 1 (c .start)) (leb (c .start) (c .finish))
+            (and-left (leb 1 (c .start) && leb (c .start) (c .finish)) (leb (c .finish) 16384) (p1 .1)));
         low = leb-true (c .finish) 16384 (and-right (leb 1 (c .start) && leb (c .start) (c .finish)) (leb (c .finish) 16384) (p1 .1));
         subfields = p2 .1;
         lines-before = eqb-true (c .before) before (g3 .1);
@@ -100,7 +114,11 @@ module _ (e before : ℕ) (c : Columns) (f : ColumnFacts e before c) where
   pub sub-some : (c .subfields ≡ 0 → ⊥) → (1 ≤ c .subfields) × (1 ≤ c .subwidth)
   sub-some s = (
     omega (arith, s),
-    omega (arith, eqb-false (c .subwidth) 0 (beq-false (eqb (c .subfields) 0) (eqb (c .subwidth) 0) (f .subfields) (ne-eqb (c .subfields) 0 s))),
+    omega (
+      arith,
+      eqb-false (c .subwidth) 0
+          (beq-false (eqb (c .subfields) 0) (eqb (c .subwidth) 0) (f .subfields) (ne-eqb (c .subfields) 0 s)),
+    ),
   )
 
   pub row-ready : {t : List ℤ} {v : ℕ} → Standing t v 0 e → Ready t v (rowOf c)
@@ -126,7 +144,8 @@ pub head-few : (h : Header) → headCounts h ≡ true → (h .rows ≤ mostRows)
 head-few h e =
     let a = and-left (eqb (h .mark) mark && leb 1 (h .rows) && leb (h .rows) mostRows) (leb (h .lines) mostLines) e in (
       leb-true (h .rows) mostRows (and-right (eqb (h .mark) mark && leb 1 (h .rows)) (leb (h .rows) mostRows) a),
-      leb-true (h .lines) mostLines (and-right (eqb (h .mark) mark && leb 1 (h .rows) && leb (h .rows) mostRows) (leb (h .lines) mostLines) e),
+      leb-true (h .lines) mostLines
+          (and-right (eqb (h .mark) mark && leb 1 (h .rows) && leb (h .rows) mostRows) (leb (h .lines) mostLines) e),
     )
 
 pub head-some : (h : Header) → headCounts h ≡ true → 1 ≤ h .rows
@@ -139,7 +158,10 @@ head-some h e =
 pub head-standing : (t : List ℤ) (h : Header) → headCounts h ≡ true → headSums h (length t) ≡ true → Standing t (h .rows) 0 (h .lines)
 head-standing t h e f =
     let few = head-few h e in
-    let long = leb-true (lineBase (h .rows) (h .lines)) (length t) (and-right (eqb (h .«rows_at») headerSize && eqb (h .«lines_at») (linesBase (h .rows))) (leb (lineBase (h .rows) (h .lines)) (length t)) f) in
+    let long =
+    leb-true (lineBase (h .rows) (h .lines)) (length t)
+    (and-right (eqb (h .«rows_at») headerSize && eqb (h .«lines_at») (linesBase (h .rows)))
+    (leb (lineBase (h .rows) (h .lines)) (length t)) f) in
     record { few-rows = few .0; few-lines = omega arith; stand = omega arith }
 
 -- the rows stand where their lines do
@@ -160,6 +182,7 @@ module _ (t : List ℤ) where
   unfolding wellFormed
   form-rows e = and-no _ _ (and-nor _ _ e)
 
-  pub form-idents : headCounts (headerOf t) ≡ true → headSums (headerOf t) (length t) ≡ true → rowsGood t (headerOf t) ≡ true → wellFormed t ≡ identsDiffer t (headerOf t .rows)
+  pub form-idents : headCounts (headerOf t) ≡ true → headSums (headerOf t) (length t) ≡ true → rowsGood t (headerOf t) ≡ true
+      → wellFormed t ≡ identsDiffer t (headerOf t .rows)
   unfolding wellFormed
   form-idents e f g = and-yes _ _ (both-and (both-and e f) g)

@@ -11,7 +11,8 @@ use lib.Dec.{eqb, leb}
 use lib.IntN.{ℤ, pos}
 use lib.ListN.{length}
 use lib.Signed.{leZ}
-use Rattle.below.specs.Below.{_and_, and-both, and-left, and-right, either-true, holds-not, all-at, any-some, sum-rises, sum-more, maxBelow, max-at, max-least}
+use Rattle.below.specs.Below.{_and_, and-both, and-left, and-right, either-true, holds-not}
+use Rattle.below.specs.Below.{all-at, any-some, sum-rises, sum-more, maxBelow, max-at, max-least}
 use Rattle.cells.specs.Cell.{cell, eqZ, same-true}
 use Rattle.cells.specs.Order.{le-join}
 use Rattle.layout.specs.Layout.{mostRows, mostLines, lineSize, lineBase, headerOf}
@@ -21,10 +22,13 @@ use Rattle.layout.specs.declared.Row.{Row}
 use Rattle.layout.specs.declared.Spread.the-variants.{Bits, Fields}
 use Rattle.layout.specs.declared.Kind.{Kind}
 use Rattle.layout.specs.declared.Kind.the-variants.{Single, Multiple, Quantity, Character, Logical}
-use Rattle.widths.specs.Width.{need, need-between, need-most, need-some, Valued, mostWidth, fitsKind, lowest, highest, decimalsOf, sizeOf, size-small, FewDecimals}
+use Rattle.widths.specs.Width.{need, need-between, need-most, need-some, Valued, mostWidth}
+use Rattle.widths.specs.Width.{fitsKind, lowest, highest, decimalsOf, sizeOf, size-small, FewDecimals}
 use Rattle.fields.specs.Legal.{legal, inRange, onLine, lineValue}
 use Rattle.fields.specs.Facts.{LineFacts, PositionFacts, WidthFacts, SpreadFacts, QuantityFacts, KindFacts, RowFacts}
-use Rattle.sound.specs.Sound.{valueAt, rangeGood, valuesFit, linesGood, valuesGood, rangeWidth, widest, widthGood, roomGood, holdsWidth, widthsGood, columnsGood, rowGood, columnsOf, finishAt, highestFinish, linesBefore, goodAt, rowsGood, wellFormed}
+use Rattle.sound.specs.Sound.{valueAt, rangeGood, valuesFit, linesGood, valuesGood, rangeWidth}
+use Rattle.sound.specs.Sound.{widest, widthGood, roomGood, holdsWidth, widthsGood, columnsGood}
+use Rattle.sound.specs.Sound.{rowGood, columnsOf, finishAt, highestFinish, linesBefore, goodAt, rowsGood, wellFormed}
 use Rattle.sound.specs.Block.{Standing}
 use Rattle.sound.specs.Given.{ColumnFacts, column-facts, sub-some, few-decimals, head-standing, head-some}
 
@@ -32,7 +36,9 @@ use Rattle.sound.specs.Given.{ColumnFacts, column-facts, sub-some, few-d
 module _ (t : List ℤ) (v : ℕ) (r : Row) where
   -- the width that the row's numbers would have
   abbrev pub widthAs : Kind → ℕ
-  widthAs k = max (cond (r .range) (max (need k (r .from)) (need k (r .to))) 0) (maxBelow (r .lines) (λ j. need k (valueAt t v (r .before) j)))
+  widthAs k =
+      max (cond (r .range) (max (need k (r .from)) (need k (r .to))) 0)
+      (maxBelow (r .lines) (λ j. need k (valueAt t v (r .before) j)))
 
   -- its numbers fit k
   pub record FitAs (k : Kind) : Type 0 where
@@ -40,7 +46,8 @@ module _ (t : List ℤ) (v : ℕ) (r : Row) where
     pub to-fits : r .range ≡ true → fitsKind k (r .to) ≡ true
     pub line-fits : (j : ℕ) → j < r .lines → fitsKind k (valueAt t v (r .before) j) ≡ true
 
-  range-cases : (k : Kind) (m : ℕ) → FitAs k → ((z : ℤ) → fitsKind k z ≡ true → need k z ≤ m) → (b : Bool) → r .range ≡ b → cond b (max (need k (r .from)) (need k (r .to))) 0 ≤ m
+  range-cases : (k : Kind) (m : ℕ) → FitAs k → ((z : ℤ) → fitsKind k z ≡ true → need k z ≤ m) → (b : Bool) → r .range ≡ b
+      → cond b (max (need k (r .from)) (need k (r .to))) 0 ≤ m
   range-cases k m u g true e = omega (arith, g (r .from) (u .from-fits e), g (r .to) (u .to-fits e))
   range-cases k m u g false e = omega arith
 
@@ -69,10 +76,13 @@ module _ (t : List ℤ) (v : ℕ) (r : Row) where
       g
 
   -- ---- a good row's numbers fit its kind
-  range-and : rangeGood r ≡ true → r .range ≡ true → (leZ (r .from) (r .to) && (fitsKind (r .kind) (r .from) && fitsKind (r .kind) (r .to))) ≡ true
+  range-and : rangeGood r ≡ true → r .range ≡ true
+      → (leZ (r .from) (r .to) && (fitsKind (r .kind) (r .from) && fitsKind (r .kind) (r .to))) ≡ true
   range-and g e = go (r .range) e g
     where
-      go : (b : Bool) → b ≡ true → (not b || (leZ (r .from) (r .to) && (fitsKind (r .kind) (r .from) && fitsKind (r .kind) (r .to)))) ≡ true → (leZ (r .from) (r .to) && (fitsKind (r .kind) (r .from) && fitsKind (r .kind) (r .to))) ≡ true
+      go : (b : Bool) → b ≡ true
+          → (not b || (leZ (r .from) (r .to) && (fitsKind (r .kind) (r .from) && fitsKind (r .kind) (r .to)))) ≡ true
+          → (leZ (r .from) (r .to) && (fitsKind (r .kind) (r .from) && fitsKind (r .kind) (r .to))) ≡ true
       go true e g = g
       go false e g = holds-not e refl
 
@@ -113,11 +123,13 @@ module _ (t : List ℤ) (v : ℕ) (r : Row) (u : FitAs t v r (r .kind)) where
       }
 
   -- what holds between the range's ends and at each line's value holds of each legal number
-  pub legal-cases : {A : Type 0} (z : ℤ) → legal t v r z ≡ true → (Between z → A) → ((j : ℕ) → j < r .lines → valueAt t v (r .before) j ≡ z → A) → A
+  pub legal-cases : {A : Type 0} (z : ℤ) → legal t v r z ≡ true → (Between z → A)
+      → ((j : ℕ) → j < r .lines → valueAt t v (r .before) j ≡ z → A) → A
   unfolding legal onLine
   legal-cases z e f g =
       ⊎-elim (λ p. f (between z p))
-      (λ p. any-some (λ k. eqZ (lineValue t v r k) z) (r .lines) p (λ j l q. g j l (sym (line-value t v r j) ∙ same-true (lineValue t v r j) z q)))
+      (λ p. any-some (λ k. eqZ (lineValue t v r k) z) (r .lines) p
+      (λ j l q. g j l (sym (line-value t v r j) ∙ same-true (lineValue t v r j) z q)))
       (either-true (inRange r z) _ e)
 
   lower : (z : ℤ) → fitsKind (r .kind) z ≡ true → leZ (lowest (r .kind)) z ≡ true
@@ -143,7 +155,8 @@ module _ (t : List ℤ) (v : ℕ) (r : Row) (u : FitAs t v r (r .kind)) where
   legal-fits z e =
       legal-cases z e
       (λ b. le-trans
-      (need-between (r .kind) (r .from) z (r .to) (b .above) (b .below) (small (r .from) (u .from-fits (b .ranged))) (small (r .to) (u .to-fits (b .ranged))))
+      (need-between (r .kind) (r .from) z (r .to) (b .above) (b .below) (small (r .from) (u .from-fits (b .ranged)))
+      (small (r .to) (u .to-fits (b .ranged))))
       (from-within t v r (r .kind) (b .ranged)))
       (λ j l q. rw q at (line-within t v r (r .kind) j l))
 
@@ -151,7 +164,9 @@ module _ (t : List ℤ) (v : ℕ) (r : Row) (u : FitAs t v r (r .kind)) where
 module _ (t : List ℤ) (v e before : ℕ) (c : Columns) (f : ColumnFacts e before c) where
   -- what is asked of a kind k in place of the row's own, and what it gives
   abbrev pub KindGiven : Kind → Type 0
-  KindGiven k = FitAs t v (rowOf c) k → widthGood k (c .width) (widthAs t v (rowOf c) k) ≡ true → roomGood k (rowOf c) ≡ true → KindFacts k (rowOf c)
+  KindGiven k =
+      FitAs t v (rowOf c) k → widthGood k (c .width) (widthAs t v (rowOf c) k) ≡ true → roomGood k (rowOf c) ≡ true
+      → KindFacts k (rowOf c)
 
   values-some : c .kind ≤ 3 → (rowOf c .range ≡ true) ⊎ (1 ≤ rowOf c .lines)
   unfolding rowOf
@@ -160,7 +175,8 @@ module _ (t : List ℤ) (v e before : ℕ) (c : Columns) (f : ColumnFacts e befo
       (λ g. ⊎-elim (λ q. inl (eq-eqb (c .range) 1 q)) (λ l. inr l) g)
       (f .given)
 
-  module _ (k : Kind) (h : Valued k) (d : decimalsOf k ≤ 9) (l : c .kind ≤ 3) (u : FitAs t v (rowOf c) k) (w : eqb (c .width) (widthAs t v (rowOf c) k) ≡ true) where
+  module _ (k : Kind) (h : Valued k) (d : decimalsOf k ≤ 9) (l : c .kind ≤ 3) (u : FitAs t v (rowOf c) k)
+      (w : eqb (c .width) (widthAs t v (rowOf c) k) ≡ true) where
     few : c .width ≤ mostWidth k
     few = rw (eqb-true (c .width) (widthAs t v (rowOf c) k) w) (width-most t v (rowOf c) k (mostWidth k) u (λ z e. need-most k z d e))
 
@@ -181,7 +197,9 @@ module _ (t : List ℤ) (v e before : ℕ) (c : Columns) (f : ColumnFacts e befo
 
   bits-given : c .kind ≡ 2 → c .subfields ≡ 0 → KindGiven (Multiple Bits)
   unfolding widthGood roomGood decimalsOf mostWidth
-  bits-given q s u w r = wide 9999 (some (Multiple Bits) tt (omega arith) (omega arith) u w) (few (Multiple Bits) tt (omega arith) (omega arith) u w) r
+  bits-given q s u w r =
+      wide 9999 (some (Multiple Bits) tt (omega arith) (omega arith) u w)
+      (few (Multiple Bits) tt (omega arith) (omega arith) u w) r
 
   fields-given : c .kind ≡ 2 → (c .subfields ≡ 0 → ⊥) → KindGiven (Multiple (Fields (c .subfields) (c .subwidth)))
   unfolding widthGood roomGood decimalsOf mostWidth rowOf
@@ -191,8 +209,12 @@ module _ (t : List ℤ) (v e before : ℕ) (c : Columns) (f : ColumnFacts e befo
         some = some k tt (omega arith) (omega arith) u w;
         few = few k tt (omega arith) (omega arith) u w;
         subfields = sub-some e before c f s .0;
-        holds = leb-true (c .width) (c .subwidth) (and-left (leb (c .width) (c .subwidth)) (leb (c .start + c .subfields * c .subwidth) (c .finish + 1)) r);
-        room = leb-true (c .start + c .subfields * c .subwidth) (c .finish + 1) (and-right (leb (c .width) (c .subwidth)) (leb (c .start + c .subfields * c .subwidth) (c .finish + 1)) r);
+        holds =
+            leb-true (c .width) (c .subwidth)
+            (and-left (leb (c .width) (c .subwidth)) (leb (c .start + c .subfields * c .subwidth) (c .finish + 1)) r);
+        room =
+            leb-true (c .start + c .subfields * c .subwidth) (c .finish + 1)
+            (and-right (leb (c .width) (c .subwidth)) (leb (c .start + c .subfields * c .subwidth) (c .finish + 1)) r);
       }
 
   quantity-given : c .kind ≡ 3 → KindGiven (Quantity (record { decimals = c .decimals; point = c .point }))
@@ -316,5 +338,7 @@ module _ (t : List ℤ) (g : wellFormed t ≡ true) where
       kind = kind-facts;
       least = legal-least t (rowsOf t) (rowAt t i) fit;
       most = legal-most t (rowsOf t) (rowAt t i) fit;
-      fits = λ z e. width-holds (kindOf (columnsOf t i)) (columnsOf t i .width) (widest t (rowsOf t) (rowAt t i)) z width (legal-fits t (rowsOf t) (rowAt t i) fit z e);
+      fits =
+          λ z e. width-holds (kindOf (columnsOf t i)) (columnsOf t i .width) (widest t (rowsOf t) (rowAt t i)) z width
+          (legal-fits t (rowsOf t) (rowAt t i) fit z e);
     }

@@ -12,7 +12,8 @@ use Rattle.ascii.specs.Class.{within}
 use Rattle.below.specs.Below.{_and_, and-no, and-yes, allBelow, sumBelow, maxBelow}
 use Rattle.cells.specs.Cell.{cell, eqZ}
 use Rattle.strides.specs.Stride.{strideAt, allDiffer}
-use Rattle.layout.specs.Layout.{mark, mostRows, mostLines, headerSize, rowSize, lineSize, rowBase, linesBase, lineBase, headerOf, columnsAt, lineAt}
+use Rattle.layout.specs.Layout.{mark, mostRows, mostLines, headerSize, rowSize}
+use Rattle.layout.specs.Layout.{lineSize, rowBase, linesBase, lineBase, headerOf, columnsAt, lineAt}
 use Rattle.layout.specs.Row.{rowOf}
 use Rattle.layout.specs.declared.Header.{Header}
 use Rattle.layout.specs.declared.Columns.{Columns}

@@ -61,11 +61,15 @@ module _ (f : ℕ → ℤ) where
   module _ (k : ℕ) (h : Hull) (u : Hulled f k h) where
     more-low : (b : Bool) → leZ (h .least) (f k) ≡ b → (j : ℕ) → j < k + 1 → leZ (cond b (h .least) (f k)) (f j) ≡ true
     more-low true e j l = ⊎-elim (λ q. rw q e) (λ m. u .low j m) (each k j l)
-    more-low false e j l = ⊎-elim (λ q. rw q (le-self (f k))) (λ m. le-join (f k) (h .least) (f j) (le-else (h .least) (f k) e) (u .low j m)) (each k j l)
+    more-low false e j l =
+        ⊎-elim (λ q. rw q (le-self (f k))) (λ m. le-join (f k) (h .least) (f j) (le-else (h .least) (f k) e) (u .low j m))
+        (each k j l)
 
     more-high : (b : Bool) → leZ (f k) (h .most) ≡ b → (j : ℕ) → j < k + 1 → leZ (f j) (cond b (h .most) (f k)) ≡ true
     more-high true e j l = ⊎-elim (λ q. rw q e) (λ m. u .high j m) (each k j l)
-    more-high false e j l = ⊎-elim (λ q. rw q (le-self (f k))) (λ m. le-join (f j) (h .most) (f k) (u .high j m) (le-else (f k) (h .most) e)) (each k j l)
+    more-high false e j l =
+        ⊎-elim (λ q. rw q (le-self (f k))) (λ m. le-join (f j) (h .most) (f k) (u .high j m) (le-else (f k) (h .most) e))
+        (each k j l)
 
     at-below : (b : Bool) (j : ℕ) → j < k → cond b j k < k + 1
     at-below true j l = omega arith

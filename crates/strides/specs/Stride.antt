@@ -92,7 +92,8 @@ module _ (f : ℕ → ℤ) where
       new-by-mark k (λ j h q. let a : getD marks (markOf (f j)) 0 ≡ 0 = rw (← q, ← e) z in omega (arith, l .left j h))
 
   -- one mark more
-  pub left-more : (k place : ℕ) (marks : List ℕ) → place < length marks → place ≡ markOf (f k) → Left f k marks → Left f (k + 1) (set marks place 1)
+  pub left-more : (k place : ℕ) (marks : List ℕ) → place < length marks → place ≡ markOf (f k) → Left f k marks
+      → Left f (k + 1) (set marks place 1)
   left-more k place marks h e l = record { left = λ j i. go j (eqb (markOf (f j)) place) refl (each k j i) }
     where
       each : (k j : ℕ) → j < k + 1 → (j ≡ k) ⊎ (j < k)
@@ -122,7 +123,8 @@ module _ (f : ℕ → ℤ) (n : ℕ) (r : allRise f n ≡ true) where
   rise (suc j) i h l =
       ⊎-elim
       (λ q. rw q (step-up j l))
-      (λ m. failed (leZ (f (suc j)) (f i)) (λ e. sym (step-up j l) ∙ le-join (f (suc j)) (f i) (f j) e (le-else (f j) (f i) (rise j i m (omega arith)))))
+      (λ m. failed (leZ (f (suc j)) (f i))
+      (λ e. sym (step-up j l) ∙ le-join (f (suc j)) (f i) (f j) e (le-else (f j) (f i) (rise j i m (omega arith)))))
       (eq-or-lt-of-le (le-of-suc-le-suc h))
 
   pub rise-le : (j i : ℕ) → i ≤ j → j < n → leZ (f i) (f j) ≡ true

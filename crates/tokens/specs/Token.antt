@@ -56,7 +56,9 @@ choiceOf d (Refused f) w = Left
 
 -- ---- numbers: the longest run of digits
 unfoldable pub ofDigits : ℕ → Digits → Number
-ofDigits n r = cond (eqb (r .count) 0) (number.Not (fault 2 n)) (number.Is (record { size = r .size; count = r .count; place = n; next = r .next }))
+ofDigits n r =
+    cond (eqb (r .count) 0) (number.Not (fault 2 n))
+    (number.Is (record { size = r .size; count = r .count; place = n; next = r .next }))
 
 unfoldable pub numberHere : List ℕ → Reading → Number
 numberHere d (At n) = ofDigits n (digitsFrom 0 0 n (text d n))

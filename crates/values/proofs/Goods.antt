@@ -83,7 +83,7 @@ value-pointed d at =
     let k = runOf isDigit m (text d m) in
     ⊎-elim (λ e. inl (ap (λ (n : ℕ). 0 + n) e)) inr (mark-pointed d k (text d k) (run-stops d (from-text d m) refl))
 
-value-genuine : (d : List ℕ) (t : Reading) (v : Value) → valueHere d t ≡ amount.Is v → Genuine d v
+pub value-genuine : (d : List ℕ) (t : Reading) (v : Value) → valueHere d t ≡ amount.Is v → Genuine d v
 unfolding valueHere ofValue
 value-genuine d (Refused f) v e = let z : _≡_ {A = ℕ} 0 1 = cc in absurd (omega arith)
 value-genuine d (At n) v e = by (eqb (valueAt d n .next) n) e where
@@ -92,16 +92,16 @@ value-genuine d (At n) v e = by (eqb (valueAt d n .next) n) e where
   by false e = let j : valueAt d n ≡ v = cc in rw (← j) (record { pointed = value-pointed d n; sized = value-true d n })
 
 -- ---- a value of the right form that passes no limit
-record Fit (quantity : Bool) (v : Value) : Type 0 where
-  small : v .size ≤ 999999999999999
-  places : v .decimals ≤ 9
-  category : quantity ≡ false → (v .minus ≡ false) × (v .point ≡ false) × (0 < v .size) × (v .size ≤ 9999)
+pub record Fit (quantity : Bool) (v : Value) : Type 0 where
+  pub small : v .size ≤ 999999999999999
+  pub places : v .decimals ≤ 9
+  pub category : quantity ≡ false → (v .minus ≡ false) × (v .point ≡ false) × (0 < v .size) × (v .size ≤ 9999)
 
 -- digits alone have no decimals
 whole : {d : List ℕ} {v : Value} → Genuine d v → v .point ≡ false → v .decimals ≡ 0
 whole g p = ⊎-elim (λ e. e) (λ q. holds-not q p) (g .pointed)
 
-fits : (d : List ℕ) (quantity : Bool) (v : Value) → Genuine d v → formOf quantity v ≡ true → largeOf quantity v ≡ false → Fit quantity v
+pub fits : (d : List ℕ) (quantity : Bool) (v : Value) → Genuine d v → formOf quantity v ≡ true → largeOf quantity v ≡ false → Fit quantity v
 unfolding formOf largeOf
 fits d true v g f l = record {
   small = ltb-false 999999999999999 (v .size) (or-none _ (ltb 9 (v .decimals)) l);
@@ -127,7 +127,7 @@ category-limited : (n : ℕ) → 0 < n → n ≤ 9999 → Limited false (numberO
 unfolding numberOf
 category-limited n h k = record { low = le-leb 1 n h; high = le-leb n 9999 k }
 
-value-limited : (quantity : Bool) (v : Value) → Fit quantity v → Limited quantity (scaledOf v)
+pub value-limited : (quantity : Bool) (v : Value) → Fit quantity v → Limited quantity (scaledOf v)
 unfolding scaledOf
 value-limited true v f = quantity-limited (v .minus) (v .size) (f .small)
 value-limited false v f = let c = f .category refl in rw (c .0) (category-limited (v .size) (c .2) (c .3))
@@ -139,7 +139,7 @@ cap-own n m e h = by (ltb 1000000000000000 n) e where
   by true e = absurd (omega arith)
   by false e = sym e
 
-true-scaled : {d : List ℕ} {quantity : Bool} {v : Value} → Genuine d v → Fit quantity v → trueOf d v ≡ scaledOf v
+pub true-scaled : {d : List ℕ} {quantity : Bool} {v : Value} → Genuine d v → Fit quantity v → trueOf d v ≡ scaledOf v
 unfolding trueOf scaledOf
 true-scaled {d} {v = v} g f = ap (numberOf (v .minus)) (cap-own (valueOf d (v .first) (v .last)) (v .size) (g .sized) (f .small))
 
@@ -178,7 +178,7 @@ module _ (d : List ℕ) (quantity : Bool) where
   }
 
   -- what is known of a block that a range made
-  Made : Block → Type 0
+  unfoldable pub Made : Block → Type 0
   Made b = GoodBlock quantity b × (b .ranged ≡ true)
 
   judged-good : (x y : Value) {b : Block} → Genuine d x → Genuine d y → judgeRange d quantity x y ≡ judged.Good b → Made b
@@ -205,7 +205,7 @@ module _ (d : List ℕ) (quantity : Bool) where
     by (judged.Good k) i e = let q : k ≡ b = cc in judged-good x y (ga x refl) (gc y refl) (rw q at i)
     by (judged.Bad f) i e = let z : _≡_ {A = ℕ} 0 1 = cc in absurd (omega arith)
 
-  rest-good : (a : Amount) (t : Reading) {b : Block} {with : Bool} {n : ℕ} → ((v : Value) → a ≡ amount.Is v → Genuine d v) → rangeRest d quantity a t ≡ ranged.Is b with n → Made b
+  pub rest-good : (a : Amount) (t : Reading) {b : Block} {with : Bool} {n : ℕ} → ((v : Value) → a ≡ amount.Is v → Genuine d v) → rangeRest d quantity a t ≡ ranged.Is b with n → Made b
   unfolding rangeRest valueOn
   rest-good a t {b} {with} {n} ga = by (choiceOf d (gapOn d (pastValue c)) WITH) where
     c : Amount

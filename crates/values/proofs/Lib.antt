@@ -2,3 +2,4 @@ pub mod Facts
 pub mod Rooms
 pub mod Lists
 pub mod Goods
+pub mod Orders

@@ -4,3 +4,4 @@ pub mod Line
 pub mod Room
 pub mod Block
 pub mod Good
+pub mod Order

@@ -5,7 +5,7 @@ use mathlib.Core.Bool.{Bool, true, false, cond, _&&_}
 use Prim.Native.Nat.{ℕ, suc, _+_, _-_, _*_, _/_, _^_, _≤_, _<_, max}
 use native.Mathlib.Nat.{one-le-pow, le-div-iff-mul-le, div-mul-le-self, div-le-self, le-trans, lt-of-le-of-lt, div-lt-iff-lt-mul}
 use native.Mathlib.Omega.{arith}
-use borrow.Author.Tests.{leb-true}
+use borrow.Author.Tests.{leb-true, ne-eqb}
 use lib.Dec.{eqb}
 use lib.IntN.{ℤ, pos, negsuc}
 use lib.Signed.{leZ}
@@ -89,7 +89,8 @@ tail-few f h = go (eqb (f .point) 0)
     go false = omega arith
 
 -- a quantity's width from its sign and size
-pub width-parts : (f : Format) (z : ℤ) (s : Signed) → s ≡ signedOf z → quantityWidth f z ≡ wholeDigits f (s .size) + tailOf f + cond (s .minus) 1 0
+pub width-parts : (f : Format) (z : ℤ) (s : Signed) → s ≡ signedOf z
+    → quantityWidth f z ≡ wholeDigits f (s .size) + tailOf f + cond (s .minus) 1 0
 unfolding quantityWidth
 width-parts f z s e = rw e
 
@@ -122,7 +123,8 @@ rises-down Character m n h l = omega arith
 rises-down Logical m n h l = omega arith
 
 module _ (k : Kind) where
-  pub need-between : (a z b : ℤ) → leZ a z ≡ true → leZ z b ≡ true → sizeOf a < 10 ^ 16 → sizeOf b < 10 ^ 16 → need k z ≤ max (need k a) (need k b)
+  pub need-between : (a z b : ℤ) → leZ a z ≡ true → leZ z b ≡ true → sizeOf a < 10 ^ 16 → sizeOf b < 10 ^ 16
+      → need k z ≤ max (need k a) (need k b)
   unfolding signedOf
   need-between a (pos n) (pos m) h g p q = omega (arith, rises-up k n m (leb-true n m g) q)
   need-between a (pos n) (negsuc m) h g p q = holds-not g refl
@@ -186,6 +188,11 @@ tail-upto f = go (eqb (f .point) 0)
     go true = omega arith
     go false = omega arith
 
+-- a point takes a byte
+pub tail-point : (f : Format) → (f .point ≡ 0 → ⊥) → tailOf f ≡ f .decimals + 1
+unfolding tailOf
+tail-point f e = rw (ne-eqb (f .point) 0 e)
+
 minus-few : (b : Bool) → cond b 1 0 ≤ 1
 minus-few true = omega arith
 minus-few false = omega arith
@@ -198,7 +205,8 @@ need-most (Multiple (Fields n w)) z d e = digits-four z (and-left _ (leZ z (pos 
 need-most (Quantity f) z d e =
     omega (
       arith,
-      whole-few f (sizeOf z) d (size-small (Quantity f) z (and-left _ (leZ z (pos 999999999999999)) e) (and-right (leZ (negsuc 999999999999998) z) _ e)),
+      whole-few f (sizeOf z) d
+          (size-small (Quantity f) z (and-left _ (leZ z (pos 999999999999999)) e) (and-right (leZ (negsuc 999999999999998) z) _ e)),
       tail-upto f,
       minus-few (signedOf z .minus),
     )

@@ -21,7 +21,7 @@ use Rattle.places.specs.Laws.{length-run}
 use Rattle.layout.specs.declared.Kind.{Kind}
 use Rattle.layout.specs.declared.Row.{Row}
 use Rattle.fields.specs.Field.{spaces, allLegal, setFits}
-use Rattle.fieldlaws.specs.BackLaws.{Limits, bits-members}
+use Rattle.fieldlaws.specs.BackLaws.{Limits, bits-members, quantity-few}
 use Rattle.fieldlaws.specs.RisingLaws.{Rising, legal-of, legal-here, legal-next}
 use Rattle.setbytes.specs.Sets.{Small}
 use Rattle.fields.specs.Row.{fits, otherType, notLegal, tooMany, legalFit, fitsBy, bytesBy, placesBy}
@@ -80,11 +80,6 @@ unfolding lowest highest
 code-few h z e = code-size z (h .least z e) (h .most z e)
 
 -- a legal quantity has room in the row's width
-quantity-few : (z : ℤ) → leZ (negsuc 999999999999998) z ≡ true → leZ z (pos 999999999999999) ≡ true → sizeOf z < 10 ^ 16
-unfolding signedOf
-quantity-few (pos n) a b = omega (arith, leb-true n 999999999999999 b)
-quantity-few (negsuc n) a b = omega (arith, leb-true n 999999999999998 a)
-
 pub quantity-wide : {t : List ℤ} {v n : ℕ} {r : Row} {f : Format} → Ready (Quantity f) t v n r → (z : ℤ) → legal t v r z ≡ true → Wide f (r .width) z
 unfolding lowest highest need quantityWidth
 quantity-wide h z e = record {

@@ -42,9 +42,12 @@ leftBy notLegal new old = old
 leftBy tooMany new old = old
 
 -- a write to a row of the kind k
-pub record WrittenBy (k : Kind) (t : List ℤ) (v : ℕ) (r : Row) (value : Value) (list : List ℤ) (text : List ℕ) (old new : List ℕ) (answer : Wrote) : Type 0 where
+pub record WrittenBy (k : Kind) (t : List ℤ) (v : ℕ) (r : Row) (value : Value) (list : List ℤ) (text : List ℕ) (old new : List ℕ)
+    (answer : Wrote) : Type 0 where
   pub says : answer ≡ answerBy (fitsBy k t v r (valueOf value list text))
-  pub leaves : new ≡ leftBy (fitsBy k t v r (valueOf value list text)) (put old (placesBy k t v r) (bytesBy k t v r (valueOf value list text))) old
+  pub leaves : new
+      ≡ leftBy (fitsBy k t v r (valueOf value list text))
+      (put old (placesBy k t v r) (bytesBy k t v r (valueOf value list text))) old
 
 -- what a writer needs of a row of the kind k, in a record of n bytes
 pub record Ready (k : Kind) (t : List ℤ) (v n : ℕ) (r : Row) : Type 0 where

@@ -3,20 +3,7 @@ ghost use mathlib.Core.Path.{_≡_};
 ghost use Prim.Native.Nat.{_+_, _≤_};
 ghost use lib.ListN.{length};
 ghost use Rattle.places.specs.Places.{put, run};
-ghost use Rattle.fields.specs.Field.{allPlain, textFits, textBytes};
-
-fn all_plain(text: &[u8]) -> bool
-    ensures { λ r. ⌜ r ≡ allPlain (now (text .entry)) ⌝ }
-{
-    let mut i: usize = 0;
-    while i < text.len() {
-        if text[i] < 32 {
-            return false;
-        }
-        i += 1;
-    }
-    true
-}
+ghost use Rattle.fields.specs.Field.{textFits, textBytes};
 
 pub fn text_fits(w: usize, text: &[u8]) -> bool
     ensures { λ r. ⌜ r ≡ textFits w (now (text .entry)) ⌝ }
@@ -31,7 +18,7 @@ pub fn text_fits(w: usize, text: &[u8]) -> bool
     if text[n - 1] <= 32 {
         return false;
     }
-    all_plain(text)
+    letters::plain(text)
 }
 
 pub fn put_text(bytes: &mut [u8], at: usize, w: usize, text: &[u8])

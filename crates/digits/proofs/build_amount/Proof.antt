@@ -4,8 +4,8 @@ use Prim.Native.Nat.{_-_}
 use native.Mathlib.Nat.{lt-of-le-of-lt, div-le-self}
 use native.Mathlib.Omega.{arith}
 use borrow.Author.Needs.{needs}
-use Rattle.widths.specs.Width.{ten-some}
-use Rattle.digits.proofs.Built.{tail-pointed, built-plain, built-pointed}
+use Rattle.widths.specs.Width.{ten-some, tail-point}
+use Rattle.digits.proofs.Built.{built-plain, built-pointed}
 use Rattle.digits.proofs.build_amount.Statement.{statement}
 use Rattle.digits.proofs.build_amount.Tie as tie
 
@@ -25,12 +25,12 @@ returns c =
 element-write-room : tie.Need-element-write-room
 element-write-room c =
     let s = c .before .before .before .before .before .before in
-    omega (arith, tail-pointed (s .args .f) (c .if1 .left))
+    omega (arith, tail-point (s .args .f) (c .if1 .left))
 
 build-requires-2 : tie.Need-build-requires-2
 build-requires-2 c κs =
     let s = c .before .before .before .before .before .before .before in
-    (s .pre .0, (s .pre .1 .few, omega (arith, tail-pointed (s .args .f) (c .before .if1 .left))))
+    (s .pre .0, (s .pre .1 .few, omega (arith, tail-point (s .args .f) (c .before .if1 .left))))
 
 returns-2 : tie.Need-returns-2
 returns-2 c =

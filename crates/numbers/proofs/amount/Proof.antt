@@ -6,10 +6,10 @@ use borrow.Author.Needs.{needs, sfits-of}
 use lib.ListN.{length, take, length-take}
 use lib.Seq.{length-take-le}
 use mir.Facts.{toZ-ofZ}
-use Rattle.widths.specs.Width.{tailOf}
+use Rattle.widths.specs.Width.{tailOf, tail-point}
 use Rattle.fields.specs.Number.{says}
 use Rattle.numbers.specs.Numeral.{saidOf, decimalsRead}
-use Rattle.numbers.proofs.Laws.{rest-is, few-digits, value-small, amount-short, amount-bad, amount-plain, amount-pointless, amount-decimals, tail-some, decimals-room}
+use Rattle.numbers.proofs.Laws.{rest-is, few-digits, value-small, amount-short, amount-bad, amount-plain, amount-pointless, amount-decimals, decimals-room}
 use Rattle.numbers.proofs.amount.Statement.{statement}
 use Rattle.numbers.proofs.amount.Tie as tie
 
@@ -51,7 +51,7 @@ returns-3 c = sym (amount-pointless _ _ _ _ (place (c .before .before .before .b
 -- where the block has a point, its place lies before the end
 module _ (c : tie.Else2) where
   inner : length (c .before .before .before .before .before .before .before .before .before .before .args .s .now) - c .before .before .before .before .before .before .before .before .tail .result < length (c .before .before .before .before .before .before .before .before .before .before .args .s .now)
-  inner = let t = tail-some (c .before .before .before .before .before .before .before .before .before .before .args .f) (c .if2 .left) in omega (arith, c .before .before .before .before .before .before .before .before .tail .ensures)
+  inner = let t = tail-point (c .before .before .before .before .before .before .before .before .before .before .args .f) (c .if2 .left) in omega (arith, c .before .before .before .before .before .before .before .before .tail .ensures)
 
 shared-slice-read-if3 : tie.Need-shared-slice-read-if3
 shared-slice-read-if3 c = inner (c .before)

@@ -33,7 +33,7 @@ returns-3 : tie.Need-returns-3
 returns-3 c = ended _ _ (c .if3 .taken) (c .before .before .if2 .left) (omega arith)
 
 returns-4 : tie.Need-returns-4
-returns-4 c = c .all-plain .ensures ∙ plain _ _ (c .before .if3 .left) (c .before .before .before .if2 .left) (omega arith)
+returns-4 c = c .plain .ensures ∙ plain _ _ (c .before .if3 .left) (c .before .before .before .if2 .left) (omega arith)
 
 pub text-fits-spec : {M : Type 1} → statement M
 text-fits-spec =
