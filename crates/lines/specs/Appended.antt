@@ -6,7 +6,7 @@ use Prim.Native.Nat.{ℕ, suc, _+_, _-_, _^_, _≤_, _<_}
 use native.Mathlib.Nat.{add-zero}
 use native.Mathlib.Numerals.{add-one}
 use native.Mathlib.Omega.{arith}
-use lib.ListN.{length, set, take, drop, length-append, length-drop}
+use lib.ListN.{length, set, take, drop, length-append, length-drop, length-set}
 use lib.Seq.{take-all, length-take-le}
 use Rattle.places.specs.Places.{put, run}
 use lib.IntN.{ℤ}
@@ -26,6 +26,7 @@ laid out at s = put out (run at (length s)) s
 pub record Appended (out : List ℕ) (at : ℕ) (s : List ℕ) (out′ : List ℕ) (r : ℕ) : Type 0 where
   pub leaves : out′ ≡ laid out at s
   pub ends : r ≡ at + length s
+  pub inside : r ≤ length out′
 
 -- ---- laws
 pub laid-length : (out : List ℕ) (at : ℕ) (s : List ℕ) → length (laid out at s) ≡ length out
@@ -53,32 +54,27 @@ module _ {out : List ℕ} {at : ℕ} {s out′ : List ℕ} {r : ℕ} (a : Append
   then {u} b = record {
     leaves = b .leaves ∙ rw (a .leaves, a .ends) (laid-more out at s u);
     ends = b .ends ∙ rw (a .ends, length-append s u) (omega arith);
+    inside = b .inside;
   }
 
   pub as-text : {u : List ℕ} → s ≡ u → Appended out at u out′ r
   as-text e = rw e at a
 
--- a byte and then text
-pub byte-then : {out : List ℕ} {at b : ℕ} {s out′ : List ℕ} {r : ℕ} → Appended (set out at b) (at + 1) s out′ r → Appended out at (b ∷ s) out′ r
-byte-then {out} {at} {b} {s} a = record { leaves = a .leaves ∙ laid-byte out at b s; ends = a .ends ∙ add-suc at (length s) }
-  where
-    add-suc : (m n : ℕ) → m + 1 + n ≡ m + suc n
-    add-suc m n = omega arith
-
-pub one-byte : (out : List ℕ) (at b : ℕ) → Appended out at (b ∷ []) (set out at b) (at + 1)
+pub one-byte : (out : List ℕ) (at b : ℕ) → at < length out → Appended out at (b ∷ []) (set out at b) (at + 1)
 unfolding laid
-one-byte out at b = record { leaves = refl; ends = refl }
+one-byte out at b h = record { leaves = refl; ends = refl; inside = rw (length-set out at b) (omega arith) }
 
-pub nothing-more : (out : List ℕ) (at : ℕ) → Appended out at [] out at
+pub nothing-more : (out : List ℕ) (at : ℕ) → at ≤ length out → Appended out at [] out at
 unfolding laid
-nothing-more out at = record { leaves = refl; ends = sym (add-zero at) }
+nothing-more out at h = record { leaves = refl; ends = sym (add-zero at); inside = h }
 
 -- ---- the digits of a count
-pub count-laid : (out : List ℕ) (at n w : ℕ) {out′ : List ℕ} → w ≡ digitsOf n → out′ ≡ put out (run at w) (padded w n) → Appended out at (numeral n) out′ (at + w)
+pub count-laid : (out : List ℕ) (at n w : ℕ) {out′ : List ℕ} → at + w ≤ length out → w ≡ digitsOf n → out′ ≡ put out (run at w) (padded w n) → Appended out at (numeral n) out′ (at + w)
 unfolding laid numeral
-count-laid out at n w e p = record {
+count-laid out at n w h e p = record {
   leaves = p ∙ rw (length-padded (digitsOf n) n, e);
   ends = rw (length-padded (digitsOf n) n, e);
+  inside = rw (p, length-put out (run at w) (padded w n)) h;
 }
 
 pub numeral-length : (n : ℕ) → length (numeral n) ≡ digitsOf n
@@ -126,21 +122,21 @@ module _ {out : List ℕ} {at : ℕ} {s u out₀ : List ℕ} {at₀ : ℕ} {whol
     ends = rw (a .ends) (let e = length-append s u in let f = l .ends in omega arith);
   }
 
-pub none-left : {out : List ℕ} {at : ℕ} {out₀ : List ℕ} {at₀ : ℕ} {whole : List ℕ} → Left out at [] out₀ at₀ whole → Appended out₀ at₀ whole out at
-none-left {out} {at} l = record { leaves = sym (laid-none out at) ∙ l .leaves; ends = sym (add-zero at) ∙ l .ends }
+pub none-left : {out : List ℕ} {at : ℕ} {out₀ : List ℕ} {at₀ : ℕ} {whole : List ℕ} → at ≤ length out → Left out at [] out₀ at₀ whole → Appended out₀ at₀ whole out at
+none-left {out} {at} h l = record { leaves = sym (laid-none out at) ∙ l .leaves; ends = sym (add-zero at) ∙ l .ends; inside = h }
 
 pub left-as : {out : List ℕ} {at : ℕ} {s u out₀ : List ℕ} {at₀ : ℕ} {whole : List ℕ} → s ≡ u → Left out at s out₀ at₀ whole → Left out at u out₀ at₀ whole
 left-as e l = rw e at l
 
 -- ---- bytes copied from a part of a record
-pub copied-text : (out : List ℕ) (at : ℕ) (bytes : List ℕ) (p n : ℕ) {out′ : List ℕ} → p + n ≤ length bytes
+pub copied-text : (out : List ℕ) (at : ℕ) (bytes : List ℕ) (p n : ℕ) {out′ : List ℕ} → p + n ≤ length bytes → at + n ≤ length out
     → out′ ≡ put out (run at n) (take n (take (length bytes - p) (drop p bytes))) → Appended out at (take n (drop p bytes)) out′ (at + n)
 unfolding laid
-copied-text out at bytes p n h e =
+copied-text out at bytes p n h m e =
     let d : length (drop p bytes) ≡ length bytes - p = length-drop p bytes in
     let q : take (length bytes - p) (drop p bytes) ≡ drop p bytes = take-all (length bytes - p) (drop p bytes) (omega arith) in
     let l : length (take n (drop p bytes)) ≡ n = length-take-le n (drop p bytes) (omega arith) in
-    record { leaves = e ∙ rw (q, l); ends = rw l }
+    record { leaves = e ∙ rw (q, l); ends = rw l; inside = rw (e, length-put out (run at n) (take n (take (length bytes - p) (drop p bytes)))) m }
 
 -- ---- the room that is left behind a text
 module _ {out : List ℕ} {at : ℕ} {s out′ : List ℕ} {r : ℕ} (a : Appended out at s out′ r) where

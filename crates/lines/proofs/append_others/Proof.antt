@@ -52,7 +52,7 @@ returns : tie.Need-returns Inv-loop μ-loop
 returns c =
     let l = c .before .loop .inv in
     let a = c .before .before .before .args in
-    (none-left (left-as (codes-over (a .list .now) (a .n) _ (c .loop-test .left)) (l .4)), omega (arith, l .1, l .3, c .before .before .before .pre .1 .0 .limit))
+    (none-left (omega (arith, l .1, l .2, l .3, c .before .before .before .pre .1 .0 .limit, c .before .before .before .pre .1 .2)) (left-as (codes-over (a .list .now) (a .n) _ (c .loop-test .left)) (l .4)), omega (arith, l .1, l .3, c .before .before .before .pre .1 .0 .limit))
 
 pub append-others-spec : {M : Type 1} → statement M
 append-others-spec =

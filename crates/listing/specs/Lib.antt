@@ -1,0 +1,5 @@
+pub mod Values
+pub mod Listing
+pub mod Turns
+pub mod RowLaws
+pub mod Places
