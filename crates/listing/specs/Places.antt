@@ -14,7 +14,7 @@ use Rattle.cuts.specs.Cut.{terminatorOf}
 use Rattle.cuts.specs.Records.{Records, over, unended, record-and, recordsOf, recordsFrom, part, EndedAt, UnendedAt}
 use Rattle.records.specs.Verdict.{refused}
 use Rattle.files.specs.File.{soundWith, faultIn}
-use Rattle.lines.specs.Appended.{Appended}
+use Rattle.lines.specs.Appended.{Appended, keeps-room}
 use Rattle.listing.specs.Listing.{lastText, recordsText, listingOf, restText, rest-over, rest-unended}
 use Rattle.listing.specs.Turns.{tookEnd, tookText, Further, Taken}
 use Rattle.listing.specs.declared.Place.{Place}
@@ -126,3 +126,31 @@ module _ (t : List ℤ) (w : Terminator) (d : List ℕ) (p : Place) (good : Plac
     goes-on = rw q (rest-over t (p .n) (p .first) (p .row) ∙ sym (append-nil (lastText t (soundWith (p .n)))));
     onward = tt;
   }
+
+-- ---- what a turn gives whoever goes on
+module _ {t : List ℤ} {w : Terminator} {d : List ℕ} {p : Place} {out : List ℕ} {at : ℕ} {out′ : List ℕ} {a : Turn} (l : ListedOn t w d p out at out′ a) where
+  pub turn-room : length out′ ≡ length out
+  turn-room = keeps-room (l .stands)
+
+  module _ {q : Place} {e : ℕ} (on : a ≡ turn.On q e) where
+    pub on-inside : e ≤ length out′
+    unfolding turnEnd
+    on-inside = rw on at (l .stands .inside)
+
+    onward-on : Onward t d p (turn.On q e)
+    onward-on = rw on at (l .onward)
+
+    pub on-good : PlaceGood d q
+    unfolding Onward
+    on-good = onward-on .0
+
+    pub on-less : turnsLeft t d q < turnsLeft t d p
+    unfolding Onward
+    on-less = onward-on .1
+
+  pub over-inside : {e : ℕ} → a ≡ turn.Over e → e ≤ length out′
+  unfolding turnEnd
+  over-inside ended = rw ended at (l .stands .inside)
+
+pub start-good : (d : List ℕ) → PlaceGood d startPlace
+start-good d = record { counted = omega arith; few = omega arith }
