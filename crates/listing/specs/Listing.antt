@@ -36,7 +36,7 @@ recordText t n bytes = rowsText t n bytes 0 (rowsOf t)
 unfoldable pub identOf : List ℤ → ℕ → ℕ
 identOf t i = cond (ltb i (rowsOf t)) (rowAt t i .ident) 0
 
--- number and ident of a record's fault: the ident is that of an illegal row
+-- number and ident of a record's fault: the ident is that of an illegal row. (A sound record is no fault.)
 unfoldable pub faultOf : List ℤ → ℕ → Verdict → List ℕ
 faultOf t n sound = okText n
 faultOf t n (refused k) = faultText k n 0
