@@ -73,15 +73,24 @@ fn build_quantity(powers: &[u64; 16], room: &mut [u8; ROOM], w: usize, f: Format
     build_amount(powers, room, 0, w, f, n);
 }
 
+// The last w digits of n, in the w bytes from the place at on.
+pub fn put_digits(powers: &[u64; 16], out: &mut [u8], at: usize, w: usize, n: u64)
+    requires { ⌜ Tens (now powers) ⌝ }
+    requires { ⌜ (n < 10 ^ 16) × (w ≤ 20) × (at + w ≤ length (now out)) ⌝ }
+    ensures { λ _. ⌜ now (out .exit) ≡ put (now (out .entry)) (run at w) (padded w n) ⌝ }
+{
+    let mut room = [48; ROOM];
+    build(powers, &mut room, 0, w, n);
+    runs::copy_in(out, at, &room, w);
+}
+
 // A number's digits, without its sign, in the w bytes from the place at on.
 pub fn put_code(powers: &[u64; 16], out: &mut [u8], at: usize, w: usize, z: i64)
     requires { ⌜ Tens (now powers) ⌝ }
     requires { ⌜ (sizeOf z < 10 ^ 16) × (w ≤ 20) × (at + w ≤ length (now out)) ⌝ }
     ensures { λ _. ⌜ now (out .exit) ≡ put (now (out .entry)) (run at w) (codeBytes w z) ⌝ }
 {
-    let mut room = [48; ROOM];
-    build(powers, &mut room, 0, w, cells::signed_of(z).size);
-    runs::copy_in(out, at, &room, w);
+    put_digits(powers, out, at, w, cells::signed_of(z).size);
 }
 
 // A quantity in the w bytes from the place at on.

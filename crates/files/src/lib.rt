@@ -48,7 +48,7 @@ pub fn goes_on(j: Judgement) -> bool
 }
 
 // The length of the first record, once it is known.
-fn first_length(n: usize, first: usize, size: usize) -> usize
+pub fn first_length(n: usize, first: usize, size: usize) -> usize
     ensures { λ r. ⌜ r ≡ firstLength n first size ⌝ }
 {
     if n == 0 { size } else { first }

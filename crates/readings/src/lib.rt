@@ -164,7 +164,7 @@ pub fn read_row(t: &[i64], rows: usize, row: Row, bytes: &[u8], list: &mut [i64]
     }
 }
 
-fn is_illegal(a: Answer) -> bool
+pub fn is_illegal(a: Answer) -> bool
     ensures { λ r. ⌜ r ≡ illegalAnswer a ⌝ }
 {
     match a {

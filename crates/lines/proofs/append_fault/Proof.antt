@@ -1,0 +1,53 @@
+-- `lines::append_fault` meets its contract: one part behind the other.
+use native.Mathlib.Omega.{arith}
+use borrow.Author.Needs.{needs}
+use Rattle.lines.specs.Text.{faultText}
+use Rattle.lines.specs.Appended.{then, room-after, room-count, room-spaced}
+use Rattle.lines.proofs.append_fault.Statement.{statement}
+use Rattle.lines.proofs.append_fault.Tie as tie
+
+append-count-requires : tie.Need-append-count-requires
+append-count-requires c κs = let s = c .before .before .before .before .before .before .before .pre in let r = room-after (c .before .before .before .append-text .ensures) 6 50058 (omega arith) (s .1 .3) in (s .0, (s .1 .0, omega arith))
+
+append-spaced-requires : tie.Need-append-spaced-requires
+append-spaced-requires c κs =
+    let s = c .before .before .before .before .before .before .before .before .before .before .before .pre in
+    let r = room-after (c .before .before .before .before .before .before .before .append-text .ensures) 6 50058 (omega arith) (s .1 .3) in
+    let q = room-count _ (c .before .before .before .append-count .ensures) 50042 r in
+    (s .0, (s .1 .1, omega arith))
+
+append-spaced-requires-2 : tie.Need-append-spaced-requires-2
+append-spaced-requires-2 c κs =
+    let s = c .before .before .before .before .before .before .before .before .before .before .before .before .before .before .before .pre in
+    let r = room-after (c .before .before .before .before .before .before .before .before .before .before .before .append-text .ensures) 6 50058 (omega arith) (s .1 .3) in
+    let q = room-count _ (c .before .before .before .before .before .before .before .append-count .ensures) 50042 r in
+    let p = room-spaced _ (c .before .before .before .append-spaced .ensures) 50025 q in
+    (s .0, (s .1 .2, omega arith))
+
+append-byte-requires : tie.Need-append-byte-requires
+append-byte-requires c κs =
+    let r = room-after (c .before .before .before .before .before .before .before .before .before .before .before .before .before .before .before .append-text .ensures) 6 50058 (omega arith) (c .before .before .before .before .before .before .before .before .before .before .before .before .before .before .before .before .before .before .before .pre .1 .3) in
+    let q = room-count _ (c .before .before .before .before .before .before .before .before .before .before .before .append-count .ensures) 50042 r in
+    let p = room-spaced _ (c .before .before .before .before .before .before .before .append-spaced .ensures) 50025 q in
+    let o = room-spaced _ (c .before .before .before .append-spaced2 .ensures) 50008 p in
+    omega arith
+
+returns : tie.Need-returns
+unfolding faultText
+returns c =
+    then (c .before .before .before .before .before .before .before .before .before .before .before .before .before .before .before .before .before .before .append-text .ensures)
+    (then (c .before .before .before .before .before .before .before .before .before .before .before .before .before .before .append-count .ensures)
+    (then (c .before .before .before .before .before .before .before .before .before .before .append-spaced .ensures) (then (c .before .before .before .before .before .before .append-spaced2 .ensures) (c .before .before .append-byte .ensures))))
+
+pub append-fault-spec : {M : Type 1} → statement M
+append-fault-spec =
+    tie.close
+    (tie.spec
+    (λ c. search needs)
+    (λ c κs. search needs)
+    append-count-requires
+    append-spaced-requires
+    append-spaced-requires-2
+    append-byte-requires
+    (λ c. search needs)
+    returns)

@@ -1,0 +1,6 @@
+pub mod Values
+pub mod Listing
+pub mod Turns
+pub mod RowLaws
+pub mod Places
+pub mod Samples
