@@ -8,3 +8,4 @@ pub mod naive;
 pub mod records;
 pub mod rng;
 pub mod tables;
+pub mod vectors;

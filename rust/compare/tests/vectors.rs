@@ -1,0 +1,26 @@
+//! The vectors of the definition reader: the stored answers, derived by hand, are those of both independent readers.
+
+use std::path::Path;
+use zarfolin_compare::face::{Face, Plain};
+use zarfolin_compare::naive::Naive;
+use zarfolin_compare::vectors::answers;
+
+fn told(face: &dyn Face) {
+    let folder = Path::new(env!("CARGO_MANIFEST_DIR")).join("../../crates/vectors");
+    let cases = std::fs::read(folder.join("stdin")).unwrap();
+    let stored = std::fs::read_to_string(folder.join("stdout")).unwrap();
+    let found = answers(face, &cases);
+    let differ: Vec<_> = stored.lines().zip(found.lines()).filter(|(a, b)| a != b).take(20).collect();
+    assert!(differ.is_empty(), "{}, stored and found: {differ:#?}", face.name());
+    assert_eq!(stored.lines().count(), found.lines().count());
+}
+
+#[test]
+fn the_plain_reader_answers_every_vector() {
+    told(&Plain);
+}
+
+#[test]
+fn the_literal_reader_answers_every_vector() {
+    told(&Naive);
+}
