@@ -84,7 +84,7 @@ judge-good : (d : List ℕ) (a b : Figures) (n : ℕ) (p : Position) → True d 
 unfolding judgePosition
 judge-good d a b n p s t = by (eqb (a .size) 0) (ltb (trueOf d b) (trueOf d a)) (ltb 16384 (a .size)) (ltb 16384 (b .size)) refl refl refl refl where
   by : (q r u v : Bool) → eqb (a .size) 0 ≡ q → ltb (trueOf d b) (trueOf d a) ≡ r → ltb 16384 (a .size) ≡ u → ltb 16384 (b .size) ≡ v
-     → cond q (stated.Not (fault 7 (a .place))) (cond r (stated.Not (fault 7 (b .place))) (cond u (stated.Not (fault 8 (a .place))) (cond v (stated.Not (fault 8 (b .place))) (stated.Is (record { start = a .size; finish = b .size; place = a .place; next = n }))))) ≡ stated.Is p → GoodPosition p
+      → cond q (stated.Not (fault 7 (a .place))) (cond r (stated.Not (fault 7 (b .place))) (cond u (stated.Not (fault 8 (a .place))) (cond v (stated.Not (fault 8 (b .place))) (stated.Is (record { start = a .size; finish = b .size; place = a .place; next = n }))))) ≡ stated.Is p → GoodPosition p
   by true r u v e f g h i = none cc
   by false true u v e f g h i = none cc
   by false false true v e f g h i = none cc
@@ -130,7 +130,6 @@ type-here d t k n = by (choiceOf d t SINGLE) (choiceOf d t MULTIPLE) (choiceOf d
   by Left Left Left (Taken m) r q = is 4 m (omega arith, omega arith) q
   by Left Left Left Left (At m) q = is 5 m (omega arith, omega arith) q
   by Left Left Left Left (Refused f) q = none cc
-
 
 -- ---- all of them together
 pub record GoodHead (d : List ℕ) (i : Number) (h : Head) : Type 0 where

@@ -106,13 +106,7 @@ pub enum Measured {
     Not(Fault),
 }
 
-pub fn measure(
-    powers: &[u64; 16],
-    room: &[i64],
-    h: Head,
-    r: Rest,
-    before: usize,
-) -> Measured
+pub fn measure(powers: &[u64; 16], room: &[i64], h: Head, r: Rest, before: usize) -> Measured
     requires { ⌜ Tens (now powers) ⌝ }
     requires { ⌜ Measurable (now room) h r before ⌝ }
     ensures { λ m. ⌜ m ≡ measured (numberIn (now (room .entry)) before) h r before ⌝ }

@@ -7,9 +7,11 @@ use Rattle.survey.proofs.widest.Tie as tie
 returns : tie.Need-returns
 unfolding widestOf
 returns c =
-    rw (sym (c .before .before .range-width .ensures),
+    rw (
+      sym (c .before .before .range-width .ensures),
       sym (c .before .lines-width .ensures),
-      sym (c .larger .ensures))
+      sym (c .larger .ensures),
+    )
 
 pub widest-spec : {M : Type 1} → statement M
 widest-spec =
