@@ -72,13 +72,21 @@ pub fn read_bits(
     bits::mark_and_list(t, rows, row, &mut scratch[..n], bytes, at, w, list)
 }
 
-// Ten to the power w: the numbers of w digits lie below it.
+// Ten to the power w: the numbers of w digits lie below it. The table of powers would be laid out anew for each row.
 fn reach(w: usize) -> usize
     requires { ⌜ w ≤ 4 ⌝ }
     ensures { λ r. ⌜ r ≡ 10 ^ w ⌝ }
 {
-    let powers = ascii::powers();
-    ascii::power(&powers, w) as usize
+    if w == 1 {
+        return 10;
+    }
+    if w == 2 {
+        return 100;
+    }
+    if w == 3 {
+        return 1000;
+    }
+    if w == 4 { 10000 } else { 1 }
 }
 
 // Whether a spread of n subfields of b bytes is illegal.
