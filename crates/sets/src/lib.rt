@@ -11,6 +11,7 @@ ghost use Rattle.sets.specs.Sets.{ReadSet, isIllegal, BitsFacts, FieldsF
 use layout::Row;
 
 mod bits;
+mod few;
 pub mod marks;
 mod spread;
 
@@ -135,4 +136,29 @@ pub fn read_spread(
     }
     let top = reach(w);
     spread::gather(bytes, at, b, w, n, &mut scratch[..top], list)
+}
+
+// The same of few subfields, with no marks.
+pub fn read_few(
+    t: &[i64],
+    rows: usize,
+    row: Row,
+    n: usize,
+    b: usize,
+    bytes: &[u8],
+    list: &mut [i64],
+) -> SetRead
+    requires { ⌜ FieldsFacts (now t) rows row n b (length (now bytes)) ⌝ }
+    ensures { λ r. ⌜ ReadSet (spreadField (legal (now (t .entry)) rows row) (row .width) n (pick (now (bytes .entry)) (spreadPlaces (row .start - 1) b (row .width) n))) (now (list .entry)) (now (list .exit)) r ⌝ }
+{
+    let w = row.width;
+    let at = row.start - 1;
+    if spread::spread_blank(bytes, at, b, w, n) {
+        return SetRead::Missing;
+    }
+    let mut none = [0u8; 1];
+    if spread_illegal(t, rows, row, n, b, bytes, &mut none) {
+        return SetRead::Illegal;
+    }
+    few::list_entries(bytes, at, b, w, n, reach(w), list)
 }

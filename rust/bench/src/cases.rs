@@ -141,11 +141,16 @@ fn readings(cases: &mut Vec<Maker>) {
     add(cases, "read last row, 512 rows", || read(long(), 511, record(&long(), 7), 0));
     add(cases, "read bitstring of 9,999", || read_set(bits()));
     add(cases, "read spread of 4,000", || read_set(spread()));
-    add(cases, "read spread of 3 of 4", || {
-        let table = table(&one_variable("MULTIPLE POSITION 1 TO 12 SPREAD 3 OF 4 VALUES 1 TO 9999"));
-        let record = b"001200079998".to_vec();
-        read(table, 0, record, 12)
-    });
+    for (n, w) in [(3, 3), (3, 4), (16, 3), (16, 4), (40, 4)] {
+        add(cases, &format!("read spread of {n} of {w}"), move || {
+            let (finish, most) = (n * w, 10usize.pow(w as u32) - 1);
+            let table =
+                table(&one_variable(&format!("MULTIPLE POSITION 1 TO {finish} SPREAD {n} OF {w} VALUES 1 TO {most}")));
+            // Far apart, and not in order.
+            let record: String = (0..n).map(|i| format!("{:01$}", 1 + i * 607 % most, w)).collect();
+            read(table, 0, record.into_bytes(), finish)
+        });
+    }
 }
 
 /// Judging a record.
