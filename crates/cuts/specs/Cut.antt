@@ -3,13 +3,14 @@
 use mathlib.Core.Path.{_≡_, refl, sym, ap, _∙_}
 use mathlib.Core.Bool.{Bool, true, false, cond, _&&_}
 use mathlib.Core.List.{List, [], _∷_, _++_}
-use Prim.Native.Nat.{ℕ, suc, _+_, _≤_, _<_}
+use Prim.Native.Nat.{ℕ, zero, suc, _+_, _-_, _≤_, _<_}
 use native.Mathlib.Numerals.{add-one}
 use native.Mathlib.Omega.{arith}
-use borrow.Author.Tests.{eq-eqb, ne-eqb}
+use borrow.Author.Tests.{eq-eqb, ne-eqb, ltb-false}
 use lib.Seq.{drop-cons}
 use lib.Dec.{eqb}
 use lib.ListN.{length, drop, getD, drop-of-length-le}
+use Rattle.lows.specs.Lows.{lowAt, Clear}
 use Rattle.cuts.specs.declared.Terminator.{Terminator}
 use Rattle.cuts.specs.declared.Next.{Next}
 use Rattle.cuts.specs.declared.Next.the-variants.{Ended, Unended, Nothing}
@@ -63,6 +64,12 @@ nextOf d from = nextFrom (terminatorOf d) from (drop from d)
 pub record Found (d : List ℕ) (w : Terminator) : Type 0 where
   pub is : w ≡ terminatorOf d
   pub few : w .size ≤ 2
+
+-- a place of d from `from` on, with no byte between that a terminator begins with
+pub record Unbroken (d : List ℕ) (w : Terminator) (from to : ℕ) : Type 0 where
+  pub on : from ≤ to
+  pub within : to ≤ length d
+  pub no-first : (j : ℕ) → from ≤ j → j < to → getD d j 0 ≡ w .first → ⊥
 
 -- ---- laws, place by place
 module _ (d : List ℕ) (i : ℕ) where
@@ -127,3 +134,38 @@ at-few a b s = go (beginsWith b s)
     go : (q : Bool) → cond q (pair a b) (single a b) .size ≤ 2
     go true = omega arith
     go false = omega arith
+
+-- ---- places that nothing begins at are passed together
+pub unbroken-none : (d : List ℕ) (w : Terminator) (from : ℕ) → from ≤ length d → Unbroken d w from from
+unbroken-none d w from h = record { on = omega arith; within = h; no-first = λ j a b. absurd (omega arith) }
+
+module _ (d : List ℕ) where
+  -- a byte that is not below 32 is no byte that is
+  not-low : (j b : ℕ) → lowAt d j ≡ false → b < 32 → getD d j 0 ≡ b → ⊥
+  not-low j b e h q = let l : 32 ≤ getD d j 0 = ltb-false (getD d j 0) 32 e in omega arith
+
+  pub unbroken-plain : (w : Terminator) (from to : ℕ) → w .first < 32 → Clear d from to → Unbroken d w from to
+  unbroken-plain w from to h c = record { on = c .on; within = c .within; no-first = λ j a b. not-low j (w .first) (c .plain j a b) h }
+
+  end-past : (w : Terminator) (start n i : ℕ) → i + n ≤ length d → ((j : ℕ) → i ≤ j → j < i + n → getD d j 0 ≡ w .first → ⊥) → endFrom w start i (drop i d) ≡ endFrom w start (i + n) (drop (i + n) d)
+  end-past w start zero i h g = let e : i + 0 ≡ i = omega arith in rw e
+  end-past w start (suc n) i h g =
+      let e : i + suc n ≡ i + 1 + n = omega arith in
+      end-on d i w start (omega arith) (stands-not d i w (omega arith) (g i (omega arith) (omega arith)))
+      ∙ rw e (end-past w start n (i + 1) (omega arith) (λ j a b. g j (omega arith) (omega arith)))
+
+  pub end-unbroken : (w : Terminator) (start from to : ℕ) → Unbroken d w from to → endFrom w start from (drop from d) ≡ endFrom w start to (drop to d)
+  end-unbroken w start from to u =
+      let e : from + (to - from) ≡ to = omega (arith, u .on) in
+      rw e at (end-past w start (to - from) from (rw e (u .within)) (λ j a b. u .no-first j a (rw e at b)))
+
+  found-past : (n i : ℕ) → i + n ≤ length d → ((j : ℕ) → i ≤ j → j < i + n → lowAt d j ≡ false) → terminatorOf (drop i d) ≡ terminatorOf (drop (i + n) d)
+  found-past zero i h g = let e : i + 0 ≡ i = omega arith in rw e
+  found-past (suc n) i h g =
+      let e : i + suc n ≡ i + 1 + n = omega arith in
+      let p : lowAt d i ≡ false = g i (omega arith) (omega arith) in
+      found-on d i (omega arith) (not-low i 13 p (omega arith)) (not-low i 10 p (omega arith))
+      ∙ rw e (found-past n (i + 1) (omega arith) (λ j a b. g j (omega arith) (omega arith)))
+
+  pub found-clear : (to : ℕ) → Clear d 0 to → terminatorOf d ≡ terminatorOf (drop to d)
+  found-clear to c = let e : 0 + to ≡ to = omega arith in rw e at (found-past to 0 (rw e (c .within)) (λ j a b. c .plain j a (rw e at b)))

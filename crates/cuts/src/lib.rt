@@ -2,7 +2,7 @@
 ghost use mathlib.Core.Path.{_≡_};
 ghost use Prim.Native.Nat.{_+_, _≤_, _<_};
 ghost use lib.ListN.{length, drop};
-ghost use Rattle.cuts.specs.Cut.{terminatorAt, terminatorOf, wholeAt, beginsAt, nextOf, nextFrom, Found};
+ghost use Rattle.cuts.specs.Cut.{terminatorAt, terminatorOf, wholeAt, beginsAt, nextOf, nextFrom, Found, Unbroken};
 
 // A file's terminator: one byte or two, and how many; none where the file has no CR and no LF.
 pub struct Terminator {
@@ -51,7 +51,8 @@ fn terminator_at(d: &[u8], i: usize, first: u8, second: u8) -> Terminator
 pub fn find_terminator(d: &[u8]) -> Terminator
     ensures { λ r. ⌜ Found (now (d .entry)) r ⌝ }
 {
-    let mut i: usize = 0;
+    // No CR and no LF stands where no byte is below 32.
+    let mut i = lows::plain_to(d, 0);
     while i < d.len() {
         let b = d[i];
         if b == 13 {
@@ -92,6 +93,17 @@ fn begins_at(d: &[u8], w: Terminator, i: usize) -> bool
     whole_at(d, w, i)
 }
 
+// A place from `from` on that no terminator stands before.
+fn unbroken_to(d: &[u8], w: Terminator, from: usize) -> usize
+    requires { ⌜ from ≤ length (now d) ⌝ }
+    ensures { λ r. ⌜ Unbroken (now (d .entry)) w from r ⌝ }
+{
+    if w.first < 32 {
+        return lows::plain_to(d, from);
+    }
+    from
+}
+
 // The next record from a place on, by a terminator that was found before.
 pub fn next_from(d: &[u8], w: Terminator, from: usize) -> Next
     requires { ⌜ w .size ≤ 2 ⌝ }
@@ -100,7 +112,7 @@ pub fn next_from(d: &[u8], w: Terminator, from: usize) -> Next
     if d.len() <= from {
         return Next::Nothing;
     }
-    let mut i = from;
+    let mut i = unbroken_to(d, w, from);
     while i < d.len() {
         if begins_at(d, w, i) {
             return Next::Ended {

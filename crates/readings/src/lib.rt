@@ -123,8 +123,13 @@ fn bits(t: &[i64], rows: usize, row: Row, bytes: &[u8], list: &mut [i64]) -> Ans
     requires { ⌜ BitsFacts (now t) rows row (length (now bytes)) ⌝ }
     ensures { λ r. ⌜ SetAnswered (bitsField (categories (now (t .entry)) rows row) (pick (now (bytes .entry)) (bitPlaces (row .start - 1) (categories (now (t .entry)) rows row)))) (now (list .entry)) (now (list .exit)) r ⌝ }
 {
-    let mut scratch = [0u8; 10000];
-    set_answer(sets::read_bits(t, rows, row, bytes, list, &mut scratch))
+    // Room for marks is cleared first, so that a short bitstring gets little.
+    if row.width < 128 {
+        let mut few = [0u8; 128];
+        return set_answer(sets::read_bits(t, rows, row, bytes, list, &mut few));
+    }
+    let mut many = [0u8; 10000];
+    set_answer(sets::read_bits(t, rows, row, bytes, list, &mut many))
 }
 
 fn spread(
@@ -139,8 +144,16 @@ fn spread(
     requires { ⌜ FieldsFacts (now t) rows row n b (length (now bytes)) ⌝ }
     ensures { λ r. ⌜ SetAnswered (spreadField (legal (now (t .entry)) rows row) (row .width) n (pick (now (bytes .entry)) (spreadPlaces (row .start - 1) b (row .width) n))) (now (list .entry)) (now (list .exit)) r ⌝ }
 {
-    let mut scratch = [0u8; 10000];
-    set_answer(sets::read_spread(t, rows, row, n, b, bytes, list, &mut scratch))
+    // Room for the marks of all numbers of w digits; where they are many and the subfields few, none are marked.
+    if row.width <= 2 {
+        let mut few = [0u8; 100];
+        return set_answer(sets::read_spread(t, rows, row, n, b, bytes, list, &mut few));
+    }
+    if (n <= 8) | ((row.width == 4) & (n <= 24)) {
+        return set_answer(sets::read_few(t, rows, row, n, b, bytes, list));
+    }
+    let mut many = [0u8; 10000];
+    set_answer(sets::read_spread(t, rows, row, n, b, bytes, list, &mut many))
 }
 
 // What the row says of a record that is long enough; a set fills the start of the list.
@@ -184,7 +197,7 @@ pub fn is_illegal(a: Answer) -> bool
 // Whether the row is illegal in a record that is long enough. The scratch is room for marks.
 pub fn row_illegal(t: &[i64], rows: usize, row: Row, bytes: &[u8], scratch: &mut [u8]) -> bool
     requires { ⌜ RowReady (now t) rows row (length (now bytes)) ⌝ }
-    requires { ⌜ length (now scratch) ≡ 10000 ⌝ }
+    requires { ⌜ length (now scratch) ≤ 10000 ⌝ }
     ensures { λ r. ⌜ r ≡ isIllegal (readingOf (now (t .entry)) rows row (now (bytes .entry))) ⌝ }
 {
     let kind = row.kind;

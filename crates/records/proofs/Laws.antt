@@ -1,9 +1,9 @@
 -- The answers of the public calls, by the tests that led to them.
 -- Assumes nothing.
-use mathlib.Core.Path.{_≡_, ap, _∙_}
+use mathlib.Core.Path.{_≡_, sym, ap, _∙_}
 use mathlib.Core.Bool.{Bool, true, false}
 use mathlib.Core.List.{List}
-use Prim.Native.Nat.{ℕ, suc, _+_, _-_, _≤_, _<_}
+use Prim.Native.Nat.{ℕ, zero, suc, _+_, _-_, _≤_, _<_}
 use native.Mathlib.Numerals.{add-one}
 use native.Mathlib.Omega.{arith}
 use borrow.Author.Tests.{lt-ltb, le-ltb, le-leb, lt-leb}
@@ -43,6 +43,20 @@ module _ (f : ℕ → Bool) (n i : ℕ) (h : i < n) where
 pub first-none : (f : ℕ → Bool) (n i : ℕ) → n ≤ i → firstFrom f i (n - i) ≡ Nothing
 unfolding firstFrom
 first-none f n i h = rw (sub-eq-zero-of-le h)
+
+-- numbers at which it fails are passed together
+module _ (f : ℕ → Bool) (n : ℕ) where
+  first-past : (k i : ℕ) → i + k ≤ n → ((j : ℕ) → i ≤ j → j < i + k → f j ≡ false) → firstFrom f i (n - i) ≡ firstFrom f (i + k) (n - (i + k))
+  first-past zero i h g = let e : i + 0 ≡ i = omega arith in rw e
+  first-past (suc k) i h g =
+      let e : i + suc k ≡ i + 1 + k = omega arith in
+      first-on f n i (omega arith) (g i (omega arith) (omega arith)) ∙ rw e (first-past k (i + 1) (omega arith) (λ j a b. g j (omega arith) (omega arith)))
+
+  pub first-clear : (to : ℕ) → to ≤ n → ((j : ℕ) → 0 ≤ j → j < to → f j ≡ false) → firstFrom f to (n - to) ≡ firstFrom f 0 n
+  first-clear to h g =
+      let e : 0 + to ≡ to = omega arith in
+      let z : n - 0 ≡ n = omega arith in
+      sym (rw (e, z) at (first-past to 0 (rw e h) (λ j a b. g j a (rw e at b))))
 
 -- ---- reading one row
 module _ (t : List ℤ) (i : ℕ) (bytes : List ℕ) (list : List ℤ) where

@@ -1,7 +1,7 @@
 // The public calls that read a record: one row's value, and a whole record judged. Each tests the table (refusal 20) and then calls an
 // inner function, which whoever has tested a table may call many times. Above it stand files, the lister and the face.
 ghost use mathlib.Core.Path.{_≡_};
-ghost use Prim.Native.Nat.{_-_, _<_};
+ghost use Prim.Native.Nat.{_-_, _≤_, _<_};
 ghost use lib.ListN.{length};
 ghost use Rattle.records.specs.First.{firstFrom, lowAt, badRow};
 ghost use Rattle.records.specs.Value.{ValueRead};
@@ -29,7 +29,7 @@ pub enum Found {
 fn low_byte(bytes: &[u8]) -> Found
     ensures { λ r. ⌜ r ≡ firstFrom (lowAt (now (bytes .entry))) 0 (length (now (bytes .entry))) ⌝ }
 {
-    let mut i: usize = 0;
+    let mut i = lows::plain_to(bytes, 0);
     while i < bytes.len() {
         if bytes[i] < 32 {
             return Found::At(i);
@@ -42,7 +42,7 @@ fn low_byte(bytes: &[u8]) -> Found
 // The lowest row that is illegal.
 fn illegal_row(t: &[i64], rows: usize, bytes: &[u8], scratch: &mut [u8]) -> Found
     requires { ⌜ TableReady (now t) rows (length (now bytes)) ⌝ }
-    requires { ⌜ length (now scratch) ≡ 10000 ⌝ }
+    requires { ⌜ length (now scratch) ≤ 10000 ⌝ }
     ensures { λ r. ⌜ r ≡ firstFrom (badRow (now (t .entry)) rows (now (bytes .entry))) 0 rows ⌝ }
 {
     let mut i: usize = 0;
@@ -58,7 +58,7 @@ fn illegal_row(t: &[i64], rows: usize, bytes: &[u8], scratch: &mut [u8]) -> Foun
 // A record that is long enough, by a table that was tested: refusals 23 and 24. The scratch is room for marks.
 pub fn judge_rows(t: &[i64], rows: usize, bytes: &[u8], scratch: &mut [u8]) -> Judged
     requires { ⌜ TableReady (now t) rows (length (now bytes)) ⌝ }
-    requires { ⌜ length (now scratch) ≡ 10000 ⌝ }
+    requires { ⌜ length (now scratch) ≤ 10000 ⌝ }
     ensures { λ r. ⌜ judgedAs r ≡ rowsVerdict (now (t .entry)) rows (now (bytes .entry)) ⌝ }
 {
     match low_byte(bytes) {
@@ -79,8 +79,13 @@ pub fn judge_record(t: &[i64], bytes: &[u8]) -> Judged
         if bytes.len() < h.length {
             return Judged::ShortRecord;
         }
-        let mut scratch = [0u8; 10000];
-        return judge_rows(t, h.rows, bytes, &mut scratch);
+        // Where there are few lines to search, little is ever marked, and room for more need not be cleared.
+        if h.lines <= 16 {
+            let mut few = [0u8; 128];
+            return judge_rows(t, h.rows, bytes, &mut few);
+        }
+        let mut many = [0u8; 10000];
+        return judge_rows(t, h.rows, bytes, &mut many);
     }
     Judged::BadTable
 }

@@ -3,3 +3,4 @@ pub mod BitLaws
 pub mod FillLaws
 pub mod SpreadLaws
 pub mod SetLaws
+pub mod FewLaws

@@ -11,6 +11,7 @@ ghost use Rattle.sets.specs.Sets.{ReadSet, isIllegal, BitsFacts, FieldsF
 use layout::Row;
 
 mod bits;
+mod few;
 pub mod marks;
 mod spread;
 
@@ -28,24 +29,28 @@ pub enum Counted {
     Wrong,
 }
 
-// How many of the first `size` numbers to mark: none, where searching the lines at each of so many tests costs no more.
-fn marks_worth(lines: usize, tests: usize, size: usize) -> usize
+// How many of the first `size` numbers to mark: none where there is no room for them, or where searching the lines at each of so
+// many tests costs no more. To mark a number costs about as much as looking at four lines.
+fn marks_worth(lines: usize, tests: usize, size: usize, room: usize) -> usize
     requires { ⌜ lines ≤ 4096 ⌝ }
     requires { ⌜ tests ≤ 16384 ⌝ }
-    ensures { λ r. ⌜ r ≤ size ⌝ }
+    ensures { λ r. ⌜ r ≤ room ⌝ }
 {
-    if lines * tests <= size { 0 } else { size }
+    if room < size {
+        return 0;
+    }
+    if lines * tests / 4 <= size { 0 } else { size }
 }
 
 // Whether the bitstring of a row is illegal.
 pub fn bits_illegal(t: &[i64], rows: usize, row: Row, bytes: &[u8], scratch: &mut [u8]) -> bool
     requires { ⌜ BitsFacts (now t) rows row (length (now bytes)) ⌝ }
-    requires { ⌜ length (now scratch) ≡ 10000 ⌝ }
+    requires { ⌜ length (now scratch) ≤ 10000 ⌝ }
     ensures { λ r. ⌜ r ≡ isIllegal (bitsField (categories (now (t .entry)) rows row) (pick (now (bytes .entry)) (bitPlaces (row .start - 1) (categories (now (t .entry)) rows row)))) ⌝ }
 {
     let w = row.width;
     let at = row.start - 1;
-    let n = marks_worth(row.lines, w, w + 1);
+    let n = marks_worth(row.lines, w, w + 1, scratch.len());
     bits::judge(t, rows, row, &mut scratch[..n], bytes, at, w)
 }
 
@@ -59,22 +64,30 @@ pub fn read_bits(
     scratch: &mut [u8],
 ) -> SetRead
     requires { ⌜ BitsFacts (now t) rows row (length (now bytes)) ⌝ }
-    requires { ⌜ length (now scratch) ≡ 10000 ⌝ }
+    requires { ⌜ length (now scratch) ≤ 10000 ⌝ }
     ensures { λ r. ⌜ ReadSet (bitsField (categories (now (t .entry)) rows row) (pick (now (bytes .entry)) (bitPlaces (row .start - 1) (categories (now (t .entry)) rows row)))) (now (list .entry)) (now (list .exit)) r ⌝ }
 {
     let w = row.width;
     let at = row.start - 1;
-    let n = marks_worth(row.lines, w, w + 1);
+    let n = marks_worth(row.lines, w, w + 1, scratch.len());
     bits::mark_and_list(t, rows, row, &mut scratch[..n], bytes, at, w, list)
 }
 
-// Ten to the power w: the numbers of w digits lie below it.
+// Ten to the power w: the numbers of w digits lie below it. The table of powers would be laid out anew for each row.
 fn reach(w: usize) -> usize
     requires { ⌜ w ≤ 4 ⌝ }
     ensures { λ r. ⌜ r ≡ 10 ^ w ⌝ }
 {
-    let powers = ascii::powers();
-    ascii::power(&powers, w) as usize
+    if w == 1 {
+        return 10;
+    }
+    if w == 2 {
+        return 100;
+    }
+    if w == 3 {
+        return 1000;
+    }
+    if w == 4 { 10000 } else { 1 }
 }
 
 // Whether a spread of n subfields of b bytes is illegal.
@@ -88,12 +101,12 @@ pub fn spread_illegal(
     scratch: &mut [u8],
 ) -> bool
     requires { ⌜ FieldsFacts (now t) rows row n b (length (now bytes)) ⌝ }
-    requires { ⌜ length (now scratch) ≡ 10000 ⌝ }
+    requires { ⌜ length (now scratch) ≤ 10000 ⌝ }
     ensures { λ r. ⌜ r ≡ isIllegal (spreadField (legal (now (t .entry)) rows row) (row .width) n (pick (now (bytes .entry)) (spreadPlaces (row .start - 1) b (row .width) n))) ⌝ }
 {
     let w = row.width;
     let at = row.start - 1;
-    let k = marks_worth(row.lines, n, reach(w));
+    let k = marks_worth(row.lines, n, reach(w), scratch.len());
     spread::judge(t, rows, row, &mut scratch[..k], bytes, at, b, w, n)
 }
 
@@ -109,7 +122,8 @@ pub fn read_spread(
     scratch: &mut [u8],
 ) -> SetRead
     requires { ⌜ FieldsFacts (now t) rows row n b (length (now bytes)) ⌝ }
-    requires { ⌜ length (now scratch) ≡ 10000 ⌝ }
+    requires { ⌜ 10 ^ row .width ≤ length (now scratch) ⌝ }
+    requires { ⌜ length (now scratch) ≤ 10000 ⌝ }
     ensures { λ r. ⌜ ReadSet (spreadField (legal (now (t .entry)) rows row) (row .width) n (pick (now (bytes .entry)) (spreadPlaces (row .start - 1) b (row .width) n))) (now (list .entry)) (now (list .exit)) r ⌝ }
 {
     let w = row.width;
@@ -122,4 +136,29 @@ pub fn read_spread(
     }
     let top = reach(w);
     spread::gather(bytes, at, b, w, n, &mut scratch[..top], list)
+}
+
+// The same of few subfields, with no marks.
+pub fn read_few(
+    t: &[i64],
+    rows: usize,
+    row: Row,
+    n: usize,
+    b: usize,
+    bytes: &[u8],
+    list: &mut [i64],
+) -> SetRead
+    requires { ⌜ FieldsFacts (now t) rows row n b (length (now bytes)) ⌝ }
+    ensures { λ r. ⌜ ReadSet (spreadField (legal (now (t .entry)) rows row) (row .width) n (pick (now (bytes .entry)) (spreadPlaces (row .start - 1) b (row .width) n))) (now (list .entry)) (now (list .exit)) r ⌝ }
+{
+    let w = row.width;
+    let at = row.start - 1;
+    if spread::spread_blank(bytes, at, b, w, n) {
+        return SetRead::Missing;
+    }
+    let mut none = [0u8; 1];
+    if spread_illegal(t, rows, row, n, b, bytes, &mut none) {
+        return SetRead::Illegal;
+    }
+    few::list_entries(bytes, at, b, w, n, reach(w), list)
 }

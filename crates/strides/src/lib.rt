@@ -115,6 +115,32 @@ fn differ_by_marks(t: &[i64], at: usize, step: usize, n: usize) -> bool
     differ_marked(t, at, step, n, &mut marks)
 }
 
+// Do the numbers differ? Each is held against all those before it.
+fn differ_pairwise(t: &[i64], at: usize, step: usize, n: usize) -> bool
+    requires { ⌜ Strided (now t) at step n ⌝ }
+    ensures { λ r. ⌜ r ≡ allDiffer (strideAt (now (t .entry)) at step) n ⌝ }
+{
+    let mut k: usize = 0;
+    while k < n {
+        if !number_new(t, at, step, n, k) {
+            return false;
+        }
+        k += 1;
+    }
+    true
+}
+
+// Do the numbers differ, in whatever order they stand? Few are soon held against each other; many are marked.
+fn differ_unordered(t: &[i64], at: usize, step: usize, n: usize) -> bool
+    requires { ⌜ Strided (now t) at step n ⌝ }
+    ensures { λ r. ⌜ r ≡ allDiffer (strideAt (now (t .entry)) at step) n ⌝ }
+{
+    if n <= 24 {
+        return differ_pairwise(t, at, step, n);
+    }
+    differ_by_marks(t, at, step, n)
+}
+
 // Do the numbers differ?
 pub fn differ(t: &[i64], at: usize, step: usize, n: usize) -> bool
     requires { ⌜ Strided (now t) at step n ⌝ }
@@ -123,7 +149,7 @@ pub fn differ(t: &[i64], at: usize, step: usize, n: usize) -> bool
     if all_rise(t, at, step, n) {
         return true;
     }
-    differ_by_marks(t, at, step, n)
+    differ_unordered(t, at, step, n)
 }
 
 // The first number where it is at most the second, else the second.
@@ -182,7 +208,7 @@ pub fn block_of(t: &[i64], at: usize, step: usize, n: usize) -> Block
         };
         return Block { differ: true, hull };
     }
-    let differ = differ_by_marks(t, at, step, n);
+    let differ = differ_unordered(t, at, step, n);
     let hull = hull_of(t, at, step, n);
     Block { differ, hull }
 }

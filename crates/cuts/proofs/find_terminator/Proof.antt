@@ -4,7 +4,7 @@ use borrow.Author.Needs.{needs}
 use mathlib.Core.Path.{_≡_, refl, sym, ap, _∙_}
 use Prim.Native.Nat.{_≤_, _-_}
 use lib.ListN.{length, drop}
-use Rattle.cuts.specs.Cut.{terminatorOf, at-few, found-cr, found-lf, found-on, found-none}
+use Rattle.cuts.specs.Cut.{terminatorOf, at-few, found-cr, found-lf, found-on, found-none, found-clear}
 use Rattle.cuts.proofs.find_terminator.Statement.{statement}
 use Rattle.cuts.proofs.find_terminator.Tie as tie
 
@@ -15,7 +15,7 @@ abbrev μ-loop : tie.MeasureT-loop
 μ-loop d i₀ i = length d - i
 
 loop-holds : tie.Need-loop-holds Inv-loop μ-loop
-loop-holds c = refl
+loop-holds c = found-clear _ _ (c .plain-to .ensures)
 
 returns : tie.Need-returns Inv-loop μ-loop
 returns c = record {
@@ -37,4 +37,4 @@ returns-3 c = record { is = sym (c .before .loop .inv ∙ found-none _ _ (c .loo
 
 pub find-terminator-spec : {M : Type 1} → statement M
 find-terminator-spec =
-    tie.close (tie.spec Inv-loop μ-loop loop-holds (λ c. omega arith) (λ c κs. search needs) returns (λ c κs. search needs) returns-2 (λ c. omega arith) (λ c. omega arith) loop-again returns-3)
+    tie.close (tie.spec Inv-loop μ-loop (λ c κs. omega arith) loop-holds (λ c. omega arith) (λ c κs. search needs) returns (λ c κs. search needs) returns-2 (λ c. omega arith) (λ c. omega arith) loop-again returns-3)

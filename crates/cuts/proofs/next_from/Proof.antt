@@ -4,7 +4,7 @@ use borrow.Author.Needs.{needs}
 use mathlib.Core.Path.{_≡_, refl, sym, ap, _∙_}
 use Prim.Native.Nat.{_≤_, _-_}
 use lib.ListN.{length, drop}
-use Rattle.cuts.specs.Cut.{nextFrom, endFrom, next-none, next-some, end-here, end-on, end-none}
+use Rattle.cuts.specs.Cut.{nextFrom, endFrom, next-none, next-some, end-here, end-on, end-none, end-unbroken}
 use Rattle.cuts.proofs.next_from.Statement.{statement}
 use Rattle.cuts.proofs.next_from.Tie as tie
 
@@ -18,7 +18,7 @@ returns : tie.Need-returns Inv-loop μ-loop
 returns c = sym (next-none _ _ _ (c .if1 .taken))
 
 loop-holds : tie.Need-loop-holds Inv-loop μ-loop
-loop-holds c = next-some _ _ _ (c .if1 .left)
+loop-holds c = next-some _ _ _ (c .before .if1 .left) ∙ end-unbroken _ _ _ _ _ (c .unbroken-to .ensures)
 
 returns-2 : tie.Need-returns-2 Inv-loop μ-loop
 returns-2 c = sym (c .before .before .before .before .loop .inv ∙ end-here _ _ _ _ (c .before .before .before .loop-test .taken) (sym (c .before .before .begins-at .ensures) ∙ c .before .if2 .taken))
@@ -31,4 +31,4 @@ returns-3 c = sym (c .before .loop .inv ∙ end-none _ _ _ _ (c .loop-test .left
 
 pub next-from-spec : {M : Type 1} → statement M
 next-from-spec =
-    tie.close (tie.spec Inv-loop μ-loop returns loop-holds (λ c κs. search needs) (λ c. omega arith) returns-2 (λ c. omega arith) (λ c. omega arith) loop-again returns-3)
+    tie.close (tie.spec Inv-loop μ-loop returns (λ c κs. omega arith) loop-holds (λ c κs. search needs) (λ c. omega arith) returns-2 (λ c. omega arith) (λ c. omega arith) loop-again returns-3)

@@ -1,12 +1,42 @@
 -- `readings::spread` meets its contract: the set's answer.
 use Prim.Native.Nat.{_-_}
+use native.Mathlib.Nat.{pow-le-pow-right}
+use native.Mathlib.Omega.{arith}
 use borrow.Author.Needs.{needs}
 use Rattle.readings.proofs.Laws.{spread-answered}
 use Rattle.readings.proofs.spread.Statement.{statement}
 use Rattle.readings.proofs.spread.Tie as tie
 
+few-requires : tie.Need-read-spread-requires
+few-requires c κs = (c .before .before .before .before .before .pre, (pow-le-pow-right {n = 10} (omega arith) (c .before .before .if1 .taken), omega arith))
+
+many-requires : tie.Need-read-spread-requires-2
+many-requires c κs = (c .before .before .before .before .before .before .before .pre, (pow-le-pow-right {n = 10} (omega arith) (c .before .before .before .before .before .before .before .pre .few), omega arith))
+
 returns : tie.Need-returns
 returns c = spread-answered _ _ _ _ _ _ _ _ (c .set-answer .ensures) (c .before .before .before .read-spread .ensures)
 
+returns-2 : tie.Need-returns-2
+returns-2 c = spread-answered _ _ _ _ _ _ _ _ (c .set-answer2 .ensures) (c .before .before .read-few .ensures)
+
+returns-3 : tie.Need-returns-3
+returns-3 c = spread-answered _ _ _ _ _ _ _ _ (c .set-answer3 .ensures) (c .before .before .before .read-spread2 .ensures)
+
 pub spread-spec : {M : Type 1} → statement M
-spread-spec = tie.close (tie.spec (λ c. search needs) (λ c κs. search needs) (λ c κs. tt) (λ c. search needs) returns)
+spread-spec =
+    tie.close
+    (tie.spec
+    (λ c. search needs)
+    few-requires
+    (λ c κs. tt)
+    (λ c. search needs)
+    returns
+    (λ c κs. search needs)
+    (λ c κs. tt)
+    (λ c. search needs)
+    returns-2
+    (λ c. search needs)
+    many-requires
+    (λ c κs. tt)
+    (λ c. search needs)
+    returns-3)

@@ -1,5 +1,5 @@
 -- `records::illegal_row` meets its contract. The invariant: the first from here is the first of all.
-use mathlib.Core.Path.{_≡_, sym, ap, _∙_}
+use mathlib.Core.Path.{_≡_, refl, sym, ap, _∙_}
 use Prim.Native.Nat.{_-_, _≤_}
 use native.Mathlib.Omega.{arith}
 use lib.ListN.{length}
@@ -13,7 +13,7 @@ use Rattle.records.proofs.illegal_row.Tie as tie
 
 abbrev Inv-loop : tie.InvT-loop
 Inv-loop t rows bytes scratch₀ i₀ scratch i =
-    (i ≤ rows) × (length scratch ≡ 10000) × (firstFrom (badRow t rows bytes) i (rows - i) ≡ firstFrom (badRow t rows bytes) 0 rows)
+    (i ≤ rows) × (length scratch ≡ length scratch₀) × (firstFrom (badRow t rows bytes) i (rows - i) ≡ firstFrom (badRow t rows bytes) 0 rows)
 
 abbrev μ-loop : tie.MeasureT-loop
 μ-loop t rows bytes scratch₀ i₀ scratch i = rows - i
@@ -23,7 +23,7 @@ read-requires : tie.Need-read-requires Inv-loop μ-loop
 read-requires c κs = let f = c .before .before .before .before .pre .0 .few in let s = c .before .before .before .before .pre .0 .stand in (omega arith, omega arith)
 
 row-illegal-requires : tie.Need-row-illegal-requires Inv-loop μ-loop
-row-illegal-requires c κs = (rw (c .before .read .ensures) (c .before .before .before .before .before .before .pre .0 .row (c .before .before .before .loop .i) (c .before .before .loop-test .taken)), c .before .before .before .loop .inv .1)
+row-illegal-requires c κs = (rw (c .before .read .ensures) (c .before .before .before .before .before .before .pre .0 .row (c .before .before .before .loop .i) (c .before .before .loop-test .taken)), rw (c .before .before .before .loop .inv .1) (c .before .before .before .before .before .before .pre .1))
 
 -- the test of row i
 test : (c : tie.After-row-illegal Inv-loop μ-loop) → c .row-illegal .result ≡ badRow (c .before .before .before .before .before .before .before .args .t .now) (c .before .before .before .before .before .before .before .args .rows) (c .before .before .before .before .before .before .before .args .bytes .now) (c .before .before .before .before .loop .i)
@@ -49,13 +49,13 @@ illegal-row-spec =
     (tie.spec
     Inv-loop
     μ-loop
-    (λ c. (omega arith, c .before .before .pre .1, rw sub-zero))
+    (λ c. (omega arith, refl, rw sub-zero))
     read-requires
     row-illegal-requires
-    (λ c. c .before .before .before .row-illegal .kept .1 .1 .1 .1 .0 ∙ c .before .before .before .before .before .before .before .loop .inv .1 ∙ sym (c .before .before .before .before .before .before .before .before .before .before .pre .1))
+    (λ c. c .before .before .before .row-illegal .kept .1 .1 .1 .1 .0 ∙ c .before .before .before .before .before .before .before .loop .inv .1)
     returns
     (λ c. omega arith)
     (λ c. omega arith)
     loop-again
-    (λ c. c .before .loop .inv .1 ∙ sym (c .before .before .before .before .pre .1))
+    (λ c. c .before .loop .inv .1)
     returns-2)

@@ -6,8 +6,8 @@ use borrow.Author.Needs.{needs}
 use Rattle.sets.proofs.marks_worth.Statement.{statement}
 use Rattle.sets.proofs.marks_worth.Tie as tie
 
-mul-if1 : tie.Need-mul-if1
-mul-if1 c = omega (arith, mul-le-mul (c .pre .0) (c .pre .1))
+mul-if2 : tie.Need-mul-if2
+mul-if2 c = omega (arith, mul-le-mul (c .before .pre .0) (c .before .pre .1))
 
 pub marks-worth-spec : {M : Type 1} → statement M
-marks-worth-spec = tie.close (tie.spec mul-if1 (λ c. search needs) (λ c. search needs))
+marks-worth-spec = tie.close (tie.spec (λ c. search needs) mul-if2 (λ c. search needs) (λ c. search needs))

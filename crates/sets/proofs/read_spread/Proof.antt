@@ -23,14 +23,14 @@ returns-2 : tie.Need-returns-2
 returns-2 c = read-illegal _ _ (illegal-is _ (sym (c .before .before .before .spread-illegal .ensures) ∙ c .if2 .taken))
 
 -- the scratch keeps its length, and reaches all numbers of w digits
-kept : (c : tie.After-spread-illegal) → length (c .spread-illegal .last .1 .1 .1 .1 .1 .1 .0) ≡ 10000
-kept c = c .spread-illegal .kept .1 .1 .1 .1 .1 .1 .0 ∙ c .before .before .before .before .before .before .before .pre .1
+kept : (c : tie.After-spread-illegal) → length (c .spread-illegal .last .1 .1 .1 .1 .1 .1 .0) ≡ length (c .before .before .before .before .before .before .before .args .scratch .now)
+kept c = c .spread-illegal .kept .1 .1 .1 .1 .1 .1 .0
 
 few : (c : tie.After-reach) → c .reach .result ≤ 10000
 few c = rw (c .reach .ensures) (pow-le-pow-right {n = 10} (omega arith) (c .before .before .before .before .before .before .before .before .before .before .before .pre .0 .few))
 
 reaches : (c : tie.After-reach) → c .reach .result ≤ length (c .before .before .before .before .spread-illegal .last .1 .1 .1 .1 .1 .1 .0)
-reaches c = let k = kept (c .before .before .before .before) in let f = few c in omega arith
+reaches c = rw (kept (c .before .before .before .before), c .reach .ensures) (c .before .before .before .before .before .before .before .before .before .before .before .pre .1 .0)
 
 slice-aggregate-gather : tie.Need-slice-aggregate-gather
 slice-aggregate-gather c = sym (length-take-le _ _ (reaches (c .before)))
@@ -51,7 +51,7 @@ read-spread-spec =
     (λ c. let h = c .before .before .before .pre .0 .from-one in omega arith)
     (λ c κs. room (c .before .before .before))
     returns
-    (λ c κs. (c .before .before .before .before .before .before .pre .0, c .before .before .before .before .before .before .pre .1))
+    (λ c κs. (c .before .before .before .before .before .before .pre .0, c .before .before .before .before .before .before .pre .1 .1))
     (λ c. search needs)
     returns-2
     (λ c κs. c .before .before .before .before .before .before .before .before .before .before .pre .0 .few)

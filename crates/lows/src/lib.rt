@@ -1,0 +1,44 @@
+// How far bytes go on with none below 32: sixteen are looked at together, so that long stretches of text cost little. Above it stand
+// the records of a file and the judge of a record.
+ghost use mathlib.Core.Path.{_≡_};
+ghost use Prim.Native.Nat.{_+_, _≤_};
+ghost use lib.ListN.{length};
+ghost use Rattle.lows.specs.Lows.{lowAmong, Clear};
+
+// Is one of the sixteen bytes from i on below 32? Nothing leaves the loop early: that lets the compiler look at all of them at once.
+fn low_among(s: &[u8], i: usize) -> bool
+    requires { ⌜ i + 16 ≤ length (now s) ⌝ }
+    ensures { λ r. ⌜ r ≡ lowAmong (now (s .entry)) i 16 ⌝ }
+{
+    let mut low = false;
+    let mut k: usize = 0;
+    while k < 16 {
+        low = low | (s[i + k] < 32);
+        k += 1;
+    }
+    low
+}
+
+// A place from `from` on with no byte below 32 before it: the end, or at most fifteen bytes before the first such byte.
+pub fn plain_to(s: &[u8], from: usize) -> usize
+    requires { ⌜ from ≤ length (now s) ⌝ }
+    ensures { λ r. ⌜ Clear (now (s .entry)) from r ⌝ }
+{
+    let n = s.len();
+    if n < 16 {
+        return from;
+    }
+    let last = n - 16;
+    let mut i = from;
+    while i <= last {
+        if low_among(s, i) {
+            return i;
+        }
+        i += 16;
+    }
+    // What is left is among the last sixteen.
+    if low_among(s, last) {
+        return i;
+    }
+    n
+}

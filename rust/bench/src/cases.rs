@@ -1,0 +1,297 @@
+//! The cases: a name, a call, and the number that it must answer.
+
+use crate::inputs::*;
+use std::hint::black_box;
+use zarfolin_compare::face::{Face, Plain};
+
+type Step = Box<dyn FnMut(&dyn Face) -> u64>;
+
+/// One thing to measure: a call, the bytes it goes through (0 where that says little), the number it must answer.
+pub struct Case {
+    pub bytes: usize,
+    pub number: u64,
+    pub step: Step,
+}
+
+/// A case's name, and how it is made: only when its turn comes.
+pub type Maker = (String, Box<dyn FnOnce() -> Case>);
+
+/// All cases; those that read a definition only where the library can.
+pub fn cases(with_definitions: bool) -> Vec<Maker> {
+    let mut cases = vec![];
+    if with_definitions {
+        definitions(&mut cases);
+        odd_definitions(&mut cases);
+    }
+    tables(&mut cases);
+    readings(&mut cases);
+    judgements(&mut cases);
+    writes(&mut cases);
+    files(&mut cases);
+    cases
+}
+
+fn add(cases: &mut Vec<Maker>, name: &str, make: impl FnOnce() -> Case + 'static) {
+    cases.push((name.to_string(), Box::new(make)));
+}
+
+/// Definitions of every size and shape.
+fn definitions(cases: &mut Vec<Maker>) {
+    for shape in SHAPES {
+        for (size, bytes) in [
+            ("1 KiB", 1 << 10),
+            ("4 KiB", 1 << 12),
+            ("16 KiB", 1 << 14),
+            ("64 KiB", 1 << 16),
+            ("256 KiB", 1 << 18),
+            ("1 MiB", 1 << 20),
+        ] {
+            add(cases, &format!("definition {size}, {shape}"), move || definition(sized(shape, bytes), 0));
+        }
+    }
+    for (name, survey) in [
+        (
+            "definition 86 KB, 512 variables",
+            Survey { variables: 512, lines: 6, text: 12, roomy: false, standard: true },
+        ),
+        (
+            "definition 190 KB, 512 variables, roomy",
+            Survey { variables: 512, lines: 6, text: 40, roomy: true, standard: true },
+        ),
+    ] {
+        add(cases, name, move || definition(survey.text(), 0));
+    }
+}
+
+/// Definitions that are mostly one thing, and one that is refused.
+fn odd_definitions(cases: &mut Vec<Maker>) {
+    let wide: [(&str, fn(usize) -> String); 6] = [
+        ("definition 1 MiB, one note", |n| format!("NOTE \"{}\" ", "x".repeat(n))),
+        ("definition 1 MiB, spaces", |n| " ".repeat(n)),
+        ("definition 1 MiB, one comment", |n| format!("<{}>", "x".repeat(n))),
+        ("definition 1 MiB, small comments", |n| "<a>".repeat(n / 3)),
+        ("definition 1 MiB, brace forms", |n| format!("NOTE \"{}\" ", "{0D0A}".repeat(n / 6))),
+        ("definition 1 MiB, dropped bytes", |n| "\r\n".repeat(n / 2)),
+    ];
+    for (name, what) in wide {
+        add(cases, name, move || {
+            let mut def = small().text();
+            let at = def.windows(6).position(|w| w == b"SURVEY").unwrap();
+            def.splice(at..at, what(1_040_000).into_bytes());
+            definition(def, 0)
+        });
+    }
+    add(cases, "definition 43 KB, refused at its end", || {
+        let mut def = Survey { variables: 512, lines: 6, text: 12, ..small() }.text();
+        let half = def.len() / 2;
+        let end = half + def[half..].windows(12).position(|w| w == b"END VARIABLE").unwrap();
+        def.truncate(end + 12);
+        def.push(b'<');
+        definition(def, 3)
+    });
+}
+
+/// The test of a table.
+fn tables(cases: &mut Vec<Maker>) {
+    add(cases, "well-formed 1 row, 4 lines", || test(single()));
+    add(cases, "well-formed 5 rows, 12 lines", || test(short()));
+    add(cases, "well-formed 512 rows, 1,536 lines", || test(long()));
+    for (kind, variables, lines) in [
+        ("SINGLE", 1, 16),
+        ("SINGLE", 1, 256),
+        ("SINGLE", 1, 4096),
+        ("QUANTITY", 1, 256),
+        ("QUANTITY", 1, 4096),
+        ("SINGLE", 32, 128),
+        ("SINGLE", 512, 8),
+        ("QUANTITY", 512, 8),
+    ] {
+        for order in Order::ALL {
+            let rows = if variables == 1 { "row" } else { "rows" };
+            let name = format!("well-formed {variables} {rows} of {lines} lines, {kind} {}", order.name());
+            add(cases, &name, move || test(table(&blocks(kind, variables, lines, order, 0))));
+        }
+    }
+}
+
+/// Reading one row.
+fn readings(cases: &mut Vec<Maker>) {
+    let kinds = ["SINGLE", "bitstring", "QUANTITY", "CHARACTER", "spread"];
+    for (row, kind) in kinds.iter().enumerate() {
+        add(cases, &format!("read {kind}, 5 rows"), move || read(short(), row as u64, record(&short(), 7), 0));
+    }
+    for (row, kind) in kinds.iter().enumerate() {
+        add(cases, &format!("read {kind} missing, 5 rows"), move || {
+            let table = short();
+            let mut record = record(&table, 7);
+            assert_eq!(Plain.write_missing(&table, row as u64, &mut record), 0);
+            read(table, row as u64, record, 0)
+        });
+    }
+    add(cases, "read LOGICAL, 10 rows", || {
+        let table = Survey { variables: 10, ..small() }.table();
+        let record = record(&table, 7);
+        read(table, 9, record, 0)
+    });
+    add(cases, "read SINGLE of 4,096 lines", || {
+        let table = table(&blocks("SINGLE", 1, 4096, Order::Random, 0));
+        let record = record(&table, 7);
+        read(table, 0, record, 0)
+    });
+    add(cases, "read last row, 512 rows", || read(long(), 511, record(&long(), 7), 0));
+    add(cases, "read bitstring of 9,999", || read_set(bits()));
+    add(cases, "read spread of 4,000", || read_set(spread()));
+    for (n, w) in [(3, 3), (3, 4), (16, 3), (16, 4), (40, 4)] {
+        add(cases, &format!("read spread of {n} of {w}"), move || {
+            let (finish, most) = (n * w, 10usize.pow(w as u32) - 1);
+            let table =
+                table(&one_variable(&format!("MULTIPLE POSITION 1 TO {finish} SPREAD {n} OF {w} VALUES 1 TO {most}")));
+            // Far apart, and not in order.
+            let record: String = (0..n).map(|i| format!("{:01$}", 1 + i * 607 % most, w)).collect();
+            read(table, 0, record.into_bytes(), finish)
+        });
+    }
+}
+
+/// Judging a record.
+fn judgements(cases: &mut Vec<Maker>) {
+    add(cases, "judge record, 5 rows", || judge(short(), 0, Fault::None));
+    add(cases, "judge record, 5 rows, 24 at row 0", || judge(short(), 0, Fault::Row(0)));
+    add(cases, "judge record, 5 rows, 24 at row 4", || judge(short(), 0, Fault::Row(4)));
+    add(cases, "judge record, 5 rows, 23 at its end", || judge(short(), 0, Fault::LowByte));
+    add(cases, "judge record, 5 rows, 16 KiB long", || judge(short(), 16_384, Fault::None));
+    add(cases, "judge record, 5 rows, 16 KiB long, 23 at its end", || judge(short(), 16_384, Fault::LowByte));
+    add(cases, "judge record, 512 rows", || judge(long(), 0, Fault::None));
+    add(cases, "judge record, 512 rows, 24 at row 510", || judge(long(), 0, Fault::Row(510)));
+    add(cases, "judge record, 512 rows, 23 at its end", || judge(long(), 0, Fault::LowByte));
+    add(cases, "judge record, bitstring of 9,999", || judge(bits(), 0, Fault::None));
+    add(cases, "judge record, spread of 4,000", || judge(spread(), 0, Fault::None));
+}
+
+/// Writing one row.
+fn writes(cases: &mut Vec<Maker>) {
+    let write = |table: fn() -> Vec<i64>, call: fn(&dyn Face, &[i64], &mut [u8]) -> u64| {
+        move || {
+            let table = table();
+            let mut lent = vec![b'x'; table[3] as usize];
+            Case { bytes: 0, number: 0, step: Box::new(move |face| call(face, black_box(&table), &mut lent)) }
+        }
+    };
+    add(cases, "write missing, 5 rows", write(short, |f, t, r| f.write_missing(t, 2, r)));
+    add(cases, "write number, 5 rows", write(short, |f, t, r| f.write_number(t, 2, black_box(12345), r)));
+    add(cases, "write text, 5 rows", write(short, |f, t, r| f.write_text(t, 3, black_box(b"Some text"), r)));
+    add(cases, "write bitstring, 5 rows", || write_set(short(), vec![1, 3], 1, 0));
+    add(cases, "write spread, 5 rows", || write_set(short(), vec![1, 3], 4, 0));
+    add(cases, "write truth, 512 rows", write(long, |f, t, r| f.write_truth(t, 9, black_box(1), r)));
+    add(cases, "write bitstring of 9,999", || write_set(bits(), evens(), 0, 9_999));
+    add(cases, "write spread of 4,000", || write_set(spread(), evens(), 0, 16_000));
+    add(cases, "write missing, bitstring of 9,999", write(bits, |f, t, r| f.write_missing(t, 0, r)));
+    add(cases, "write missing, spread of 4,000", write(spread, |f, t, r| f.write_missing(t, 0, r)));
+}
+
+/// Files, and their records one by one.
+fn files(cases: &mut Vec<Maker>) {
+    add(cases, "judge file of 1 record, 5 rows, CR LF", || file(short(), 1, "\r\n", false));
+    add(cases, "judge file 4 KiB, 5 rows, CR LF", || file(short(), 1 << 12, "\r\n", false));
+    add(cases, "judge file 256 KiB, 1 row, LF", || file(single(), 1 << 18, "\n", false));
+    add(cases, "judge file 1 MiB, 5 rows, CR LF", || file(short(), 1 << 20, "\r\n", false));
+    add(cases, "judge file 1 MiB, 512 rows, CR LF", || file(long(), 1 << 20, "\r\n", false));
+    add(cases, "judge file 1 MiB, 512 rows, 30 at its end", || file(long(), 1 << 20, "\n", true));
+    add(cases, "next record of 16 KiB", || {
+        let mut data = vec![b'x'; 16_384];
+        data.extend(b"\r\n");
+        let mut answer = [0; 4];
+        Case { bytes: data.len(), number: 1, step: Box::new(move |f| f.next_record(black_box(&data), 0, &mut answer)) }
+    });
+}
+
+fn definition(def: Vec<u8>, number: u64) -> Case {
+    let bytes = def.len();
+    assert!(bytes <= 1_048_576, "{bytes}");
+    let mut lent = vec![0i64; 30_000];
+    let mut answer = [0; 4];
+    Case { bytes, number, step: Box::new(move |face| face.read_definition(black_box(&def), &mut lent, &mut answer)) }
+}
+
+/// The test behind 20: an empty record is 22 right after it.
+fn test(table: Vec<i64>) -> Case {
+    let mut answer = [0; 4];
+    Case {
+        bytes: table.len() * 8,
+        number: 22,
+        step: Box::new(move |face| face.judge_record(black_box(&table), b"", &mut answer)),
+    }
+}
+
+fn read(table: Vec<i64>, row: u64, record: Vec<u8>, bytes: usize) -> Case {
+    let mut list = vec![0i64; 10_000];
+    let mut answer = [0; 4];
+    let step: Step =
+        Box::new(move |face| face.read_value(black_box(&table), row, black_box(&record), &mut list, &mut answer));
+    Case { bytes, number: 0, step }
+}
+
+fn read_set(table: Vec<i64>) -> Case {
+    let mut record = vec![b'x'; table[3] as usize];
+    assert_eq!(Plain.write_set(&table, 0, &evens(), &mut record), 0);
+    let bytes = record.len();
+    read(table, 0, record, bytes)
+}
+
+/// What is wrong with a record that is judged.
+#[derive(Clone, Copy)]
+enum Fault {
+    None,
+    /// A byte below 32 at its end.
+    LowByte,
+    /// This row's last byte is no digit.
+    Row(usize),
+}
+
+fn judge(table: Vec<i64>, more: usize, fault: Fault) -> Case {
+    let mut record = record(&table, 7);
+    record.resize(record.len() + more, b'y');
+    let number = match fault {
+        Fault::None => 0,
+        Fault::LowByte => {
+            *record.last_mut().unwrap() = 1;
+            23
+        }
+        Fault::Row(row) => {
+            record[table[6 + 18 * row + 3] as usize - 1] = b'?';
+            24
+        }
+    };
+    let mut answer = [0; 4];
+    Case {
+        bytes: record.len(),
+        number,
+        step: Box::new(move |face| face.judge_record(black_box(&table), black_box(&record), &mut answer)),
+    }
+}
+
+fn write_set(table: Vec<i64>, set: Vec<i64>, row: u64, bytes: usize) -> Case {
+    let mut lent = vec![b'x'; table[3] as usize];
+    Case { bytes, number: 0, step: Box::new(move |f| f.write_set(black_box(&table), row, black_box(&set), &mut lent)) }
+}
+
+fn file(table: Vec<i64>, bytes: usize, end: &str, fault: bool) -> Case {
+    let few: Vec<Vec<u8>> = (0..if table[1] > 100 { 4 } else { 40 }).map(|seed| record(&table, seed)).collect();
+    let mut data = vec![];
+    for record in few.iter().cycle() {
+        if data.len() >= bytes {
+            break;
+        }
+        data.extend(record);
+        data.extend(end.bytes());
+    }
+    if fault {
+        data.pop();
+    }
+    let mut answer = [0; 4];
+    Case {
+        bytes: data.len(),
+        number: if fault { 30 } else { 0 },
+        step: Box::new(move |face| face.judge_file(black_box(&table), black_box(&data), &mut answer)),
+    }
+}

@@ -1,0 +1,215 @@
+//! What is measured: definitions, tables and records, made from few figures.
+
+use zarfolin_compare::face::{Face, Plain};
+use zarfolin_compare::rng::Rng;
+
+/// A survey of this many variables of all types in turn, with lines and texts of these sizes.
+pub struct Survey {
+    pub variables: usize,
+    pub lines: usize,
+    pub text: usize,
+    /// Spread out with indents and comments, or close together.
+    pub roomy: bool,
+    pub standard: bool,
+}
+
+impl Survey {
+    pub fn text(&self) -> Vec<u8> {
+        let pad = |what: &str| format!("{what:.<0$}", self.text);
+        let (nl, tab) = if self.roomy { ("\r\n", "\t    ") } else { ("\n", "") };
+        let mut t = format!("SSS{nl}VERSION 1.1{nl}DATE \"1998\"{nl}");
+        if self.standard {
+            t += &format!("STANDARD NAMES{nl}");
+        }
+        t += &format!("SURVEY{nl}TITLE \"{}\"{nl}RECORD A{nl}", pad("A survey"));
+        let mut at = 1;
+        for i in 0..self.variables {
+            let comment = if self.roomy { " <as asked \"<in>\" 1997>" } else { "" };
+            t += &format!(
+                "VARIABLE {}{nl}{tab}NAME \"v{i}\"{nl}{tab}LABEL \"{}\"{comment}{nl}{tab}TYPE ",
+                i + 1,
+                pad("Question")
+            );
+            let lines = || {
+                let mut t = String::new();
+                for c in 1..=self.lines {
+                    let special = if c == self.lines { " SPECIAL" } else { "" };
+                    t += &format!("{tab}{tab}{c} \"{}\"{special}{nl}", pad("Answer"));
+                }
+                t
+            };
+            let digits = self.lines.max(1).to_string().len();
+            let (kind, width, rest) = match i % 5 {
+                0 => ("SINGLE", digits, format!("VALUES{nl}{}END VALUES", lines())),
+                1 => ("MULTIPLE", self.lines, format!("VALUES{nl}{}END VALUES", lines())),
+                2 => ("QUANTITY", 7, format!("VALUES{nl}{tab}-99.50 TO 999.99{nl}{tab}END VALUES")),
+                3 => ("CHARACTER", 12, "SIZE 10".to_string()),
+                _ if self.lines > 0 && i % 2 == 0 => {
+                    ("MULTIPLE", 3 * digits, format!("SPREAD 3 OF {digits}{nl}VALUES{nl}{}END VALUES", lines()))
+                }
+                _ => ("LOGICAL", 1, String::new()),
+            };
+            // The records are laid out again and again from location 1 when the last one is reached.
+            if at + width > 16_000 {
+                at = 1;
+            }
+            t += &format!("{kind}{nl}{tab}POSITION {at} TO {}{nl}{tab}{rest}{nl}END VARIABLE{nl}", at + width - 1);
+            at += width;
+        }
+        t += &format!("END RECORD{nl}END SURVEY{nl}END SSS{nl}");
+        t.into_bytes()
+    }
+
+    pub fn table(&self) -> Vec<i64> {
+        table(&self.text())
+    }
+}
+
+pub fn table(def: &[u8]) -> Vec<i64> {
+    let mut table = vec![0; 30_000];
+    let mut answer = [0; 4];
+    let number = Plain.read_definition(def, &mut table, &mut answer);
+    assert_eq!(
+        number,
+        0,
+        "at {}: {:?}",
+        answer[1],
+        String::from_utf8_lossy(&def[answer[1] as usize..][..40.min(def.len() - answer[1] as usize)])
+    );
+    table.truncate((6 + 18 * answer[2] + 4 * answer[3]) as usize);
+    table
+}
+
+/// A sound record for the table, by ordinary writes over filler.
+pub fn record(table: &[i64], seed: u64) -> Vec<u8> {
+    let mut r = Rng::new(seed);
+    let mut record = vec![b'x'; table[3] as usize];
+    for row in 0..table[1] as u64 {
+        let cells = &table[6 + 18 * row as usize..][..18];
+        let number = match cells[1] {
+            1 => Plain.write_number(table, row, r.range(1, cells[13]), &mut record),
+            2 => {
+                let most = cells[13].min(if cells[7] > 0 { cells[7] } else { 1000 });
+                let set: Vec<i64> = (1..=most).filter(|_| r.once_in(2)).collect();
+                Plain.write_set(table, row, &set, &mut record)
+            }
+            3 => Plain.write_number(table, row, r.range(cells[10], cells[11]), &mut record),
+            4 => Plain.write_text(table, row, b"Some text", &mut record),
+            _ => Plain.write_truth(table, row, r.below(2) as u8, &mut record),
+        };
+        assert_eq!(number, 0);
+    }
+    record
+}
+
+pub fn small() -> Survey {
+    Survey { variables: 5, lines: 4, text: 10, roomy: false, standard: false }
+}
+
+pub fn short() -> Vec<i64> {
+    Survey { text: 4, ..small() }.table()
+}
+
+pub fn long() -> Vec<i64> {
+    Survey { variables: 512, lines: 6, text: 4, ..small() }.table()
+}
+
+pub fn single() -> Vec<i64> {
+    Survey { variables: 1, text: 4, ..small() }.table()
+}
+
+pub fn one_variable(rest: &str) -> Vec<u8> {
+    format!("SSS VERSION 1.1 SURVEY RECORD R VARIABLE 1 NAME \"\" LABEL \"\" TYPE {rest} END VALUES END VARIABLE END RECORD END SURVEY END SSS").into_bytes()
+}
+
+/// The order of a block's lines.
+#[derive(Clone, Copy)]
+pub enum Order {
+    Rising,
+    Falling,
+    Random,
+}
+
+impl Order {
+    pub const ALL: [Order; 3] = [Order::Rising, Order::Falling, Order::Random];
+
+    pub fn name(self) -> &'static str {
+        match self {
+            Order::Rising => "rising",
+            Order::Falling => "falling",
+            Order::Random => "random",
+        }
+    }
+
+    /// The numbers 1 to count in this order.
+    pub fn numbers(self, count: usize) -> Vec<usize> {
+        let mut numbers: Vec<usize> = (1..=count).collect();
+        match self {
+            Order::Rising => {}
+            Order::Falling => numbers.reverse(),
+            Order::Random => {
+                let mut r = Rng::new(count as u64);
+                for i in (1..count).rev() {
+                    numbers.swap(i, r.below(i + 1));
+                }
+            }
+        }
+        numbers
+    }
+}
+
+/// A survey of this many variables of one type, each with this many lines in this order.
+pub fn blocks(kind: &str, variables: usize, lines: usize, order: Order, text: usize) -> Vec<u8> {
+    let mut t = String::from("SSS VERSION 1.1 SURVEY RECORD R\n");
+    let label = "x".repeat(text);
+    for i in 1..=variables {
+        t += &format!("VARIABLE {i} NAME \"v{i}\" LABEL \"\" TYPE {kind} POSITION 1 TO 16 VALUES\n");
+        for number in order.numbers(lines) {
+            // A quantity's lines lie far apart, a category's side by side.
+            let value = if kind == "QUANTITY" { number * 7_000_001 } else { number };
+            t += &format!("{value} \"{label}\"\n");
+        }
+        t += "END VALUES END VARIABLE\n";
+    }
+    (t + "END RECORD END SURVEY END SSS\n").into_bytes()
+}
+
+/// A definition of nearly this many bytes, by its shape.
+pub fn sized(shape: &str, bytes: usize) -> Vec<u8> {
+    let lines = (bytes / 16).min(4096);
+    let text = (bytes - 120) / lines - 8;
+    let filler = |what: &str| {
+        let mut def = small().text();
+        let at = def.windows(6).position(|w| w == b"SURVEY").unwrap();
+        let count = bytes.saturating_sub(def.len()) / what.len();
+        def.splice(at..at, what.repeat(count).into_bytes());
+        def
+    };
+    match shape {
+        "few lines" => {
+            // About 700 bytes a survey of five variables with texts of ten.
+            let variables = (bytes / 90).min(512);
+            let text = (bytes / variables).saturating_sub(60) / 4;
+            Survey { variables, lines: 3, text, roomy: false, standard: true }.text()
+        }
+        "rising" => blocks("SINGLE", 1, lines, Order::Rising, text),
+        "falling" => blocks("SINGLE", 1, lines, Order::Falling, text),
+        "random" => blocks("SINGLE", 1, lines, Order::Random, text),
+        "comments" => filler("<asked \"<in>\" <1997>> "),
+        _ => filler(&format!("NOTE \"{}\" ", "A long string. ".repeat((bytes / 40).max(4)))),
+    }
+}
+
+pub const SHAPES: [&str; 6] = ["few lines", "rising", "falling", "random", "comments", "long strings"];
+
+pub fn bits() -> Vec<i64> {
+    table(&one_variable("MULTIPLE POSITION 1 TO 9999 VALUES 1 TO 9999"))
+}
+
+pub fn spread() -> Vec<i64> {
+    table(&one_variable("MULTIPLE POSITION 1 TO 16000 SPREAD 4000 OF 4 VALUES 1 TO 9999"))
+}
+
+pub fn evens() -> Vec<i64> {
+    (1..=4000).map(|i| 2 * i).collect()
+}
