@@ -31,7 +31,8 @@ use Rattle.entries.proofs.Goods.{entry-good}
 use Rattle.built.specs.Nth.{few-lines}
 use Rattle.built.specs.Built.{table-well-formed}
 use Rattle.names.specs.Standard.{nameFault}
-use Rattle.definition.specs.Definition.{Variables, Course, course, endOr, entered, variableStep, variablesFrom, endsOn, Survey, Read, Whole, Faulty, ended, closed, surveyOf, namesOf, quoteAt, Outcome, Built, Refusal, fitting, named, judged, outcomeOf, tableAfter}
+use Rattle.definition.specs.Definition.{Variables, Course, course, endOr, entered, variableStep, variablesFrom, endsOn, Survey, Read, Whole, Faulty, ended, closed, surveyOf, namesOf, quoteAt, Outcome, Built, Refusal, fitting, named, judged, outcomeOf, answerOf, tableAfter}
+use Rattle.definition.specs.declared.Answer.{Answer}
 use Rattle.definition.specs.Definition as variables
 use Rattle.definition.proofs.Courses.{next-entry}
 
@@ -133,3 +134,7 @@ unfolding tableAfter
 read-well-formed d t l e =
     let g = built-good d (length t) l e in
     rw e (table-well-formed l t (g .0) (g .1) (g .2))
+
+-- ---- NO TWO OUTCOMES: the contract settles the answer and the table
+pub definition-settled : (d : List ℕ) (t t₁ t₂ : List ℤ) (r₁ r₂ : Answer) → r₁ ≡ answerOf (outcomeOf d (length t)) → t₁ ≡ tableAfter (outcomeOf d (length t)) t → r₂ ≡ answerOf (outcomeOf d (length t)) → t₂ ≡ tableAfter (outcomeOf d (length t)) t → (r₁ ≡ r₂) × (t₁ ≡ t₂)
+definition-settled d t t₁ t₂ r₁ r₂ a b c e = (a ∙ sym c, b ∙ sym e)

@@ -13,6 +13,8 @@ use Rattle.records.specs.Value as value
 use Rattle.files.specs.File.{FileVerdict, soundWith, badTable, faultIn}
 use Rattle.cuts.specs.declared.Next.{Next}
 use Rattle.cuts.specs.declared.Next.the-variants.{Ended, Unended, Nothing}
+use Rattle.definition.specs.declared.Answer.{Answer}
+use Rattle.definition.specs.declared.Answer.the-variants as definition
 use Rattle.writes.specs.Public.{refusalOf, recordAfter}
 use Rattle.zarfolin.specs.declared.Told.{Told}
 
@@ -63,6 +65,11 @@ unfoldable pub fileCells : FileVerdict → Told
 fileCells (soundWith n) = four 0 (cellOf n) (pos 0) (pos 0)
 fileCells badTable = bare 20
 fileCells (faultIn n v) = faultCells n v
+
+-- a definition read: the number, the place, V and E
+unfoldable pub definitionCells : Answer → Told
+definitionCells (definition.Read v e) = four 0 (pos 0) (cellOf v) (cellOf e)
+definitionCells (definition.Refused n p) = four n (cellOf p) (pos 0) (pos 0)
 
 -- the next record: 1 with a terminator, 2 without, 0 none; its start, its end, and where the next one starts
 unfoldable pub nextCells : Next → Told

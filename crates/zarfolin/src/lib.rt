@@ -1,8 +1,10 @@
 // The face for C and Rust: each public call as an exported function on numbers and slices, with an answer of four numbers where one is
 // not enough. It holds no rule of its own but that of a truth given as a number. Nothing checks the declarations on the other side:
-// include/zarfolin.h has them. The reader of definitions is not there yet, so zarfolin_read_definition is missing.
+// include/zarfolin.h has them.
 ghost use mathlib.Core.Path.{_≡_};
 ghost use lib.IntN.{pos};
+ghost use lib.ListN.{length};
+ghost use Rattle.definition.specs.Definition.{outcomeOf, answerOf, tableAfter};
 ghost use Rattle.fields.specs.Field as field;
 ghost use Rattle.fields.specs.Field.{missing, members};
 ghost use Rattle.records.specs.Verdict.{judgedAs, verdictOf};
@@ -10,7 +12,7 @@ ghost use Rattle.records.specs.Value.{said};
 ghost use Rattle.files.specs.File.{fileSaid, fileVerdict};
 ghost use Rattle.cuts.specs.Cut.{nextOf};
 ghost use Rattle.writes.specs.Public.{numberOf};
-ghost use Rattle.zarfolin.specs.Face.{cellOf, flagOf, Telling, verdictCells, outcomeCells, faultCells, fileCells, nextCells, ValueTold, WriteTold};
+ghost use Rattle.zarfolin.specs.Face.{cellOf, flagOf, Telling, verdictCells, outcomeCells, faultCells, fileCells, nextCells, definitionCells, ValueTold, WriteTold};
 ghost use Rattle.zarfolin.specs.Face as face;
 ghost use Rattle.zarfolin.specs.Truth.{badTruth, kindNumber, TruthTold};
 use cuts::Next;
@@ -159,6 +161,20 @@ fn file_cells(j: Judgement) -> Told
     }
 }
 
+fn definition_cells(a: definition::Answer) -> Told
+    ensures { λ r. ⌜ r ≡ definitionCells a ⌝ }
+{
+    match a {
+        definition::Answer::Read { rows, lines } => Told {
+            number: 0,
+            first: 0,
+            second: cell(rows),
+            third: cell(lines),
+        },
+        definition::Answer::Refused { number, place } => with_one(number as u64, cell(place)),
+    }
+}
+
 fn next_cells(n: Next) -> Told
     ensures { λ r. ⌜ r ≡ nextCells n ⌝ }
 {
@@ -256,6 +272,22 @@ pub extern "C" fn zarfolin_judge_file(table: &[i64], d: &[u8], answer: &mut [i64
     ensures { λ r. ⌜ Telling (fileCells (fileVerdict (now (table .entry)) (now (d .entry)))) (now (answer .exit)) r ⌝ }
 {
     tell(answer, file_cells(files::judge_file(table, d)))
+}
+
+// Reads a definition into a table.
+#[no_mangle]
+pub extern "C" fn zarfolin_read_definition(
+    d: &[u8],
+    table: &mut [i64],
+    answer: &mut [i64; 4],
+) -> u64
+    ensures { λ r. ⌜ Telling (definitionCells (answerOf (outcomeOf (now (d .entry)) (length (now (table .entry)))))) (now (answer .exit)) r ⌝ }
+    ensures { λ r. ⌜ now (table .exit) ≡ tableAfter (outcomeOf (now (d .entry)) (length (now (table .entry)))) (now (table .entry)) ⌝ }
+{
+    tell(
+        answer,
+        definition_cells(definition::read_definition(d, table)),
+    )
 }
 
 // Finds the record that starts at a place of a data file.
