@@ -1,3 +1,4 @@
 pub mod SpreadSteps
 pub mod BitSteps
 pub mod JudgeSteps
+pub mod AllSteps

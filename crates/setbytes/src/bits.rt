@@ -1,6 +1,6 @@
 // A bitstring: byte c of the position for each category c that the row allows. No other byte is touched.
 ghost use mathlib.Core.Path.{_≡_};
-ghost use mathlib.Core.Bool.{cond};
+ghost use mathlib.Core.Bool.{cond, true};
 ghost use Prim.Native.Nat.{_+_, _≤_};
 ghost use lib.IntN.{pos};
 ghost use lib.ListN.{length, drop};
@@ -11,7 +11,7 @@ ghost use Rattle.fields.specs.Row.{defined, bitPlaces};
 ghost use Rattle.fields.specs.Facts.{LineFacts};
 ghost use Rattle.fieldlaws.specs.RisingLaws.{Rising};
 ghost use Rattle.sets.specs.Marks.{Marks};
-ghost use Rattle.setbytes.specs.Sets.{headIs, Bitstring};
+ghost use Rattle.setbytes.specs.Sets.{headIs, Bitstring, hasAll, always};
 use layout::Row;
 use sets::marks::allows;
 
@@ -91,4 +91,57 @@ pub fn blank_bits(
             bytes[at + k] = 32;
         }
     }
+}
+
+// Whether the row's range has every category from 1 to w: then no byte needs a test of its own.
+pub fn range_has(row: Row, w: usize) -> bool
+    requires { ⌜ w ≤ 9999 ⌝ }
+    ensures { λ r. ⌜ r ≡ hasAll row w ⌝ }
+{
+    if !legal::in_range(row, 1) {
+        return false;
+    }
+    legal::in_range(row, cells::cell_of(w))
+}
+
+// `1` for each category from 1 to w that is a member, `0` for each other.
+fn put_each(bytes: &mut [u8], at: usize, w: usize, list: &[i64])
+    requires { ⌜ Bitstring at w (length (now bytes)) × Rising 1 w (now list) ⌝ }
+    ensures { λ _. ⌜ now (bytes .exit) ≡ put (now (bytes .entry)) (bitPlaces at (defined always 1 w)) (bitBytes (now (list .entry)) (defined always 1 w)) ⌝ }
+{
+    let mut j: usize = 0;
+    let mut i: usize = 0;
+    while i < w {
+        let k = i;
+        i += 1;
+        let yes = next_is(list, j, i);
+        j += step_of(yes);
+        bytes[at + k] = bit_of(yes);
+    }
+}
+
+// What `put_bits` does, for a row whose range has every category.
+pub fn put_all(
+    t: &[i64],
+    rows: usize,
+    row: Row,
+    bytes: &mut [u8],
+    at: usize,
+    w: usize,
+    list: &[i64],
+)
+    requires { ⌜ hasAll row w ≡ true ⌝ }
+    requires { ⌜ Bitstring at w (length (now bytes)) × Rising 1 w (now list) ⌝ }
+    ensures { λ _. ⌜ now (bytes .exit) ≡ put (now (bytes .entry)) (bitPlaces at (defined (legal (now (t .entry)) rows row) 1 w)) (bitBytes (now (list .entry)) (defined (legal (now (t .entry)) rows row) 1 w)) ⌝ }
+{
+    put_each(bytes, at, w, list);
+}
+
+// What `blank_bits` does, for a row whose range has every category.
+pub fn blank_all(t: &[i64], rows: usize, row: Row, bytes: &mut [u8], at: usize, w: usize)
+    requires { ⌜ hasAll row w ≡ true ⌝ }
+    requires { ⌜ Bitstring at w (length (now bytes)) ⌝ }
+    ensures { λ _. ⌜ now (bytes .exit) ≡ put (now (bytes .entry)) (bitPlaces at (defined (legal (now (t .entry)) rows row) 1 w)) (spaces (length (bitPlaces at (defined (legal (now (t .entry)) rows row) 1 w)))) ⌝ }
+{
+    runs::blank(bytes, at, w);
 }

@@ -1,8 +1,8 @@
 -- The four outcomes of a write to a row.
-use mathlib.Core.Path.{_≡_, refl}
+use mathlib.Core.Path.{_≡_, refl, sym}
 use mathlib.Core.Bool.{Bool, true, false, cond}
 use mathlib.Core.List.{List, [], _∷_}
-use Prim.Native.Nat.{ℕ, zero, suc, _^_, _<_}
+use Prim.Native.Nat.{ℕ, zero, suc, _^_, _≤_, _<_}
 use native.Mathlib.Omega.{arith}
 use borrow.Author.Tests.{leb-true}
 use lib.IntN.{ℤ, pos, negsuc}
@@ -15,7 +15,8 @@ use Rattle.layout.specs.declared.Kind.the-variants.{Single, Multiple, Quantity}
 use Rattle.layout.specs.declared.Spread.the-variants.{Bits, Fields}
 use Rattle.layout.specs.declared.Format.{Format}
 use Rattle.digits.specs.Room.{Wide}
-use lib.ListN.{length, getD}
+use lib.ListN.{length, getD, take, replicate, length-replicate}
+use lib.Seq.{length-take-le}
 use Rattle.places.specs.Places.{put, run}
 use Rattle.places.specs.Laws.{length-run}
 use Rattle.layout.specs.declared.Kind.{Kind}
@@ -135,3 +136,7 @@ ready-as e h = rw e at h
 pub written-as : {k k′ : Kind} {t : List ℤ} {v : ℕ} {r : Row} {value : Value} {list : List ℤ} {text : List ℕ} {old new : List ℕ} {a : Wrote}
     → k ≡ k′ → WrittenBy k′ t v r value list text old new a → WrittenBy k t v r value list text old new a
 written-as e w = rw e w
+
+-- the marks that are lent are as many as asked for
+pub prefix : (k n : ℕ) → k ≤ n → k ≡ length {A = ℕ} (take k (replicate n 0))
+prefix k n h = sym (length-take-le k (replicate n 0) (rw length-replicate h))

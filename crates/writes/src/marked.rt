@@ -19,6 +19,9 @@ const MANY: usize = 16;
 // Marks of 0 to the highest category.
 const MARKS: usize = 10_000;
 
+// Enough for a bitstring of few categories: clearing all would cost more than writing it.
+const SHORT: usize = 128;
+
 fn bits_missing(t: &[i64], rows: usize, row: Row, marks: &mut [u8], bytes: &mut [u8]) -> Wrote
     requires { ⌜ Ready (kind.Multiple spread.Bits) (now t) rows (length (now bytes)) row ⌝ }
     requires { ⌜ length (now marks) ≤ 10000 ⌝ }
@@ -49,8 +52,51 @@ fn bits_set(
     if !setbytes::judge::set_fits(t, rows, row, marks, list) {
         return Wrote::NotLegal;
     }
+    if setbytes::bits::range_has(row, w) {
+        setbytes::bits::put_all(t, rows, row, bytes, at, w, list);
+        return Wrote::Done;
+    }
     setbytes::bits::put_bits(t, rows, row, marks, bytes, at, w, list);
     Wrote::Done
+}
+
+// No marks for a range that has every category, and no more than there are categories else.
+fn bits_blanked(t: &[i64], rows: usize, row: Row, bytes: &mut [u8]) -> Wrote
+    requires { ⌜ Ready (kind.Multiple spread.Bits) (now t) rows (length (now bytes)) row ⌝ }
+    ensures { λ r. ⌜ WrittenBy (kind.Multiple spread.Bits) (now (t .entry)) rows row given.Missing [] [] (now (bytes .entry)) (now (bytes .exit)) r ⌝ }
+{
+    let w = row.width;
+    let at = row.start - 1;
+    if setbytes::bits::range_has(row, w) {
+        setbytes::bits::blank_all(t, rows, row, bytes, at, w);
+        return Wrote::Done;
+    }
+    let k = w + 1;
+    if k <= SHORT {
+        let mut short = [0; SHORT];
+        return bits_missing(t, rows, row, &mut short[..k], bytes);
+    }
+    let mut marks = [0; MARKS];
+    bits_missing(t, rows, row, &mut marks[..k], bytes)
+}
+
+// The same for a set.
+fn bits_written(t: &[i64], rows: usize, row: Row, list: &[i64], bytes: &mut [u8]) -> Wrote
+    requires { ⌜ Ready (kind.Multiple spread.Bits) (now t) rows (length (now bytes)) row ⌝ }
+    ensures { λ r. ⌜ WrittenBy (kind.Multiple spread.Bits) (now (t .entry)) rows row given.Set (now (list .entry)) [] (now (bytes .entry)) (now (bytes .exit)) r ⌝ }
+{
+    let w = row.width;
+    if setbytes::bits::range_has(row, w) {
+        let mut none = [0; 1];
+        return bits_set(t, rows, row, list, &mut none, bytes);
+    }
+    let k = w + 1;
+    if k <= SHORT {
+        let mut short = [0; SHORT];
+        return bits_set(t, rows, row, list, &mut short[..k], bytes);
+    }
+    let mut marks = [0; MARKS];
+    bits_set(t, rows, row, list, &mut marks[..k], bytes)
 }
 
 pub fn write_bits(
@@ -65,16 +111,9 @@ pub fn write_bits(
     requires { ⌜ Ready (kind.Multiple spread.Bits) (now t) rows (length (now bytes)) row ⌝ }
     ensures { λ r. ⌜ WrittenBy (kind.Multiple spread.Bits) (now (t .entry)) rows row value (now (list .entry)) (now (text .entry)) (now (bytes .entry)) (now (bytes .exit)) r ⌝ }
 {
-    let k = row.width + 1;
     match value {
-        Value::Missing => {
-            let mut marks = [0; MARKS];
-            bits_missing(t, rows, row, &mut marks[..k], bytes)
-        }
-        Value::Set => {
-            let mut marks = [0; MARKS];
-            bits_set(t, rows, row, list, &mut marks[..k], bytes)
-        }
+        Value::Missing => bits_blanked(t, rows, row, bytes),
+        Value::Set => bits_written(t, rows, row, list, bytes),
         Value::Number(_) => Wrote::OtherType,
         Value::Text => Wrote::OtherType,
         Value::Truth(_) => Wrote::OtherType,

@@ -20,18 +20,23 @@ returns : tie.Need-returns
 unfolding valueOf fitsBy
 returns c = illegal refl (legal-not (sym (c .before .set-fits .ensures) ∙ not-true _ (c .if1 .taken)))
 
-put-bits-requires : tie.Need-put-bits-requires
-put-bits-requires c κs =
-    let j = c .before .before .before in
-    let m = j .before .before .before .before in
-    let s = m .before .before .before .before .before in
-    (s .pre .0 .lines, (m .mark-legal .ensures, (record { few = s .pre .0 .kind .few; inside = omega arith }, bits-rising (s .pre .0) _ (sym (j .set-fits .ensures) ∙ not-false _ (c .before .before .if1 .left)))))
+put-all-requires : tie.Need-put-all-requires
+put-all-requires c κs =
+    let s = c .before .before .before .before .before .before .before .before .before .before .before .before .before in
+    (sym (c .before .before .range-has .ensures) ∙ c .before .if2 .taken, (record { few = s .pre .0 .kind .few; inside = omega arith }, bits-rising (s .pre .0) _ (sym (c .before .before .before .before .set-fits .ensures) ∙ not-false _ (c .before .before .before .if1 .left))))
 
 returns-2 : tie.Need-returns-2
 unfolding valueOf fitsBy placesBy bytesBy
-returns-2 c =
-    let p = c .before .before in
-    accepted refl (legal-fits (sym (p .before .before .before .before .set-fits .ensures) ∙ not-false _ (p .before .before .before .if1 .left))) (p .put-bits .ensures)
+returns-2 c = accepted refl (legal-fits (sym (c .before .before .before .before .before .before .before .set-fits .ensures) ∙ not-false _ (c .before .before .before .before .before .before .if1 .left))) (c .before .before .put-all .ensures)
+
+put-bits-requires : tie.Need-put-bits-requires
+put-bits-requires c κs =
+    let s = c .before .before .before .before .before .before .before .before .before .before .before .before .before .before in
+    (s .pre .0 .lines, (c .before .before .before .before .before .before .before .before .before .mark-legal .ensures, (record { few = s .pre .0 .kind .few; inside = omega arith }, bits-rising (s .pre .0) _ (sym (c .before .before .before .before .before .set-fits .ensures) ∙ not-false _ (c .before .before .before .before .if1 .left)))))
+
+returns-3 : tie.Need-returns-3
+unfolding valueOf fitsBy placesBy bytesBy
+returns-3 c = accepted refl (legal-fits (sym (c .before .before .before .before .before .before .before .before .set-fits .ensures) ∙ not-false _ (c .before .before .before .before .before .before .before .if1 .left))) (c .before .before .put-bits .ensures)
 
 pub bits-set-spec : {M : Type 1} → statement M
 bits-set-spec =
@@ -42,7 +47,12 @@ bits-set-spec =
     set-fits-requires
     (λ c. search needs)
     returns
+    (λ c κs. c .before .before .before .before .before .before .before .before .before .before .pre .0 .kind .few)
+    put-all-requires
+    (λ c. search needs)
+    (λ c. search needs)
+    returns-2
     put-bits-requires
     (λ c. search needs)
     (λ c. search needs)
-    returns-2)
+    returns-3)
