@@ -53,7 +53,7 @@ upTo999 next = record {
 
 too-narrow : (ident : ℕ) (name label : Quoted) (place next m : ℕ) → holdsIn 0 (variable (quantity ident name label place next) (upTo999 m)) ≡ false
 unfolding holdsIn columnsIn fullColumns widened plainColumns countedIn flagOf rowOf kindOf widthOf widestOf linesWidth maxBelow rangeWidth need quantityWidth
-  wholeDigits tailOf digitsOf countFrom signedOf roomGood
+    wholeDigits tailOf digitsOf countFrom signedOf roomGood
 too-narrow ident name label place next m = refl
 
 pub narrow-quantity : (d : List ℕ) (t : Reading) (met : ℕ → Bool) (count ident : ℕ) (name label : Quoted) (place next m n : ℕ)
