@@ -127,7 +127,8 @@ pub fn string(classes: &[u8; 256], d: &[u8], at: usize) -> Skip
     requires { ⌜ Classes (now classes) ⌝ }
     ensures { λ r. ⌜ r ≡ stringOf Inside.Plain (text (now (d .entry)) at) ⌝ }
 {
-    let mut n = at;
+    // Most strings have no brace form: all up to their end is passed at once.
+    let mut n = quotes::skip_plain(d, at);
     let mut s = Inside::Plain;
     loop {
         match scan::next_byte(classes, d, n) {
