@@ -1,18 +1,18 @@
--- `quotes::skip_plain` meets its contract. The invariant: no byte before i is a quote or a brace.
+-- `quotes::skip_plain` meets its contract. The invariant: no byte before i is a mark.
 use mathlib.Core.Path.{_≡_, refl, sym, _∙_}
 use Prim.Native.Nat.{_+_, _-_, _≤_}
 use native.Mathlib.Omega.{arith}
 use borrow.Author.Needs.{needs}
 use lib.ListN.{length}
-use Rattle.quotes.specs.Quotes.{Unmarked, unmarked-next}
+use Rattle.quotes.specs.Quotes.{isMark, Unmarked, unmarked-next}
 use Rattle.quotes.proofs.skip_plain.Statement.{statement}
 use Rattle.quotes.proofs.skip_plain.Tie as tie
 
 abbrev Inv-loop : tie.InvT-loop
-Inv-loop s from i₀ i = Unmarked s from i
+Inv-loop s from x y z i₀ i = Unmarked (isMark x y z) s from i
 
 abbrev μ-loop : tie.MeasureT-loop
-μ-loop s from i₀ i = length s - i
+μ-loop s from x y z i₀ i = length s - i
 
 loop-holds : tie.Need-loop-holds Inv-loop μ-loop
 loop-holds c = c .skip-wide .ensures
@@ -21,7 +21,7 @@ returns : tie.Need-returns Inv-loop μ-loop
 returns c = c .before .before .before .loop .inv
 
 loop-again : tie.Need-loop-again Inv-loop μ-loop
-loop-again c = unmarked-next _ _ _ (c .before .before .before .loop .inv) (c .if1 .left) (omega arith)
+loop-again c = unmarked-next (isMark _ _ _) _ _ _ (c .before .before .before .loop .inv) (c .if1 .left) (omega arith)
 
 returns-2 : tie.Need-returns-2 Inv-loop μ-loop
 returns-2 c = c .before .loop .inv
