@@ -173,7 +173,9 @@ pub fn comment(classes: &[u8; 256], d: &[u8], at: usize, level: usize) -> Skip
 {
     let mut n = at;
     loop {
-        match scan::next_byte(classes, d, n) {
+        // What opens and closes nothing is passed at once.
+        let i = quotes::skip_plain(d, n, 34, 60, 62);
+        match scan::next_byte(classes, d, i) {
             Step::Byte { byte, place, next } => {
                 if byte == 62 {
                     return Skip::Past(next);
