@@ -122,12 +122,26 @@ pub enum Skip {
     Bad(usize),
 }
 
+// A place from which a string is read as from n: in plain text that of the next quote or brace, as all before it is passed at once.
+fn onward(d: &[u8], s: Inside, n: usize) -> usize
+    ensures { λ r. ⌜ (n ≤ r) × (stringOf s (text (now (d .entry)) n) ≡ stringOf s (text (now (d .entry)) r)) ⌝ }
+{
+    match s {
+        Inside::Plain => quotes::skip_plain(d, n, 34, 123, 123),
+        Inside::Opened(_) => n,
+        Inside::Shut(_) => n,
+        Inside::Ell(_) => n,
+        Inside::Pair(_) => n,
+        Inside::Low(_) => n,
+    }
+}
+
 // A string, from just after its opening quote.
 pub fn string(classes: &[u8; 256], d: &[u8], at: usize) -> Skip
     requires { ⌜ Classes (now classes) ⌝ }
     ensures { λ r. ⌜ r ≡ stringOf Inside.Plain (text (now (d .entry)) at) ⌝ }
 {
-    let mut n = at;
+    let mut n = onward(d, Inside::Plain, at);
     let mut s = Inside::Plain;
     loop {
         match scan::next_byte(classes, d, n) {
@@ -135,7 +149,7 @@ pub fn string(classes: &[u8; 256], d: &[u8], at: usize) -> Skip
                 match move_inside(classes, s, byte, place) {
                     Move::Go(t) => {
                         s = t;
-                        n = next;
+                        n = onward(d, t, next);
                     }
                     Move::Closed => {
                         return Skip::Past(next);
@@ -159,7 +173,9 @@ pub fn comment(classes: &[u8; 256], d: &[u8], at: usize, level: usize) -> Skip
 {
     let mut n = at;
     loop {
-        match scan::next_byte(classes, d, n) {
+        // What opens and closes nothing is passed at once.
+        let i = quotes::skip_plain(d, n, 34, 60, 62);
+        match scan::next_byte(classes, d, i) {
             Step::Byte { byte, place, next } => {
                 if byte == 62 {
                     return Skip::Past(next);
