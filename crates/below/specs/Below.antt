@@ -2,7 +2,7 @@
 -- what a loop over 0..n computes.
 use mathlib.Core.Path.{_≡_, refl, sym, ap, _∙_}
 use mathlib.Core.Logic.{_⊎_, inl, inr, ⊎-elim}
-use mathlib.Core.Bool.{Bool, true, false, cond, not, _&&_, _||_, and-false}
+use mathlib.Core.Bool.{Bool, true, false, _&&_, _||_, and-false}
 use Prim.Native.Nat.{ℕ, zero, suc, _+_, _≤_, _<_, max}
 use native.Mathlib.Nat.{not-suc-le-zero, eq-or-lt-of-le, le-of-suc-le-suc}
 use native.Mathlib.Numerals.{add-one}
@@ -105,11 +105,6 @@ module _ (f : ℕ → Bool) where
   pub all-more : (n : ℕ) → allBelow n f ≡ true → f n ≡ true → allBelow (n + 1) f ≡ true
   unfolding allBelow
   all-more n h e = rw (add-one n, h, e)
-
-  -- one more number is one more test
-  pub all-next : (n : ℕ) → allBelow (n + 1) f ≡ (allBelow n f && f n)
-  unfolding allBelow
-  all-next n = rw (add-one n)
 
   -- it fails at k: it fails at every n above
   pub all-fails : (n k : ℕ) → k < n → f k ≡ false → allBelow n f ≡ false

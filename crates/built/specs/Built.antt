@@ -15,7 +15,8 @@ use Rattle.layout.specs.Layout.{mark, mostRows, mostLines, linesBase, lineBase,
 use Rattle.layout.specs.Row.{rowOf, rowAt}
 use Rattle.layout.specs.declared.Columns.{Columns}
 use Rattle.layout.specs.declared.Header.{Header}
-use Rattle.sound.specs.Sound.{valueAt, columnsOf, linesAt, finishAt, linesBefore, highestFinish, goodAt, headCounts, headSums, rowsGood, wellFormed}
+use Rattle.sound.specs.Sound.{valueAt, columnsOf, linesAt, finishAt, linesBefore, highestFinish, goodAt, headCounts, headSums, rowsGood}
+use Rattle.sound.specs.Sound.{wellFormed}
 use Rattle.values.proofs.Rooms.{length-pasted}
 use Rattle.survey.specs.Width.{widthOf}
 use Rattle.survey.specs.Survey.{Variable, linesAll, highestIn, headerFor, tableOf}

@@ -17,7 +17,8 @@ use Rattle.layout.specs.declared.Row.{Row}
 use Rattle.layout.specs.declared.Kind.{Kind}
 use Rattle.layout.specs.declared.Kind.the-variants.{Single, Multiple, Quantity, Character, Logical}
 use Rattle.widths.specs.Width.{need}
-use Rattle.sound.specs.Sound.{valueAt, plainAt, linePlain, linesPlain, valuesFit, widest, rangeWidth, linesGood, valuesGood, widthsGood, columnsGood, rowGood, linesAt, finishAt, linesBefore, goodAt, identsDiffer}
+use Rattle.sound.specs.Sound.{valueAt, plainAt, linePlain, linesPlain, valuesFit, widest, rangeWidth, linesGood, valuesGood, widthsGood}
+use Rattle.sound.specs.Sound.{columnsGood, rowGood, linesAt, finishAt, linesBefore, goodAt, identsDiffer}
 use Rattle.values.specs.Line.{numberAt, cellsOf}
 use Rattle.survey.specs.Width.{plainColumns, widened, fullColumns, linesWidth, widestOf, widthOf}
 use Rattle.survey.specs.Survey.{Variable, linesIn, countedIn, columnsIn, holdsIn, linesAll}

@@ -19,7 +19,8 @@ use Rattle.values.specs.Line.{numberAt, numbers, cellsOf, lineCells}
 use Rattle.values.specs.Value.{scaledOf}
 use Rattle.variables.specs.declared.Head.{Head}
 use Rattle.survey.specs.Width.{flagOf, plainColumns, widened, fullColumns, linesWidth, widestOf, widthOf}
-use Rattle.survey.specs.Survey.{Variable, countedIn, columnsIn, holdsIn, linesAll, identMet, rowsFrom, allLines, headerFor, tableOf, highestIn}
+use Rattle.survey.specs.Survey.{Variable, countedIn, columnsIn, holdsIn, linesAll, identMet, rowsFrom, allLines, headerFor, tableOf}
+use Rattle.survey.specs.Survey.{highestIn}
 use Rattle.rows.specs.Cells.{rowCells, headerCells}
 use Rattle.survey.specs.Good.{GoodVariable, Good}
 use Rattle.survey.specs.Good.Good.{none, more}
@@ -70,7 +71,9 @@ abbrev both : List Variable
 both = one ∷ two ∷ []
 
 one-good : GoodVariable 0 one
-unfolding countsGood placesGood valuesFit allDiffer numberNew rangeWidth widthGood roomGood _and_ allBelow maxBelow countOf signedOf eqZ numberOf lineAt rowOf kindOf need lowest highest digitsOf countFrom numberAt numbers cellsOf lineCells scaledOf flagOf plainColumns widened fullColumns linesWidth widestOf widthOf countedIn columnsIn holdsIn linesAll identMet
+unfolding countsGood placesGood valuesFit allDiffer numberNew rangeWidth widthGood roomGood _and_ allBelow maxBelow countOf signedOf eqZ
+    numberOf lineAt rowOf kindOf need lowest highest digitsOf countFrom numberAt numbers cellsOf lineCells scaledOf flagOf plainColumns
+    widened fullColumns linesWidth widestOf widthOf countedIn columnsIn holdsIn linesAll identMet
 one-good = record {
   counts = refl;
   places = refl;
@@ -85,7 +88,9 @@ one-good = record {
 }
 
 two-good : GoodVariable 2 two
-unfolding countsGood placesGood valuesFit allDiffer numberNew rangeWidth widthGood roomGood _and_ allBelow maxBelow countOf signedOf eqZ numberOf lineAt rowOf kindOf need lowest highest digitsOf countFrom numberAt numbers cellsOf lineCells scaledOf flagOf plainColumns widened fullColumns linesWidth widestOf widthOf countedIn columnsIn holdsIn linesAll identMet
+unfolding countsGood placesGood valuesFit allDiffer numberNew rangeWidth widthGood roomGood _and_ allBelow maxBelow countOf signedOf eqZ
+    numberOf lineAt rowOf kindOf need lowest highest digitsOf countFrom numberAt numbers cellsOf lineCells scaledOf flagOf plainColumns
+    widened fullColumns linesWidth widestOf widthOf countedIn columnsIn holdsIn linesAll identMet
 two-good = record {
   counts = refl;
   places = refl;
@@ -110,5 +115,8 @@ pub table-is : tableOf both ≡
     ∷ pos 2 ∷ pos 5 ∷ pos 3 ∷ pos 3 ∷ pos 1 ∷ pos 0 ∷ pos 0 ∷ pos 0 ∷ pos 0 ∷ pos 0 ∷ pos 0 ∷ pos 0 ∷ pos 2 ∷ pos 0 ∷ pos 20 ∷ pos 3 ∷ pos 40 ∷ pos 3
     ∷ pos 1 ∷ pos 0 ∷ pos 80 ∷ pos 3
     ∷ pos 12 ∷ pos 0 ∷ pos 80 ∷ pos 3 ∷ []
-unfolding countsGood placesGood valuesFit allDiffer numberNew rangeWidth widthGood roomGood _and_ allBelow maxBelow countOf signedOf eqZ numberOf lineAt rowOf kindOf need lowest highest digitsOf countFrom numberAt numbers cellsOf lineCells scaledOf flagOf plainColumns widened fullColumns linesWidth widestOf widthOf countedIn columnsIn holdsIn linesAll identMet tableOf headerFor headerCells rowsFrom rowCells allLines highestIn
+unfolding countsGood placesGood valuesFit allDiffer numberNew rangeWidth widthGood roomGood _and_ allBelow maxBelow countOf signedOf eqZ
+    numberOf lineAt rowOf kindOf need lowest highest digitsOf countFrom numberAt numbers cellsOf lineCells scaledOf flagOf plainColumns
+    widened fullColumns linesWidth widestOf widthOf countedIn columnsIn holdsIn linesAll identMet tableOf headerFor headerCells rowsFrom
+    rowCells allLines highestIn
 table-is = refl

@@ -1,12 +1,10 @@
 -- The order of signed numbers, as a test.
-use mathlib.Core.Path.{_≡_, refl, sym, ap, _∙_}
-use mathlib.Core.Bool.{Bool, true, false, cond}
-use Prim.Native.Nat.{ℕ, _≤_}
+use mathlib.Core.Path.{_≡_, refl}
+use mathlib.Core.Bool.{true, false}
 use native.Mathlib.Omega.{arith}
-use borrow.Author.Tests.{leb-true, leb-false, le-leb, ltb-true, ltb-false}
-use lib.Dec.{leb, ltb}
+use borrow.Author.Tests.{leb-true, leb-false, le-leb}
 use lib.IntN.{ℤ, pos, negsuc}
-use lib.Signed.{leZ, ltZ}
+use lib.Signed.{leZ}
 use Rattle.below.specs.Below.{holds-not}
 
 pub le-self : (a : ℤ) → leZ a a ≡ true
@@ -28,9 +26,3 @@ le-else (pos a) (pos b) h = le-leb b a (omega (arith, leb-false a b h))
 le-else (pos a) (negsuc b) h = refl
 le-else (negsuc a) (pos b) h = holds-not refl h
 le-else (negsuc a) (negsuc b) h = le-leb a b (omega (arith, leb-false b a h))
-
-pub le-both : (a b : ℤ) → leZ a b ≡ true → leZ b a ≡ true → a ≡ b
-le-both (pos a) (pos b) h g = ap pos (omega (arith, leb-true a b h, leb-true b a g))
-le-both (pos a) (negsuc b) h g = holds-not h refl
-le-both (negsuc a) (pos b) h g = holds-not g refl
-le-both (negsuc a) (negsuc b) h g = ap negsuc (omega (arith, leb-true b a h, leb-true a b g))

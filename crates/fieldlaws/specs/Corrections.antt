@@ -84,11 +84,6 @@ pub read-fits : (t : List ℤ) (v : ℕ) (r : Row) (x : Value) (old : List ℕ) 
 unfolding readingOf
 read-fits t v r x old e = held-fits t v r x (pick old (placesOf t v r)) (length-pick old (placesOf t v r)) e
 
--- and written back keeps what the row reads
-pub writes-back : {t : List ℤ} {v len : ℕ} (r : Row) (facts : RowFacts t v len r) (old : List ℕ) → Topped (r .kind) t v r → (x : Value)
-    → len ≤ length old → readingOf t v r old ≡ holds x → readingOf t v r (writtenOf t v r x old) ≡ readingOf t v r old
-writes-back {t} {v} r facts old top x h e = reads-back r facts old top x h (read-fits t v r x old e) ∙ sym e
-
 -- ---- value places that are all spaces read as missing, and missing written back keeps every byte, for every kind
 module _ (t : List ℤ) (v : ℕ) (r : Row) (old : List ℕ) (blank : allSpaces (pick old (placesOf t v r)) ≡ true) where
   pub blank-reads : readingOf t v r old ≡ holds missing

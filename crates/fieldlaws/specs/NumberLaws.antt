@@ -12,7 +12,7 @@ use lib.Dec.{eqb, lit<}
 use lib.IntN.{ℤ, pos, negsuc}
 use lib.ListN.{length, take, drop, getD, length-append}
 use lib.Seq.{take-at, getD-at, drop-append-add, take-length, drop-length}
-use Rattle.ascii.specs.Tens.{digitsOf, digits-hold, digits-some}
+use Rattle.ascii.specs.Tens.{digits-hold, digits-some}
 use Rattle.cells.specs.Cell.{numberOf, signedOf}
 use Rattle.widths.specs.Width.{tailOf, ten-some, wholeDigits, quantityWidth, sizeOf, minusOf}
 use Rattle.layout.specs.declared.Format.{Format}
@@ -185,12 +185,6 @@ module _ (f : Format) (w : ℕ) (plain : f .point ≡ 0 → f .decimals ≡ 0) w
   length-quantity z h = quantity-length f w z (omega arith)
 
 -- ---- a code of at most w digits
-pub code-read : (w : ℕ) (z : ℤ) → 1 ≤ w → 0 < sizeOf z → sizeOf z < 10 ^ 16 → signedOf z .minus ≡ false → digitsOf (sizeOf z) ≤ w
-    → codeOf (codeBytes w z) ≡ says z
-unfolding codeBytes signedOf
-code-read w (pos n) some p few m h = code-back w n some (lt-of-lt-of-le (digits-hold n few) (pow-le-pow-right (lit< tt) h))
-code-read w (negsuc n) some p few m h = let x : _≡_ {A = ℕ} 0 1 = cc in absurd (omega arith)
-
 pub length-code : (w : ℕ) (z : ℤ) → length (codeBytes w z) ≡ w
 unfolding codeBytes
 length-code w z = length-padded w (signedOf z .size)

@@ -45,10 +45,6 @@ module _ (ok : ℤ → Bool) (m : ℤ) (ms : List ℤ) where
   unfolding allLegal
   legal-next e = and-right (ok m) (allLegal ok ms) e
 
-  pub legal-both : ok m ≡ true → allLegal ok ms ≡ true → allLegal ok (m ∷ ms) ≡ true
-  unfolding allLegal
-  legal-both e f = and-true (ok m) (allLegal ok ms) e f
-
   fits-rise : setFits ok (m ∷ ms) ≡ true → risingFrom m ms ≡ true
   unfolding setFits
   fits-rise e = and-left (risingFrom m ms) (allLegal ok (m ∷ ms)) e

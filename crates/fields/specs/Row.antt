@@ -1,21 +1,19 @@
 -- A row of a table: its value places, what its bytes say, which values fit it and the bytes they give. `v` is the table's count of
 -- rows. Start and finish count from 1, places from 0.
-use mathlib.Core.Bool.{Bool, true, false, cond, not}
+use mathlib.Core.Bool.{Bool, true, false, cond}
 use mathlib.Core.List.{List, [], _∷_, _++_}
 use Prim.Native.Nat.{ℕ, zero, suc, _+_, _-_}
 use lib.Dec.{ltb}
 use lib.IntN.{ℤ, pos}
 use lib.ListN.{length}
 use Rattle.places.specs.Places.{pick, put, run}
-use Rattle.layout.specs.declared.Format.{Format}
-use Rattle.layout.specs.declared.Spread.{Spread}
 use Rattle.layout.specs.declared.Spread.the-variants.{Bits, Fields}
 use Rattle.layout.specs.declared.Kind.{Kind}
 use Rattle.layout.specs.declared.Kind.the-variants.{Single, Multiple, Quantity, Character, Logical}
 use Rattle.layout.specs.declared.Row.{Row}
 use Rattle.fields.specs.Legal.{legal}
 use Rattle.fields.specs.Number.{codeBytes, quantityBytes}
-use Rattle.fields.specs.Field.{Value, missing, number, members, text, truth, Field, holds, illegal}
+use Rattle.fields.specs.Field.{Value, missing, number, members, text, truth, Field}
 use Rattle.fields.specs.Field.{singleField, quantityField, bitsField, spreadField, textField}
 use Rattle.fields.specs.Field.{truthField, spaces, bitBytes, spreadBytes, textBytes, truthBytes, setFits, textFits}
 

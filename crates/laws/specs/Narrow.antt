@@ -51,8 +51,10 @@ upTo999 next = record {
   next = next;
 }
 
-too-narrow : (ident : ℕ) (name label : Quoted) (place next m : ℕ) → holdsIn 0 (variable (quantity ident name label place next) (upTo999 m)) ≡ false
-unfolding holdsIn columnsIn fullColumns widened plainColumns countedIn flagOf rowOf kindOf widthOf widestOf linesWidth maxBelow rangeWidth need quantityWidth
+too-narrow : (ident : ℕ) (name label : Quoted) (place next m : ℕ)
+    → holdsIn 0 (variable (quantity ident name label place next) (upTo999 m)) ≡ false
+unfolding holdsIn columnsIn fullColumns widened plainColumns countedIn flagOf rowOf kindOf widthOf widestOf linesWidth maxBelow rangeWidth
+    need quantityWidth
     wholeDigits tailOf digitsOf countFrom signedOf roomGood
 too-narrow ident name label place next m = refl
 

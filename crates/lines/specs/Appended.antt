@@ -1,10 +1,9 @@
 -- Text laid into a lent buffer behind what it holds so far.
 use mathlib.Core.Path.{_≡_, refl, sym, ap, _∙_}
 use mathlib.Core.Bool.{Bool, true, false, cond}
-use mathlib.Core.List.{List, [], _∷_, _++_, append-nil}
-use Prim.Native.Nat.{ℕ, suc, _+_, _-_, _^_, _≤_, _<_}
+use mathlib.Core.List.{List, [], _∷_, _++_}
+use Prim.Native.Nat.{ℕ, _+_, _-_, _^_, _≤_, _<_}
 use native.Mathlib.Nat.{add-zero}
-use native.Mathlib.Numerals.{add-one}
 use native.Mathlib.Omega.{arith}
 use lib.ListN.{length, set, take, drop, length-append, length-drop, length-set}
 use lib.Seq.{take-all, length-take-le}
@@ -37,10 +36,6 @@ pub laid-none : (out : List ℕ) (at : ℕ) → laid out at [] ≡ out
 unfolding laid
 laid-none out at = refl
 
-pub laid-byte : (out : List ℕ) (at b : ℕ) (s : List ℕ) → laid (set out at b) (at + 1) s ≡ laid out at (b ∷ s)
-unfolding laid
-laid-byte out at b s = rw add-one
-
 pub laid-more : (out : List ℕ) (at : ℕ) (s u : List ℕ) → laid (laid out at s) (at + length s) u ≡ laid out at (s ++ u)
 unfolding laid
 laid-more out at s u = put-run-append s out at (length u) u ∙ rw (length-append s u)
@@ -69,7 +64,8 @@ unfolding laid
 nothing-more out at h = record { leaves = refl; ends = sym (add-zero at); inside = h }
 
 -- ---- the digits of a count
-pub count-laid : (out : List ℕ) (at n w : ℕ) {out′ : List ℕ} → at + w ≤ length out → w ≡ digitsOf n → out′ ≡ put out (run at w) (padded w n) → Appended out at (numeral n) out′ (at + w)
+pub count-laid : (out : List ℕ) (at n w : ℕ) {out′ : List ℕ} → at + w ≤ length out → w ≡ digitsOf n → out′ ≡ put out (run at w) (padded w n)
+    → Appended out at (numeral n) out′ (at + w)
 unfolding laid numeral
 count-laid out at n w h e p = record {
   leaves = p ∙ rw (length-padded (digitsOf n) n, e);
@@ -116,16 +112,19 @@ pub all-left : (out : List ℕ) (at : ℕ) (s : List ℕ) → Left out at s out 
 all-left out at s = record { leaves = refl; ends = refl }
 
 module _ {out : List ℕ} {at : ℕ} {s u out₀ : List ℕ} {at₀ : ℕ} {whole : List ℕ} where
-  pub less-left : {out′ : List ℕ} {at′ : ℕ} → Left out at (s ++ u) out₀ at₀ whole → Appended out at s out′ at′ → Left out′ at′ u out₀ at₀ whole
+  pub less-left : {out′ : List ℕ} {at′ : ℕ} → Left out at (s ++ u) out₀ at₀ whole → Appended out at s out′ at′
+      → Left out′ at′ u out₀ at₀ whole
   less-left l a = record {
     leaves = rw (a .leaves, a .ends) (laid-more out at s u) ∙ l .leaves;
     ends = rw (a .ends) (let e = length-append s u in let f = l .ends in omega arith);
   }
 
-pub none-left : {out : List ℕ} {at : ℕ} {out₀ : List ℕ} {at₀ : ℕ} {whole : List ℕ} → at ≤ length out → Left out at [] out₀ at₀ whole → Appended out₀ at₀ whole out at
+pub none-left : {out : List ℕ} {at : ℕ} {out₀ : List ℕ} {at₀ : ℕ} {whole : List ℕ} → at ≤ length out → Left out at [] out₀ at₀ whole
+    → Appended out₀ at₀ whole out at
 none-left {out} {at} h l = record { leaves = sym (laid-none out at) ∙ l .leaves; ends = sym (add-zero at) ∙ l .ends; inside = h }
 
-pub left-as : {out : List ℕ} {at : ℕ} {s u out₀ : List ℕ} {at₀ : ℕ} {whole : List ℕ} → s ≡ u → Left out at s out₀ at₀ whole → Left out at u out₀ at₀ whole
+pub left-as : {out : List ℕ} {at : ℕ} {s u out₀ : List ℕ} {at₀ : ℕ} {whole : List ℕ} → s ≡ u → Left out at s out₀ at₀ whole
+    → Left out at u out₀ at₀ whole
 left-as e l = rw e at l
 
 -- ---- bytes copied from a part of a record
@@ -143,8 +142,10 @@ module _ {out : List ℕ} {at : ℕ} {s out′ : List ℕ} {r : ℕ} (a : Append
   pub room-after : (k m : ℕ) → length s ≤ k → at + (k + m) ≤ length out → r + m ≤ length out′
   room-after k m h l = let e = a .ends in let f = keeps-room a in omega arith
 
-pub room-count : (n : ℕ) {out : List ℕ} {at : ℕ} {out′ : List ℕ} {r : ℕ} → Appended out at (numeral n) out′ r → (m : ℕ) → at + (16 + m) ≤ length out → r + m ≤ length out′
+pub room-count : (n : ℕ) {out : List ℕ} {at : ℕ} {out′ : List ℕ} {r : ℕ} → Appended out at (numeral n) out′ r → (m : ℕ)
+    → at + (16 + m) ≤ length out → r + m ≤ length out′
 room-count n a m l = room-after a 16 m (numeral-few n) l
 
-pub room-spaced : (n : ℕ) {out : List ℕ} {at : ℕ} {out′ : List ℕ} {r : ℕ} → Appended out at (32 ∷ numeral n) out′ r → (m : ℕ) → at + (17 + m) ≤ length out → r + m ≤ length out′
+pub room-spaced : (n : ℕ) {out : List ℕ} {at : ℕ} {out′ : List ℕ} {r : ℕ} → Appended out at (32 ∷ numeral n) out′ r → (m : ℕ)
+    → at + (17 + m) ≤ length out → r + m ≤ length out′
 room-spaced n a m l = let f = numeral-few n in room-after a 17 m (omega arith) l

@@ -1,5 +1,5 @@
 -- What a value must be to be listed in the room that a line has, and the value that an answer says.
-use mathlib.Core.Path.{_≡_, refl, ap}
+use mathlib.Core.Path.{_≡_, ap}
 use mathlib.Core.Bool.{Bool, false, cond}
 use mathlib.Core.List.{List, [], _∷_, _++_}
 use Prim.Native.Nat.{ℕ, _+_, _^_, _≤_, _<_}
@@ -73,7 +73,8 @@ module _ (list : List ℤ) (n j : ℕ) (h : j < n) (l : n ≤ length list) where
   unfolding codesAfter
   codes-next = rw next-code
 
-pub codes-first : (list : List ℤ) (n : ℕ) → 0 < n → n ≤ length list → codes (take n list) ≡ numberText (cell list 0) ++ codesAfter (drop 1 (take n list))
+pub codes-first : (list : List ℤ) (n : ℕ) → 0 < n → n ≤ length list
+    → codes (take n list) ≡ numberText (cell list 0) ++ codesAfter (drop 1 (take n list))
 unfolding codes
 codes-first list n h l = ap codes (next-code list n 0 h l)
 

@@ -2,8 +2,8 @@
 // bytes the buffer holds so far, and each call answers how many it holds then. Above it stands the listing of a file.
 ghost use mathlib.Core.Path.{_≡_};
 ghost use mathlib.Core.Bool.{cond};
-ghost use mathlib.Core.List.{[], _∷_, _++_};
-ghost use Prim.Native.Nat.{_+_, _*_, _^_, _≤_, _<_};
+ghost use mathlib.Core.List.{[], _∷_};
+ghost use Prim.Native.Nat.{_+_, _^_, _≤_, _<_};
 ghost use lib.ListN.{length, take, drop};
 ghost use Rattle.ascii.specs.Tens.{Tens};
 ghost use Rattle.cells.specs.Cell.{signedOf};

@@ -1,23 +1,22 @@
 -- WHAT IS LISTED of a file by a table: the lines of the records before the first fault, and the last line. "Per value a line .. It ends
 -- with `ok` and the record count, or `fault` number, record and ident (0 if none), after the records before it."
 use mathlib.Core.Path.{_≡_, refl, sym, ap, _∙_}
-use mathlib.Core.Bool.{Bool, true, false, cond}
+use mathlib.Core.Bool.{true, false, cond}
 use mathlib.Core.List.{List, [], _++_, append-assoc, append-nil}
 use Prim.Native.Nat.{ℕ, zero, suc, _+_, _-_, _≤_, _<_}
-use native.Mathlib.Nat.{add-zero, add-suc, suc-add, sub-zero}
-use native.Mathlib.Numerals.{add-one}
+use native.Mathlib.Nat.{add-zero, add-suc, suc-add}
 use native.Mathlib.Omega.{arith}
-use borrow.Author.Tests.{lt-ltb, le-ltb, le-leb, lt-leb}
+use borrow.Author.Tests.{le-leb, lt-leb}
 use lib.Dec.{eqb, leb, ltb}
 use lib.IntN.{ℤ}
-use lib.ListN.{length, drop}
+use lib.ListN.{length}
 use Rattle.layout.specs.Row.{rowAt}
 use Rattle.sound.specs.Sound.{wellFormed}
 use Rattle.sound.specs.Rows.{rowsOf, lengthOf}
 use Rattle.cuts.specs.Records.{Records, over, unended, record-and, recordsOf}
 use Rattle.records.specs.Value.{readingAt}
 use Rattle.records.specs.Verdict.{Verdict, sound, refused, refusedAt}
-use Rattle.files.specs.File.{FileVerdict, soundWith, badTable, faultIn, recordVerdict, goOn, firstLength, isSound, fileVerdict}
+use Rattle.files.specs.File.{FileVerdict, soundWith, badTable, faultIn, recordVerdict, goOn, firstLength, isSound}
 use Rattle.lines.specs.Text.{fieldText, okText, faultText}
 
 -- ---- one record: a line for each row, in the table's order
@@ -77,11 +76,6 @@ rows-split t n r zero b i = rw (add-zero i, zero-plus b)
     zero-plus m = omega arith
 rows-split t n r (suc a) b i = rw (suc-add a b, add-suc i a, ← suc-add i a) (ap (λ (l : List ℕ). rowText t n r i ++ l) (rows-split t n r a b (suc i)) ∙ sym (append-assoc (rowText t n r i) (rowsText t n r (suc i) a) _))
 
--- one row of those that are left
-pub row-next : (t : List ℤ) (n : ℕ) (r : List ℕ) (i v : ℕ) → i < v → rowsText t n r i (v - i) ≡ rowText t n r i ++ rowsText t n r (i + 1) (v - (i + 1))
-unfolding rowsText
-row-next t n r i v h = let e : v - i ≡ suc (v - (i + 1)) = omega arith in rw (e, add-one i)
-
 pub rows-none : (t : List ℤ) (n : ℕ) (r : List ℕ) (i k : ℕ) → k ≡ 0 → rowsText t n r i k ≡ []
 unfolding rowsText
 rows-none t n r i k e = rw e
@@ -121,7 +115,8 @@ rest-unended t n first zero r = refl
 rest-unended t n first (suc i) r = refl
 
 -- the rows so far and one more
-pub rows-more : (t : List ℤ) (n : ℕ) (r : List ℕ) (i row : ℕ) → i ≤ row → rowsText t n r i (row - i) ++ rowText t n r row ≡ rowsText t n r i (row + 1 - i)
+pub rows-more : (t : List ℤ) (n : ℕ) (r : List ℕ) (i row : ℕ) → i ≤ row
+    → rowsText t n r i (row - i) ++ rowText t n r row ≡ rowsText t n r i (row + 1 - i)
 unfolding rowsText
 rows-more t n r i row h =
     let e : row + 1 - i ≡ row - i + 1 = omega arith in

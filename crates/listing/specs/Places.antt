@@ -11,11 +11,11 @@ use Rattle.sound.specs.Sound.{wellFormed}
 use Rattle.sound.specs.Rows.{rowsOf}
 use Rattle.cuts.specs.declared.Terminator.{Terminator}
 use Rattle.cuts.specs.Cut.{terminatorOf}
-use Rattle.cuts.specs.Records.{Records, over, unended, record-and, recordsOf, recordsFrom, part, EndedAt, UnendedAt}
+use Rattle.cuts.specs.Records.{over, unended, recordsOf, recordsFrom, part, EndedAt}
 use Rattle.records.specs.Verdict.{refused}
 use Rattle.files.specs.File.{soundWith, faultIn}
 use Rattle.lines.specs.Appended.{Appended, keeps-room}
-use Rattle.listing.specs.Listing.{lastText, recordsText, listingOf, restText, rest-over, rest-unended}
+use Rattle.listing.specs.Listing.{lastText, listingOf, restText, rest-over, rest-unended}
 use Rattle.listing.specs.Turns.{tookEnd, tookText, Further, Taken}
 use Rattle.listing.specs.declared.Place.{Place}
 use Rattle.listing.specs.declared.Took.{Took}
@@ -66,7 +66,8 @@ pub record ListedOn (t : List ℤ) (w : Terminator) (d : List ℕ) (p : Place) (
 abbrev pub startPlace : Place
 startPlace = record { from = 0; n = 0; first = 0; row = 0 }
 
-pub start-all : (t : List ℤ) (w : Terminator) (d : List ℕ) → wellFormed t ≡ true → w ≡ terminatorOf d → placeText t w d startPlace ≡ listingOf t d
+pub start-all : (t : List ℤ) (w : Terminator) (d : List ℕ) → wellFormed t ≡ true → w ≡ terminatorOf d
+    → placeText t w d startPlace ≡ listingOf t d
 unfolding placeText restText listingOf recordsOf
 start-all t w d g e = rw (g, e)
 

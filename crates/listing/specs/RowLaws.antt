@@ -1,5 +1,5 @@
 -- A row of a tested table: it stands there, is ready to be read, its ident has four digits, and its line is that of what is read.
-use mathlib.Core.Path.{_≡_, refl, sym, ap, _∙_}
+use mathlib.Core.Path.{_≡_}
 use mathlib.Core.Bool.{true, false}
 use mathlib.Core.List.{List, []}
 use Prim.Native.Nat.{ℕ, _+_, _-_, _^_, _≤_, _<_}
@@ -14,18 +14,17 @@ use Rattle.layout.specs.Row.{rowOf, rowAt}
 use Rattle.layout.specs.declared.Header.{Header}
 use Rattle.layout.specs.declared.Row.{Row}
 use Rattle.fields.specs.Row.{readingOf}
-use Rattle.fields.specs.Field.{Value, Field, holds, illegal}
-use Rattle.sound.specs.Sound.{rowsGood, rowGood, goodAt, columnsOf, linesBefore, columnsGood, countsGood, placesGood}
+use Rattle.fields.specs.Field.{Value, holds}
+use Rattle.sound.specs.Sound.{rowsGood, rowGood, goodAt, columnsOf, linesBefore, columnsGood, placesGood}
 use Rattle.sound.specs.Rows.{rowsOf, lengthOf, parts, row-facts}
 use Rattle.records.specs.Value.{readingAt}
-use Rattle.records.specs.Tables.{TableReady, table-ready}
+use Rattle.records.specs.Tables.{table-ready}
 use Rattle.readings.specs.Ready.{RowReady}
 use Rattle.readings.specs.Answer.{RowRead, illegalAnswer}
 use Rattle.readings.specs.declared.Answer.{Answer}
 use Rattle.files.specs.Tested.{Tested, tested-rows, tested-length}
 use Rattle.lines.specs.Text.{fieldText, lineText}
 use Rattle.lines.specs.Lines.{Listable, valueOf}
-use Rattle.lines.specs.Appended.{Appended, as-text, nothing-more}
 use Rattle.listing.specs.Values.{Shown, shown, shown-none, shown-some, Held, held}
 use Rattle.listing.specs.Listing.{rowText, identOf}
 
@@ -79,11 +78,13 @@ module _ {t : List ℤ} {h : Header} (g : Tested t h) {i : ℕ} (low : i < h .ro
           go : Held (readingAt t i bytes) → Listable a list′ bytes
           go (held x q) = held-shown x m q .listable
 
-      pub row-line : (n : ℕ) → length list ≡ 9999 → illegalAnswer a ≡ false → lineText n (r .ident) (valueOf a list′ bytes) ≡ rowText t n bytes i
+      pub row-line : (n : ℕ) → length list ≡ 9999 → illegalAnswer a ≡ false
+          → lineText n (r .ident) (valueOf a list′ bytes) ≡ rowText t n bytes i
       unfolding rowText fieldText
       row-line n m e = go (shown-some (rowAt t i .start - 1) (length list) (readingAt t i bytes) a (read-is .answer) e)
         where
-          go : Held (readingAt t i bytes) → lineText n (r .ident) (valueOf a list′ bytes) ≡ fieldText n (rowAt t i .ident) (readingAt t i bytes)
+          go : Held (readingAt t i bytes)
+              → lineText n (r .ident) (valueOf a list′ bytes) ≡ fieldText n (rowAt t i .ident) (readingAt t i bytes)
           go (held x q) = rw (q, held-shown x m q .value, is)
 
 module _ {t : List ℤ} {h : Header} (g : Tested t h) {i : ℕ} where

@@ -8,12 +8,14 @@ use Rattle.ascii.specs.Tens.{countFrom, digitsOf}
 use Rattle.below.specs.Below.{_and_, allBelow, anyBelow, sumBelow, maxBelow}
 use Rattle.cells.specs.Cell.{countOf, signedOf, numberOf, eqZ}
 use Rattle.layout.specs.Layout.{headerOf, columnsAt, lineAt}
-use Rattle.layout.specs.Row.{rowOf, rowAt, kindOf, spreadOf}
+use Rattle.layout.specs.Row.{rowOf, kindOf, spreadOf}
 use Rattle.widths.specs.Width.{need, tailOf, wholeDigits, quantityWidth, lowest, highest}
 use Rattle.strides.specs.Stride.{allDiffer, numberNew}
-use Rattle.sound.specs.Sound.{linesPlain, valuesFit, rangeWidth, widest, widthGood, roomGood, linesGood, valuesGood, widthsGood, countsGood, placesGood, columnsGood, rowGood, columnsOf, identsDiffer, rowsGood, wellFormed}
+use Rattle.sound.specs.Sound.{linesPlain, valuesFit, rangeWidth, widest, widthGood, roomGood, linesGood, valuesGood, widthsGood, countsGood}
+use Rattle.sound.specs.Sound.{placesGood, columnsGood, rowGood, identsDiffer, rowsGood, wellFormed}
 use Rattle.fields.specs.Legal.{inRange, onLine, legal}
-use Rattle.fields.specs.Number.{allSpaces, unspaced, digitsOnly, decimalFrom, codeAfter, codeOf, amountForm, amountSize, amountOf, quantityAfter, quantityOf, padded}
+use Rattle.fields.specs.Number.{allSpaces, unspaced, digitsOnly, decimalFrom, codeAfter, codeOf, amountForm, amountSize, amountOf}
+use Rattle.fields.specs.Number.{quantityAfter, quantityOf, padded}
 use Rattle.fields.specs.Field.{numberField, singleSays, quantitySays, allBits, setBits, bitsField}
 use Rattle.fields.specs.Row.{defined, bitPlaces, placesBy, fieldBy, readingOf}
 use Rattle.sets.specs.Sets.{isIllegal}
@@ -51,10 +53,24 @@ lines₁ =
 
 -- and `ok 1`
 pub sample-listed : listingOf table record₁ ≡ lines₁ ++ (111 ∷ 107 ∷ 32 ∷ 49 ∷ 10 ∷ [])
-unfolding countFrom digitsOf _and_ allBelow anyBelow sumBelow maxBelow countOf signedOf numberOf eqZ headerOf columnsAt lineAt rowOf kindOf spreadOf need tailOf wholeDigits quantityWidth lowest highest allDiffer numberNew linesPlain valuesFit rangeWidth widest widthGood roomGood linesGood valuesGood widthsGood countsGood placesGood columnsGood rowGood identsDiffer rowsGood wellFormed inRange onLine legal allSpaces unspaced digitsOnly decimalFrom codeAfter codeOf amountForm amountSize amountOf quantityAfter quantityOf padded numberField singleSays quantitySays allBits setBits bitsField defined bitPlaces placesBy fieldBy readingOf isIllegal firstFrom rowVerdict byteVerdict rowsVerdict beginsWith terminatorAt terminatorOf wholeAt beginsAt atEnd cut recordsOf recordVerdict goOn firstLength isSound numeral numberText codesAfter codes valueText lineText fieldText okText faultText rowText rowsText identOf faultOf lastText recordsText listingOf
+unfolding countFrom digitsOf _and_ allBelow anyBelow sumBelow maxBelow countOf signedOf numberOf eqZ headerOf columnsAt lineAt rowOf kindOf
+    spreadOf need tailOf wholeDigits quantityWidth lowest highest allDiffer numberNew linesPlain valuesFit rangeWidth widest widthGood
+    roomGood linesGood valuesGood widthsGood countsGood placesGood columnsGood rowGood identsDiffer rowsGood wellFormed inRange onLine legal
+    allSpaces unspaced digitsOnly decimalFrom codeAfter codeOf amountForm amountSize amountOf quantityAfter quantityOf padded numberField
+    singleSays quantitySays allBits setBits bitsField defined bitPlaces placesBy fieldBy readingOf isIllegal firstFrom rowVerdict
+    byteVerdict rowsVerdict beginsWith terminatorAt terminatorOf wholeAt beginsAt atEnd cut recordsOf recordVerdict goOn firstLength isSound
+    numeral numberText codesAfter codes valueText lineText fieldText okText faultText rowText rowsText identOf faultOf lastText recordsText
+    listingOf
 sample-listed = refl
 
 -- and `fault 24 2 2`
 pub fault-listed : listingOf table (record₁ ++ record₂) ≡ lines₁ ++ (102 ∷ 97 ∷ 117 ∷ 108 ∷ 116 ∷ 32 ∷ 50 ∷ 52 ∷ 32 ∷ 50 ∷ 32 ∷ 50 ∷ 10 ∷ [])
-unfolding countFrom digitsOf _and_ allBelow anyBelow sumBelow maxBelow countOf signedOf numberOf eqZ headerOf columnsAt lineAt rowOf kindOf spreadOf need tailOf wholeDigits quantityWidth lowest highest allDiffer numberNew linesPlain valuesFit rangeWidth widest widthGood roomGood linesGood valuesGood widthsGood countsGood placesGood columnsGood rowGood identsDiffer rowsGood wellFormed inRange onLine legal allSpaces unspaced digitsOnly decimalFrom codeAfter codeOf amountForm amountSize amountOf quantityAfter quantityOf padded numberField singleSays quantitySays allBits setBits bitsField defined bitPlaces placesBy fieldBy readingOf isIllegal firstFrom rowVerdict byteVerdict rowsVerdict beginsWith terminatorAt terminatorOf wholeAt beginsAt atEnd cut recordsOf recordVerdict goOn firstLength isSound numeral numberText codesAfter codes valueText lineText fieldText okText faultText rowText rowsText identOf faultOf lastText recordsText listingOf
+unfolding countFrom digitsOf _and_ allBelow anyBelow sumBelow maxBelow countOf signedOf numberOf eqZ headerOf columnsAt lineAt rowOf kindOf
+    spreadOf need tailOf wholeDigits quantityWidth lowest highest allDiffer numberNew linesPlain valuesFit rangeWidth widest widthGood
+    roomGood linesGood valuesGood widthsGood countsGood placesGood columnsGood rowGood identsDiffer rowsGood wellFormed inRange onLine legal
+    allSpaces unspaced digitsOnly decimalFrom codeAfter codeOf amountForm amountSize amountOf quantityAfter quantityOf padded numberField
+    singleSays quantitySays allBits setBits bitsField defined bitPlaces placesBy fieldBy readingOf isIllegal firstFrom rowVerdict
+    byteVerdict rowsVerdict beginsWith terminatorAt terminatorOf wholeAt beginsAt atEnd cut recordsOf recordVerdict goOn firstLength isSound
+    numeral numberText codesAfter codes valueText lineText fieldText okText faultText rowText rowsText identOf faultOf lastText recordsText
+    listingOf
 fault-listed = refl

@@ -2,7 +2,7 @@
 use mathlib.Core.Path.{_≡_, refl, sym, ap, _∙_}
 use mathlib.Core.Bool.{Bool, true, false, cond}
 use mathlib.Core.List.{List, [], _++_, append-assoc, append-nil}
-use Prim.Native.Nat.{ℕ, zero, suc, _+_, _-_, _*_, _^_, _≤_, _<_, max}
+use Prim.Native.Nat.{ℕ, zero, suc, _+_, _-_, _≤_, _<_, max}
 use native.Mathlib.Nat.{sub-zero}
 use native.Mathlib.Omega.{arith}
 use borrow.Author.Tests.{leb-true}
@@ -18,7 +18,8 @@ use Rattle.records.specs.Verdict.{Verdict, sound, refused, refusedAt, rowsVerdi
 use Rattle.files.specs.File.{FileVerdict, soundWith, badTable, faultIn, recordVerdict, goOn, firstLength, isSound}
 use Rattle.files.specs.Tested.{Tested}
 use Rattle.lines.specs.Appended.{Appended, nothing-more}
-use Rattle.listing.specs.Listing.{rowsText, lastText, recordsText, restText, rows-split, record-sound, record-fault, rest-long, rest-short}
+use Rattle.listing.specs.Listing.{rowsText, lastText, recordsText, restText, rows-split, record-sound, record-fault, rest-long}
+use Rattle.listing.specs.Listing.{rest-short}
 use Rattle.listing.specs.declared.Listed.{Listed}
 use Rattle.listing.specs.declared.Took.{Took}
 use Rattle.listing.specs.declared.Took.the-variants as took
@@ -74,7 +75,8 @@ pub record TakenRows (t : List ℤ) (n first row : ℕ) (r : List ℕ) (out : Li
 
 -- ---- laws: rows of a record that is sound
 module _ (t : List ℤ) (n first row : ℕ) (r : List ℕ) (long : lengthOf t ≤ length r) {out : List ℕ} {at : ℕ} {out′ : List ℕ} {l : Listed} (a : Rows t (n + 1) r row out at out′ l) where
-  rows-left : (k : ℕ) → l .row - row + k ≡ rowsOf t - row → rowsText t (n + 1) r row (rowsOf t - row) ≡ rowsText t (n + 1) r row (l .row - row) ++ rowsText t (n + 1) r (l .row) k
+  rows-left : (k : ℕ) → l .row - row + k ≡ rowsOf t - row
+      → rowsText t (n + 1) r row (rowsOf t - row) ≡ rowsText t (n + 1) r row (l .row - row) ++ rowsText t (n + 1) r (l .row) k
   rows-left k e =
       let f = a .from in
       let q : row + (l .row - row) ≡ l .row = omega arith in
@@ -108,7 +110,8 @@ pub sound-long : (t : List ℤ) (first : ℕ) (r : List ℕ) → isSound (record
 unfolding recordVerdict isSound
 sound-long t first r e = go (eqb (length r) first) (leb (lengthOf t) (length r)) refl e
   where
-    go : (p q : Bool) → leb (lengthOf t) (length r) ≡ q → isSound (cond p (cond q (rowsVerdict t (rowsOf t) r) (refused 22)) (refused 31)) ≡ true → lengthOf t ≤ length r
+    go : (p q : Bool) → leb (lengthOf t) (length r) ≡ q
+        → isSound (cond p (cond q (rowsVerdict t (rowsOf t) r) (refused 22)) (refused 31)) ≡ true → lengthOf t ≤ length r
     go true true l h = leb-true (lengthOf t) (length r) l
     go true false l h = holds-not h refl
     go false q l h = holds-not h refl
@@ -127,7 +130,8 @@ module _ (t : List ℤ) (n first : ℕ) (r : List ℕ) {out : List ℕ} {at : �
 
   -- judged, and the fault is the last line
   fault-taken : {e : ℕ} → isSound (recordVerdict t (firstLength n first (length r)) r) ≡ false
-      → Appended out at (lastText t (goOn (recordVerdict t (firstLength n first (length r)) r) n (soundWith (n + 1)))) out′ e → Taken t n first 0 r out at out′ (took.Last e)
+      → Appended out at (lastText t (goOn (recordVerdict t (firstLength n first (length r)) r) n (soundWith (n + 1)))) out′ e
+      → Taken t n first 0 r out at out′ (took.Last e)
   unfolding restText tookText tookEnd Further
   fault-taken i b = record {
     text = _;
@@ -137,15 +141,18 @@ module _ (t : List ℤ) (n first : ℕ) (r : List ℕ) {out : List ℕ} {at : �
   }
 
   module _ {size row : ℕ} (is : size ≡ firstLength n first (length r)) (none : row ≡ 0) where
-    pub taken-first : {a : Took} → isSound (recordVerdict t size r) ≡ true → TakenRows t n size 0 r out at out′ a → Taken t n first row r out at out′ a
+    pub taken-first : {a : Took} → isSound (recordVerdict t size r) ≡ true → TakenRows t n size 0 r out at out′ a
+        → Taken t n first row r out at out′ a
     taken-first e b = rw none (first-taken (rw is at e) (rw is at b))
 
     pub taken-fault : {e : ℕ} → isSound (recordVerdict t size r) ≡ false
-        → Appended out at (lastText t (goOn (recordVerdict t size r) n (soundWith (n + 1)))) out′ e → Taken t n first row r out at out′ (took.Last e)
+        → Appended out at (lastText t (goOn (recordVerdict t size r) n (soundWith (n + 1)))) out′ e
+        → Taken t n first row r out at out′ (took.Last e)
     taken-fault e b = rw none (fault-taken (rw is at e) (rw is at b))
 
   -- judged before
-  pub taken-more : {row : ℕ} {a : Took} → (row ≡ 0 → ⊥) → lengthOf t ≤ length r → TakenRows t n first row r out at out′ a → Taken t n first row r out at out′ a
+  pub taken-more : {row : ℕ} {a : Took} → (row ≡ 0 → ⊥) → lengthOf t ≤ length r → TakenRows t n first row r out at out′ a
+      → Taken t n first row r out at out′ a
   taken-more {row} z long b = record {
     text = b .text;
     stands = b .stands;
@@ -157,7 +164,8 @@ module _ (t : List ℤ) (n first : ℕ) (r : List ℕ) {out : List ℕ} {at : �
       some zero z = absurd (z refl)
       some (suc m) z = omega arith
 
-pub taken-short : (t : List ℤ) (n first row : ℕ) (r out : List ℕ) (at : ℕ) → (row ≡ 0 → ⊥) → length r < lengthOf t → at ≤ length out → Taken t n first row r out at out (took.Last at)
+pub taken-short : (t : List ℤ) (n first row : ℕ) (r out : List ℕ) (at : ℕ) → (row ≡ 0 → ⊥) → length r < lengthOf t → at ≤ length out
+    → Taken t n first row r out at out (took.Last at)
 unfolding tookText tookEnd Further
 taken-short t n first row r out at z short h = record {
   text = [];

@@ -1,18 +1,16 @@
 -- What was read of a row of a well-formed table lies within the room of a line, and is the row's value.
 use mathlib.Core.Path.{_≡_, refl, sym, ap, _∙_}
 use mathlib.Core.Bool.{Bool, true, false, cond}
-use mathlib.Core.List.{List, [], _∷_, _++_}
-use Prim.Native.Nat.{ℕ, zero, suc, _+_, _-_, _^_, _≤_, _<_}
+use mathlib.Core.List.{List, [], _∷_}
+use Prim.Native.Nat.{ℕ, zero, suc, _+_, _-_, _≤_, _<_}
 use native.Mathlib.Omega.{arith}
-use borrow.Author.Tests.{le-leb, leb-true}
+use borrow.Author.Tests.{le-leb}
 use lib.Dec.{ltb, leb}
 use lib.IntN.{ℤ, pos}
-use lib.ListN.{length, take, drop, getD, length-append, length-take, length-drop, List·getD-append}
+use lib.ListN.{length, take, drop, getD, length-append, List·getD-append}
 use lib.Seq.{take-take, take-append-seam}
-use lib.Signed.{leZ}
 use Rattle.below.specs.Below.{holds-not}
-use Rattle.cells.specs.Cell.{cell, signedOf}
-use Rattle.layout.specs.declared.Format.{Format}
+use Rattle.cells.specs.Cell.{signedOf}
 use Rattle.layout.specs.declared.Kind.{Kind}
 use Rattle.layout.specs.declared.Kind.the-variants.{Single, Multiple, Quantity, Character, Logical}
 use Rattle.layout.specs.declared.Spread.the-variants.{Bits, Fields}
@@ -22,7 +20,8 @@ use Rattle.places.specs.Places.{pick, run}
 use Rattle.places.specs.Laws.{pick-run}
 use Rattle.fields.specs.Legal.{legal}
 use Rattle.fields.specs.Number.{allSpaces}
-use Rattle.fields.specs.Field.{Value, missing, number, members, text, truth, Field, holds, illegal, setFits, allLegal, textFits, unended, allPlain, textField}
+use Rattle.fields.specs.Field.{Value, missing, number, members, text, truth, Field, holds, illegal, setFits, textFits, unended}
+use Rattle.fields.specs.Field.{allPlain, textField}
 use Rattle.fields.specs.Row.{fitsBy, fits, otherType, readingOf, fieldBy, placesBy}
 use Rattle.fields.specs.Facts.{RowFacts, KindFacts, WidthFacts}
 use Rattle.fieldlaws.specs.BackLaws.{fit-legal, fit-set}
@@ -110,7 +109,8 @@ unfolding unended
 unended-first [] = refl
 unended-first (b ∷ s) = go (allSpaces (b ∷ s)) (unended-first s)
   where
-    go : (q : Bool) → take (length (unended s)) s ≡ unended s → take (length (cond q [] (b ∷ unended s))) (b ∷ s) ≡ cond q [] (b ∷ unended s)
+    go : (q : Bool) → take (length (unended s)) s ≡ unended s
+        → take (length (cond q [] (b ∷ unended s))) (b ∷ s) ≡ cond q [] (b ∷ unended s)
     go true h = refl
     go false h = ap (λ (l : List ℕ). b ∷ l) h
 
@@ -123,12 +123,14 @@ text-is s x e = go (allSpaces s) (allPlain s) e
     go false true e = cc
     go false false e = let z : _≡_ {A = ℕ} 0 1 = cc in absurd (omega arith)
 
-text-field : (t : List ℤ) (v : ℕ) (r : Row) (bytes : List ℕ) (f : Field) (k : Kind) → k ≡ Character → fieldBy k t v r (pick bytes (placesBy k t v r)) ≡ f
+text-field : (t : List ℤ) (v : ℕ) (r : Row) (bytes : List ℕ) (f : Field) (k : Kind) → k ≡ Character
+    → fieldBy k t v r (pick bytes (placesBy k t v r)) ≡ f
     → textField (pick bytes (run (r .start - 1) (r .width))) ≡ f
 unfolding fieldBy placesBy
 text-field t v r bytes f k e q = rw e at q
 
-text-stands : (bytes : List ℕ) (p w : ℕ) (x : List ℕ) → p + w ≤ length bytes → length x ≤ w → textField (pick bytes (run p w)) ≡ holds (text x) → take (length x) (drop p bytes) ≡ x
+text-stands : (bytes : List ℕ) (p w : ℕ) (x : List ℕ) → p + w ≤ length bytes → length x ≤ w
+    → textField (pick bytes (run p w)) ≡ holds (text x) → take (length x) (drop p bytes) ≡ x
 text-stands bytes p w x h l e =
     let q : x ≡ unended (take w (drop p bytes)) = text-is _ _ (rw (pick-run bytes p w h) at e) in
     sym (take-take (length x) w (drop p bytes) l) ∙ rw q (unended-first (take w (drop p bytes)))
@@ -147,7 +149,8 @@ module _ (t : List ℤ) (v len : ℕ) (r : Row) (facts : RowFacts t v len r) (by
   set-rising (Multiple s) ms e (set-row f) =
       rising-of (legal t v r) 9999 (λ z l. rw e at (facts .most z l)) (λ z l. rw e at (facts .least z l)) ms f
 
-  set-shown : (ms : List ℤ) (a : Answer) (list′ : List ℤ) (p : ℕ) → Rising 1 9999 ms → a ≡ answerOf p (length list) (holds (members ms)) → list′ ≡ listAfter (holds (members ms)) list
+  set-shown : (ms : List ℤ) (a : Answer) (list′ : List ℤ) (p : ℕ) → Rising 1 9999 ms → a ≡ answerOf p (length list) (holds (members ms))
+      → list′ ≡ listAfter (holds (members ms)) list
       → Shown (members ms) a list′ bytes
   unfolding answerOf listAfter Listable valueOf
   set-shown ms a list′ p s e l =
@@ -159,7 +162,8 @@ module _ (t : List ℤ) (v len : ℕ) (r : Row) (facts : RowFacts t v len r) (by
         value = rw (e′, l′) (ap members (filled-take ms list));
       }
 
-  pub shown : (x : Value) (a : Answer) (list′ : List ℤ) → readingOf t v r bytes ≡ holds x → RowRead (r .start - 1) (holds x) list list′ a → Shown x a list′ bytes
+  pub shown : (x : Value) (a : Answer) (list′ : List ℤ) → readingOf t v r bytes ≡ holds x → RowRead (r .start - 1) (holds x) list list′ a
+      → Shown x a list′ bytes
   unfolding answerOf listAfter Listable valueOf readingOf
   shown missing a list′ e q = record { listable = rw (q .answer) tt; value = rw (q .answer) }
   shown (number z) a list′ e q =

@@ -1,7 +1,7 @@
 // What is listed of a data file by a table, a part at a time into a lent buffer: whoever lends it writes it out when it has no room for
 // another line and goes on from the place that was answered. Above it stands the lister.
 ghost use mathlib.Core.Path.{_≡_};
-ghost use Prim.Native.Nat.{_+_, _-_, _*_, _^_, _≤_, _<_};
+ghost use Prim.Native.Nat.{_+_, _-_, _^_, _≤_, _<_};
 ghost use lib.ListN.{length};
 ghost use Rattle.ascii.specs.Tens.{Tens};
 ghost use Rattle.cuts.specs.Cut.{Found};

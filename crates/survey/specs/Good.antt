@@ -30,4 +30,5 @@ pub record GoodVariable (before : ℕ) (v : Variable) : Type 0 where
 -- variables as they are read, one behind the others
 pub data Good : List Variable → Type 0 where
   none : Good []
-  more : {l : List Variable} {v : Variable} → Good l → GoodVariable (linesAll l) v → identMet l (v .head .ident) ≡ false → length l < mostRows → Good (l ++ v ∷ [])
+  more : {l : List Variable} {v : Variable} → Good l → GoodVariable (linesAll l) v → identMet l (v .head .ident) ≡ false
+      → length l < mostRows → Good (l ++ v ∷ [])

@@ -1,6 +1,5 @@
 // One row's value written into a record: which values fit a row of each kind, and the bytes that they give at its value places.
 // Above it stand the face for C and Rust, and the lists of corrections.
-ghost use mathlib.Core.Path.{_≡_};
 ghost use lib.ListN.{length};
 ghost use Rattle.ascii.specs.Tens.{Tens};
 ghost use Rattle.writes.specs.Write.{WrittenBy, Ready, valueOf};

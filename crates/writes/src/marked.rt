@@ -1,6 +1,5 @@
 // Rows of sets: bitstrings and spreads. The numbers that the row allows are marked once where that pays, so that its lines are not
 // searched for each category or member.
-ghost use mathlib.Core.Path.{_≡_};
 ghost use mathlib.Core.List.{[]};
 ghost use Prim.Native.Nat.{_≤_};
 ghost use lib.ListN.{length};

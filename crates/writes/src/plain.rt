@@ -1,7 +1,6 @@
 // Rows whose value stands in one run of places: SINGLE, QUANTITY, CHARACTER and LOGICAL.
 ghost use mathlib.Core.Path.{_≡_};
 ghost use mathlib.Core.Bool.{cond};
-ghost use Prim.Native.Nat.{_≤_};
 ghost use lib.ListN.{length};
 ghost use Rattle.ascii.specs.Tens.{Tens};
 ghost use Rattle.layout.specs.declared.Kind.the-variants as kind;

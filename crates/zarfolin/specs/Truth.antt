@@ -1,7 +1,7 @@
 -- A truth that is given as a number: 0 and 1 are truths. Any other is no legal truth: it is refused as a truth would be (20, 21, 22, 26),
 -- and by 27 where a truth would be written.
 use mathlib.Core.Path.{_≡_, refl}
-use mathlib.Core.Bool.{Bool, true, false, cond}
+use mathlib.Core.Bool.{false, cond}
 use mathlib.Core.List.{List}
 use Prim.Native.Nat.{ℕ}
 use lib.Dec.{eqb, ltb}

@@ -1,5 +1,4 @@
 -- `cells::signed_of` meets its contract: the test gives the sign, by which `signedOf` goes. Assumes nothing.
-use mathlib.Core.Path.{ap}
 use native.Mathlib.Omega.{arith}
 use native.Mathlib.Numerals.{add-one}
 use mir.Facts.{toZ-ofZ}

@@ -1,6 +1,5 @@
 -- `digits::put_code` meets its contract: the digits of the number's size.
-use mathlib.Core.Path.{_≡_, sym, ap, _∙_}
-use native.Mathlib.Omega.{arith}
+use mathlib.Core.Path.{_≡_, ap, _∙_}
 use borrow.Author.Needs.{needs}
 use mir.Facts.{toZ-ofZ}
 use Rattle.cells.specs.Cell.{signedOf}

@@ -1,5 +1,5 @@
 -- `digits::put_digits` meets its contract: the digits built in the small array are those copied.
-use mathlib.Core.Path.{_≡_, sym, ap, _∙_}
+use mathlib.Core.Path.{sym, _∙_}
 use native.Mathlib.Omega.{arith}
 use borrow.Author.Needs.{needs}
 use Rattle.fields.specs.Number.{padded}

@@ -7,7 +7,7 @@ use lib.ListN.{length}
 use lib.Seq.{length-take-le}
 use Rattle.lines.specs.Lines.{lineRoom}
 use Rattle.listing.specs.Places.{PlaceGood, turnsLeft, start-good, turn-room, on-inside, on-good, on-less, over-inside}
-use Rattle.lister.specs.Space.{Spacious, spacious-from}
+use Rattle.lister.specs.Space.{spacious-from}
 use Rattle.lister.proofs.list_all.Statement.{statement}
 use Rattle.lister.proofs.list_all.Tie as tie
 

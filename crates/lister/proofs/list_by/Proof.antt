@@ -1,5 +1,5 @@
 -- `lister::list_by` is safe: what it lends has the lengths that are asked, and the table was tested.
-use mathlib.Core.Path.{_≡_, refl, sym, _∙_}
+use mathlib.Core.Path.{refl, sym, _∙_}
 use borrow.Author.Needs.{needs}
 use lib.Seq.{length-take-le}
 use Rattle.lister.proofs.list_by.Statement.{statement}

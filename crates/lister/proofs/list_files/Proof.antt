@@ -1,5 +1,5 @@
 -- `lister::list_files` is safe: what it lends has the lengths that are asked.
-use mathlib.Core.Path.{_≡_, refl, sym, _∙_}
+use mathlib.Core.Path.{sym}
 use borrow.Author.Needs.{needs}
 use lib.Dec.{lit≤}
 use lib.Seq.{length-take-le}

@@ -1,5 +1,4 @@
 -- `listing::append_last` meets its contract: the line of each case.
-use Prim.Native.Nat.{_^_, _<_}
 use native.Mathlib.Omega.{arith}
 use borrow.Author.Needs.{needs}
 use Rattle.files.specs.File.{fileSaid}

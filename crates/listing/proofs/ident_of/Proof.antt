@@ -1,7 +1,5 @@
 -- `listing::ident_of` meets its contract.
-use mathlib.Core.Path.{_≡_, refl, sym, ap, _∙_}
 use native.Mathlib.Omega.{arith}
-use borrow.Author.Needs.{needs}
 use Rattle.listing.specs.RowLaws.{ident-few, row-stands, ident-here, ident-none}
 use Rattle.listing.proofs.ident_of.Statement.{statement}
 use Rattle.listing.proofs.ident_of.Tie as tie

@@ -1,11 +1,10 @@
 -- `listing::list_on` meets its contract: by the record that starts at the place, or by the end of the data.
-use mathlib.Core.Path.{_≡_, sym, ap, _∙_}
-use Prim.Native.Nat.{_+_, _-_, _≤_}
+use mathlib.Core.Path.{sym, _∙_}
+use Prim.Native.Nat.{_-_}
 use native.Mathlib.Omega.{arith}
 use borrow.Author.Needs.{needs}
-use lib.ListN.{length, drop}
-use Rattle.layout.specs.Layout.{mostRows}
-use Rattle.sound.specs.Rows.{rowsOf, lengthOf}
+use lib.ListN.{drop}
+use Rattle.sound.specs.Rows.{lengthOf}
 use Rattle.records.specs.Tables.{table-ready}
 use Rattle.cuts.specs.Records.{recordsFrom, EndedAt, next-ended, next-unended, next-nothing, over-past}
 use Rattle.files.specs.File.{fileSaid}

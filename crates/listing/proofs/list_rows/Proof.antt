@@ -1,10 +1,9 @@
 -- `listing::list_rows` meets its contract. The invariant: the rows so far are listed.
-use mathlib.Core.Path.{_≡_, refl, sym, ap, _∙_}
+use mathlib.Core.Path.{_≡_, refl, sym, _∙_}
 use mathlib.Core.Logic.{⊎-elim}
-use Prim.Native.Nat.{_+_, _-_, _≤_, _<_, max}
+use Prim.Native.Nat.{_-_, _≤_, max}
 use native.Mathlib.Nat.{eq-or-lt-of-le}
 use native.Mathlib.Omega.{arith}
-use borrow.Author.Needs.{needs}
 use lib.ListN.{length}
 use Rattle.files.specs.Tested.{tested-rows}
 use Rattle.lines.specs.Appended.{Appended, as-text, then, keeps-room, nothing-more}

@@ -1,6 +1,5 @@
 -- `listing::take_record` meets its contract: judged before its first row, listed as far as there is room.
 use mathlib.Core.Path.{_≡_, sym, ap, _∙_}
-use Prim.Native.Nat.{_+_, _≤_}
 use native.Mathlib.Omega.{arith}
 use borrow.Author.Needs.{needs}
 use Rattle.files.specs.File.{recordVerdict, isSound, soundSoFar, so-far}

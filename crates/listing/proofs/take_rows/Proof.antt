@@ -1,5 +1,4 @@
 -- `listing::take_rows` meets its contract: some rows are left, or none.
-use native.Mathlib.Omega.{arith}
 use borrow.Author.Needs.{needs}
 use Rattle.files.specs.Tested.{tested-rows, tested-length}
 use Rattle.listing.specs.Turns.{take-part, take-whole}

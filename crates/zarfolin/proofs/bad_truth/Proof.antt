@@ -1,5 +1,5 @@
 -- `zarfolin::bad_truth` meets its contract: the tests in their order, and then the row's kind.
-use mathlib.Core.Path.{_≡_, sym, _∙_}
+use mathlib.Core.Path.{sym, _∙_}
 use mathlib.Core.List.{[]}
 use Rattle.writes.proofs.Whole.{row-stands}
 use Rattle.zarfolin.proofs.Truths.{bad-table, bad-row, bad-length, bad-kind}

@@ -1,5 +1,4 @@
 -- `zarfolin::kind_number` meets its contract, case by case.
-use mathlib.Core.Path.{sym}
 use borrow.Author.Needs.{needs}
 use Rattle.zarfolin.specs.Truth.{kindNumber}
 use Rattle.zarfolin.proofs.kind_number.Statement.{statement}

@@ -1,5 +1,4 @@
 -- `zarfolin::number_of` meets its contract, case by case.
-use mathlib.Core.Path.{sym}
 use borrow.Author.Needs.{needs}
 use Rattle.writes.specs.Public.{numberOf}
 use Rattle.zarfolin.proofs.number_of.Statement.{statement}

@@ -1,5 +1,5 @@
 -- `zarfolin::zarfolin_write_truth` meets its contract.
-use mathlib.Core.Path.{refl, _∙_}
+use mathlib.Core.Path.{_∙_}
 use borrow.Author.Tests.{lt-ltb, le-ltb}
 use Rattle.writes.specs.Write.{valueOf}
 use Rattle.zarfolin.specs.Truth.{truthNumber, truthAfter}
