@@ -18,10 +18,10 @@ use Rattle.cells.specs.declared.Signed.{Signed}
 abbrev pub cell : List ℤ → ℕ → ℤ
 cell t i = getD t i (pos 0)
 
--- a number as a count; a negative one counts as more than every limit, so that no limit lets it pass
+-- a number as a count; a negative one counts as 2 ^ 63 or more (by its bits, which the code reads), so that no limit lets it pass
 unfoldable pub countOf : ℤ → ℕ
 countOf (pos n) = n
-countOf (negsuc n) = 9223372036854775808
+countOf (negsuc n) = 9223372036854775808 + (9223372036854775807 - n)
 
 unfoldable pub signedOf : ℤ → Signed
 signedOf (pos n) = record { minus = false; size = n }

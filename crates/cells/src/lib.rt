@@ -7,19 +7,22 @@ ghost use lib.IntN.{pos};
 ghost use lib.Signed.{leZ};
 ghost use Rattle.cells.specs.Cell.{cell, countOf, signedOf, numberOf, eqZ, pasted};
 
-// What a negative number counts as: more than every limit.
-pub const NEGATIVE: usize = 9223372036854775808;
-
 // A sign and a size. Zero has no minus.
 pub struct Signed {
     pub minus: bool,
     pub size: u64,
 }
 
+// A number as a count. In both branches these are the bits as they stand, so that the compiler makes no test of it.
 pub fn count_of(x: i64) -> usize
     ensures { λ r. ⌜ r ≡ countOf x ⌝ }
 {
-    if x < 0 { NEGATIVE } else { x as usize }
+    if x < 0 {
+        // !x is -(x + 1)
+        18_446_744_073_709_551_615 - (!x) as usize
+    } else {
+        x as usize
+    }
 }
 
 // The number at i; past the end it is 0.
