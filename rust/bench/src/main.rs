@@ -47,12 +47,26 @@ fn main() {
         };
         let Figures { ours, plain, ratio } = figures;
         let bytes = if case.bytes == 0 { "-".to_string() } else { case.bytes.to_string() };
-        println!("| {name:<50} | {bytes:>7} | {ours:>10.digits$} | {plain:>10.digits$} | {ratio:>6.2} |");
+        let speed = |figure: f64| speed(case.bytes as f64, figure, digits == 0);
+        println!(
+            "| {name:<50} | {bytes:>7} | {ours:>10.digits$} | {plain:>10.digits$} | {ratio:>6.2} | {:>8} | {:>8} |",
+            speed(ours),
+            speed(plain)
+        );
         if ratio > worst.0 {
             worst = (ratio, name);
         }
     }
     println!("\nhighest ratio: {:.2} ({})", worst.0, worst.1);
+}
+
+/// Instructions for a byte, or MB/s, of what a call goes through.
+fn speed(bytes: f64, figure: f64, counted: bool) -> String {
+    match (bytes == 0.0, counted) {
+        (true, _) => "-".to_string(),
+        (false, true) => format!("{:.1}", figure / bytes),
+        (false, false) => format!("{:.0}", bytes / figure * 1000.0),
+    }
 }
 
 fn headline(ours: &str, counted: bool, with_definitions: bool) {
@@ -63,9 +77,15 @@ fn headline(ours: &str, counted: bool, with_definitions: bool) {
     println!(
         "buffers: the same for both, warm; calls interleaved in one run, pair by pair; medians, the ratio's too\n"
     );
-    let what = if counted { "instructions of one call" } else { "ns of one call (the thread's time)" };
-    println!("| {what:<50} | {:>7} | {:>10} | {:>10} | {:>6} |", "bytes", "ours", "plain", "ratio");
-    println!("|{:-<52}|{:->8}:|{:->11}:|{:->11}:|{:->7}:|", "", "", "", "", "");
+    let (what, rate) = match counted {
+        true => ("instructions of one call", "a byte"),
+        false => ("ns of one call (the thread's time)", "MB/s"),
+    };
+    println!(
+        "| {what:<50} | {:>7} | {:>10} | {:>10} | {:>6} | {rate:>8} | {:>8} |",
+        "bytes", "ours", "plain", "ratio", "plain"
+    );
+    println!("|{:-<52}|{:->8}:|{:->11}:|{:->11}:|{:->7}:|{:->9}:|{:->9}:|", "", "", "", "", "", "", "");
 }
 
 /// One call of one case under valgrind, which collects only inside this function.
