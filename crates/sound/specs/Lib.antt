@@ -1,4 +1,5 @@
 pub mod Sound
+pub mod Types
 pub mod Block
 pub mod Given
 pub mod Rows

@@ -8,7 +8,8 @@ ghost use mathlib.Core.Bool.{true};
 ghost use Rattle.ascii.specs.Tens.{Tens};
 ghost use Rattle.below.specs.Below.{_and_};
 ghost use Rattle.widths.specs.Width.{need, fitsKind, FewDecimals};
-ghost use Rattle.sound.specs.Sound.{headCounts, headSums, lackedZero, rangeLacked, textsGood, countsGood, placesGood, linePlain, linesPlain, rangeGood, rangeWidth, widthGood, roomGood, valuesGood, widthsGood, columnsGood, rowGood, rowsGood, valueAt, identsDiffer, wellFormed};
+ghost use Rattle.sound.specs.Sound.{headCounts, headSums, textsGood, linePlain, linesPlain, rangeGood, rangeWidth, widthGood, roomGood, valuesGood, widthsGood, columnsGood, rowGood, rowsGood, valueAt, identsDiffer, wellFormed};
+ghost use Rattle.sound.specs.Types.{wholeIs, undividedIs, formatGood, unrangedIs, valuedIs, valuelessIs, typeGood, sharedGood};
 ghost use Rattle.strides.specs.Hull.{Blocked};
 ghost use Rattle.sound.specs.Block.{Standing, hullFits, hullWidth, Placed, Ready, linedGood};
 use layout::Columns;
@@ -38,23 +39,67 @@ fn head_sums(h: Header, length: usize) -> bool
         & (Line::base(h.rows, h.lines) <= length)
 }
 
-fn lacked_zero(c: Columns) -> bool
-    ensures { λ b. ⌜ b ≡ lackedZero c ⌝ }
+// No decimals and no point.
+fn whole(c: Columns) -> bool
+    ensures { λ b. ⌜ b ≡ wholeIs c ⌝ }
 {
-    ((c.kind == 3) | ((c.decimals == 0) & (c.point == 0)))
-        & ((c.kind == 2) | ((c.subfields == 0) & (c.subwidth == 0)))
-        & ((c.kind <= 3) | ((c.range == 0) & (c.lines == 0)))
+    (c.decimals == 0) & (c.point == 0)
 }
 
-fn counts_good(c: Columns) -> bool
-    ensures { λ b. ⌜ b ≡ countsGood c ⌝ }
+fn undivided(c: Columns) -> bool
+    ensures { λ b. ⌜ b ≡ undividedIs c ⌝ }
 {
-    ((1 <= c.kind) & (c.kind <= 5))
-        & (c.decimals <= 9)
-        & ((c.point <= 1) & (c.range <= 1))
-        & lacked_zero(c)
-        & ((c.decimals == 0) | (c.point == 1))
-        & ((4 <= c.kind) | ((c.range == 1) | (1 <= c.lines)))
+    (c.subfields == 0) & (c.subwidth == 0)
+}
+
+// A point and few decimals, or neither.
+fn format_good(c: Columns) -> bool
+    ensures { λ b. ⌜ b ≡ formatGood c ⌝ }
+{
+    if c.point == 0 {
+        return c.decimals == 0;
+    }
+    (c.point == 1) & (c.decimals <= 9)
+}
+
+// A range, or at least a line.
+fn valued(c: Columns) -> bool
+    ensures { λ b. ⌜ b ≡ valuedIs c ⌝ }
+{
+    if c.range == 1 {
+        return true;
+    }
+    (c.range == 0) & unranged(c) & (1 <= c.lines)
+}
+
+// A range's ends, where there is none.
+fn unranged(c: Columns) -> bool
+    ensures { λ b. ⌜ b ≡ unrangedIs c ⌝ }
+{
+    let from = c.from;
+    let to = c.to;
+    cells::same(from, 0) & cells::same(to, 0)
+}
+
+fn valueless(c: Columns) -> bool
+    ensures { λ b. ⌜ b ≡ valuelessIs c ⌝ }
+{
+    (c.range == 0) & (c.lines == 0) & unranged(c)
+}
+
+// Does a row have the columns that its type has, and no others? Each type tests its own, so that a row passes few tests.
+fn type_good(c: Columns) -> bool
+    ensures { λ b. ⌜ b ≡ typeGood c ⌝ }
+{
+    let kind = c.kind;
+    match kind {
+        1 => whole(c) & undivided(c) & valued(c),
+        2 => whole(c) & ((c.subfields == 0) == (c.subwidth == 0)) & valued(c),
+        3 => undivided(c) & format_good(c) & valued(c),
+        4 => whole(c) & undivided(c) & valueless(c),
+        5 => whole(c) & undivided(c) & valueless(c),
+        _ => false,
+    }
 }
 
 fn texts_good(c: Columns) -> bool
@@ -66,27 +111,28 @@ fn texts_good(c: Columns) -> bool
         & (c.label_len <= 1_048_576)
 }
 
-fn places_good(c: Columns) -> bool
-    ensures { λ b. ⌜ b ≡ placesGood c ⌝ }
+// Are the columns good that rows of all types have, with `before` lines before a row's own, of the table's e?
+fn shared_good(e: usize, before: usize, c: Columns) -> bool
+    requires { ⌜ before ≤ e ⌝ }
+    ensures { λ b. ⌜ b ≡ sharedGood e before c ⌝ }
 {
     ((1 <= c.ident) & (c.ident <= 9_999))
         & ((1 <= c.start) & (c.start <= c.finish) & (c.finish <= 16_384))
-        & ((c.subfields == 0) == (c.subwidth == 0))
         & texts_good(c)
-}
-
-fn range_lacked(c: Columns) -> bool
-    ensures { λ b. ⌜ b ≡ rangeLacked c ⌝ }
-{
-    let from = c.from;
-    let to = c.to;
-    (c.range == 1) | (cells::same(from, 0) & cells::same(to, 0))
+        & (c.before == before)
+        & (c.lines <= e - before)
 }
 
 fn line_plain(l: Line) -> bool
     ensures { λ b. ⌜ b ≡ linePlain l ⌝ }
 {
-    (l.special <= 1) & (l.text <= 1_048_576) & (l.text_len <= 1_048_576)
+    if 1 < l.special {
+        return false;
+    }
+    if 1_048_576 < l.text {
+        return false;
+    }
+    l.text_len <= 1_048_576
 }
 
 // Are the flags and texts of the n lines from b on good?
@@ -289,11 +335,10 @@ fn columns_good(e: usize, before: usize, c: Columns) -> bool
     requires { ⌜ before ≤ e ⌝ }
     ensures { λ r. ⌜ r ≡ columnsGood e before c ⌝ }
 {
-    counts_good(c)
-        & places_good(c)
-        & range_lacked(c)
-        & (c.before == before)
-        & (c.lines <= e - before)
+    if !shared_good(e, before, c) {
+        return false;
+    }
+    type_good(c)
 }
 
 // Is a row good, with `before` lines before its own?
