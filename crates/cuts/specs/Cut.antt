@@ -135,6 +135,25 @@ at-few a b s = go (beginsWith b s)
     go true = omega arith
     go false = omega arith
 
+-- a terminator's first byte is below 32
+at-low : (a b : ℕ) (s : List ℕ) → a < 32 → terminatorAt a b s .first < 32
+unfolding terminatorAt
+at-low a b s h = go (beginsWith b s)
+  where
+    go : (q : Bool) → cond q (pair a b) (single a b) .first < 32
+    go true = h
+    go false = h
+
+pub first-low : (d : List ℕ) → terminatorOf d .first < 32
+unfolding terminatorOf
+first-low [] = omega arith
+first-low (b ∷ s) = go (eqb b 13) (eqb b 10) (first-low s)
+  where
+    go : (p q : Bool) → terminatorOf s .first < 32 → cond p (terminatorAt 13 10 s) (cond q (terminatorAt 10 13 s) (terminatorOf s)) .first < 32
+    go true q h = at-low 13 10 s (omega arith)
+    go false true h = at-low 10 13 s (omega arith)
+    go false false h = h
+
 -- ---- places that nothing begins at are passed together
 pub unbroken-none : (d : List ℕ) (w : Terminator) (from : ℕ) → from ≤ length d → Unbroken d w from from
 unbroken-none d w from h = record { on = omega arith; within = h; no-first = λ j a b. absurd (omega arith) }

@@ -9,14 +9,15 @@ use native.Mathlib.Numerals.{add-one}
 use native.Mathlib.Omega.{arith}
 use borrow.Author.Tests.{eqb-true}
 use lib.Dec.{eqb}
-use lib.ListN.{length, take, drop, getD, length-drop, drop-of-length-le}
-use lib.Seq.{drop-cons, drop-drop, drop-nil, take-suc, take-all, getD-drop}
+use lib.ListN.{length, take, drop, getD, length-take, length-drop, drop-of-length-le}
+use lib.Seq.{drop-cons, drop-drop, drop-nil, take-suc, take-all, getD-drop, getD-take}
 use Rattle.below.specs.Below.{and-left, and-right, holds-not, lt-or-le}
+use Rattle.lows.specs.Lows.{lowAt, Clear}
 use Rattle.cuts.specs.declared.Terminator.{Terminator}
 use Rattle.cuts.specs.declared.Next.{Next}
 use Rattle.cuts.specs.declared.Next.the-variants.{Ended, Unended, Nothing}
 use Rattle.cuts.specs.Cut.{beginsWith, wholeAt, beginsAt, endFrom, nextFrom}
-use Rattle.cuts.specs.Cut.{terminatorOf, end-here, end-on, end-none, next-some, next-none}
+use Rattle.cuts.specs.Cut.{terminatorOf, end-here, end-on, end-none, end-unbroken, next-some, next-none, unbroken-plain}
 
 pub data Records : Type 0 where
   over : Records
@@ -258,3 +259,35 @@ module _ (d : List ℕ) (w : Terminator) (start : ℕ) where
   pub over-past : length d ≤ start → recordsFrom w (drop start d) ≡ over
   unfolding cut atEnd
   over-past l = rw (drop-of-length-le d l)
+
+-- ---- a next record of so many bytes, none of them below 32
+pub record PlainNext (d : List ℕ) (w : Terminator) (from size : ℕ) : Type 0 where
+  pub inside : from + size < length d
+  pub long : length (part d from (from + size)) ≡ size
+  pub ends : nextFrom w from (drop from d) ≡ Ended from (from + size) (from + size + w .size)
+  pub plain : (j : ℕ) → j < length (part d from (from + size)) → lowAt (part d from (from + size)) j ≡ false
+
+module _ (d : List ℕ) (w : Terminator) (from size : ℕ) where
+  -- a byte of the record is one of the file
+  byte-there : (j : ℕ) → from ≤ j → j < from + size → getD (part d from (from + size)) (j - from) 0 ≡ getD d j 0
+  byte-there j a b =
+      let q : from + (j - from) ≡ j = omega arith in
+      getD-take (from + size - from) (drop from d) (j - from) 0 (omega arith) ∙ getD-drop from d (j - from) 0 ∙ ap (λ (x : ℕ). getD d x 0) q
+
+  part-length : from + size < length d → length (part d from (from + size)) ≡ size
+  part-length h = rw (length-take, length-drop) (omega arith)
+
+  pub plain-next : w .first < 32 → from + size < length d → beginsAt w (drop (from + size) d) ≡ true
+      → Clear (part d from (from + size)) 0 (length (part d from (from + size))) → PlainNext d w from size
+  plain-next low h e c =
+      let l = part-length h in
+      let there : (j : ℕ) → from ≤ j → j < from + size → lowAt d j ≡ false = λ j a b. rw (byte-there j a b) at (c .plain (j - from) (omega arith) (omega arith)) in
+      let u : Clear d from (from + size) = record { on = omega arith; within = omega arith; plain = there } in
+      record {
+        inside = h;
+        long = l;
+        ends =
+            next-some d from w (omega arith) ∙ end-unbroken d w from from (from + size) (unbroken-plain d w from (from + size) low u)
+                ∙ end-here d (from + size) w from h e;
+        plain = λ j b. c .plain j (omega arith) b;
+      }

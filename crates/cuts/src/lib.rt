@@ -1,8 +1,10 @@
 // A data file cut into records: its terminator, and the next record from a place on. Above it stands the judge of a file.
 ghost use mathlib.Core.Path.{_≡_};
+ghost use mathlib.Core.Bool.{true};
 ghost use Prim.Native.Nat.{_+_, _≤_, _<_};
 ghost use lib.ListN.{length, drop};
 ghost use Rattle.cuts.specs.Cut.{terminatorAt, terminatorOf, wholeAt, beginsAt, nextOf, nextFrom, Found, Unbroken};
+ghost use Rattle.cuts.specs.Records.{PlainNext};
 
 // A file's terminator: one byte or two, and how many; none where the file has no CR and no LF.
 pub struct Terminator {
@@ -127,6 +129,22 @@ pub fn next_from(d: &[u8], w: Terminator, from: usize) -> Next
         start: from,
         end: i,
     }
+}
+
+// Does the next record from a place on have so many bytes, none of them below 32? Where it has, nobody need search for its end.
+pub fn next_plain(d: &[u8], w: Terminator, from: usize, size: usize) -> bool
+    requires { ⌜ Found (now d) w ⌝ }
+    requires { ⌜ from ≤ length (now d) ⌝ }
+    ensures { λ r. ⌜ (r ≡ true → PlainNext (now (d .entry)) w from size) ⌝ }
+{
+    if d.len() - from <= size {
+        return false;
+    }
+    let end = from + size;
+    if begins_at(d, w, end) {
+        return lows::all_plain(&d[from..end]);
+    }
+    false
 }
 
 // The next record from a place on. The terminator is found from the start of the data, whatever the place.

@@ -8,6 +8,8 @@ ghost use Rattle.cuts.specs.Records.{recordsOf};
 ghost use Rattle.records.specs.Verdict.{judgedAs};
 ghost use Rattle.files.specs.File.{fileSaid, recordVerdict, goOn, soundWith, firstLength, recordsVerdict, fileVerdict, isSound, soundSoFar};
 ghost use Rattle.files.specs.Tested.{Tested};
+ghost use Rattle.files.specs.Passed.{SoundNext, Passed};
+ghost use Rattle.sound.specs.Rows.{lengthOf};
 use cuts::Next;
 use cuts::Terminator;
 use layout::Header;
@@ -20,6 +22,12 @@ pub enum Judgement {
     Unended(usize),
     OtherLength(usize),
     Fault(usize, Judged),
+}
+
+// A place of a file, and how many records end before it.
+struct Place {
+    from: usize,
+    n: usize,
 }
 
 pub fn is_sound(j: Judged) -> bool
@@ -81,6 +89,55 @@ pub fn judge_one(
     Judgement::Fault(n + 1, j)
 }
 
+// Whether the next record is as long as the first, which is long enough, and sound. No end is searched for where one stands there.
+fn next_sound(
+    t: &[i64],
+    h: Header,
+    d: &[u8],
+    w: Terminator,
+    first: usize,
+    from: usize,
+    scratch: &mut [u8],
+) -> bool
+    requires { ⌜ Tested (now t) h × (lengthOf (now t) ≤ first) ⌝ }
+    requires { ⌜ Found (now d) w × (from ≤ length (now d)) ⌝ }
+    requires { ⌜ length (now scratch) ≡ 10000 ⌝ }
+    ensures { λ r. ⌜ (r ≡ true → SoundNext (now (t .entry)) (now (d .entry)) w first from) ⌝ }
+{
+    if cuts::next_plain(d, w, from, first) {
+        let end = from + first;
+        return is_sound(records::judge_plain(t, h.rows, &d[from..end], scratch));
+    }
+    false
+}
+
+// Passes the sound records from a place on, as far as that goes quickly. The first record's length is known there.
+fn pass_sound(
+    t: &[i64],
+    h: Header,
+    d: &[u8],
+    w: Terminator,
+    first: usize,
+    at: Place,
+    scratch: &mut [u8],
+) -> Place
+    requires { ⌜ Tested (now t) h × (lengthOf (now t) ≤ first) ⌝ }
+    requires { ⌜ Found (now d) w × (1 ≤ at .n) × (at .n ≤ at .from) ⌝ }
+    requires { ⌜ length (now scratch) ≡ 10000 ⌝ }
+    ensures { λ r. ⌜ Passed (now (t .entry)) (now (d .entry)) w first at r ⌝ }
+{
+    let mut from = at.from;
+    let mut n = at.n;
+    while from < d.len() {
+        if !next_sound(t, h, d, w, first, from, scratch) {
+            return Place { from, n };
+        }
+        from = from + first + w.size;
+        n += 1;
+    }
+    Place { from, n }
+}
+
 // The records of a file, by a table that was tested and the file's terminator.
 pub fn judge_records(t: &[i64], h: Header, d: &[u8], w: Terminator, scratch: &mut [u8]) -> Judgement
     requires { ⌜ Tested (now t) h ⌝ }
@@ -99,8 +156,9 @@ pub fn judge_records(t: &[i64], h: Header, d: &[u8], w: Terminator, scratch: &mu
                 if !goes_on(j) {
                     return j;
                 }
-                n += 1;
-                from = next;
+                let passed = pass_sound(t, h, d, w, first, Place { from: next, n: n + 1 }, scratch);
+                n = passed.n;
+                from = passed.from;
             }
             Next::Unended { start: _, end: _ } => {
                 return Judgement::Unended(n + 1);

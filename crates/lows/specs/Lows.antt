@@ -54,6 +54,14 @@ clear-more s from i n c e h = record {
   plain = λ j a b. ⊎-elim (λ l. c .plain j a l) (λ l. none-at s i n e j l b) (lt-or-le j i);
 }
 
+-- one byte more, if it is not below 32
+pub clear-next : (s : List ℕ) (from i : ℕ) → Clear s from i → lowAt s i ≡ false → i < length s → Clear s from (i + 1)
+clear-next s from i c e h = record {
+  on = omega (arith, c .on);
+  within = omega arith;
+  plain = λ j a b. ⊎-elim (λ l. c .plain j a l) (λ l. let q : j ≡ i = omega arith in rw q e) (lt-or-le j i);
+}
+
 -- to the end, if none is among the last n bytes
 pub clear-end : (s : List ℕ) (from i last n : ℕ) → Clear s from i → lowAmong s last n ≡ false → last ≤ i → last + n ≡ length s → Clear s from (length s)
 clear-end s from i last n c e h l = record {

@@ -1,6 +1,7 @@
 // How far bytes go on with none below 32: sixteen are looked at together, so that long stretches of text cost little. Above it stand
 // the records of a file and the judge of a record.
 ghost use mathlib.Core.Path.{_≡_};
+ghost use mathlib.Core.Bool.{true};
 ghost use Prim.Native.Nat.{_+_, _≤_};
 ghost use lib.ListN.{length};
 ghost use Rattle.lows.specs.Lows.{lowAmong, Clear};
@@ -41,4 +42,19 @@ pub fn plain_to(s: &[u8], from: usize) -> usize
         return i;
     }
     n
+}
+
+// Is no byte below 32? Few bytes are looked at one by one.
+pub fn all_plain(s: &[u8]) -> bool
+    ensures { λ r. ⌜ (r ≡ true → Clear (now (s .entry)) 0 (length (now (s .entry)))) ⌝ }
+{
+    let n = s.len();
+    let mut i = if n < 16 { 0 } else { plain_to(s, 0) };
+    while i < n {
+        if s[i] < 32 {
+            return false;
+        }
+        i += 1;
+    }
+    true
 }

@@ -56,7 +56,7 @@ fn digits_after(n: u64, s: &[u8]) -> Digits
         if 57 < b {
             return Digits::Wrong;
         }
-        value = value * 10 + wide(b - 48);
+        value = value * 10 + wide(b) - 48;
         i += 1;
     }
     Digits::Value(value)

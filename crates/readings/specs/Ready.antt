@@ -1,6 +1,7 @@
 -- What a row must give to be read from a record of so many bytes: all of it comes from a well-formed table and a record no shorter
 -- than L.
 use mathlib.Core.Path.{_≡_, subst}
+use mathlib.Core.Bool.{false}
 use mathlib.Core.List.{List}
 use Prim.Native.Nat.{ℕ, _-_, _*_, _≤_, _<_}
 use native.Mathlib.Nat.{le-mul-of-pos-right}
@@ -11,7 +12,9 @@ use Rattle.layout.specs.declared.Kind.{Kind}
 use Rattle.layout.specs.declared.Kind.the-variants.{Single, Multiple, Quantity, Character}
 use Rattle.numbers.specs.Numeral.{FormatFacts}
 use Rattle.sets.specs.Sets.{BitsFacts, FieldsFacts}
+use lib.Dec.{ltb}
 use lib.IntN.{ℤ}
+use lib.ListN.{length, getD}
 use Rattle.layout.specs.declared.Row.{Row}
 use Rattle.fields.specs.Facts.{LineFacts, WidthFacts, SpreadFacts, QuantityFacts, KindFacts, RowFacts}
 
@@ -29,6 +32,10 @@ pub record NumberFacts (most : ℕ) (t : List ℤ) (v : ℕ) (r : Row) (size : �
   pub few : r .width ≤ most
   pub reach : r .width ≤ r .finish
   pub inside : r .finish ≤ size
+
+-- no byte is below 32
+abbrev pub Plain : List ℕ → Type 0
+Plain s = (j : ℕ) → j < length s → ltb (getD s j 0) 32 ≡ false
 
 -- ---- laws
 pub ready-of : {t : List ℤ} {v len : ℕ} {r : Row} → RowFacts t v len r → (size : ℕ) → len ≤ size → RowReady t v r size

@@ -1,27 +1,28 @@
 -- The answers of the public calls, by the tests that led to them.
 -- Assumes nothing.
-use mathlib.Core.Path.{_≡_, sym, ap, _∙_}
-use mathlib.Core.Bool.{Bool, true, false}
+use mathlib.Core.Path.{_≡_, refl, sym, ap, _∙_}
+use mathlib.Core.Bool.{Bool, true, false, cond}
 use mathlib.Core.List.{List}
+use mathlib.Core.Logic.{⊎-elim}
 use Prim.Native.Nat.{ℕ, zero, suc, _+_, _-_, _≤_, _<_}
 use native.Mathlib.Numerals.{add-one}
 use native.Mathlib.Omega.{arith}
 use borrow.Author.Tests.{lt-ltb, le-ltb, le-leb, lt-leb}
 use lib.IntN.{ℤ}
 use lib.ListN.{length}
-use native.Mathlib.Nat.{sub-eq-zero-of-le}
+use native.Mathlib.Nat.{eq-or-lt-of-le, sub-eq-zero-of-le}
 use Rattle.layout.specs.Layout.{headerOf}
 use Rattle.layout.specs.Row.{rowAt}
 use Rattle.layout.specs.declared.Header.{Header}
 use Rattle.layout.specs.declared.Row.{Row}
 use Rattle.fields.specs.Row.{readingOf}
 use Rattle.readings.specs.Answer.{RowRead}
-use Rattle.readings.specs.Ready.{RowReady}
+use Rattle.readings.specs.Ready.{RowReady, Plain}
 use Rattle.readings.specs.declared.Answer.{Answer}
 use Rattle.readings.specs.declared.Answer.the-variants as answer
 use Rattle.sound.specs.Sound.{wellFormed}
 use Rattle.sound.specs.Rows.{rowsOf, lengthOf}
-use Rattle.records.specs.First.{firstFrom}
+use Rattle.records.specs.First.{firstFrom, lowAt}
 use Rattle.records.specs.Value.{said, readAs, listAs, readingAt, ValueRead, said-answer}
 use Rattle.records.specs.Verdict.{rowsVerdict, verdictOf, refused}
 use Rattle.records.specs.Tables.{TableReady, table-ready}
@@ -44,6 +45,15 @@ pub first-none : (f : ℕ → Bool) (n i : ℕ) → n ≤ i → firstFrom f i (n
 unfolding firstFrom
 first-none f n i h = rw (sub-eq-zero-of-le h)
 
+pub first-nowhere : (f : ℕ → Bool) (n i : ℕ) → firstFrom f i n ≡ Nothing → (j : ℕ) → i ≤ j → j < i + n → f j ≡ false
+unfolding firstFrom
+first-nowhere f zero i e j a b = absurd (omega arith)
+first-nowhere f (suc n) i e j a b = go (f i) refl e (λ q l. first-nowhere f n (suc i) q j l (omega arith))
+  where
+    go : (c : Bool) → f i ≡ c → cond c (At i) (firstFrom f (suc i) n) ≡ Nothing → (firstFrom f (suc i) n ≡ Nothing → suc i ≤ j → f j ≡ false) → f j ≡ false
+    go true z q h = let o : _≡_ {A = ℕ} 0 1 = cc in absurd (omega arith)
+    go false z q h = ⊎-elim (λ m. ap f (sym m) ∙ z) (λ m. h q (omega arith)) (eq-or-lt-of-le a)
+
 -- numbers at which it fails are passed together
 module _ (f : ℕ → Bool) (n : ℕ) where
   first-past : (k i : ℕ) → i + k ≤ n → ((j : ℕ) → i ≤ j → j < i + k → f j ≡ false) → firstFrom f i (n - i) ≡ firstFrom f (i + k) (n - (i + k))
@@ -57,6 +67,15 @@ module _ (f : ℕ → Bool) (n : ℕ) where
       let e : 0 + to ≡ to = omega arith in
       let z : n - 0 ≡ n = omega arith in
       sym (rw (e, z) at (first-past to 0 (rw e h) (λ j a b. g j a (rw e at b))))
+
+-- a record has no byte below 32 where none is found
+pub plain-found : (bytes : List ℕ) → firstFrom (lowAt bytes) 0 (length bytes) ≡ Nothing → Plain bytes
+plain-found bytes e j h = first-nowhere (lowAt bytes) (length bytes) 0 e j (omega arith) (omega arith)
+
+pub first-of-plain : (bytes : List ℕ) → Plain bytes → firstFrom (lowAt bytes) 0 (length bytes) ≡ Nothing
+first-of-plain bytes h =
+    let n = length bytes in
+    sym (first-clear (lowAt bytes) n n (omega arith) (λ j a b. h j b)) ∙ first-none (lowAt bytes) n n (omega arith)
 
 -- ---- reading one row
 module _ (t : List ℤ) (i : ℕ) (bytes : List ℕ) (list : List ℤ) where

@@ -3,6 +3,7 @@
 ghost use mathlib.Core.Path.{_≡_};
 ghost use Prim.Native.Nat.{_-_, _≤_, _<_};
 ghost use lib.ListN.{length};
+ghost use Rattle.readings.specs.Ready.{Plain};
 ghost use Rattle.records.specs.First.{firstFrom, lowAt, badRow};
 ghost use Rattle.records.specs.Value.{ValueRead};
 ghost use Rattle.records.specs.Verdict.{judgedAs, rowsVerdict, verdictOf};
@@ -39,15 +40,16 @@ fn low_byte(bytes: &[u8]) -> Found
     Found::Nothing
 }
 
-// The lowest row that is illegal.
+// The lowest row that is illegal, in a record without a byte below 32.
 fn illegal_row(t: &[i64], rows: usize, bytes: &[u8], scratch: &mut [u8]) -> Found
     requires { ⌜ TableReady (now t) rows (length (now bytes)) ⌝ }
+    requires { ⌜ Plain (now bytes) ⌝ }
     requires { ⌜ length (now scratch) ≤ 10000 ⌝ }
     ensures { λ r. ⌜ r ≡ firstFrom (badRow (now (t .entry)) rows (now (bytes .entry))) 0 rows ⌝ }
 {
     let mut i: usize = 0;
     while i < rows {
-        if readings::row_illegal(t, rows, Row::read(t, i), bytes, scratch) {
+        if readings::row_illegal(t, rows, i, bytes, scratch) {
             return Found::At(i);
         }
         i += 1;
@@ -55,7 +57,20 @@ fn illegal_row(t: &[i64], rows: usize, bytes: &[u8], scratch: &mut [u8]) -> Foun
     Found::Nothing
 }
 
-// A record that is long enough, by a table that was tested: refusals 23 and 24. The scratch is room for marks.
+// A record that is long enough and has no byte below 32, by a table that was tested: refusal 24. The scratch is room for marks.
+pub fn judge_plain(t: &[i64], rows: usize, bytes: &[u8], scratch: &mut [u8]) -> Judged
+    requires { ⌜ TableReady (now t) rows (length (now bytes)) ⌝ }
+    requires { ⌜ Plain (now bytes) ⌝ }
+    requires { ⌜ length (now scratch) ≤ 10000 ⌝ }
+    ensures { λ r. ⌜ judgedAs r ≡ rowsVerdict (now (t .entry)) rows (now (bytes .entry)) ⌝ }
+{
+    match illegal_row(t, rows, bytes, scratch) {
+        Found::At(i) => Judged::Illegal(i),
+        Found::Nothing => Judged::Sound,
+    }
+}
+
+// A record that is long enough, by a table that was tested: refusals 23 and 24.
 pub fn judge_rows(t: &[i64], rows: usize, bytes: &[u8], scratch: &mut [u8]) -> Judged
     requires { ⌜ TableReady (now t) rows (length (now bytes)) ⌝ }
     requires { ⌜ length (now scratch) ≤ 10000 ⌝ }
@@ -63,10 +78,7 @@ pub fn judge_rows(t: &[i64], rows: usize, bytes: &[u8], scratch: &mut [u8]) -> J
 {
     match low_byte(bytes) {
         Found::At(p) => Judged::LowByte(p),
-        Found::Nothing => match illegal_row(t, rows, bytes, scratch) {
-            Found::At(i) => Judged::Illegal(i),
-            Found::Nothing => Judged::Sound,
-        },
+        Found::Nothing => judge_plain(t, rows, bytes, scratch),
     }
 }
 

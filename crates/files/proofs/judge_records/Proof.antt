@@ -10,6 +10,7 @@ use lib.ListN.{length, take, drop, length-take, length-drop}
 use Rattle.cuts.specs.Cut.{nextFrom}
 use Rattle.cuts.specs.Records.{recordsOf, recordsFrom, part, EndedAt, UnendedAt, next-ended, next-unended, next-nothing, over-past}
 use Rattle.files.specs.File.{fileSaid, goOn, isSound, recordVerdict, firstLength, recordsVerdict, soundWith, soundSoFar, records-over, records-unended, records-next, so-far, go-sound, go-same}
+use Rattle.files.specs.Passed.{sound-long}
 use Rattle.files.proofs.judge_records.Statement.{statement}
 use Rattle.files.proofs.judge_records.Tie as tie
 
@@ -71,19 +72,27 @@ returns c =
     ∙ go-same (recordVerdict (c .before .before .before .before .before .before .before .before .before .before .before .before .before .before .before .before .args .t .now) (firstLength (c .before .before .before .before .before .before .before .before .before .before .before .before .before .loop .n) (c .before .before .before .before .before .before .before .before .before .before .before .before .before .loop .first) (length (part (c .before .before .before .before .before .before .before .before .before .before .before .before .before .before .before .before .args .d .now) (c .before .before .before .before .before .before .before .before .before .before .before .before .before .loop .from) (c .before .before .before .before .before .before .before .before .before .start .given .0 .1 .0)))) (part (c .before .before .before .before .before .before .before .before .before .before .before .before .before .before .before .before .args .d .now) (c .before .before .before .before .before .before .before .before .before .before .before .before .before .loop .from) (c .before .before .before .before .before .before .before .before .before .start .given .0 .1 .0))) (c .before .before .before .before .before .before .before .before .before .before .before .before .before .loop .n) _ _ (sym (going (c .before)) ∙ not-true _ (c .if1 .taken))
     ∙ sym (c .before .before .before .before .before .before .before .before .before .before .before .before .before .loop .inv .2 ∙ records-next _ _ _ _ (e .records))
 
+-- the sound record was long enough, so the first one's length is
+pass-sound-requires : tie.Need-pass-sound-requires Inv-loop μ-loop
+pass-sound-requires c κs =
+    let e = ended (c .before .before .before .before .before .before .before .before .before) in
+    let l = sound-long _ _ _ (sym (going (c .before .before)) ∙ not-false _ (c .before .if1 .left)) in
+    ((c .before .before .before .before .before .before .before .before .before .before .before .before .before .before .before .before .before .pre .0, rw (first-here (c .before .before .before .before .before .before .before .before)) l), ((c .before .before .before .before .before .before .before .before .before .before .before .before .before .before .before .before .before .pre .1 .0, omega arith, omega (arith, e .starts, e .after, e .next, e .sized)), c .before .before .before .before .before .judge-one .kept .1 .1 .1 .1 .1 .0 ∙ c .before .before .before .before .before .before .before .before .before .before .before .before .before .before .loop .inv .1))
+
 loop-less : tie.Need-loop-less Inv-loop μ-loop
 loop-less c =
-    let e = ended (c .before .before .before .before .before .before .before .before) in
-    omega (arith, e .starts, e .after, e .inside, e .next, e .sized)
+    let e = ended (c .before .before .before .before .before .before .before .before .before .before .before .before) in
+    omega (arith, e .starts, e .after, e .inside, e .next, e .sized, c .before .before .pass-sound .ensures .on)
 
 loop-again : tie.Need-loop-again Inv-loop μ-loop
 loop-again c =
-    let e = ended (c .before .before .before .before .before .before .before .before) in (
-      omega (arith, e .starts, e .after, e .next, e .sized),
-      c .before .before .before .before .judge-one .kept .1 .1 .1 .1 .1 .0 ∙ c .before .before .before .before .before .before .before .before .before .before .before .before .before .loop .inv .1,
-      c .before .before .before .before .before .before .before .before .before .before .before .before .before .loop .inv .2 ∙ records-next _ _ _ _ (e .records)
-          ∙ go-sound (recordVerdict (c .before .before .before .before .before .before .before .before .before .before .before .before .before .before .before .before .args .t .now) (firstLength (c .before .before .before .before .before .before .before .before .before .before .before .before .before .loop .n) (c .before .before .before .before .before .before .before .before .before .before .before .before .before .loop .first) (length (part (c .before .before .before .before .before .before .before .before .before .before .before .before .before .before .before .before .args .d .now) (c .before .before .before .before .before .before .before .before .before .before .before .before .before .loop .from) (c .before .before .before .before .before .before .before .before .before .start .given .0 .1 .0)))) (part (c .before .before .before .before .before .before .before .before .before .before .before .before .before .before .before .before .args .d .now) (c .before .before .before .before .before .before .before .before .before .before .before .before .before .loop .from) (c .before .before .before .before .before .before .before .before .before .start .given .0 .1 .0))) (c .before .before .before .before .before .before .before .before .before .before .before .before .before .loop .n) _ (sym (going (c .before)) ∙ not-false _ (c .if1 .left))
-          ∙ rw (first-here (c .before .before .before .before .before .before .before)),
+    let e = ended (c .before .before .before .before .before .before .before .before .before .before .before .before) in let p = c .before .before .pass-sound .ensures in let a = c .before .before .before .before .before .before .before .before .before .before .before .before .before .before .before .before .before .before .before .before .args in (
+      p .fewer,
+      c .before .before .pass-sound .kept .1 .1 .1 .1 .1 .1 .0 ∙ c .before .before .before .before .before .before .before .before .judge-one .kept .1 .1 .1 .1 .1 .0 ∙ c .before .before .before .before .before .before .before .before .before .before .before .before .before .before .before .before .before .loop .inv .1,
+      c .before .before .before .before .before .before .before .before .before .before .before .before .before .before .before .before .before .loop .inv .2 ∙ records-next _ _ _ _ (e .records)
+          ∙ go-sound (recordVerdict (c .before .before .before .before .before .before .before .before .before .before .before .before .before .before .before .before .before .before .before .before .args .t .now) (firstLength (c .before .before .before .before .before .before .before .before .before .before .before .before .before .before .before .before .before .loop .n) (c .before .before .before .before .before .before .before .before .before .before .before .before .before .before .before .before .before .loop .first) (length (part (c .before .before .before .before .before .before .before .before .before .before .before .before .before .before .before .before .before .before .before .before .args .d .now) (c .before .before .before .before .before .before .before .before .before .before .before .before .before .before .before .before .before .loop .from) (c .before .before .before .before .before .before .before .before .before .before .before .before .before .start .given .0 .1 .0)))) (part (c .before .before .before .before .before .before .before .before .before .before .before .before .before .before .before .before .before .before .before .before .args .d .now) (c .before .before .before .before .before .before .before .before .before .before .before .before .before .before .before .before .before .loop .from) (c .before .before .before .before .before .before .before .before .before .before .before .before .before .start .given .0 .1 .0))) (c .before .before .before .before .before .before .before .before .before .before .before .before .before .before .before .before .before .loop .n) _ (sym (going (c .before .before .before .before .before)) ∙ not-false _ (c .before .before .before .before .if1 .left))
+          ∙ ap (λ (f : ℕ). recordsVerdict (a .t .now) (c .before .before .before .before .before .before .before .before .before .before .before .before .before .before .before .before .before .loop .n + 1) f (recordsFrom (a .w) (drop (c .before .before .before .before .before .before .before .before .before .before .before .before .before .start .given .0 .1 .1 .0) (a .d .now)))) (sym (first-here (c .before .before .before .before .before .before .before .before .before .before .before)))
+          ∙ p .same,
     )
 
 returns-2 : tie.Need-returns-2 Inv-loop μ-loop
@@ -117,4 +126,4 @@ same-length-4 c = c .before .loop .inv .1 ∙ sym (c .before .before .before .be
 
 pub judge-records-spec : {M : Type 1} → statement M
 judge-records-spec =
-    tie.close (tie.spec Inv-loop μ-loop loop-holds (λ c κs. search needs) (λ c. search needs) sub-first-length (λ c κs. search needs) sub-judge-one part-judge-one-start part-judge-one-end judge-one-requires (λ c κs. search needs) same-length returns (λ c. omega arith) loop-less loop-again (λ c. search needs) (λ c. omega arith) same-length-2 returns-2 (λ c. search needs) same-length-3 returns-3 same-length-4 returns-4)
+    tie.close (tie.spec Inv-loop μ-loop loop-holds (λ c κs. search needs) (λ c. search needs) sub-first-length (λ c κs. search needs) sub-judge-one part-judge-one-start part-judge-one-end judge-one-requires (λ c κs. search needs) same-length returns (λ c. omega arith) pass-sound-requires loop-less loop-again (λ c. search needs) (λ c. omega arith) same-length-2 returns-2 (λ c. search needs) same-length-3 returns-3 same-length-4 returns-4)

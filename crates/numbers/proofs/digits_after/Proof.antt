@@ -66,11 +66,13 @@ loop-again : tie.Need-loop-again Inv-loop μ-loop
 loop-again c =
     let l = c .before .before .before .before .before in
     let s = l .before .before .args .s .now in
+    let b = getD s (l .loop .i) 0 in
     let e : length s - l .loop .i ≡ suc (length s - (l .loop .i + 1)) = omega arith in
-    let r : (l .loop .value + 1) * 10 ^ suc (length s - (l .loop .i + 1)) ≤ 10 ^ 18 = rw e at (l .loop .inv .1) in (
+    let r : (l .loop .value + 1) * 10 ^ suc (length s - (l .loop .i + 1)) ≤ 10 ^ 18 = rw e at (l .loop .inv .1) in
+    let v : l .loop .value * 10 + c .wide .result - 48 ≡ l .loop .value * 10 + (b - 48) = omega (arith, c .wide .ensures) in (
       omega arith,
-      rw (c .wide .ensures) (step-room _ _ _ _ (omega arith) r),
-      rw (c .wide .ensures) (sym (digit _ _ _ (c .before .before .before .before .loop-test .taken) (rw (le-leb _ _ (c .before .before .if1 .left), le-leb _ _ (c .before .if2 .left)))) ∙ l .loop .inv .2),
+      rw v (step-room _ _ _ _ (omega arith) r),
+      rw v (sym (digit _ _ _ (c .before .before .before .before .loop-test .taken) (rw (le-leb _ _ (c .before .before .if1 .left), le-leb _ _ (c .before .if2 .left)))) ∙ l .loop .inv .2),
     )
 
 returns-3 : tie.Need-returns-3 Inv-loop μ-loop
@@ -78,4 +80,4 @@ returns-3 c = sym (none _ _ _ (c .loop-test .left)) ∙ c .before .loop .inv .2
 
 pub digits-after-spec : {M : Type 1} → statement M
 digits-after-spec =
-    tie.close (tie.spec Inv-loop μ-loop loop-holds (λ c. omega arith) returns returns-2 mul-value (λ c κs. search needs) add-value (λ c. omega arith) (λ c. omega arith) loop-again returns-3)
+    tie.close (tie.spec Inv-loop μ-loop loop-holds (λ c. omega arith) returns returns-2 mul-value (λ c κs. search needs) add-value (λ c. omega (arith, c .wide .ensures)) (λ c. omega arith) (λ c. omega arith) loop-again returns-3)

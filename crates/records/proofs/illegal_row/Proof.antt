@@ -1,11 +1,9 @@
 -- `records::illegal_row` meets its contract. The invariant: the first from here is the first of all.
-use mathlib.Core.Path.{_≡_, refl, sym, ap, _∙_}
+use mathlib.Core.Path.{_≡_, refl, sym, _∙_}
 use Prim.Native.Nat.{_-_, _≤_}
 use native.Mathlib.Omega.{arith}
 use lib.ListN.{length}
 use native.Mathlib.Nat.{sub-zero}
-use Rattle.fields.specs.Row.{readingOf}
-use Rattle.sets.specs.Sets.{isIllegal}
 use Rattle.records.specs.First.{firstFrom, badRow}
 use Rattle.records.proofs.Laws.{first-here, first-on, first-none}
 use Rattle.records.proofs.illegal_row.Statement.{statement}
@@ -19,25 +17,20 @@ abbrev μ-loop : tie.MeasureT-loop
 μ-loop t rows bytes scratch₀ i₀ scratch i = rows - i
 
 -- row i stands in the table
-read-requires : tie.Need-read-requires Inv-loop μ-loop
-read-requires c κs = let f = c .before .before .before .before .pre .0 .few in let s = c .before .before .before .before .pre .0 .stand in (omega arith, omega arith)
-
 row-illegal-requires : tie.Need-row-illegal-requires Inv-loop μ-loop
-row-illegal-requires c κs = (rw (c .before .read .ensures) (c .before .before .before .before .before .before .pre .0 .row (c .before .before .before .loop .i) (c .before .before .loop-test .taken)), rw (c .before .before .before .loop .inv .1) (c .before .before .before .before .before .before .pre .1))
-
--- the test of row i
-test : (c : tie.After-row-illegal Inv-loop μ-loop) → c .row-illegal .result ≡ badRow (c .before .before .before .before .before .before .before .args .t .now) (c .before .before .before .before .before .before .before .args .rows) (c .before .before .before .before .before .before .before .args .bytes .now) (c .before .before .before .before .loop .i)
-test c = let a = c .before .before .before .before .before .before .before .args in c .row-illegal .ensures ∙ ap (λ (r : _). isIllegal (readingOf (a .t .now) (a .rows) r (a .bytes .now))) (c .before .before .read .ensures)
+row-illegal-requires c κs =
+    let p = c .before .before .before .before .before .pre .0 in let f = p .few in let s = p .stand in let l = c .before .loop-test .taken in
+    ((omega arith, omega arith), (p .row (c .before .before .loop .i) l, (c .before .before .before .before .before .pre .1 .0, rw (c .before .before .loop .inv .1) (c .before .before .before .before .before .pre .1 .1))))
 
 returns : tie.Need-returns Inv-loop μ-loop
-returns c = let a = c .before .before .before .before .before .before .before .before .before .before .args in sym (first-here (badRow (a .t .now) (a .rows) (a .bytes .now)) _ _ (c .before .before .before .before .before .before .loop-test .taken) (sym (test (c .before .before .before)) ∙ c .if1 .taken)) ∙ c .before .before .before .before .before .before .before .loop .inv .2
+returns c = let a = c .before .before .before .before .before .before .before .before .before .args in sym (first-here (badRow (a .t .now) (a .rows) (a .bytes .now)) _ _ (c .before .before .before .before .before .loop-test .taken) (sym (c .before .before .before .row-illegal .ensures) ∙ c .if1 .taken)) ∙ c .before .before .before .before .before .before .loop .inv .2
 
 loop-again : tie.Need-loop-again Inv-loop μ-loop
 loop-again c =
-    let a = c .before .before .before .before .before .before .before .before .before .before .args in (
+    let a = c .before .before .before .before .before .before .before .before .before .args in (
       omega arith,
-      c .before .before .before .row-illegal .kept .1 .1 .1 .1 .0 ∙ c .before .before .before .before .before .before .before .loop .inv .1,
-      sym (first-on (badRow (a .t .now) (a .rows) (a .bytes .now)) _ _ (c .before .before .before .before .before .before .loop-test .taken) (sym (test (c .before .before .before)) ∙ c .if1 .left)) ∙ c .before .before .before .before .before .before .before .loop .inv .2,
+      c .before .before .before .row-illegal .kept .1 .1 .1 .1 .0 ∙ c .before .before .before .before .before .before .loop .inv .1,
+      sym (first-on (badRow (a .t .now) (a .rows) (a .bytes .now)) _ _ (c .before .before .before .before .before .loop-test .taken) (sym (c .before .before .before .row-illegal .ensures) ∙ c .if1 .left)) ∙ c .before .before .before .before .before .before .loop .inv .2,
     )
 
 returns-2 : tie.Need-returns-2 Inv-loop μ-loop
@@ -50,9 +43,8 @@ illegal-row-spec =
     Inv-loop
     μ-loop
     (λ c. (omega arith, refl, rw sub-zero))
-    read-requires
     row-illegal-requires
-    (λ c. c .before .before .before .row-illegal .kept .1 .1 .1 .1 .0 ∙ c .before .before .before .before .before .before .before .loop .inv .1)
+    (λ c. c .before .before .before .row-illegal .kept .1 .1 .1 .1 .0 ∙ c .before .before .before .before .before .before .loop .inv .1)
     returns
     (λ c. omega arith)
     (λ c. omega arith)

@@ -1,21 +1,18 @@
 -- `records::judge_rows` meets its contract: by what was found.
+use mathlib.Core.Path.{sym, _∙_}
 use Prim.Native.Nat.{_-_}
 use borrow.Author.Needs.{needs}
-use Rattle.records.specs.Verdict.{judgedAs, rowsVerdict, rowVerdict, byteVerdict}
+use Rattle.records.specs.Verdict.{judgedAs, rowsVerdict, byteVerdict}
+use Rattle.records.proofs.Laws.{plain-found}
 use Rattle.records.proofs.judge_rows.Statement.{statement}
 use Rattle.records.proofs.judge_rows.Tie as tie
+
+judge-plain-requires : tie.Need-judge-plain-requires
+judge-plain-requires c κs = (c .before .before .before .before .before .before .pre .0, (plain-found (c .before .before .before .before .before .before .args .bytes .now) (sym (c .before .before .before .low-byte .ensures) ∙ c .before .enum-told .given .1), c .before .before .before .before .before .before .pre .1))
 
 returns : tie.Need-returns
 unfolding judgedAs rowsVerdict byteVerdict
 returns c = rw (← c .before .before .before .low-byte .ensures, c .before .p .given .1)
-
-returns-2 : tie.Need-returns-2
-unfolding judgedAs rowsVerdict byteVerdict rowVerdict
-returns-2 c = rw (← c .before .before .before .before .before .before .before .before .before .low-byte .ensures, c .before .before .before .before .before .before .before .enum-told .given .1, ← c .before .before .before .before .before .illegal-row .ensures, c .before .i .given .1)
-
-returns-3 : tie.Need-returns-3
-unfolding judgedAs rowsVerdict byteVerdict rowVerdict
-returns-3 c = rw (← c .before .before .before .before .before .before .before .before .low-byte .ensures, c .before .before .before .before .before .before .enum-told .given .1, ← c .before .before .before .before .illegal-row .ensures, c .enum-told2 .given .1)
 
 pub judge-rows-spec : {M : Type 1} → statement M
 judge-rows-spec =
@@ -24,11 +21,7 @@ judge-rows-spec =
     (λ c κs. tt)
     (λ c. search needs)
     (λ c. search needs)
-    (λ c κs. search needs)
-    (λ c. search needs)
-    (λ c. search needs)
+    judge-plain-requires
     returns
     (λ c. search needs)
-    returns-2
-    (λ c. search needs)
-    returns-3)
+    (λ c. c .before .before .judge-plain .ensures))
