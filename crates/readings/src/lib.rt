@@ -147,13 +147,15 @@ fn spread(
     requires { ⌜ FieldsFacts (now t) rows row n b (length (now bytes)) ⌝ }
     ensures { λ r. ⌜ SetAnswered (spreadField (legal (now (t .entry)) rows row) (row .width) n (pick (now (bytes .entry)) (spreadPlaces (row .start - 1) b (row .width) n))) (now (list .entry)) (now (list .exit)) r ⌝ }
 {
-    // Room for the marks of all numbers of w digits; where they are many and the subfields few, none are marked.
+    // Few subfields are put in order as they are read, unless the row's lines are so many that searching them costs more than marks.
+    if (n <= 8) | ((n <= 64) & (row.lines <= 512)) {
+        let mut room = [0usize; 64];
+        return set_answer(sets::read_few(t, rows, row, n, b, bytes, list, &mut room));
+    }
+    // Room for the marks of all numbers of w digits.
     if row.width <= 2 {
         let mut few = [0u8; 100];
         return set_answer(sets::read_spread(t, rows, row, n, b, bytes, list, &mut few));
-    }
-    if (n <= 8) | ((row.width == 4) & (n <= 24)) {
-        return set_answer(sets::read_few(t, rows, row, n, b, bytes, list));
     }
     let mut many = [0u8; 10000];
     set_answer(sets::read_spread(t, rows, row, n, b, bytes, list, &mut many))

@@ -138,7 +138,7 @@ pub fn read_spread(
     spread::gather(bytes, at, b, w, n, &mut scratch[..top], list)
 }
 
-// The same of few subfields, with no marks.
+// The same of few subfields, with room for a number of each and no marks.
 pub fn read_few(
     t: &[i64],
     rows: usize,
@@ -147,8 +147,10 @@ pub fn read_few(
     b: usize,
     bytes: &[u8],
     list: &mut [i64],
+    room: &mut [usize],
 ) -> SetRead
     requires { ⌜ FieldsFacts (now t) rows row n b (length (now bytes)) ⌝ }
+    requires { ⌜ n ≤ length (now room) ⌝ }
     ensures { λ r. ⌜ ReadSet (spreadField (legal (now (t .entry)) rows row) (row .width) n (pick (now (bytes .entry)) (spreadPlaces (row .start - 1) b (row .width) n))) (now (list .entry)) (now (list .exit)) r ⌝ }
 {
     let w = row.width;
@@ -156,9 +158,8 @@ pub fn read_few(
     if spread::spread_blank(bytes, at, b, w, n) {
         return SetRead::Missing;
     }
-    let mut none = [0u8; 1];
-    if spread_illegal(t, rows, row, n, b, bytes, &mut none) {
-        return SetRead::Illegal;
+    match few::gather(t, rows, row, bytes, at, b, w, n, room) {
+        Counted::Members(count) => few::list_kept(room, count, list),
+        Counted::Wrong => SetRead::Illegal,
     }
-    few::list_entries(bytes, at, b, w, n, reach(w), list)
 }

@@ -1,23 +1,39 @@
 -- `readings::spread` meets its contract: the set's answer.
-use Prim.Native.Nat.{_-_}
+use mathlib.Core.Path.{_≡_}
+use mathlib.Core.Logic.{⊎-elim}
+use mathlib.Core.Bool.{Bool, true, _&&_, _||_}
+use Prim.Native.Nat.{ℕ, _-_, _≤_}
 use native.Mathlib.Nat.{pow-le-pow-right}
 use native.Mathlib.Omega.{arith}
 use borrow.Author.Needs.{needs}
+use borrow.Author.Tests.{leb-true}
+use lib.Dec.{leb}
+use Rattle.below.specs.Below.{and-left, either-true}
 use Rattle.readings.proofs.Laws.{spread-answered}
 use Rattle.readings.proofs.spread.Statement.{statement}
 use Rattle.readings.proofs.spread.Tie as tie
 
+at-most : (n : ℕ) (x : Bool) → (leb n 8 || (leb n 64 && x)) ≡ true → n ≤ 64
+at-most n x e =
+    ⊎-elim
+    (λ l. let h = leb-true n 8 l in omega arith)
+    (λ l. leb-true n 64 (and-left (leb n 64) x l))
+    (either-true (leb n 8) (leb n 64 && x) e)
+
+room-requires : tie.Need-read-few-requires
+room-requires c κs = (c .before .before .before .before .before .pre, at-most _ _ (c .before .before .if1 .taken))
+
 few-requires : tie.Need-read-spread-requires
-few-requires c κs = (c .before .before .before .before .before .pre, (pow-le-pow-right {n = 10} (omega arith) (c .before .before .if1 .taken), omega arith))
+few-requires c κs = (c .before .before .before .before .before .before .before .pre, (pow-le-pow-right {n = 10} (omega arith) (c .before .before .if2 .taken), omega arith))
 
 many-requires : tie.Need-read-spread-requires-2
 many-requires c κs = (c .before .before .before .before .before .before .before .pre, (pow-le-pow-right {n = 10} (omega arith) (c .before .before .before .before .before .before .before .pre .few), omega arith))
 
 returns : tie.Need-returns
-returns c = spread-answered _ _ _ _ _ _ _ _ (c .set-answer .ensures) (c .before .before .before .read-spread .ensures)
+returns c = spread-answered _ _ _ _ _ _ _ _ (c .set-answer .ensures) (c .before .before .before .read-few .ensures)
 
 returns-2 : tie.Need-returns-2
-returns-2 c = spread-answered _ _ _ _ _ _ _ _ (c .set-answer2 .ensures) (c .before .before .read-few .ensures)
+returns-2 c = spread-answered _ _ _ _ _ _ _ _ (c .set-answer2 .ensures) (c .before .before .before .read-spread .ensures)
 
 returns-3 : tie.Need-returns-3
 returns-3 c = spread-answered _ _ _ _ _ _ _ _ (c .set-answer3 .ensures) (c .before .before .before .read-spread2 .ensures)
@@ -27,11 +43,12 @@ spread-spec =
     tie.close
     (tie.spec
     (λ c. search needs)
-    few-requires
+    room-requires
     (λ c κs. tt)
     (λ c. search needs)
     returns
-    (λ c κs. search needs)
+    (λ c. search needs)
+    few-requires
     (λ c κs. tt)
     (λ c. search needs)
     returns-2
