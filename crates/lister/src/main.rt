@@ -1,7 +1,7 @@
 // The lister: lists `survey.asc` by the definition `survey.sss`, both in the folder that it is run in, value by value. What it lists is
 // the library's; here files are opened, read and measured, and full buffers written out.
 ghost use mathlib.Core.Path.{_≡_};
-ghost use Prim.Native.Nat.{_+_, _^_, _≤_, _<_};
+ghost use Prim.Native.Nat.{_≤_};
 ghost use lib.ListN.{length};
 ghost use Rattle.ascii.specs.Tens.{Tens};
 ghost use Rattle.cuts.specs.Cut.{Found};
@@ -108,13 +108,6 @@ fn write(bytes: &[u8]) -> bool {
     done
 }
 
-// A number of a refusal: all of them are small.
-fn small(n: usize) -> usize
-    ensures { λ r. ⌜ r < 10 ^ 16 ⌝ }
-{
-    if n < 10_000_000_000_000_000 { n } else { 0 }
-}
-
 // Where the buffer is filled on: behind what it holds while another line fits, or from the start once that is written out.
 enum Space {
     From(usize),
@@ -190,9 +183,10 @@ fn list_by(powers: &[u64; 16], t: &[i64], d: &[u8], out: &mut [u8])
     write(&out[..end]);
 }
 
-// Reads the definition and lists the data by its table, or says why it is refused.
+// Reads the definition and lists the data by its table, or says why it is refused: the refusal's number and place are small, by the
+// theorems of crate `refusals`.
 fn list_files(definition: &[u8], d: &[u8])
-    requires { ⌜ length (now d) ≤ 65536 ⌝ }
+    requires { ⌜ (length (now definition) ≤ 65536) × (length (now d) ≤ 65536) ⌝ }
 {
     let powers = ascii::powers();
     let mut table = [0i64; TABLE];
@@ -202,7 +196,7 @@ fn list_files(definition: &[u8], d: &[u8])
             list_by(&powers, &table, d, &mut out);
         }
         Answer::Refused { number, place } => {
-            let end = lines::append_definition(&powers, &mut out, 0, small(number), small(place));
+            let end = lines::append_definition(&powers, &mut out, 0, number, place);
             write(&out[..end]);
         }
     }

@@ -14,7 +14,8 @@ slice-aggregate-list-files-2 : tie.Need-slice-aggregate-list-files-2
 slice-aggregate-list-files-2 c = sym (length-take-le _ _ (omega (arith, c .before .before .size-of2 .ensures, c .before .before .before .before .before .before .before .before .before .before .before .load2 .kept .1 .0)))
 
 list-files-requires : tie.Need-list-files-requires
-list-files-requires c κs = omega (arith, c .before .before .size-of2 .ensures, length-take (c .before .before .size-of2 .result) (c .before .before .before .before .before .before .before .before .before .before .before .load2 .last .1 .0))
+list-files-requires c κs =
+    (omega (arith, c .before .before .before .size-of .ensures, length-take (c .before .before .before .size-of .result) (c .before .before .before .before .before .before .before .before .before .before .before .before .before .before .before .load .last .1 .0)), omega (arith, c .before .before .size-of2 .ensures, length-take (c .before .before .size-of2 .result) (c .before .before .before .before .before .before .before .before .before .before .before .load2 .last .1 .0)))
 
 pub main-spec : {M : Type 1} → statement M
 main-spec =
