@@ -30,7 +30,18 @@ text n = record { place = n; length = 3; next = n }
 
 abbrev line : ℕ → Said
 line n = record {
-  value = record { minus = false; size = n; whole = 2; decimals = 0; point = false; formed = true; place = 0; first = 0; last = 2; next = 2 };
+  value = record {
+    minus = false;
+    size = n;
+    whole = 2;
+    decimals = 0;
+    point = false;
+    formed = true;
+    place = 0;
+    first = 0;
+    last = 2;
+    next = 2;
+  };
   text = text 80;
   special = 0;
   next = 0;
@@ -70,49 +81,49 @@ two = variable (head 2 5 3 3) []
 abbrev both : List Variable
 both = one ∷ two ∷ []
 
-one-good : GoodVariable 0 one
+both-good : GoodVariable 0 one × GoodVariable 2 two
 unfolding countsGood placesGood valuesFit allDiffer numberNew rangeWidth widthGood roomGood _and_ allBelow maxBelow countOf signedOf eqZ
     numberOf lineAt rowOf kindOf need lowest highest digitsOf countFrom numberAt numbers cellsOf lineCells scaledOf flagOf plainColumns
     widened fullColumns linesWidth widestOf widthOf countedIn columnsIn holdsIn linesAll identMet
-one-good = record {
-  counts = refl;
-  places = refl;
-  lacked = refl;
-  range = refl;
-  plain = refl;
-  fits = refl;
-  differ = refl;
-  width = refl;
-  holds = refl;
-  few = omega arith;
-}
-
-two-good : GoodVariable 2 two
-unfolding countsGood placesGood valuesFit allDiffer numberNew rangeWidth widthGood roomGood _and_ allBelow maxBelow countOf signedOf eqZ
-    numberOf lineAt rowOf kindOf need lowest highest digitsOf countFrom numberAt numbers cellsOf lineCells scaledOf flagOf plainColumns
-    widened fullColumns linesWidth widestOf widthOf countedIn columnsIn holdsIn linesAll identMet
-two-good = record {
-  counts = refl;
-  places = refl;
-  lacked = refl;
-  range = refl;
-  plain = refl;
-  fits = refl;
-  differ = refl;
-  width = refl;
-  holds = refl;
-  few = omega arith;
-}
+both-good = (
+  record {
+    counts = refl;
+    places = refl;
+    lacked = refl;
+    range = refl;
+    plain = refl;
+    fits = refl;
+    differ = refl;
+    width = refl;
+    holds = refl;
+    few = omega arith;
+  },
+  record {
+    counts = refl;
+    places = refl;
+    lacked = refl;
+    range = refl;
+    plain = refl;
+    fits = refl;
+    differ = refl;
+    width = refl;
+    holds = refl;
+    few = omega arith;
+  },
+)
 
 pub some-good : Good both
 unfolding linesAll identMet
-some-good = more {l = one ∷ []} {v = two} (more {l = []} {v = one} none one-good refl (omega arith)) two-good refl (omega arith)
+some-good =
+    more {l = one ∷ []} {v = two} (more {l = []} {v = one} none (both-good .0) refl (omega arith)) (both-good .1) refl (omega arith)
 
 -- the table that they give
 pub table-is : tableOf both ≡
     pos 11 ∷ pos 2 ∷ pos 2 ∷ pos 3 ∷ pos 6 ∷ pos 42
-    ∷ pos 1 ∷ pos 1 ∷ pos 1 ∷ pos 2 ∷ pos 2 ∷ pos 0 ∷ pos 0 ∷ pos 0 ∷ pos 0 ∷ pos 0 ∷ pos 0 ∷ pos 0 ∷ pos 0 ∷ pos 2 ∷ pos 20 ∷ pos 3 ∷ pos 40 ∷ pos 3
-    ∷ pos 2 ∷ pos 5 ∷ pos 3 ∷ pos 3 ∷ pos 1 ∷ pos 0 ∷ pos 0 ∷ pos 0 ∷ pos 0 ∷ pos 0 ∷ pos 0 ∷ pos 0 ∷ pos 2 ∷ pos 0 ∷ pos 20 ∷ pos 3 ∷ pos 40 ∷ pos 3
+    ∷ pos 1 ∷ pos 1 ∷ pos 1 ∷ pos 2 ∷ pos 2 ∷ pos 0 ∷ pos 0 ∷ pos 0 ∷ pos 0 ∷ pos 0 ∷ pos 0 ∷ pos 0 ∷ pos 0
+    ∷ pos 2 ∷ pos 20 ∷ pos 3 ∷ pos 40 ∷ pos 3
+    ∷ pos 2 ∷ pos 5 ∷ pos 3 ∷ pos 3 ∷ pos 1 ∷ pos 0 ∷ pos 0 ∷ pos 0 ∷ pos 0 ∷ pos 0 ∷ pos 0 ∷ pos 0 ∷ pos 2
+    ∷ pos 0 ∷ pos 20 ∷ pos 3 ∷ pos 40 ∷ pos 3
     ∷ pos 1 ∷ pos 0 ∷ pos 80 ∷ pos 3
     ∷ pos 12 ∷ pos 0 ∷ pos 80 ∷ pos 3 ∷ []
 unfolding countsGood placesGood valuesFit allDiffer numberNew rangeWidth widthGood roomGood _and_ allBelow maxBelow countOf signedOf eqZ

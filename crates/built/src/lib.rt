@@ -1,1 +1,1 @@
-// The table that a survey gives is well formed. Definitions and theorems only; nothing stands above it.
+// The table that a survey gives is well formed. Definitions and theorems only. Above it stands the reader of definitions.

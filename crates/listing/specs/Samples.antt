@@ -31,9 +31,12 @@ use Rattle.listing.specs.Listing.{rowText, rowsText, identOf, faultOf, l
 abbrev table : List ℤ
 table =
     (pos 11 ∷ pos 3 ∷ pos 3 ∷ pos 11 ∷ pos 6 ∷ pos 60 ∷ [])
-    ++ (pos 1 ∷ pos 1 ∷ pos 1 ∷ pos 2 ∷ pos 2 ∷ pos 0 ∷ pos 0 ∷ pos 0 ∷ pos 0 ∷ pos 1 ∷ pos 1 ∷ pos 12 ∷ pos 0 ∷ pos 0 ∷ pos 49 ∷ pos 4 ∷ pos 62 ∷ pos 4 ∷ [])
-    ++ (pos 2 ∷ pos 2 ∷ pos 3 ∷ pos 6 ∷ pos 4 ∷ pos 0 ∷ pos 0 ∷ pos 0 ∷ pos 0 ∷ pos 0 ∷ pos 0 ∷ pos 0 ∷ pos 0 ∷ pos 3 ∷ pos 152 ∷ pos 4 ∷ pos 165 ∷ pos 4 ∷ [])
-    ++ (pos 3 ∷ pos 3 ∷ pos 7 ∷ pos 11 ∷ pos 4 ∷ pos 1 ∷ pos 1 ∷ pos 0 ∷ pos 0 ∷ pos 1 ∷ negsuc 9 ∷ pos 995 ∷ pos 3 ∷ pos 0 ∷ pos 267 ∷ pos 4 ∷ pos 280 ∷ pos 4 ∷ [])
+    ++ (pos 1 ∷ pos 1 ∷ pos 1 ∷ pos 2 ∷ pos 2 ∷ pos 0 ∷ pos 0 ∷ pos 0 ∷ pos 0 ∷ pos 1 ∷ pos 1 ∷ pos 12 ∷ pos 0 ∷ pos 0
+    ∷ pos 49 ∷ pos 4 ∷ pos 62 ∷ pos 4 ∷ [])
+    ++ (pos 2 ∷ pos 2 ∷ pos 3 ∷ pos 6 ∷ pos 4 ∷ pos 0 ∷ pos 0 ∷ pos 0 ∷ pos 0 ∷ pos 0 ∷ pos 0 ∷ pos 0 ∷ pos 0 ∷ pos 3
+    ∷ pos 152 ∷ pos 4 ∷ pos 165 ∷ pos 4 ∷ [])
+    ++ (pos 3 ∷ pos 3 ∷ pos 7 ∷ pos 11 ∷ pos 4 ∷ pos 1 ∷ pos 1 ∷ pos 0 ∷ pos 0 ∷ pos 1 ∷ negsuc 9 ∷ pos 995 ∷ pos 3 ∷ pos 0
+    ∷ pos 267 ∷ pos 4 ∷ pos 280 ∷ pos 4 ∷ [])
     ++ (pos 1 ∷ pos 0 ∷ pos 211 ∷ pos 1 ∷ pos 2 ∷ pos 0 ∷ pos 217 ∷ pos 1 ∷ pos 4 ∷ pos 0 ∷ pos 223 ∷ pos 1 ∷ [])
 
 -- ` 710x1x-1.0` and LF
@@ -51,8 +54,10 @@ lines₁ =
     ++ (49 ∷ 32 ∷ 50 ∷ 32 ∷ 83 ∷ 32 ∷ 49 ∷ 44 ∷ 52 ∷ 10 ∷ [])
     ++ (49 ∷ 32 ∷ 51 ∷ 32 ∷ 78 ∷ 32 ∷ 45 ∷ 49 ∷ 48 ∷ 10 ∷ [])
 
--- and `ok 1`
-pub sample-listed : listingOf table record₁ ≡ lines₁ ++ (111 ∷ 107 ∷ 32 ∷ 49 ∷ 10 ∷ [])
+-- record₁ alone gives its lines and `ok 1`; with record₂ behind it, its lines and `fault 24 2 2`
+pub samples-listed :
+    (listingOf table record₁ ≡ lines₁ ++ (111 ∷ 107 ∷ 32 ∷ 49 ∷ 10 ∷ []))
+    × (listingOf table (record₁ ++ record₂) ≡ lines₁ ++ (102 ∷ 97 ∷ 117 ∷ 108 ∷ 116 ∷ 32 ∷ 50 ∷ 52 ∷ 32 ∷ 50 ∷ 32 ∷ 50 ∷ 10 ∷ []))
 unfolding countFrom digitsOf _and_ allBelow anyBelow sumBelow maxBelow countOf signedOf numberOf eqZ headerOf columnsAt lineAt rowOf kindOf
     spreadOf need tailOf wholeDigits quantityWidth lowest highest allDiffer numberNew linesPlain valuesFit rangeWidth widest widthGood
     roomGood linesGood valuesGood widthsGood countsGood placesGood columnsGood rowGood identsDiffer rowsGood wellFormed inRange onLine legal
@@ -61,16 +66,4 @@ unfolding countFrom digitsOf _and_ allBelow anyBelow sumBelow maxBelow countOf s
     byteVerdict rowsVerdict beginsWith terminatorAt terminatorOf wholeAt beginsAt atEnd cut recordsOf recordVerdict goOn firstLength isSound
     numeral numberText codesAfter codes valueText lineText fieldText okText faultText rowText rowsText identOf faultOf lastText recordsText
     listingOf
-sample-listed = refl
-
--- and `fault 24 2 2`
-pub fault-listed : listingOf table (record₁ ++ record₂) ≡ lines₁ ++ (102 ∷ 97 ∷ 117 ∷ 108 ∷ 116 ∷ 32 ∷ 50 ∷ 52 ∷ 32 ∷ 50 ∷ 32 ∷ 50 ∷ 10 ∷ [])
-unfolding countFrom digitsOf _and_ allBelow anyBelow sumBelow maxBelow countOf signedOf numberOf eqZ headerOf columnsAt lineAt rowOf kindOf
-    spreadOf need tailOf wholeDigits quantityWidth lowest highest allDiffer numberNew linesPlain valuesFit rangeWidth widest widthGood
-    roomGood linesGood valuesGood widthsGood countsGood placesGood columnsGood rowGood identsDiffer rowsGood wellFormed inRange onLine legal
-    allSpaces unspaced digitsOnly decimalFrom codeAfter codeOf amountForm amountSize amountOf quantityAfter quantityOf padded numberField
-    singleSays quantitySays allBits setBits bitsField defined bitPlaces placesBy fieldBy readingOf isIllegal firstFrom rowVerdict
-    byteVerdict rowsVerdict beginsWith terminatorAt terminatorOf wholeAt beginsAt atEnd cut recordsOf recordVerdict goOn firstLength isSound
-    numeral numberText codesAfter codes valueText lineText fieldText okText faultText rowText rowsText identOf faultOf lastText recordsText
-    listingOf
-fault-listed = refl
+samples-listed = (refl, refl)

@@ -2,7 +2,8 @@
 -- room for nine members, and `listAs` the list after it; `x` is 120.
 use mathlib.Core.Path.{_≡_, refl}
 use mathlib.Core.Bool.{true, false}
-use mathlib.Core.List.{List, [], _∷_}
+use mathlib.Core.List.{List, [], _∷_, _++_}
+use Prim.Native.Nat.{ℕ}
 use lib.IntN.{ℤ, pos, negsuc}
 use Rattle.ascii.specs.Tens.{countFrom, digitsOf}
 use Rattle.below.specs.Below.{_and_, allBelow, anyBelow, sumBelow, maxBelow}
@@ -23,11 +24,14 @@ use Rattle.fields.specs.Row.{defined, bitPlaces, spreadPlaces, placesBy, fieldB
 use Rattle.sets.specs.Sets.{filledOf, listAfter}
 use Rattle.records.specs.Value.{nothing, numberIs, setOf, truthIs, refused, outcomeOf, readAs, listAs}
 
+-- a table of one row, with no lines and no label, whose position is a whole record of n bytes. Of the row are given the type, start and
+-- finish, w, decimals and point, subfields and their width, whether it has a range, from and to
+abbrev oneRow : ℕ → List ℤ → List ℤ
+oneRow n row = (pos 11 ∷ pos 1 ∷ pos 0 ∷ pos n ∷ pos 6 ∷ pos 24 ∷ pos 1 ∷ []) ++ row ++ (pos 0 ∷ pos 0 ∷ pos 0 ∷ pos 0 ∷ pos 0 ∷ pos 0 ∷ [])
+
 -- SINGLE from 1 to 20 in two bytes
 abbrev singleTo20 : List ℤ
-singleTo20 =
-    pos 11 ∷ pos 1 ∷ pos 0 ∷ pos 2 ∷ pos 6 ∷ pos 24 ∷ pos 1 ∷ pos 1 ∷ pos 1 ∷ pos 2 ∷ pos 2 ∷ pos 0 ∷ pos 0 ∷ pos 0 ∷ pos 0
-    ∷ pos 1 ∷ pos 1 ∷ pos 20 ∷ pos 0 ∷ pos 0 ∷ pos 0 ∷ pos 0 ∷ pos 0 ∷ pos 0 ∷ []
+singleTo20 = oneRow 2 (pos 1 ∷ pos 1 ∷ pos 2 ∷ pos 2 ∷ pos 0 ∷ pos 0 ∷ pos 0 ∷ pos 0 ∷ pos 1 ∷ pos 1 ∷ pos 20 ∷ [])
 
 -- a bitstring of 1, 2, 3 and 9 in nine bytes
 abbrev bitsOfFour : List ℤ
@@ -38,45 +42,31 @@ bitsOfFour =
 
 -- a bitstring from 1 to 9 in nine bytes
 abbrev bitsTo9 : List ℤ
-bitsTo9 =
-    pos 11 ∷ pos 1 ∷ pos 0 ∷ pos 9 ∷ pos 6 ∷ pos 24 ∷ pos 1 ∷ pos 2 ∷ pos 1 ∷ pos 9 ∷ pos 9 ∷ pos 0 ∷ pos 0 ∷ pos 0 ∷ pos 0
-    ∷ pos 1 ∷ pos 1 ∷ pos 9 ∷ pos 0 ∷ pos 0 ∷ pos 0 ∷ pos 0 ∷ pos 0 ∷ pos 0 ∷ []
+bitsTo9 = oneRow 9 (pos 2 ∷ pos 1 ∷ pos 9 ∷ pos 9 ∷ pos 0 ∷ pos 0 ∷ pos 0 ∷ pos 0 ∷ pos 1 ∷ pos 1 ∷ pos 9 ∷ [])
 
 -- a spread of 2 subfields of 3 bytes, from 1 to 999
 abbrev spreadTo999 : List ℤ
-spreadTo999 =
-    pos 11 ∷ pos 1 ∷ pos 0 ∷ pos 6 ∷ pos 6 ∷ pos 24 ∷ pos 1 ∷ pos 2 ∷ pos 1 ∷ pos 6 ∷ pos 3 ∷ pos 0 ∷ pos 0 ∷ pos 2 ∷ pos 3
-    ∷ pos 1 ∷ pos 1 ∷ pos 999 ∷ pos 0 ∷ pos 0 ∷ pos 0 ∷ pos 0 ∷ pos 0 ∷ pos 0 ∷ []
+spreadTo999 = oneRow 6 (pos 2 ∷ pos 1 ∷ pos 6 ∷ pos 3 ∷ pos 0 ∷ pos 0 ∷ pos 2 ∷ pos 3 ∷ pos 1 ∷ pos 1 ∷ pos 999 ∷ [])
 
 -- a spread of 2 subfields of 2 bytes, from 1 to 9
 abbrev spreadTo9 : List ℤ
-spreadTo9 =
-    pos 11 ∷ pos 1 ∷ pos 0 ∷ pos 4 ∷ pos 6 ∷ pos 24 ∷ pos 1 ∷ pos 2 ∷ pos 1 ∷ pos 4 ∷ pos 1 ∷ pos 0 ∷ pos 0 ∷ pos 2 ∷ pos 2
-    ∷ pos 1 ∷ pos 1 ∷ pos 9 ∷ pos 0 ∷ pos 0 ∷ pos 0 ∷ pos 0 ∷ pos 0 ∷ pos 0 ∷ []
+spreadTo9 = oneRow 4 (pos 2 ∷ pos 1 ∷ pos 4 ∷ pos 1 ∷ pos 0 ∷ pos 0 ∷ pos 2 ∷ pos 2 ∷ pos 1 ∷ pos 1 ∷ pos 9 ∷ [])
 
 -- a quantity from -99 to 99 in three bytes
 abbrev quantityTo99 : List ℤ
-quantityTo99 =
-    pos 11 ∷ pos 1 ∷ pos 0 ∷ pos 3 ∷ pos 6 ∷ pos 24 ∷ pos 1 ∷ pos 3 ∷ pos 1 ∷ pos 3 ∷ pos 3 ∷ pos 0 ∷ pos 0 ∷ pos 0 ∷ pos 0
-    ∷ pos 1 ∷ negsuc 98 ∷ pos 99 ∷ pos 0 ∷ pos 0 ∷ pos 0 ∷ pos 0 ∷ pos 0 ∷ pos 0 ∷ []
+quantityTo99 = oneRow 3 (pos 3 ∷ pos 1 ∷ pos 3 ∷ pos 3 ∷ pos 0 ∷ pos 0 ∷ pos 0 ∷ pos 0 ∷ pos 1 ∷ negsuc 98 ∷ pos 99 ∷ [])
 
 -- a quantity from -1.00 to 99.99 in six bytes
 abbrev quantityOfCents : List ℤ
-quantityOfCents =
-    pos 11 ∷ pos 1 ∷ pos 0 ∷ pos 6 ∷ pos 6 ∷ pos 24 ∷ pos 1 ∷ pos 3 ∷ pos 1 ∷ pos 6 ∷ pos 5 ∷ pos 2 ∷ pos 1 ∷ pos 0 ∷ pos 0
-    ∷ pos 1 ∷ negsuc 99 ∷ pos 9999 ∷ pos 0 ∷ pos 0 ∷ pos 0 ∷ pos 0 ∷ pos 0 ∷ pos 0 ∷ []
+quantityOfCents = oneRow 6 (pos 3 ∷ pos 1 ∷ pos 6 ∷ pos 5 ∷ pos 2 ∷ pos 1 ∷ pos 0 ∷ pos 0 ∷ pos 1 ∷ negsuc 99 ∷ pos 9999 ∷ [])
 
 -- a quantity from 0 to 999 in two bytes
 abbrev quantityTooWide : List ℤ
-quantityTooWide =
-    pos 11 ∷ pos 1 ∷ pos 0 ∷ pos 2 ∷ pos 6 ∷ pos 24 ∷ pos 1 ∷ pos 3 ∷ pos 1 ∷ pos 2 ∷ pos 3 ∷ pos 0 ∷ pos 0 ∷ pos 0 ∷ pos 0
-    ∷ pos 1 ∷ pos 0 ∷ pos 999 ∷ pos 0 ∷ pos 0 ∷ pos 0 ∷ pos 0 ∷ pos 0 ∷ pos 0 ∷ []
+quantityTooWide = oneRow 2 (pos 3 ∷ pos 1 ∷ pos 2 ∷ pos 3 ∷ pos 0 ∷ pos 0 ∷ pos 0 ∷ pos 0 ∷ pos 1 ∷ pos 0 ∷ pos 999 ∷ [])
 
 -- a truth in two bytes
 abbrev truthInTwo : List ℤ
-truthInTwo =
-    pos 11 ∷ pos 1 ∷ pos 0 ∷ pos 2 ∷ pos 6 ∷ pos 24 ∷ pos 1 ∷ pos 5 ∷ pos 1 ∷ pos 2 ∷ pos 1 ∷ pos 0 ∷ pos 0 ∷ pos 0 ∷ pos 0
-    ∷ pos 0 ∷ pos 0 ∷ pos 0 ∷ pos 0 ∷ pos 0 ∷ pos 0 ∷ pos 0 ∷ pos 0 ∷ pos 0 ∷ []
+truthInTwo = oneRow 2 (pos 5 ∷ pos 1 ∷ pos 2 ∷ pos 1 ∷ pos 0 ∷ pos 0 ∷ pos 0 ∷ pos 0 ∷ pos 0 ∷ pos 0 ∷ pos 0 ∷ [])
 
 -- a list of nine that stands for what it held before
 abbrev nine : List ℤ

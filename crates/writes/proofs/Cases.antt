@@ -1,5 +1,5 @@
 -- The four outcomes of a write to a row.
-use mathlib.Core.Path.{_≡_, refl, sym}
+use mathlib.Core.Path.{_≡_, refl, sym, _∙_}
 use mathlib.Core.Bool.{Bool, true, false, cond}
 use mathlib.Core.List.{List, [], _∷_}
 use Prim.Native.Nat.{ℕ, zero, suc, _^_, _≤_, _<_}
@@ -11,7 +11,7 @@ use Rattle.below.specs.Below.{holds-not}
 use Rattle.cells.specs.Cell.{signedOf}
 use Rattle.widths.specs.Width.{sizeOf, lowest, highest, need, quantityWidth}
 use Rattle.fields.specs.Legal.{legal}
-use Rattle.layout.specs.declared.Kind.the-variants.{Single, Multiple, Quantity}
+use Rattle.layout.specs.declared.Kind.the-variants.{Single, Multiple, Quantity, Character, Logical}
 use Rattle.layout.specs.declared.Spread.the-variants.{Bits, Fields}
 use Rattle.layout.specs.declared.Format.{Format}
 use Rattle.digits.specs.Room.{Wide}
@@ -21,45 +21,45 @@ use Rattle.places.specs.Places.{put, run}
 use Rattle.places.specs.Laws.{length-run}
 use Rattle.layout.specs.declared.Kind.{Kind}
 use Rattle.layout.specs.declared.Row.{Row}
-use Rattle.fields.specs.Field.{spaces, allLegal, setFits}
+use Rattle.fields.specs.Field.{number, spaces, allLegal, setFits}
 use Rattle.fieldlaws.specs.BackLaws.{Limits, bits-members, quantity-few}
 use Rattle.fieldlaws.specs.RisingLaws.{Rising, legal-of, legal-here, legal-next}
 use Rattle.setbytes.specs.Sets.{Small}
 use Rattle.fields.specs.Row.{fits, otherType, notLegal, tooMany, legalFit, fitsBy, bytesBy, placesBy}
 use Rattle.writes.specs.declared.Wrote.the-variants.{Done, OtherType, NotLegal, TooMany}
 use Rattle.writes.specs.declared.Value.{Value}
-use Rattle.writes.specs.declared.Value.the-variants.{Missing, Set}
+use Rattle.writes.specs.declared.Value.the-variants.{Missing, Number}
 use Rattle.writes.specs.declared.Wrote.{Wrote}
-use Rattle.writes.specs.Write.{valueOf, WrittenBy, Ready, answerBy, leftBy}
+use Rattle.writes.specs.Write.{valueOf, WrittenBy, Ready, takesNumbers, answerBy, leftBy}
 
-module _ {k : Kind} {t : List ℤ} {v : ℕ} {r : Row} {value value′ : Value} {list : List ℤ} {text : List ℕ} {old : List ℕ} (given : value ≡ value′) where
-  pub accepted : {new : List ℕ} → fitsBy k t v r (valueOf value′ list text) ≡ fits → new ≡ put old (placesBy k t v r) (bytesBy k t v r (valueOf value′ list text))
-      → WrittenBy k t v r value list text old new Done
+module _ {k : Kind} {t : List ℤ} {v : ℕ} {r : Row} {value : Value} {list : List ℤ} {text : List ℕ} {old : List ℕ} where
+  pub accepted : {new : List ℕ} → fitsBy k t v r (valueOf value list text) ≡ fits
+      → new ≡ put old (placesBy k t v r) (bytesBy k t v r (valueOf value list text)) → WrittenBy k t v r value list text old new Done
   unfolding answerBy leftBy
-  accepted e q = record { says = rw (given, e); leaves = rw (given, e, q) }
+  accepted e q = record { says = rw e; leaves = rw (e, q) }
 
-  pub other : fitsBy k t v r (valueOf value′ list text) ≡ otherType → WrittenBy k t v r value list text old old OtherType
+  pub other : fitsBy k t v r (valueOf value list text) ≡ otherType → WrittenBy k t v r value list text old old OtherType
   unfolding answerBy leftBy
-  other e = record { says = rw (given, e); leaves = rw (given, e) }
+  other e = record { says = rw e; leaves = rw e }
 
-  pub illegal : fitsBy k t v r (valueOf value′ list text) ≡ notLegal → WrittenBy k t v r value list text old old NotLegal
+  pub illegal : fitsBy k t v r (valueOf value list text) ≡ notLegal → WrittenBy k t v r value list text old old NotLegal
   unfolding answerBy leftBy
-  illegal e = record { says = rw (given, e); leaves = rw (given, e) }
+  illegal e = record { says = rw e; leaves = rw e }
 
-  pub many : fitsBy k t v r (valueOf value′ list text) ≡ tooMany → WrittenBy k t v r value list text old old TooMany
+  pub many : fitsBy k t v r (valueOf value list text) ≡ tooMany → WrittenBy k t v r value list text old old TooMany
   unfolding answerBy leftBy
-  many e = record { says = rw (given, e); leaves = rw (given, e) }
+  many e = record { says = rw e; leaves = rw e }
 
 -- a missing value fits every kind, and gives spaces
-pub blanked : {k : Kind} {t : List ℤ} {v : ℕ} {r : Row} {value : Value} {list : List ℤ} {text : List ℕ} {old new : List ℕ} → value ≡ Missing
-    → new ≡ put old (placesBy k t v r) (spaces (length (placesBy k t v r))) → WrittenBy k t v r value list text old new Done
-unfolding valueOf fitsBy bytesBy
-blanked given q = accepted given refl q
+module _ {k : Kind} {t : List ℤ} {v : ℕ} {r : Row} {old new : List ℕ} where
+  pub blanked : new ≡ put old (placesBy k t v r) (spaces (length (placesBy k t v r))) → WrittenBy k t v r Missing [] [] old new Done
+  unfolding valueOf fitsBy bytesBy
+  blanked q = accepted refl q
 
--- in one run of places
-pub blanked-run : {k : Kind} {t : List ℤ} {v : ℕ} {r : Row} {value : Value} {list : List ℤ} {text : List ℕ} {old new : List ℕ} → value ≡ Missing
-    → (at w : ℕ) → placesBy k t v r ≡ run at w → new ≡ put old (run at w) (spaces w) → WrittenBy k t v r value list text old new Done
-blanked-run given at w e q = blanked given (rw (e, length-run at w) q)
+  -- in one run of places
+  pub blanked-run : {k′ : Kind} → k ≡ k′ → (at w : ℕ) → placesBy k′ t v r ≡ run at w → new ≡ put old (run at w) (spaces w)
+      → WrittenBy k t v r Missing [] [] old new Done
+  blanked-run kind at w e q = blanked (rw (kind, e, length-run at w) q)
 
 -- a number from 1 to 9,999
 pub code-size : (z : ℤ) → leZ (pos 1) z ≡ true → leZ z (pos 9999) ≡ true → sizeOf z < 10 ^ 16
@@ -90,16 +90,59 @@ quantity-wide h z e = record {
   inside = omega (arith, h .kind .width .few);
 }
 
+-- ---- numbers, by whether the kind takes them
+module _ (t : List ℤ) (v : ℕ) (r : Row) (z : ℤ) where
+  not-taken : (k : Kind) → takesNumbers k ≡ false → fitsBy k t v r (number z) ≡ otherType
+  unfolding fitsBy
+  not-taken Single e = holds-not refl e
+  not-taken (Multiple s) e = refl
+  not-taken (Quantity f) e = holds-not refl e
+  not-taken Character e = refl
+  not-taken Logical e = refl
+
+  taken : (k : Kind) → takesNumbers k ≡ true → fitsBy k t v r (number z) ≡ legalFit (legal t v r z)
+  unfolding fitsBy
+  taken Single e = refl
+  taken (Multiple s) e = holds-not e refl
+  taken (Quantity f) e = refl
+  taken Character e = holds-not e refl
+  taken Logical e = holds-not e refl
+
+  -- no bytes, no change
+  put-none : (old : List ℕ) (ps : List ℕ) → old ≡ put old ps []
+  put-none old [] = refl
+  put-none old (p ∷ ps) = refl
+
+  pub no-figures : (old : List ℕ) (k : Kind) → takesNumbers k ≡ false → old ≡ put old (placesBy k t v r) (bytesBy k t v r (number z))
+  unfolding bytesBy
+  no-figures old Single e = holds-not refl e
+  no-figures old (Multiple s) e = put-none old (placesBy (Multiple s) t v r)
+  no-figures old (Quantity f) e = holds-not refl e
+  no-figures old Character e = put-none old (placesBy Character t v r)
+  no-figures old Logical e = put-none old (placesBy Logical t v r)
+
+module _ {k : Kind} {t : List ℤ} {v : ℕ} {r : Row} {z : ℤ} {old : List ℕ} where
+  pub number-other : takesNumbers k ≡ false → WrittenBy k t v r (Number z) [] [] old old OtherType
+  unfolding valueOf
+  number-other e = other (not-taken t v r z k e)
+
+  module _ (e : takesNumbers k ≡ true) where
+    pub number-illegal : legal t v r z ≡ false → WrittenBy k t v r (Number z) [] [] old old NotLegal
+    unfolding valueOf
+    number-illegal l = illegal (taken t v r z k e ∙ legal-not l)
+
+    pub number-put : {new : List ℕ} → legal t v r z ≡ true → new ≡ put old (placesBy k t v r) (bytesBy k t v r (number z))
+        → WrittenBy k t v r (Number z) [] [] old new Done
+    unfolding valueOf
+    number-put l q = accepted (taken t v r z k e ∙ legal-fits l) q
+
+-- the same value, said otherwise
+pub as-given : {k : Kind} {t : List ℤ} {v : ℕ} {r : Row} {value value′ : Value} {list list′ : List ℤ} {text text′ : List ℕ}
+    {old new : List ℕ} {a : Wrote} → valueOf value list text ≡ valueOf value′ list′ text′
+    → WrittenBy k t v r value′ list′ text′ old new a → WrittenBy k t v r value list text old new a
+as-given e w = record { says = rw e (w .says); leaves = rw e (w .leaves) }
+
 -- ---- sets
-module _ {k : Kind} {t : List ℤ} {v : ℕ} {r : Row} {value : Value} {list : List ℤ} {text : List ℕ} {old new : List ℕ} {a : Wrote} where
-  pub as-missing : value ≡ Missing → WrittenBy k t v r Missing [] [] old new a → WrittenBy k t v r value list text old new a
-  unfolding valueOf
-  as-missing given w = record { says = rw given (w .says); leaves = rw given (w .leaves) }
-
-  pub as-set : value ≡ Set → WrittenBy k t v r Set list [] old new a → WrittenBy k t v r value list text old new a
-  unfolding valueOf
-  as-set given w = record { says = rw given (w .says); leaves = rw given (w .leaves) }
-
 limits-of : {k : Kind} {t : List ℤ} {v n : ℕ} {r : Row} → Ready k t v n r → Limits k t v r
 limits-of h = record { kind = h .kind; least = h .least; most = h .most; room = h .room }
 
@@ -136,6 +179,10 @@ ready-as e h = rw e at h
 pub written-as : {k k′ : Kind} {t : List ℤ} {v : ℕ} {r : Row} {value : Value} {list : List ℤ} {text : List ℕ} {old new : List ℕ} {a : Wrote}
     → k ≡ k′ → WrittenBy k′ t v r value list text old new a → WrittenBy k t v r value list text old new a
 written-as e w = rw e w
+
+pub other-kind : {k k′ : Kind} {t : List ℤ} {v : ℕ} {r : Row} {value : Value} {list : List ℤ} {text : List ℕ} {old : List ℕ}
+    → k ≡ k′ → fitsBy k′ t v r (valueOf value list text) ≡ otherType → WrittenBy k t v r value list text old old OtherType
+other-kind kind e = written-as kind (other e)
 
 -- the marks that are lent are as many as asked for
 pub prefix : (k n : ℕ) → k ≤ n → k ≡ length {A = ℕ} (take k (replicate n 0))

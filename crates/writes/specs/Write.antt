@@ -1,6 +1,6 @@
 -- Writing one row's value: the value that is given, the answer, and the record afterwards, for a row of each kind.
 use mathlib.Core.Path.{_≡_}
-use mathlib.Core.Bool.{true}
+use mathlib.Core.Bool.{Bool, true, false}
 use mathlib.Core.List.{List}
 use Prim.Native.Nat.{ℕ, _≤_}
 use native.Mathlib.Omega.{arith}
@@ -8,6 +8,7 @@ use lib.IntN.{ℤ}
 use lib.Signed.{leZ}
 use Rattle.places.specs.Places.{put}
 use Rattle.layout.specs.declared.Kind.{Kind}
+use Rattle.layout.specs.declared.Kind.the-variants.{Single, Multiple, Quantity, Character, Logical}
 use Rattle.layout.specs.declared.Row.{Row}
 use Rattle.widths.specs.Width.{need, lowest, highest}
 use Rattle.fields.specs.Legal.{legal}
@@ -18,6 +19,14 @@ use Rattle.writes.specs.declared.Value.{Value}
 use Rattle.writes.specs.declared.Value.the-variants.{Missing, Number, Set, Text, Truth}
 use Rattle.writes.specs.declared.Wrote.{Wrote}
 use Rattle.writes.specs.declared.Wrote.the-variants.{Done, OtherType, NotLegal, TooMany}
+
+-- whether a row of the kind takes numbers
+abbrev pub takesNumbers : Kind → Bool
+takesNumbers Single = true
+takesNumbers (Multiple s) = false
+takesNumbers (Quantity f) = true
+takesNumbers Character = false
+takesNumbers Logical = false
 
 -- what is given: a set is the list beside it, a text the bytes beside it
 unfoldable pub valueOf : Value → List ℤ → List ℕ → field.Value

@@ -5,9 +5,7 @@ ghost use Rattle.ascii.specs.Tens.{Tens};
 ghost use Rattle.writes.specs.Write.{WrittenBy, Ready, valueOf};
 ghost use Rattle.writes.specs.Public.{Written};
 use layout::Header;
-use layout::Kind;
 use layout::Row;
-use layout::Spread;
 
 mod marked;
 mod plain;
@@ -48,29 +46,12 @@ pub fn write_row(
     requires { ⌜ Ready (row .kind) (now t) rows (length (now bytes)) row ⌝ }
     ensures { λ r. ⌜ WrittenBy (row .kind) (now (t .entry)) rows row value (now (list .entry)) (now (text .entry)) (now (bytes .entry)) (now (bytes .exit)) r ⌝ }
 {
-    let kind = row.kind;
-    match kind {
-        Kind::Single => plain::write_single(powers, t, rows, row, value, list, text, bytes),
-        Kind::Multiple(s) => match s {
-            Spread::Bits => marked::write_bits(t, rows, row, value, list, text, bytes),
-            Spread::Fields { count, width } => marked::write_spread(
-                powers,
-                t,
-                rows,
-                row,
-                count,
-                width,
-                value,
-                list,
-                text,
-                bytes,
-            ),
-        },
-        Kind::Quantity(f) => {
-            plain::write_quantity(powers, t, rows, row, f, value, list, text, bytes)
-        }
-        Kind::Character => plain::write_character(t, rows, row, value, list, text, bytes),
-        Kind::Logical => plain::write_logical(t, rows, row, value, list, text, bytes),
+    match value {
+        Value::Missing => plain::write_missing(t, rows, row, bytes),
+        Value::Number(z) => plain::write_number(powers, t, rows, row, z, bytes),
+        Value::Set => marked::write_set(powers, t, rows, row, list, bytes),
+        Value::Text => plain::write_text(t, rows, row, text, bytes),
+        Value::Truth(b) => plain::write_truth(t, rows, row, b, bytes),
     }
 }
 

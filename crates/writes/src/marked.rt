@@ -8,9 +8,10 @@ ghost use Rattle.layout.specs.declared.Kind.the-variants as kind;
 ghost use Rattle.layout.specs.declared.Spread.the-variants as spread;
 ghost use Rattle.writes.specs.declared.Value.the-variants as given;
 ghost use Rattle.writes.specs.Write.{WrittenBy, Ready};
-use super::Value;
 use super::Wrote;
+use layout::Kind;
 use layout::Row;
+use layout::Spread;
 
 // So many members, and so many lines to search for each, pay for marks of all categories.
 const MANY: usize = 16;
@@ -98,27 +99,6 @@ fn bits_written(t: &[i64], rows: usize, row: Row, list: &[i64], bytes: &mut [u8]
     bits_set(t, rows, row, list, &mut marks[..k], bytes)
 }
 
-pub fn write_bits(
-    t: &[i64],
-    rows: usize,
-    row: Row,
-    value: Value,
-    list: &[i64],
-    text: &[u8],
-    bytes: &mut [u8],
-) -> Wrote
-    requires { ⌜ Ready (kind.Multiple spread.Bits) (now t) rows (length (now bytes)) row ⌝ }
-    ensures { λ r. ⌜ WrittenBy (kind.Multiple spread.Bits) (now (t .entry)) rows row value (now (list .entry)) (now (text .entry)) (now (bytes .entry)) (now (bytes .exit)) r ⌝ }
-{
-    match value {
-        Value::Missing => bits_blanked(t, rows, row, bytes),
-        Value::Set => bits_written(t, rows, row, list, bytes),
-        Value::Number(_) => Wrote::OtherType,
-        Value::Text => Wrote::OtherType,
-        Value::Truth(_) => Wrote::OtherType,
-    }
-}
-
 fn spread_set(
     powers: &[u64; 16],
     t: &[i64],
@@ -171,32 +151,43 @@ fn spread_written(
     spread_set(powers, t, rows, row, count, width, list, &mut marks, bytes)
 }
 
-pub fn write_spread(
+// Spaces at the places of a set.
+pub fn blank_set(t: &[i64], rows: usize, row: Row, s: Spread, bytes: &mut [u8]) -> Wrote
+    requires { ⌜ Ready (kind.Multiple s) (now t) rows (length (now bytes)) row ⌝ }
+    ensures { λ r. ⌜ WrittenBy (kind.Multiple s) (now (t .entry)) rows row given.Missing [] [] (now (bytes .entry)) (now (bytes .exit)) r ⌝ }
+{
+    match s {
+        Spread::Bits => bits_blanked(t, rows, row, bytes),
+        Spread::Fields { count, width } => {
+            setbytes::spread::blank_spread(bytes, row.start - 1, width, row.width, count);
+            Wrote::Done
+        }
+    }
+}
+
+pub fn write_set(
     powers: &[u64; 16],
     t: &[i64],
     rows: usize,
     row: Row,
-    count: usize,
-    width: usize,
-    value: Value,
     list: &[i64],
-    text: &[u8],
     bytes: &mut [u8],
 ) -> Wrote
     requires { ⌜ Tens (now powers) ⌝ }
-    requires { ⌜ Ready (kind.Multiple (spread.Fields count width)) (now t) rows (length (now bytes)) row ⌝ }
-    ensures { λ r. ⌜ WrittenBy (kind.Multiple (spread.Fields count width)) (now (t .entry)) rows row value (now (list .entry)) (now (text .entry)) (now (bytes .entry)) (now (bytes .exit)) r ⌝ }
+    requires { ⌜ Ready (row .kind) (now t) rows (length (now bytes)) row ⌝ }
+    ensures { λ r. ⌜ WrittenBy (row .kind) (now (t .entry)) rows row given.Set (now (list .entry)) [] (now (bytes .entry)) (now (bytes .exit)) r ⌝ }
 {
-    let w = row.width;
-    let at = row.start - 1;
-    match value {
-        Value::Missing => {
-            setbytes::spread::blank_spread(bytes, at, width, w, count);
-            Wrote::Done
-        }
-        Value::Set => spread_written(powers, t, rows, row, count, width, list, bytes),
-        Value::Number(_) => Wrote::OtherType,
-        Value::Text => Wrote::OtherType,
-        Value::Truth(_) => Wrote::OtherType,
+    let kind = row.kind;
+    match kind {
+        Kind::Multiple(s) => match s {
+            Spread::Bits => bits_written(t, rows, row, list, bytes),
+            Spread::Fields { count, width } => {
+                spread_written(powers, t, rows, row, count, width, list, bytes)
+            }
+        },
+        Kind::Single => Wrote::OtherType,
+        Kind::Quantity(_) => Wrote::OtherType,
+        Kind::Character => Wrote::OtherType,
+        Kind::Logical => Wrote::OtherType,
     }
 }

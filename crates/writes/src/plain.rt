@@ -1,113 +1,90 @@
-// Rows whose value stands in one run of places: SINGLE, QUANTITY, CHARACTER and LOGICAL.
+// Values that stand in one run of places, numbers, texts and truths; and what a missing value leaves.
 ghost use mathlib.Core.Path.{_≡_};
-ghost use mathlib.Core.Bool.{cond};
+ghost use mathlib.Core.Bool.{true, cond};
+ghost use mathlib.Core.List.{[]};
 ghost use lib.ListN.{length};
 ghost use Rattle.ascii.specs.Tens.{Tens};
-ghost use Rattle.layout.specs.declared.Kind.the-variants as kind;
-ghost use Rattle.writes.specs.Write.{WrittenBy, Ready};
-use super::Value;
+ghost use Rattle.places.specs.Places.{put};
+ghost use Rattle.fields.specs.Field.{number};
+ghost use Rattle.fields.specs.Legal.{legal};
+ghost use Rattle.fields.specs.Row.{placesBy, bytesBy};
+ghost use Rattle.writes.specs.declared.Value.the-variants as given;
+ghost use Rattle.writes.specs.Write.{WrittenBy, Ready, takesNumbers};
 use super::Wrote;
-use layout::Format;
+use layout::Kind;
 use layout::Row;
 
-pub fn write_single(
+fn takes_numbers(kind: Kind) -> bool
+    ensures { λ r. ⌜ r ≡ takesNumbers kind ⌝ }
+{
+    match kind {
+        Kind::Single => true,
+        Kind::Multiple(_) => false,
+        Kind::Quantity(_) => true,
+        Kind::Character => false,
+        Kind::Logical => false,
+    }
+}
+
+// A legal number's bytes: digits alone for a SINGLE, with the minus and the point for a QUANTITY. Other kinds have none.
+fn put_figures(powers: &[u64; 16], t: &[i64], rows: usize, row: Row, z: i64, bytes: &mut [u8])
+    requires { ⌜ Tens (now powers) ⌝ }
+    requires { ⌜ Ready (row .kind) (now t) rows (length (now bytes)) row ⌝ }
+    requires { ⌜ legal (now t) rows row z ≡ true ⌝ }
+    ensures { λ _. ⌜ now (bytes .exit) ≡ put (now (bytes .entry)) (placesBy (row .kind) (now (t .entry)) rows row) (bytesBy (row .kind) (now (t .entry)) rows row (number z)) ⌝ }
+{
+    let kind = row.kind;
+    let w = row.width;
+    match kind {
+        Kind::Single => digits::put_code(powers, bytes, row.finish - w, w, z),
+        Kind::Multiple(_) => {}
+        Kind::Quantity(f) => digits::put_quantity(powers, bytes, row.finish - w, w, f, z),
+        Kind::Character => {}
+        Kind::Logical => {}
+    }
+}
+
+pub fn write_number(
     powers: &[u64; 16],
     t: &[i64],
     rows: usize,
     row: Row,
-    value: Value,
-    list: &[i64],
-    text: &[u8],
+    z: i64,
     bytes: &mut [u8],
 ) -> Wrote
     requires { ⌜ Tens (now powers) ⌝ }
-    requires { ⌜ Ready kind.Single (now t) rows (length (now bytes)) row ⌝ }
-    ensures { λ r. ⌜ WrittenBy kind.Single (now (t .entry)) rows row value (now (list .entry)) (now (text .entry)) (now (bytes .entry)) (now (bytes .exit)) r ⌝ }
+    requires { ⌜ Ready (row .kind) (now t) rows (length (now bytes)) row ⌝ }
+    ensures { λ r. ⌜ WrittenBy (row .kind) (now (t .entry)) rows row (given.Number z) [] [] (now (bytes .entry)) (now (bytes .exit)) r ⌝ }
 {
-    let w = row.width;
-    let at = row.finish - w;
-    match value {
-        Value::Missing => {
-            runs::blank(bytes, at, w);
-            Wrote::Done
-        }
-        Value::Number(z) => {
-            if !legal::is_legal(t, rows, row, z) {
-                return Wrote::NotLegal;
-            }
-            digits::put_code(powers, bytes, at, w, z);
-            Wrote::Done
-        }
-        Value::Set => Wrote::OtherType,
-        Value::Text => Wrote::OtherType,
-        Value::Truth(_) => Wrote::OtherType,
+    let kind = row.kind;
+    if !takes_numbers(kind) {
+        return Wrote::OtherType;
     }
+    if !legal::is_legal(t, rows, row, z) {
+        return Wrote::NotLegal;
+    }
+    put_figures(powers, t, rows, row, z, bytes);
+    Wrote::Done
 }
 
-pub fn write_quantity(
-    powers: &[u64; 16],
-    t: &[i64],
-    rows: usize,
-    row: Row,
-    f: Format,
-    value: Value,
-    list: &[i64],
-    text: &[u8],
-    bytes: &mut [u8],
-) -> Wrote
-    requires { ⌜ Tens (now powers) ⌝ }
-    requires { ⌜ Ready (kind.Quantity f) (now t) rows (length (now bytes)) row ⌝ }
-    ensures { λ r. ⌜ WrittenBy (kind.Quantity f) (now (t .entry)) rows row value (now (list .entry)) (now (text .entry)) (now (bytes .entry)) (now (bytes .exit)) r ⌝ }
+pub fn write_text(t: &[i64], rows: usize, row: Row, text: &[u8], bytes: &mut [u8]) -> Wrote
+    requires { ⌜ Ready (row .kind) (now t) rows (length (now bytes)) row ⌝ }
+    ensures { λ r. ⌜ WrittenBy (row .kind) (now (t .entry)) rows row given.Text [] (now (text .entry)) (now (bytes .entry)) (now (bytes .exit)) r ⌝ }
 {
+    let kind = row.kind;
     let w = row.width;
-    let at = row.finish - w;
-    match value {
-        Value::Missing => {
-            runs::blank(bytes, at, w);
-            Wrote::Done
-        }
-        Value::Number(z) => {
-            if !legal::is_legal(t, rows, row, z) {
-                return Wrote::NotLegal;
-            }
-            digits::put_quantity(powers, bytes, at, w, f, z);
-            Wrote::Done
-        }
-        Value::Set => Wrote::OtherType,
-        Value::Text => Wrote::OtherType,
-        Value::Truth(_) => Wrote::OtherType,
-    }
-}
-
-pub fn write_character(
-    t: &[i64],
-    rows: usize,
-    row: Row,
-    value: Value,
-    list: &[i64],
-    text: &[u8],
-    bytes: &mut [u8],
-) -> Wrote
-    requires { ⌜ Ready kind.Character (now t) rows (length (now bytes)) row ⌝ }
-    ensures { λ r. ⌜ WrittenBy kind.Character (now (t .entry)) rows row value (now (list .entry)) (now (text .entry)) (now (bytes .entry)) (now (bytes .exit)) r ⌝ }
-{
-    let w = row.width;
-    let at = row.start - 1;
-    match value {
-        Value::Missing => {
-            runs::blank(bytes, at, w);
-            Wrote::Done
-        }
-        Value::Text => {
+    match kind {
+        Kind::Character => {
             if !super::texts::text_fits(w, text) {
                 return Wrote::NotLegal;
             }
-            super::texts::put_text(bytes, at, w, text);
+            super::texts::put_text(bytes, row.start - 1, w, text);
             Wrote::Done
         }
-        Value::Number(_) => Wrote::OtherType,
-        Value::Set => Wrote::OtherType,
-        Value::Truth(_) => Wrote::OtherType,
+        Kind::Single => Wrote::OtherType,
+        Kind::Multiple(_) => Wrote::OtherType,
+        Kind::Quantity(_) => Wrote::OtherType,
+        Kind::Logical => Wrote::OtherType,
     }
 }
 
@@ -117,30 +94,37 @@ fn truth_byte(b: bool) -> u8
     if b { 49 } else { 48 }
 }
 
-pub fn write_logical(
-    t: &[i64],
-    rows: usize,
-    row: Row,
-    value: Value,
-    list: &[i64],
-    text: &[u8],
-    bytes: &mut [u8],
-) -> Wrote
-    requires { ⌜ Ready kind.Logical (now t) rows (length (now bytes)) row ⌝ }
-    ensures { λ r. ⌜ WrittenBy kind.Logical (now (t .entry)) rows row value (now (list .entry)) (now (text .entry)) (now (bytes .entry)) (now (bytes .exit)) r ⌝ }
+pub fn write_truth(t: &[i64], rows: usize, row: Row, b: bool, bytes: &mut [u8]) -> Wrote
+    requires { ⌜ Ready (row .kind) (now t) rows (length (now bytes)) row ⌝ }
+    ensures { λ r. ⌜ WrittenBy (row .kind) (now (t .entry)) rows row (given.Truth b) [] [] (now (bytes .entry)) (now (bytes .exit)) r ⌝ }
 {
+    let kind = row.kind;
     let at = row.finish - 1;
-    match value {
-        Value::Missing => {
-            bytes[at] = 32;
-            Wrote::Done
-        }
-        Value::Truth(b) => {
+    match kind {
+        Kind::Logical => {
             bytes[at] = truth_byte(b);
             Wrote::Done
         }
-        Value::Number(_) => Wrote::OtherType,
-        Value::Set => Wrote::OtherType,
-        Value::Text => Wrote::OtherType,
+        Kind::Single => Wrote::OtherType,
+        Kind::Multiple(_) => Wrote::OtherType,
+        Kind::Quantity(_) => Wrote::OtherType,
+        Kind::Character => Wrote::OtherType,
     }
+}
+
+// Spaces. The places of a CHARACTER start with its position, those of the other kinds end with it.
+pub fn write_missing(t: &[i64], rows: usize, row: Row, bytes: &mut [u8]) -> Wrote
+    requires { ⌜ Ready (row .kind) (now t) rows (length (now bytes)) row ⌝ }
+    ensures { λ r. ⌜ WrittenBy (row .kind) (now (t .entry)) rows row given.Missing [] [] (now (bytes .entry)) (now (bytes .exit)) r ⌝ }
+{
+    let kind = row.kind;
+    let w = row.width;
+    match kind {
+        Kind::Single => runs::blank(bytes, row.finish - w, w),
+        Kind::Multiple(s) => return super::marked::blank_set(t, rows, row, s, bytes),
+        Kind::Quantity(_) => runs::blank(bytes, row.finish - w, w),
+        Kind::Character => runs::blank(bytes, row.start - 1, w),
+        Kind::Logical => runs::blank(bytes, row.finish - 1, 1),
+    }
+    Wrote::Done
 }

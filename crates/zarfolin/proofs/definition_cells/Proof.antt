@@ -5,15 +5,8 @@ use Rattle.zarfolin.specs.Face.{definitionCells}
 use Rattle.zarfolin.proofs.definition_cells.Statement.{statement}
 use Rattle.zarfolin.proofs.definition_cells.Tie as tie
 
-returns : tie.Need-returns
-unfolding definitionCells
-returns c = rw (c .before .before .before .a .given .1, toZ-ofZ (sfits-of (c .before .cell .ok)), toZ-ofZ (sfits-of (c .cell2 .ok)), c .before .cell .ensures, c .cell2 .ensures)
-
-returns-2 : tie.Need-returns-2
-unfolding definitionCells
-returns-2 c = rw (c .before .before .before .a2 .given .1, c .with-one .ensures, toZ-ofZ (sfits-of (c .before .cell3 .ok)), c .before .cell3 .ensures)
-
 pub definition-cells-spec : {M : Type 1} → statement M
+unfolding definitionCells
 definition-cells-spec =
     tie.close
     (tie.spec
@@ -23,5 +16,5 @@ definition-cells-spec =
     (λ c. search needs)
     (λ c κs. search needs)
     (λ c κs. search needs)
-    returns
-    returns-2)
+    (λ c. rw (c .before .before .before .a .given .1, toZ-ofZ (sfits-of (c .before .cell .ok)), toZ-ofZ (sfits-of (c .cell2 .ok)), c .before .cell .ensures, c .cell2 .ensures))
+    (λ c. rw (c .before .before .before .a2 .given .1, c .with-one .ensures, toZ-ofZ (sfits-of (c .before .cell3 .ok)), c .before .cell3 .ensures)))

@@ -6,26 +6,24 @@ use Rattle.records.specs.Verdict.{judgedAs}
 use Rattle.zarfolin.proofs.fault_cells.Statement.{statement}
 use Rattle.zarfolin.proofs.fault_cells.Tie as tie
 
-returns : tie.Need-returns
-unfolding faultCells judgedAs
-returns c = rw (c .before .enum-told .given .1, c .with-one .ensures, toZ-ofZ (sfits-of (c .before .before .before .cell .ok)), c .before .before .before .cell .ensures)
-
-returns-2 : tie.Need-returns-2
-unfolding faultCells judgedAs
-returns-2 c = rw (c .before .enum-told2 .given .1, c .with-one2 .ensures, toZ-ofZ (sfits-of (c .before .before .before .cell .ok)), c .before .before .before .cell .ensures)
-
-returns-3 : tie.Need-returns-3
-unfolding faultCells judgedAs
-returns-3 c = rw (c .before .enum-told3 .given .1, c .with-one3 .ensures, toZ-ofZ (sfits-of (c .before .before .before .cell .ok)), c .before .before .before .cell .ensures)
-
-returns-4 : tie.Need-returns-4
-unfolding faultCells judgedAs
-returns-4 c = rw (c .before .before .j .given .1, toZ-ofZ (sfits-of (c .before .before .before .before .cell .ok)), toZ-ofZ (sfits-of (c .cell2 .ok)), c .before .before .before .before .cell .ensures, c .cell2 .ensures)
-
-returns-5 : tie.Need-returns-5
-unfolding faultCells judgedAs
-returns-5 c = rw (c .before .before .j2 .given .1, toZ-ofZ (sfits-of (c .before .before .before .before .cell .ok)), toZ-ofZ (sfits-of (c .cell3 .ok)), c .before .before .before .before .cell .ensures, c .cell3 .ensures)
-
 pub fault-cells-spec : {M : Type 1} → statement M
+unfolding faultCells judgedAs
 fault-cells-spec =
-    tie.close (tie.spec (λ c κs. search needs) (λ c. search needs) (λ c κs. search needs) (λ c. search needs) (λ c κs. search needs) (λ c. search needs) (λ c κs. search needs) (λ c. search needs) (λ c κs. search needs) (λ c. search needs) (λ c κs. search needs) returns returns-2 returns-3 returns-4 returns-5)
+    tie.close
+    (tie.spec
+    (λ c κs. search needs)
+    (λ c. search needs)
+    (λ c κs. search needs)
+    (λ c. search needs)
+    (λ c κs. search needs)
+    (λ c. search needs)
+    (λ c κs. search needs)
+    (λ c. search needs)
+    (λ c κs. search needs)
+    (λ c. search needs)
+    (λ c κs. search needs)
+    (λ c. rw (c .before .enum-told .given .1, c .with-one .ensures, toZ-ofZ (sfits-of (c .before .before .before .cell .ok)), c .before .before .before .cell .ensures))
+    (λ c. rw (c .before .enum-told2 .given .1, c .with-one2 .ensures, toZ-ofZ (sfits-of (c .before .before .before .cell .ok)), c .before .before .before .cell .ensures))
+    (λ c. rw (c .before .enum-told3 .given .1, c .with-one3 .ensures, toZ-ofZ (sfits-of (c .before .before .before .cell .ok)), c .before .before .before .cell .ensures))
+    (λ c. rw (c .before .before .j .given .1, toZ-ofZ (sfits-of (c .before .before .before .before .cell .ok)), toZ-ofZ (sfits-of (c .cell2 .ok)), c .before .before .before .before .cell .ensures, c .cell2 .ensures))
+    (λ c. rw (c .before .before .j2 .given .1, toZ-ofZ (sfits-of (c .before .before .before .before .cell .ok)), toZ-ofZ (sfits-of (c .cell3 .ok)), c .before .before .before .before .cell .ensures, c .cell3 .ensures)))

@@ -7,34 +7,26 @@ use Rattle.files.specs.File.{fileSaid}
 use Rattle.zarfolin.proofs.file_cells.Statement.{statement}
 use Rattle.zarfolin.proofs.file_cells.Tie as tie
 
-returns : tie.Need-returns
-unfolding fileCells fileSaid
-returns c = rw (c .before .before .before .j .given .1, c .with-one .ensures, toZ-ofZ (sfits-of (c .before .cell .ok)), c .before .cell .ensures)
-
-returns-2 : tie.Need-returns-2
-unfolding fileCells fileSaid
-returns-2 c =
-    rw (
-      c .before .enum-told .given .1,
-      sym (c .bare .ensures),
-    )
-
-returns-3 : tie.Need-returns-3
-unfolding fileCells fileSaid faultCells
-returns-3 c = rw (c .before .before .before .j2 .given .1, c .with-one2 .ensures, toZ-ofZ (sfits-of (c .before .cell2 .ok)), c .before .cell2 .ensures)
-
-returns-4 : tie.Need-returns-4
-unfolding fileCells fileSaid faultCells
-returns-4 c = rw (c .before .before .before .j3 .given .1, c .with-one3 .ensures, toZ-ofZ (sfits-of (c .before .cell3 .ok)), c .before .cell3 .ensures)
-
-returns-5 : tie.Need-returns-5
-unfolding fileCells fileSaid
-returns-5 c =
-    rw (
-      c .before .before .j4 .given .1,
-      sym (c .fault-cells .ensures),
-    )
-
 pub file-cells-spec : {M : Type 1} → statement M
+unfolding fileCells fileSaid faultCells
 file-cells-spec =
-    tie.close (tie.spec (λ c. search needs) (λ c κs. search needs) (λ c κs. search needs) (λ c. search needs) (λ c κs. search needs) (λ c. search needs) (λ c κs. search needs) (λ c κs. search needs) (λ c. search needs) (λ c κs. search needs) (λ c κs. search needs) (λ c. search needs) (λ c κs. search needs) returns returns-2 returns-3 returns-4 returns-5)
+    tie.close
+    (tie.spec
+    (λ c. search needs)
+    (λ c κs. search needs)
+    (λ c κs. search needs)
+    (λ c. search needs)
+    (λ c κs. search needs)
+    (λ c. search needs)
+    (λ c κs. search needs)
+    (λ c κs. search needs)
+    (λ c. search needs)
+    (λ c κs. search needs)
+    (λ c κs. search needs)
+    (λ c. search needs)
+    (λ c κs. search needs)
+    (λ c. rw (c .before .before .before .j .given .1, c .with-one .ensures, toZ-ofZ (sfits-of (c .before .cell .ok)), c .before .cell .ensures))
+    (λ c. rw (c .before .enum-told .given .1, sym (c .bare .ensures)))
+    (λ c. rw (c .before .before .before .j2 .given .1, c .with-one2 .ensures, toZ-ofZ (sfits-of (c .before .cell2 .ok)), c .before .cell2 .ensures))
+    (λ c. rw (c .before .before .before .j3 .given .1, c .with-one3 .ensures, toZ-ofZ (sfits-of (c .before .cell3 .ok)), c .before .cell3 .ensures))
+    (λ c. rw (c .before .before .j4 .given .1, sym (c .fault-cells .ensures))))

@@ -4,41 +4,22 @@ use Rattle.writes.specs.Public.{numberOf}
 use Rattle.zarfolin.proofs.number_of.Statement.{statement}
 use Rattle.zarfolin.proofs.number_of.Tie as tie
 
-returns : tie.Need-returns
-unfolding numberOf
-returns c =
-    rw (c .enum-told .given .1)
-
-returns-2 : tie.Need-returns-2
-unfolding numberOf
-returns-2 c =
-    rw (c .enum-told2 .given .1)
-
-returns-3 : tie.Need-returns-3
-unfolding numberOf
-returns-3 c =
-    rw (c .enum-told3 .given .1)
-
-returns-4 : tie.Need-returns-4
-unfolding numberOf
-returns-4 c =
-    rw (c .enum-told4 .given .1)
-
-returns-5 : tie.Need-returns-5
-unfolding numberOf
-returns-5 c =
-    rw (c .enum-told5 .given .1)
-
-returns-6 : tie.Need-returns-6
-unfolding numberOf
-returns-6 c =
-    rw (c .enum-told6 .given .1)
-
-returns-7 : tie.Need-returns-7
-unfolding numberOf
-returns-7 c =
-    rw (c .enum-told7 .given .1)
-
 pub number-of-spec : {M : Type 1} → statement M
+unfolding numberOf
 number-of-spec =
-    tie.close (tie.spec (λ c. search needs) (λ c. search needs) (λ c. search needs) (λ c. search needs) (λ c. search needs) (λ c. search needs) (λ c. search needs) returns returns-2 returns-3 returns-4 returns-5 returns-6 returns-7)
+    tie.close
+    (tie.spec
+    (λ c. search needs)
+    (λ c. search needs)
+    (λ c. search needs)
+    (λ c. search needs)
+    (λ c. search needs)
+    (λ c. search needs)
+    (λ c. search needs)
+    (λ c. search needs)
+    (λ c. search needs)
+    (λ c. search needs)
+    (λ c. search needs)
+    (λ c. search needs)
+    (λ c. search needs)
+    (λ c. search needs))

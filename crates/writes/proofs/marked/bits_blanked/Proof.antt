@@ -1,5 +1,5 @@
 -- `writes::marked::bits_blanked` meets its contract.
-use mathlib.Core.Path.{refl, sym, _∙_}
+use mathlib.Core.Path.{sym, _∙_}
 use Prim.Native.Nat.{_+_, _-_, _≤_}
 use native.Mathlib.Omega.{arith}
 use borrow.Author.Needs.{needs}
@@ -15,7 +15,7 @@ blank-all-requires c κs =
 
 returns : tie.Need-returns
 unfolding placesBy
-returns c = blanked refl (c .before .before .blank-all .ensures)
+returns c = blanked (c .before .before .blank-all .ensures)
 
 slice-aggregate-bits-missing : tie.Need-slice-aggregate-bits-missing
 slice-aggregate-bits-missing c = prefix _ 128 (c .before .if2 .taken)

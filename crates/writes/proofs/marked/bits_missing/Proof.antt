@@ -1,5 +1,4 @@
 -- `writes::marked::bits_missing` meets its contract.
-use mathlib.Core.Path.{refl}
 use Prim.Native.Nat.{_-_}
 use native.Mathlib.Omega.{arith}
 use borrow.Author.Needs.{needs}
@@ -16,7 +15,7 @@ blank-bits-requires c κs =
 
 returns : tie.Need-returns
 unfolding placesBy
-returns c = blanked refl (c .before .before .blank-bits .ensures)
+returns c = blanked (c .before .before .blank-bits .ensures)
 
 pub bits-missing-spec : {M : Type 1} → statement M
 bits-missing-spec =

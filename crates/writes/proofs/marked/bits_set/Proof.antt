@@ -1,5 +1,5 @@
 -- `writes::marked::bits_set` meets its contract.
-use mathlib.Core.Path.{refl, sym, _∙_}
+use mathlib.Core.Path.{sym, _∙_}
 use Prim.Native.Nat.{_-_}
 use native.Mathlib.Omega.{arith}
 use borrow.Author.Needs.{needs}
@@ -18,7 +18,7 @@ set-fits-requires c κs =
 
 returns : tie.Need-returns
 unfolding valueOf fitsBy
-returns c = illegal refl (legal-not (sym (c .before .set-fits .ensures) ∙ not-true _ (c .if1 .taken)))
+returns c = illegal (legal-not (sym (c .before .set-fits .ensures) ∙ not-true _ (c .if1 .taken)))
 
 put-all-requires : tie.Need-put-all-requires
 put-all-requires c κs =
@@ -27,7 +27,7 @@ put-all-requires c κs =
 
 returns-2 : tie.Need-returns-2
 unfolding valueOf fitsBy placesBy bytesBy
-returns-2 c = accepted refl (legal-fits (sym (c .before .before .before .before .before .before .before .set-fits .ensures) ∙ not-false _ (c .before .before .before .before .before .before .if1 .left))) (c .before .before .put-all .ensures)
+returns-2 c = accepted (legal-fits (sym (c .before .before .before .before .before .before .before .set-fits .ensures) ∙ not-false _ (c .before .before .before .before .before .before .if1 .left))) (c .before .before .put-all .ensures)
 
 put-bits-requires : tie.Need-put-bits-requires
 put-bits-requires c κs =
@@ -36,7 +36,7 @@ put-bits-requires c κs =
 
 returns-3 : tie.Need-returns-3
 unfolding valueOf fitsBy placesBy bytesBy
-returns-3 c = accepted refl (legal-fits (sym (c .before .before .before .before .before .before .before .before .set-fits .ensures) ∙ not-false _ (c .before .before .before .before .before .before .before .if1 .left))) (c .before .before .put-bits .ensures)
+returns-3 c = accepted (legal-fits (sym (c .before .before .before .before .before .before .before .before .set-fits .ensures) ∙ not-false _ (c .before .before .before .before .before .before .before .if1 .left))) (c .before .before .put-bits .ensures)
 
 pub bits-set-spec : {M : Type 1} → statement M
 bits-set-spec =

@@ -1,5 +1,5 @@
 -- `writes::marked::spread_set` meets its contract.
-use mathlib.Core.Path.{refl, sym, _∙_}
+use mathlib.Core.Path.{sym, _∙_}
 use Prim.Native.Nat.{_-_}
 use native.Mathlib.Omega.{arith}
 use borrow.Author.Needs.{needs}
@@ -22,11 +22,11 @@ returns : tie.Need-returns
 unfolding valueOf fitsBy
 returns c =
     let s = c .before .before .before .before .before .before .before .before .before .before in
-    illegal refl (set-not (ltb (s .args .count) (length (s .args .list .now))) (sym (c .before .set-fits .ensures) ∙ not-true _ (c .if1 .taken)))
+    illegal (set-not (ltb (s .args .count) (length (s .args .list .now))) (sym (c .before .set-fits .ensures) ∙ not-true _ (c .if1 .taken)))
 
 returns-2 : tie.Need-returns-2
 unfolding valueOf fitsBy
-returns-2 c = many refl (set-many (sym (c .before .before .set-fits .ensures) ∙ not-false _ (c .before .if1 .left)) (lt-ltb _ _ (c .if2 .taken)))
+returns-2 c = many (set-many (sym (c .before .before .set-fits .ensures) ∙ not-false _ (c .before .if1 .left)) (lt-ltb _ _ (c .if2 .taken)))
 
 put-spread-requires : tie.Need-put-spread-requires
 put-spread-requires c κs =
@@ -40,7 +40,7 @@ unfolding valueOf fitsBy placesBy bytesBy
 returns-3 c =
     let p = c .before .before in
     let t = p .before .before in
-    accepted refl (set-fits (sym (t .before .before .set-fits .ensures) ∙ not-false _ (t .before .if1 .left)) (le-ltb _ _ (t .if2 .left))) (p .put-spread .ensures)
+    accepted (set-fits (sym (t .before .before .set-fits .ensures) ∙ not-false _ (t .before .if1 .left)) (le-ltb _ _ (t .if2 .left))) (p .put-spread .ensures)
 
 pub spread-set-spec : {M : Type 1} → statement M
 spread-set-spec =
