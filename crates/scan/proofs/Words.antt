@@ -1,20 +1,20 @@
 -- A keyword's letter at index i, against what is left to read.
 use mathlib.Core.Path.{_≡_, refl, ap, _∙_, sym}
 use mathlib.Core.List.{List, [], _∷_}
-use mathlib.Core.Bool.{Bool, true, false, cond, _&&_, _||_}
+use mathlib.Core.Bool.{Bool, true, false, cond, _&&_}
 use Prim.Native.Nat.{ℕ, suc, _+_, _-_, _≤_, _<_}
 use native.Mathlib.Numerals.{add-one}
 use native.Mathlib.Omega.{arith}
 use lib.Dec.{eqb, ltb, leb}
 use lib.ListN.{length, getD, drop, drop-of-length-le}
 use lib.Seq.{drop-cons}
-use borrow.Author.Tests.{eq-eqb, ne-eqb, eqb-true, le-ltb, lt-ltb, ltb-true, ltb-false, leb-true}
+use borrow.Author.Tests.{eq-eqb, ne-eqb, eqb-true, ltb-false, leb-true}
 use Rattle.scan.specs.Text.{Text, stop, sign, text}
 use Rattle.scan.specs.Word.{wordOf}
-use Rattle.ascii.specs.Class.{classOf, within, upperOf}
+use Rattle.ascii.specs.Class.{upperOf}
 use Rattle.below.specs.Below.{and-left, and-right}
 use Rattle.scan.specs.declared.Word.the-variants.{Matched, Not}
-use Rattle.scan.proofs.Texts.{text-kept}
+use Rattle.scan.proofs.Texts.{text-kept, kept-byte}
 
 module _ (n : ℕ) {t : Text} (w : List ℕ) (i : ℕ) where
   pub word-next : {p b : ℕ} {u : Text} → t ≡ sign p b u → i < length w → upperOf b ≡ getD w i 0 → wordOf n t (drop i w) ≡ wordOf (p + 1) u (drop (i + 1) w)
@@ -35,19 +35,6 @@ module _ (n : ℕ) (t : Text) (w : List ℕ) (i : ℕ) where
   word-whole h = rw (drop-of-length-le w h)
 
 -- ---- a keyword as it is given, byte by byte of the file
--- a byte of 32 or above is kept
-pub kept-byte : (b : ℕ) → 32 ≤ b → classOf b ≡ 0 → ⊥
-unfolding classOf
-kept-byte b h = rw (le-ltb b 32 h) (by (eqb b 32) (within 48 57 b) (within 65 90 b || within 97 122 b) (eqb b 34) (eqb b 123 || eqb b 125) (eqb b 60 || eqb b 62)) where
-  by : (p q r s t u : Bool) → _≡_ {A = ℕ} (cond p 1 (cond q 2 (cond r 3 (cond s 4 (cond t 5 (cond u 6 7)))))) 0 → ⊥
-  by true q r s t u e = omega arith
-  by false true r s t u e = omega arith
-  by false false true s t u e = omega arith
-  by false false false true t u e = omega arith
-  by false false false false true u e = omega arith
-  by false false false false false true e = omega arith
-  by false false false false false false e = omega arith
-
 -- a byte that is a letter in neither case
 pub upper-miss : (b x : ℕ) → (b ≡ x → ⊥) → (b ≡ x + 32 → ⊥) → upperOf b ≡ x → ⊥
 unfolding upperOf
