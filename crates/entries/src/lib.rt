@@ -30,7 +30,8 @@ fn end_variable(classes: &[u8; 256], d: &[u8], next: usize) -> Reading
     requires { ⌜ Classes (now classes) ⌝ }
     ensures { λ r. ⌜ r ≡ endVariable (now (d .entry)) next ⌝ }
 {
-    let e = statements::statement_on(classes, d, Reading::At(next), b"END");
+    let s = statements::notes_on(classes, d, Reading::At(next));
+    let e = tokens::word_here(classes, d, s, b"END");
     tokens::word_on(classes, d, e, b"VARIABLE")
 }
 

@@ -127,7 +127,7 @@ fn onward(d: &[u8], s: Inside, n: usize) -> usize
     ensures { λ r. ⌜ (n ≤ r) × (stringOf s (text (now (d .entry)) n) ≡ stringOf s (text (now (d .entry)) r)) ⌝ }
 {
     match s {
-        Inside::Plain => quotes::skip_plain(d, n, 34, 123, 123),
+        Inside::Plain => quotes::skip_pair(d, n, 34, 123),
         Inside::Opened(_) => n,
         Inside::Shut(_) => n,
         Inside::Ell(_) => n,
@@ -136,12 +136,12 @@ fn onward(d: &[u8], s: Inside, n: usize) -> usize
     }
 }
 
-// A string, from just after its opening quote.
-pub fn string(classes: &[u8; 256], d: &[u8], at: usize) -> Skip
+// A string with brace forms, from a place in its plain text on.
+fn pieces(classes: &[u8; 256], d: &[u8], at: usize) -> Skip
     requires { ⌜ Classes (now classes) ⌝ }
     ensures { λ r. ⌜ r ≡ stringOf Inside.Plain (text (now (d .entry)) at) ⌝ }
 {
-    let mut n = onward(d, Inside::Plain, at);
+    let mut n = at;
     let mut s = Inside::Plain;
     loop {
         match scan::next_byte(classes, d, n) {
@@ -164,6 +164,20 @@ pub fn string(classes: &[u8; 256], d: &[u8], at: usize) -> Skip
             }
         }
     }
+}
+
+// A string, from just after its opening quote. Most have no brace form, and end at the first mark that is met.
+pub fn string(classes: &[u8; 256], d: &[u8], at: usize) -> Skip
+    requires { ⌜ Classes (now classes) ⌝ }
+    ensures { λ r. ⌜ r ≡ stringOf Inside.Plain (text (now (d .entry)) at) ⌝ }
+{
+    let n = quotes::skip_pair(d, at, 34, 123);
+    if n < d.len() {
+        if d[n] == 34 {
+            return Skip::Past(n + 1);
+        }
+    }
+    pieces(classes, d, n)
 }
 
 // A comment of a level, from just after its opening angle.

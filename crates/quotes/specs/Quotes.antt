@@ -5,13 +5,17 @@ use mathlib.Core.List.{List}
 use mathlib.Core.Logic.{_⊎_, ⊎-elim}
 use Prim.Native.Nat.{ℕ, zero, suc, _+_, _-_, _≤_, _<_}
 use native.Mathlib.Omega.{arith}
-use lib.Dec.{eqb}
+use lib.Dec.{eqb, ltb}
 use lib.ListN.{length, getD}
 use Rattle.below.specs.Below.{anyBelow, any-none, any-next, any-holds, lt-or-le}
 
 -- a byte is one of three
 abbrev pub isMark : ℕ → ℕ → ℕ → ℕ → Bool
 isMark x y z b = eqb b x || (eqb b y || eqb b z)
+
+-- a byte is above 32: neither dropped nor the space
+abbrev pub isAbove : ℕ → Bool
+isAbove b = ltb 32 b
 
 -- byte i is a mark
 abbrev pub markAt : (ℕ → Bool) → List ℕ → ℕ → Bool
@@ -36,6 +40,43 @@ pub among-more : (f : ℕ → Bool) (s : List ℕ) (i n : ℕ) (b : Bool) → b 
 unfolding markAmong
 among-more f s i n b e = ap (λ x. x || markAt f s (i + n)) e ∙ sym (any-next (λ k. markAt f s (i + k)) n)
 
+-- one more byte, where the marks are looked for each by itself
+pub among-three : (x y z : ℕ) (s : List ℕ) (i n : ℕ) (a b c : Bool) → (a || (b || c)) ≡ markAmong (isMark x y z) s i n
+    → let k = getD s (i + n) 0 in ((a || eqb k x) || ((b || eqb k y) || (c || eqb k z))) ≡ markAmong (isMark x y z) s i (n + 1)
+among-three x y z s i n a b c e =
+    let k = getD s (i + n) 0 in
+    by a b c (eqb k x) (eqb k y) (eqb k z) ∙ among-more (isMark x y z) s i n (a || (b || c)) e where
+      by : (a b c p q r : Bool) → ((a || p) || ((b || q) || (c || r))) ≡ ((a || (b || c)) || (p || (q || r)))
+      by true b c p q r = refl
+      by false true c true q r = refl
+      by false false true true q r = refl
+      by false false false true q r = refl
+      by false true c false q r = refl
+      by false false true false true r = refl
+      by false false false false true r = refl
+      by false false c false false r = refl
+
+pub among-two : (x y : ℕ) (s : List ℕ) (i n : ℕ) (a b : Bool) → (a || b) ≡ markAmong (isMark x y y) s i n
+    → let k = getD s (i + n) 0 in ((a || eqb k x) || (b || eqb k y)) ≡ markAmong (isMark x y y) s i (n + 1)
+among-two x y s i n a b e =
+    let k = getD s (i + n) 0 in
+    by a b (eqb k x) (eqb k y) ∙ among-more (isMark x y y) s i n (a || b) e where
+      by : (a b p q : Bool) → ((a || p) || (b || q)) ≡ ((a || b) || (p || (q || q)))
+      by true b p q = refl
+      by false true true q = refl
+      by false true false q = refl
+      by false false true q = refl
+      by false false false true = refl
+      by false false false false = refl
+
+-- a byte that is neither of two
+pub neither : (b x y : ℕ) → (eqb b x || eqb b y) ≡ false → isMark x y y b ≡ false
+neither b x y = by (eqb b x) (eqb b y) where
+  by : (p q : Bool) → (p || q) ≡ false → (p || (q || q)) ≡ false
+  by true q e = e
+  by false true e = e
+  by false false e = e
+
 pub unmarked-none : (f : ℕ → Bool) (s : List ℕ) (from : ℕ) → Unmarked f s from from
 unmarked-none f s from = record { on = omega arith; within = λ j a b. absurd (omega arith); plain = λ j a b. absurd (omega arith) }
 
@@ -56,6 +97,14 @@ unmarked-more f s from i n c e h = record {
   on = omega (arith, c .on);
   within = λ j a b. omega arith;
   plain = λ j a b. ⊎-elim (λ l. c .plain j a l) (λ l. none-at f s i n e j l b) (lt-or-le j i);
+}
+
+-- one stretch behind another
+pub unmarked-join : (f : ℕ → Bool) (s : List ℕ) (from i to : ℕ) → Unmarked f s from i → Unmarked f s i to → Unmarked f s from to
+unmarked-join f s from i to c e = record {
+  on = omega (arith, c .on, e .on);
+  within = λ j a b. ⊎-elim (λ l. c .within j a l) (λ l. e .within j l b) (lt-or-le j i);
+  plain = λ j a b. ⊎-elim (λ l. c .plain j a l) (λ l. e .plain j l b) (lt-or-le j i);
 }
 
 -- one byte on

@@ -1,23 +1,29 @@
-// How far bytes go on with none of three among them, as quotes, braces or angles: sixteen are looked at together, so that a long string
-// or comment costs little. Above it stand the strings and comments of a definition.
+// How far bytes go on with none of three or of two among them, as quotes, braces or angles, and how far blanks go: eight or sixteen
+// bytes are looked at together, so that a long string, comment or indent costs little. Above it stand the strings, comments and gaps
+// of a definition.
 ghost use mathlib.Core.Path.{_≡_};
 ghost use Prim.Native.Nat.{_+_, _≤_};
 ghost use lib.ListN.{length};
-ghost use Rattle.quotes.specs.Quotes.{isMark, markAmong, Unmarked};
+ghost use Rattle.quotes.specs.Quotes.{isMark, isAbove, markAmong, Unmarked};
 
-// Is one of the sixteen bytes from i on x, y or z? Nothing leaves the loop early: so the compiler looks at all of them at once.
+// Is one of the sixteen bytes from i on x, y or z? Nothing leaves the loop early, and each of the three is looked for by itself: so the
+// compiler looks at all bytes at once.
 fn mark_among(s: &[u8], i: usize, x: u8, y: u8, z: u8) -> bool
     requires { ⌜ i + 16 ≤ length (now s) ⌝ }
     ensures { λ r. ⌜ r ≡ markAmong (isMark x y z) (now (s .entry)) i 16 ⌝ }
 {
-    let mut found = false;
+    let mut any_x = false;
+    let mut any_y = false;
+    let mut any_z = false;
     let mut k: usize = 0;
     while k < 16 {
         let b = s[i + k];
-        found = found | ((b == x) | ((b == y) | (b == z)));
+        any_x = any_x | (b == x);
+        any_y = any_y | (b == y);
+        any_z = any_z | (b == z);
         k += 1;
     }
-    found
+    any_x | (any_y | any_z)
 }
 
 // A place from `from` on with none of them before it, at whole steps of sixteen.
@@ -50,6 +56,108 @@ pub fn skip_plain(s: &[u8], from: usize, x: u8, y: u8, z: u8) -> usize
             return i;
         }
         i += 1;
+    }
+    i
+}
+
+// Is one of the eight bytes from i on x or y? Most strings are short, so that they are gone through in smaller steps than comments.
+fn pair_among(s: &[u8], i: usize, x: u8, y: u8) -> bool
+    requires { ⌜ i + 8 ≤ length (now s) ⌝ }
+    ensures { λ r. ⌜ r ≡ markAmong (isMark x y y) (now (s .entry)) i 8 ⌝ }
+{
+    let mut any_x = false;
+    let mut any_y = false;
+    let mut k: usize = 0;
+    while k < 8 {
+        let b = s[i + k];
+        any_x = any_x | (b == x);
+        any_y = any_y | (b == y);
+        k += 1;
+    }
+    any_x | any_y
+}
+
+// The same as skip_wide, for two and at whole steps of eight.
+fn skip_eights(s: &[u8], from: usize, x: u8, y: u8) -> usize
+    ensures { λ r. ⌜ Unmarked (isMark x y y) (now (s .entry)) from r ⌝ }
+{
+    let n = s.len();
+    if n < 8 {
+        return from;
+    }
+    let last = n - 8;
+    let mut i = from;
+    while i <= last {
+        if pair_among(s, i, x, y) {
+            return i;
+        }
+        i += 8;
+    }
+    i
+}
+
+// The same as skip_plain, for two.
+pub fn skip_pair(s: &[u8], from: usize, x: u8, y: u8) -> usize
+    ensures { λ r. ⌜ Unmarked (isMark x y y) (now (s .entry)) from r ⌝ }
+{
+    let mut i = skip_eights(s, from, x, y);
+    while i < s.len() {
+        let b = s[i];
+        if (b == x) | (b == y) {
+            return i;
+        }
+        i += 1;
+    }
+    i
+}
+
+// Is one of the sixteen bytes from i on no blank, that is above 32?
+fn above_among(s: &[u8], i: usize) -> bool
+    requires { ⌜ i + 16 ≤ length (now s) ⌝ }
+    ensures { λ r. ⌜ r ≡ markAmong isAbove (now (s .entry)) i 16 ⌝ }
+{
+    let mut found = false;
+    let mut k: usize = 0;
+    while k < 16 {
+        found = found | (32 < s[i + k]);
+        k += 1;
+    }
+    found
+}
+
+// A place from `from` on with blanks alone before it, at whole steps of sixteen.
+fn wide_blanks(s: &[u8], from: usize) -> usize
+    ensures { λ r. ⌜ Unmarked isAbove (now (s .entry)) from r ⌝ }
+{
+    let n = s.len();
+    if n < 16 {
+        return from;
+    }
+    let last = n - 16;
+    let mut i = from;
+    while i <= last {
+        if above_among(s, i) {
+            return i;
+        }
+        i += 16;
+    }
+    i
+}
+
+// A place from `from` on with blanks alone before it: in fact that of the first byte above 32, or the end. Most runs of blanks are
+// short: one that is not is gone through in wide steps.
+pub fn skip_blanks(s: &[u8], from: usize) -> usize
+    ensures { λ r. ⌜ Unmarked isAbove (now (s .entry)) from r ⌝ }
+{
+    let mut i = from;
+    while i < s.len() {
+        if 32 < s[i] {
+            return i;
+        }
+        i += 1;
+        if i - from == 8 {
+            i = wide_blanks(s, i);
+        }
     }
     i
 }

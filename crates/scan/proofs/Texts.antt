@@ -1,15 +1,15 @@
 -- What is left to read at a place: nothing, what is left one place on, or a byte and that.
 use mathlib.Core.Path.{_≡_, refl, ap, _∙_, sym}
 use mathlib.Core.List.{List, [], _∷_}
-use mathlib.Core.Bool.{Bool, cond, true, false}
+use mathlib.Core.Bool.{Bool, cond, true, false, _||_}
 use Prim.Native.Nat.{ℕ, zero, suc, _+_, _≤_, _<_}
 use native.Mathlib.Numerals.{add-one}
 use native.Mathlib.Omega.{arith}
 use lib.Dec.{eqb}
 use lib.ListN.{length, getD, drop, drop-of-length-le}
 use lib.Seq.{drop-cons, drop-nil}
-use borrow.Author.Tests.{eq-eqb, ne-eqb, eqb-false}
-use Rattle.ascii.specs.Class.{classOf}
+use borrow.Author.Tests.{eq-eqb, ne-eqb, eqb-false, lt-ltb, le-ltb}
+use Rattle.ascii.specs.Class.{classOf, within}
 use Rattle.scan.specs.Text.{Text, stop, sign, kept, text, stepOf, placeOf}
 use Rattle.scan.specs.declared.Step.{Step}
 use Rattle.scan.specs.declared.Step.the-variants.{Byte, End}
@@ -26,6 +26,23 @@ module _ (d : List ℕ) (at : ℕ) where
   pub text-kept : at < length d → (classOf (getD d at 0) ≡ 0 → ⊥) → text d at ≡ sign at (getD d at 0) (text d (at + 1))
   unfolding text kept
   text-kept h e = rw (drop-cons d at 0 h, ne-eqb _ _ e, add-one at)
+
+-- ---- a byte is dropped below 32, and else kept
+pub dropped-byte : (b : ℕ) → b < 32 → classOf b ≡ 0
+unfolding classOf
+dropped-byte b h = rw (lt-ltb b 32 h)
+
+pub kept-byte : (b : ℕ) → 32 ≤ b → classOf b ≡ 0 → ⊥
+unfolding classOf
+kept-byte b h = rw (le-ltb b 32 h) (by (eqb b 32) (within 48 57 b) (within 65 90 b || within 97 122 b) (eqb b 34) (eqb b 123 || eqb b 125) (eqb b 60 || eqb b 62)) where
+  by : (p q r s t u : Bool) → _≡_ {A = ℕ} (cond p 1 (cond q 2 (cond r 3 (cond s 4 (cond t 5 (cond u 6 7)))))) 0 → ⊥
+  by true q r s t u e = omega arith
+  by false true r s t u e = omega arith
+  by false false true s t u e = omega arith
+  by false false false true t u e = omega arith
+  by false false false false true u e = omega arith
+  by false false false false false true e = omega arith
+  by false false false false false false e = omega arith
 
 -- what a step that found b at p, with n after it, says of the text t that was left at `at`
 pub record Stepped (d : List ℕ) (t : Text) (at b p n : ℕ) : Type 0 where

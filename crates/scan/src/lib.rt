@@ -1,9 +1,11 @@
 // The definition as kept text: its bytes of 32 and above with their places. Keywords, runs of digits and of value bytes, and
 // numbers of any length. Above it stand the strings and comments, and every token of a definition.
 ghost use mathlib.Core.Path.{_≡_};
+ghost use mathlib.Core.Bool.{true};
 ghost use Prim.Native.Nat.{_+_, _-_, _≤_};
+ghost use lib.ListN.{length};
 ghost use lib.Dec.{ltb};
-ghost use Rattle.ascii.specs.Class.{Classes};
+ghost use Rattle.ascii.specs.Class.{Classes, upperOf};
 ghost use Rattle.scan.specs.Text.{text, stepOf, placeOf};
 ghost use Rattle.scan.specs.Word.{wordAt};
 ghost use Rattle.scan.specs.Number.{isSpace, isDigit, isValue, runOf, pushOf, digitsFrom};
@@ -55,7 +57,50 @@ pub enum Word {
     Not,
 }
 
-pub fn keyword(classes: &[u8; 256], d: &[u8], at: usize, w: &[u8]) -> Word
+// Whether a byte is kept and not the letter x, in capitals or small.
+fn unlike(b: u8, x: u8) -> bool
+    ensures { λ r. ⌜ (r ≡ true → (32 ≤ b) × (upperOf b ≡ x → ⊥)) ⌝ }
+{
+    if b == x {
+        return false;
+    }
+    if (b as u16) == (x as u16) + 32 {
+        return false;
+    }
+    32 <= b
+}
+
+// Whether the byte at a place is not a keyword's first letter: most keywords that are tried end here.
+fn misses(d: &[u8], at: usize, w: &[u8]) -> bool
+    ensures { λ r. ⌜ (r ≡ true → wordAt (now (d .entry)) at (now (w .entry)) ≡ Word.Not) ⌝ }
+{
+    if w.len() == 0 {
+        return false;
+    }
+    if d.len() <= at {
+        return true;
+    }
+    unlike(d[at], w[0])
+}
+
+// Whether a keyword stands just as it is given, with no dropped byte inside. Nothing leaves the loop early: so the compiler compares
+// the letters of a keyword that it knows all at once.
+fn spelled(d: &[u8], at: usize, w: &[u8]) -> bool
+    requires { ⌜ at + length (now w) ≤ length (now d) ⌝ }
+    ensures { λ r. ⌜ (r ≡ true → wordAt (now (d .entry)) at (now (w .entry)) ≡ Word.Matched (at + length (now (w .entry)))) ⌝ }
+{
+    let mut same = true;
+    let mut i: usize = 0;
+    while i < w.len() {
+        let x = w[i];
+        same = same & ((d[at + i] == x) & ((32 <= x) & (x < 97)));
+        i += 1;
+    }
+    same
+}
+
+// The same as keyword, letter by letter.
+fn letters(classes: &[u8; 256], d: &[u8], at: usize, w: &[u8]) -> Word
     requires { ⌜ Classes (now classes) ⌝ }
     ensures { λ r. ⌜ r ≡ wordAt (now (d .entry)) at (now (w .entry)) ⌝ }
 {
@@ -80,6 +125,23 @@ pub fn keyword(classes: &[u8; 256], d: &[u8], at: usize, w: &[u8]) -> Word
         i += 1;
     }
     Word::Matched(n)
+}
+
+pub fn keyword(classes: &[u8; 256], d: &[u8], at: usize, w: &[u8]) -> Word
+    requires { ⌜ Classes (now classes) ⌝ }
+    ensures { λ r. ⌜ r ≡ wordAt (now (d .entry)) at (now (w .entry)) ⌝ }
+{
+    if misses(d, at, w) {
+        return Word::Not;
+    }
+    if at < d.len() {
+        if w.len() <= d.len() - at {
+            if spelled(d, at, w) {
+                return Word::Matched(at + w.len());
+            }
+        }
+    }
+    letters(classes, d, at, w)
 }
 
 // The spaces from a place on: the place after them.

@@ -25,8 +25,20 @@ fn note_word(classes: &[u8; 256], d: &[u8], t: Reading) -> Choice
     tokens::perhaps(classes, d, t, b"NOTE")
 }
 
-// NOTE and a string, as often as they stand between two statements, with the gaps around them.
+// NOTE and a string, as often as they stand between two statements, with the gaps around them. Most often there is none.
 pub fn notes_on(classes: &[u8; 256], d: &[u8], t: Reading) -> Reading
+    requires { ⌜ Classes (now classes) ⌝ }
+    ensures { λ r. ⌜ r ≡ notesOn (now (d .entry)) t ⌝ }
+{
+    let g = tokens::gap_on(classes, d, t);
+    match note_word(classes, d, g) {
+        Choice::Taken(_) => all_notes(classes, d, t),
+        Choice::Left => g,
+    }
+}
+
+// The same as notes_on, note by note.
+fn all_notes(classes: &[u8; 256], d: &[u8], t: Reading) -> Reading
     requires { ⌜ Classes (now classes) ⌝ }
     ensures { λ r. ⌜ r ≡ notesOn (now (d .entry)) t ⌝ }
 {
@@ -45,7 +57,8 @@ pub fn notes_on(classes: &[u8; 256], d: &[u8], t: Reading) -> Reading
     }
 }
 
-// The first word of a statement, behind the notes before it.
+// The first word of a statement, behind the notes before it. The readers of statements that a variable has call the two functions
+// themselves: so the compiler knows the word that it compares.
 pub fn statement_on(classes: &[u8; 256], d: &[u8], t: Reading, w: &[u8]) -> Reading
     requires { ⌜ Classes (now classes) ⌝ }
     ensures { λ r. ⌜ r ≡ statementOn (now (d .entry)) t (now (w .entry)) ⌝ }
@@ -148,7 +161,8 @@ pub fn type_on(classes: &[u8; 256], d: &[u8], t: Reading) -> Typed
     requires { ⌜ Classes (now classes) ⌝ }
     ensures { λ r. ⌜ r ≡ typeOn (now (d .entry)) t ⌝ }
 {
-    let a = statement_on(classes, d, t, b"TYPE");
+    let s = notes_on(classes, d, t);
+    let a = tokens::word_here(classes, d, s, b"TYPE");
     let g = tokens::gap_on(classes, d, a);
     type_here(classes, d, g)
 }
@@ -224,7 +238,8 @@ pub fn position_on(classes: &[u8; 256], d: &[u8], t: Reading) -> Stated
     requires { ⌜ Classes (now classes) ⌝ }
     ensures { λ r. ⌜ r ≡ positionOn (now (d .entry)) t ⌝ }
 {
-    let w = statement_on(classes, d, t, b"POSITION");
+    let s = notes_on(classes, d, t);
+    let w = tokens::word_here(classes, d, s, b"POSITION");
     let a = tokens::number_on(classes, d, w);
     let p = tokens::past_number(a);
     let g = tokens::gap_on(classes, d, p);
@@ -365,7 +380,8 @@ pub fn size_on(classes: &[u8; 256], d: &[u8], t: Reading) -> Number
     requires { ⌜ Classes (now classes) ⌝ }
     ensures { λ r. ⌜ r ≡ sizeOn (now (d .entry)) t ⌝ }
 {
-    let w = statement_on(classes, d, t, b"SIZE");
+    let s = notes_on(classes, d, t);
+    let w = tokens::word_here(classes, d, s, b"SIZE");
     let n = tokens::number_on(classes, d, w);
     judge_size(n)
 }

@@ -645,7 +645,8 @@ pub fn values_on(
     ensures { λ r. ⌜ r ≡ listedOf first (valuesOn (now (d .entry)) quantity first t) ⌝ }
     ensures { λ r. ⌜ Stored first (valuesOn (now (d .entry)) quantity first t) (now (lines .entry)) (now (lines .exit)) ⌝ }
 {
-    let w = statements::statement_on(classes, d, t, b"VALUES");
+    let s = statements::notes_on(classes, d, t);
+    let w = tokens::word_here(classes, d, s, b"VALUES");
     let n = statements::notes_on(classes, d, w);
     let a = tokens::value_here(classes, d, n);
     let p = tokens::past_value(a);

@@ -67,7 +67,8 @@ pub fn ident_on(classes: &[u8; 256], d: &[u8], t: Reading, seen: &[u8], count: u
     requires { ⌜ length (now seen) ≡ 10000 ⌝ }
     ensures { λ r. ⌜ r ≡ identOn (now (d .entry)) t (marked (now (seen .entry))) count ⌝ }
 {
-    let w = statements::statement_on(classes, d, t, b"VARIABLE");
+    let s = statements::notes_on(classes, d, t);
+    let w = tokens::word_here(classes, d, s, b"VARIABLE");
     let n = tokens::number_on(classes, d, w);
     judge_ident(seen, count, n)
 }

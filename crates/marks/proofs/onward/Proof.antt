@@ -10,7 +10,7 @@ use Rattle.marks.proofs.onward.Statement.{statement}
 use Rattle.marks.proofs.onward.Tie as tie
 
 returns : tie.Need-returns
-returns c = (c .skip-plain .ensures .on, rw (c .before .enum-told .given .1) (string-past _ _ _ (c .skip-plain .ensures)))
+returns c = (c .skip-pair .ensures .on, rw (c .before .enum-told .given .1) (string-past _ _ _ (c .skip-pair .ensures)))
 
 pub onward-spec : {M : Type 1} → statement M
 onward-spec = tie.close (tie.spec (λ c. search needs) (λ c κs. search needs) (λ c. search needs) (λ c. search needs) (λ c. search needs) (λ c. search needs) (λ c. search needs) returns

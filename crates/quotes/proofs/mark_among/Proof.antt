@@ -1,23 +1,24 @@
 -- `quotes::mark_among` meets its contract. The invariant: whether one of those looked at so far is a mark.
 use mathlib.Core.Path.{_≡_, sym, ap, _∙_}
+use mathlib.Core.Bool.{_||_}
 use Prim.Native.Nat.{_≤_, _-_}
 use native.Mathlib.Omega.{arith}
 use borrow.Author.Needs.{needs}
-use Rattle.quotes.specs.Quotes.{isMark, markAmong, among-none, among-more}
+use Rattle.quotes.specs.Quotes.{isMark, markAmong, among-none, among-three}
 use Rattle.quotes.proofs.mark_among.Statement.{statement}
 use Rattle.quotes.proofs.mark_among.Tie as tie
 
 abbrev Inv-loop : tie.InvT-loop
-Inv-loop s i x y z found₀ k₀ found k = (k ≤ 16) × (found ≡ markAmong (isMark x y z) s i k)
+Inv-loop s i x y z a₀ b₀ e₀ k₀ a b e k = (k ≤ 16) × ((a || (b || e)) ≡ markAmong (isMark x y z) s i k)
 
 abbrev μ-loop : tie.MeasureT-loop
-μ-loop s i x y z found₀ k₀ found k = 16 - k
+μ-loop s i x y z a₀ b₀ e₀ k₀ a b e k = 16 - k
 
 loop-holds : tie.Need-loop-holds Inv-loop μ-loop
 loop-holds c = (omega arith, sym (among-none _ _ _))
 
 loop-again : tie.Need-loop-again Inv-loop μ-loop
-loop-again c = (omega arith, among-more (isMark _ _ _) _ _ _ _ (c .before .before .loop .inv .1))
+loop-again c = (omega arith, among-three _ _ _ _ _ _ (c .before .before .loop .any-x) (c .before .before .loop .any-y) (c .before .before .loop .any-z) (c .before .before .loop .inv .1))
 
 returns : tie.Need-returns Inv-loop μ-loop
 returns c =

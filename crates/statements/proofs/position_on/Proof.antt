@@ -1,14 +1,16 @@
 use mathlib.Core.Path.{_∙_, sym}
 use Rattle.statements.specs.Position.{positionOn}
+use Rattle.statements.specs.Note.{statementOn}
 use borrow.Author.Needs.{needs}
 use Rattle.statements.proofs.position_on.Statement.{statement}
 use Rattle.statements.proofs.position_on.Tie as tie
 
 returns : tie.Need-returns
-unfolding positionOn
+unfolding positionOn statementOn
 returns c =
     rw (
-      sym (c .before .before .before .before .before .before .before .before .before .before .before .statement-on .ensures),
+      sym (c .before .before .before .before .before .before .before .before .before .before .before .before .before .notes-on .ensures),
+      sym (c .before .before .before .before .before .before .before .before .before .before .before .word-here .ensures),
       sym (c .before .before .before .before .before .before .before .before .before .before .number-on .ensures),
       sym (c .before .before .before .before .before .before .before .before .before .past-number .ensures),
       sym (c .before .before .before .before .before .before .before .before .gap-on .ensures),
@@ -21,10 +23,11 @@ returns c =
     ))
 
 returns-2 : tie.Need-returns-2
-unfolding positionOn
+unfolding positionOn statementOn
 returns-2 c =
     rw (
-      sym (c .before .before .before .before .before .before .before .before .statement-on .ensures),
+      sym (c .before .before .before .before .before .before .before .before .before .before .notes-on .ensures),
+      sym (c .before .before .before .before .before .before .before .before .word-here .ensures),
       sym (c .before .before .before .before .before .before .before .number-on .ensures),
       sym (c .before .before .before .before .before .before .past-number .ensures),
       sym (c .before .before .before .before .before .gap-on .ensures),
@@ -34,4 +37,4 @@ returns-2 c =
 
 pub position-on-spec : {M : Type 1} → statement M
 position-on-spec =
-    tie.close (tie.spec (λ c. search needs) (λ c κs. search needs) (λ c κs. search needs) (λ c κs. search needs) (λ c κs. search needs) (λ c. search needs) (λ c κs. search needs) (λ c. search needs) (λ c κs. search needs) (λ c κs. search needs) (λ c κs. search needs) (λ c. search needs) (λ c κs. search needs) returns returns-2)
+    tie.close (tie.spec (λ c κs. search needs) (λ c. search needs) (λ c κs. search needs) (λ c κs. search needs) (λ c κs. search needs) (λ c κs. search needs) (λ c. search needs) (λ c κs. search needs) (λ c. search needs) (λ c κs. search needs) (λ c κs. search needs) (λ c κs. search needs) (λ c. search needs) (λ c κs. search needs) returns returns-2)
