@@ -156,7 +156,11 @@ pub fn judge_records(t: &[i64], h: Header, d: &[u8], w: Terminator, scratch: &mu
                 if !goes_on(j) {
                     return j;
                 }
-                let passed = pass_sound(t, h, d, w, first, Place { from: next, n: n + 1 }, scratch);
+                let after = Place {
+                    from: next,
+                    n: n + 1,
+                };
+                let passed = pass_sound(t, h, d, w, first, after, scratch);
                 n = passed.n;
                 from = passed.from;
             }
