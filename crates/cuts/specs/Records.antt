@@ -288,6 +288,6 @@ module _ (d : List ℕ) (w : Terminator) (from size : ℕ) where
         long = l;
         ends =
             next-some d from w (omega arith) ∙ end-unbroken d w from from (from + size) (unbroken-plain d w from (from + size) low u)
-                ∙ end-here d (from + size) w from h e;
+            ∙ end-here d (from + size) w from h e;
         plain = λ j b. c .plain j (omega arith) b;
       }

@@ -73,7 +73,7 @@ pub fn judge_one(
 ) -> Judgement
     requires { ⌜ Tested (now t) h ⌝ }
     requires { ⌜ n < 9223372036854775808 ⌝ }
-    requires { ⌜ length (now scratch) ≡ 10000 ⌝ }
+    requires { ⌜ length (now scratch) ≤ 10000 ⌝ }
     ensures { λ r. ⌜ fileSaid r ≡ goOn (recordVerdict (now (t .entry)) first (now (bytes .entry))) n (soundWith (n + 1)) ⌝ }
 {
     if bytes.len() != first {
@@ -101,7 +101,7 @@ fn next_sound(
 ) -> bool
     requires { ⌜ Tested (now t) h × (lengthOf (now t) ≤ first) ⌝ }
     requires { ⌜ Found (now d) w × (from ≤ length (now d)) ⌝ }
-    requires { ⌜ length (now scratch) ≡ 10000 ⌝ }
+    requires { ⌜ length (now scratch) ≤ 10000 ⌝ }
     ensures { λ r. ⌜ (r ≡ true → SoundNext (now (t .entry)) (now (d .entry)) w first from) ⌝ }
 {
     if cuts::next_plain(d, w, from, first) {
@@ -123,7 +123,7 @@ fn pass_sound(
 ) -> Place
     requires { ⌜ Tested (now t) h × (lengthOf (now t) ≤ first) ⌝ }
     requires { ⌜ Found (now d) w × (1 ≤ at .n) × (at .n ≤ at .from) ⌝ }
-    requires { ⌜ length (now scratch) ≡ 10000 ⌝ }
+    requires { ⌜ length (now scratch) ≤ 10000 ⌝ }
     ensures { λ r. ⌜ Passed (now (t .entry)) (now (d .entry)) w first at r ⌝ }
 {
     let mut from = at.from;
@@ -142,7 +142,7 @@ fn pass_sound(
 pub fn judge_records(t: &[i64], h: Header, d: &[u8], w: Terminator, scratch: &mut [u8]) -> Judgement
     requires { ⌜ Tested (now t) h ⌝ }
     requires { ⌜ Found (now d) w ⌝ }
-    requires { ⌜ length (now scratch) ≡ 10000 ⌝ }
+    requires { ⌜ length (now scratch) ≤ 10000 ⌝ }
     ensures { λ r. ⌜ fileSaid r ≡ recordsVerdict (now (t .entry)) 0 0 (recordsOf (now (d .entry))) ⌝ }
 {
     let mut from: usize = 0;
@@ -156,7 +156,11 @@ pub fn judge_records(t: &[i64], h: Header, d: &[u8], w: Terminator, scratch: &mu
                 if !goes_on(j) {
                     return j;
                 }
-                let passed = pass_sound(t, h, d, w, first, Place { from: next, n: n + 1 }, scratch);
+                let after = Place {
+                    from: next,
+                    n: n + 1,
+                };
+                let passed = pass_sound(t, h, d, w, first, after, scratch);
                 n = passed.n;
                 from = passed.from;
             }
@@ -176,10 +180,15 @@ pub fn judge_file(t: &[i64], d: &[u8]) -> Judgement
     ensures { λ r. ⌜ fileSaid r ≡ fileVerdict (now (t .entry)) (now (d .entry)) ⌝ }
 {
     if sound::well_formed(t) {
-        let mut scratch = [0u8; 10000];
         let h = Header::read(t);
         let w = cuts::find_terminator(d);
-        return judge_records(t, h, d, w, &mut scratch);
+        // Where there are few lines to search, little is ever marked, and room for more need not be cleared.
+        if h.lines <= 16 {
+            let mut few = [0u8; 128];
+            return judge_records(t, h, d, w, &mut few);
+        }
+        let mut many = [0u8; 10000];
+        return judge_records(t, h, d, w, &mut many);
     }
     Judgement::BadTable
 }

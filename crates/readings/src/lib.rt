@@ -199,6 +199,18 @@ pub fn is_illegal(a: Answer) -> bool
     }
 }
 
+// Whether a quantity is illegal. It asks for the number by itself: so only what is read of the row need be at hand, and no whole row.
+fn quantity_illegal(t: &[i64], rows: usize, row: Row, f: Format, bytes: &[u8]) -> bool
+    requires { ⌜ NumberFacts 17 (now t) rows row (length (now bytes)) ⌝ }
+    requires { ⌜ FormatFacts f ⌝ }
+    ensures { λ r. ⌜ r ≡ isIllegal (quantityField f (legal (now (t .entry)) rows row) (pick (now (bytes .entry)) (run (row .finish - row .width) (row .width)))) ⌝ }
+{
+    let e = row.finish;
+    let a = e - row.width;
+    let said = numbers::quantity(f, &bytes[a..e]);
+    is_illegal(numeral_answer(t, rows, row, said, false))
+}
+
 // Whether a MULTIPLE is illegal, a spread or a bitstring by its subfields.
 fn set_illegal(
     t: &[i64],
@@ -241,7 +253,7 @@ pub fn row_illegal(t: &[i64], rows: usize, i: usize, bytes: &[u8], scratch: &mut
         3 => {
             let decimals = cells::count_at(t, at + Row::DECIMALS);
             let point = cells::count_at(t, at + Row::POINT);
-            is_illegal(quantity(t, rows, Row::read(t, i), Format { decimals, point }, bytes))
+            quantity_illegal(t, rows, Row::read(t, i), Format { decimals, point }, bytes)
         }
         // Only a byte below 32 makes a text illegal.
         4 => false,

@@ -16,14 +16,14 @@ use Rattle.files.proofs.judge_records.Tie as tie
 
 abbrev Inv-loop : tie.InvT-loop
 Inv-loop t h d w scratch₀ from₀ n₀ first₀ scratch from n first =
-    (n ≤ from) × (length scratch ≡ 10000) × (recordsVerdict t 0 0 (recordsOf d) ≡ recordsVerdict t n first (recordsFrom w (drop from d)))
+    (n ≤ from) × (length scratch ≡ length scratch₀) × (recordsVerdict t 0 0 (recordsOf d) ≡ recordsVerdict t n first (recordsFrom w (drop from d)))
 
 abbrev μ-loop : tie.MeasureT-loop
 μ-loop t h d w scratch₀ from₀ n₀ first₀ scratch from n first = length d - from
 
 loop-holds : tie.Need-loop-holds Inv-loop μ-loop
 unfolding recordsOf
-loop-holds c = (omega arith, c .before .before .pre .1 .1, rw (c .before .before .pre .1 .0 .is))
+loop-holds c = (omega arith, refl, rw (c .before .before .pre .1 .0 .is))
 
 -- what was found of the record that starts here
 ended : (c : tie.After-known-told Inv-loop μ-loop) → EndedAt (c .before .before .before .before .before .before .before .before .args .d .now) (c .before .before .before .before .before .before .before .before .args .w) (c .before .before .before .before .before .loop .from) (recordsFrom (c .before .before .before .before .before .before .before .before .args .w) (drop (c .before .before .before .before .before .loop .from) (c .before .before .before .before .before .before .before .before .args .d .now))) (c .before .start .given .0 .0) (c .before .start .given .0 .1 .0) (c .before .start .given .0 .1 .1 .0)
@@ -42,7 +42,7 @@ part-judge-one-end : tie.Need-part-judge-one-end Inv-loop μ-loop
 part-judge-one-end c = omega (arith, ended (c .before) .starts, ended (c .before) .after, ended (c .before) .inside)
 
 judge-one-requires : tie.Need-judge-one-requires Inv-loop μ-loop
-judge-one-requires c κs = (c .before .before .before .before .before .before .before .before .before .before .before .pre .0, (omega arith, c .before .before .before .before .before .before .before .before .loop .inv .1))
+judge-one-requires c κs = (c .before .before .before .before .before .before .before .before .before .before .before .pre .0, (omega arith, rw (c .before .before .before .before .before .before .before .before .loop .inv .1) (c .before .before .before .before .before .before .before .before .before .before .before .pre .1 .1)))
 
 -- the record's bytes, its length, and what it is judged to be
 bytes-length : (c : tie.After-first-length Inv-loop μ-loop) → length (part (c .before .before .before .before .before .before .before .before .before .args .d .now) (c .before .before .before .before .before .before .loop .from) (c .before .before .start .given .0 .1 .0)) ≡ c .before .before .start .given .0 .1 .0 - c .before .before .start .given .0 .0
@@ -77,7 +77,7 @@ pass-sound-requires : tie.Need-pass-sound-requires Inv-loop μ-loop
 pass-sound-requires c κs =
     let e = ended (c .before .before .before .before .before .before .before .before .before) in
     let l = sound-long _ _ _ (sym (going (c .before .before)) ∙ not-false _ (c .before .if1 .left)) in
-    ((c .before .before .before .before .before .before .before .before .before .before .before .before .before .before .before .before .before .pre .0, rw (first-here (c .before .before .before .before .before .before .before .before)) l), ((c .before .before .before .before .before .before .before .before .before .before .before .before .before .before .before .before .before .pre .1 .0, omega arith, omega (arith, e .starts, e .after, e .next, e .sized)), c .before .before .before .before .before .judge-one .kept .1 .1 .1 .1 .1 .0 ∙ c .before .before .before .before .before .before .before .before .before .before .before .before .before .before .loop .inv .1))
+    ((c .before .before .before .before .before .before .before .before .before .before .before .before .before .before .before .before .before .pre .0, rw (first-here (c .before .before .before .before .before .before .before .before)) l), ((c .before .before .before .before .before .before .before .before .before .before .before .before .before .before .before .before .before .pre .1 .0, omega arith, omega (arith, e .starts, e .after, e .next, e .sized)), rw (c .before .before .before .before .before .judge-one .kept .1 .1 .1 .1 .1 .0 ∙ c .before .before .before .before .before .before .before .before .before .before .before .before .before .before .loop .inv .1) (c .before .before .before .before .before .before .before .before .before .before .before .before .before .before .before .before .before .pre .1 .1)))
 
 loop-less : tie.Need-loop-less Inv-loop μ-loop
 loop-less c =
@@ -113,16 +113,16 @@ unfolding fileSaid
 returns-4 c = sym (c .before .loop .inv .2 ∙ records-over _ _ _ _ (over-past (c .before .before .before .before .args .d .now) (c .before .before .before .before .args .w) (c .before .loop .from) (c .loop-test .left)))
 
 same-length : tie.Need-same-length Inv-loop μ-loop
-same-length c = c .before .before .before .before .judge-one .kept .1 .1 .1 .1 .1 .0 ∙ c .before .before .before .before .before .before .before .before .before .before .before .before .before .loop .inv .1 ∙ sym (c .before .before .before .before .before .before .before .before .before .before .before .before .before .before .before .before .pre .1 .1)
+same-length c = c .before .before .before .before .judge-one .kept .1 .1 .1 .1 .1 .0 ∙ c .before .before .before .before .before .before .before .before .before .before .before .before .before .loop .inv .1
 
 same-length-2 : tie.Need-same-length-2 Inv-loop μ-loop
-same-length-2 c = c .before .before .before .before .loop .inv .1 ∙ sym (c .before .before .before .before .before .before .before .pre .1 .1)
+same-length-2 c = c .before .before .before .before .loop .inv .1
 
 same-length-3 : tie.Need-same-length-3 Inv-loop μ-loop
-same-length-3 c = c .before .before .before .before .loop .inv .1 ∙ sym (c .before .before .before .before .before .before .before .pre .1 .1)
+same-length-3 c = c .before .before .before .before .loop .inv .1
 
 same-length-4 : tie.Need-same-length-4 Inv-loop μ-loop
-same-length-4 c = c .before .loop .inv .1 ∙ sym (c .before .before .before .before .pre .1 .1)
+same-length-4 c = c .before .loop .inv .1
 
 pub judge-records-spec : {M : Type 1} → statement M
 judge-records-spec =

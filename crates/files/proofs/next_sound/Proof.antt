@@ -18,7 +18,7 @@ judge-plain-requires : tie.Need-judge-plain-requires
 judge-plain-requires c κs =
     let a = c .before .before .before .before .before .before .args in let g = c .before .before .before .before .before .before .pre .0 in let p = plain (c .before .before) in
     let r : TableReady (a .t .now) (a .h .rows) (length (part (a .d .now) (a .from) (a .from + a .first))) =
-        rw (p .long, tested-rows (g .0)) (table-ready (a .t .now) (g .0 .good) (a .first) (g .1)) in
+    rw (p .long, tested-rows (g .0)) (table-ready (a .t .now) (g .0 .good) (a .first) (g .1)) in
     (r, (p .plain, omega (arith, c .before .before .before .before .before .before .pre .1 .1)))
 
 returns : tie.Need-returns

@@ -21,7 +21,7 @@ loop-holds : tie.Need-loop-holds Inv-loop μ-loop
 loop-holds c = let p = c .before .before .pre .1 .0 in (refl, p .1, record { on = omega arith; fewer = p .2; same = refl })
 
 next-sound-requires : tie.Need-next-sound-requires Inv-loop μ-loop
-next-sound-requires c κs = (c .before .before .before .before .before .pre .0, ((c .before .before .before .before .before .pre .1 .0 .0, omega arith), c .before .before .loop .inv .0 ∙ c .before .before .before .before .before .pre .1 .1))
+next-sound-requires c κs = (c .before .before .before .before .before .pre .0, ((c .before .before .before .before .before .pre .1 .0 .0, omega arith), rw (c .before .before .loop .inv .0) (c .before .before .before .before .before .pre .1 .1)))
 
 sound : (c : tie.Else1 Inv-loop μ-loop) → SoundNext (c .before .before .before .before .before .before .before .before .before .args .t .now) (c .before .before .before .before .before .before .before .before .before .args .d .now) (c .before .before .before .before .before .before .before .before .before .args .w) (c .before .before .before .before .before .before .before .before .before .args .first) (c .before .before .before .before .before .before .loop .from)
 sound c = c .before .before .before .next-sound .ensures (not-false _ (c .if1 .left))

@@ -53,13 +53,11 @@ quantity-kind c =
     row-quantity _ _ _ (type-is (c .before .before .before .before)) (c .before .before .before .match .keys3) (at-row (c .before .before .before .before .before .before .before .before .args .t .now) (c .before .before .before .before .before .before .before .before .args .i) 5 (c .before .before .before .before .before .base .ensures) (c .before .before .count-at4 .ensures))
     (at-row (c .before .before .before .before .before .before .before .before .args .t .now) (c .before .before .before .before .before .before .before .before .args .i) 6 (c .before .before .before .before .before .base .ensures) (c .before .count-at5 .ensures))
 
-quantity-requires : tie.Need-quantity-requires
-quantity-requires c κs = let q = quantity-ready (c .before .before .before .before .before .before .before .before .pre .1 .0) (quantity-kind c) in (rw (c .read3 .ensures) (q .0), q .1)
+quantity-illegal-requires : tie.Need-quantity-illegal-requires
+quantity-illegal-requires c κs = let q = quantity-ready (c .before .before .before .before .before .before .before .before .pre .1 .0) (quantity-kind c) in (rw (c .read3 .ensures) (q .0), q .1)
 
 returns-3 : tie.Need-returns-3
-returns-3 c =
-    c .is-illegal2 .ensures ∙ ap illegalAnswer (c .before .quantity .ensures 0 0) ∙ illegal-back 0 0 _
-    ∙ rw (c .before .before .read3 .ensures) (sym (ap isIllegal (as-quantity _ _ _ _ _ (quantity-kind (c .before .before)))))
+returns-3 c = c .quantity-illegal .ensures ∙ rw (c .before .read3 .ensures) (sym (ap isIllegal (as-quantity _ _ _ _ _ (quantity-kind (c .before)))))
 
 -- ---- CHARACTER
 returns-4 : tie.Need-returns-4
@@ -83,7 +81,7 @@ shared-slice-read-truth c = let p = c .before .before .before .before .before .b
 returns-5 : tie.Need-returns-5
 returns-5 c =
     let r = c .before .before .before .before .match .rest in
-    c .is-illegal3 .ensures ∙ ap illegalAnswer (c .before .truth .ensures 0 0) ∙ illegal-back 0 0 _
+    c .is-illegal2 .ensures ∙ ap illegalAnswer (c .before .truth .ensures 0 0) ∙ illegal-back 0 0 _
     ∙ rw (finish-is (c .before .before .before)) (sym (ap isIllegal (as-truth _ _ _ _ (row-truth _ _ _ (type-is (c .before .before .before .before .before)) (r .0 .0 .0 .1) (r .0 .0 .1) (r .0 .1) (r .1)))))
 
 pub row-illegal-spec : {M : Type 1} → statement M
@@ -107,8 +105,7 @@ row-illegal-spec =
     (λ c. search needs)
     (λ c κs. search needs)
     (λ c κs. search needs)
-    quantity-requires
-    (λ c κs. tt)
+    quantity-illegal-requires
     (λ c. search needs)
     (λ c κs. search needs)
     sub-last
