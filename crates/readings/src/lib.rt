@@ -152,13 +152,10 @@ fn spread(
         let mut room = [0usize; 64];
         return set_answer(sets::read_few(t, rows, row, n, b, bytes, list, &mut room));
     }
-    // Room for the marks of all numbers of w digits.
-    if row.width <= 2 {
-        let mut few = [0u8; 100];
-        return set_answer(sets::read_spread(t, rows, row, n, b, bytes, list, &mut few));
-    }
-    let mut many = [0u8; 10000];
-    set_answer(sets::read_spread(t, rows, row, n, b, bytes, list, &mut many))
+    // Room for the marks of the row's numbers, and of all numbers of w digits.
+    let mut legal = [0u8; 10000];
+    let mut present = [0u8; 10000];
+    set_answer(sets::read_spread(t, rows, row, n, b, bytes, list, &mut legal, &mut present))
 }
 
 // What the row says of a record that is long enough; a set fills the start of the list.

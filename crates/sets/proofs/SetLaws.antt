@@ -1,22 +1,18 @@
 -- A set's answer and the list after it, by what was found; and a field of either form by the tests on it.
 -- Assumes nothing.
-use mathlib.Core.Path.{_≡_, refl, sym, subst, _∙_}
+use mathlib.Core.Path.{_≡_, refl, subst}
 use mathlib.Core.Bool.{Bool, true, false, cond}
 use mathlib.Core.List.{List}
-use Prim.Native.Nat.{ℕ, _-_, _^_, _≤_, _<_}
+use Prim.Native.Nat.{ℕ, _-_, _≤_, _<_}
 use native.Mathlib.Omega.{arith}
-use native.Mathlib.Nat.{one-le-pow}
 use borrow.Author.Tests.{le-leb, lt-leb}
 use lib.IntN.{ℤ}
 use lib.ListN.{length}
-use Rattle.below.specs.Below.{holds-not}
 use Rattle.fields.specs.Number.{allSpaces}
-use Rattle.fields.specs.Field.{Field, holds, illegal, missing, members, allBits, setBits, bitsField, allEntries, someEntry, spreadSet, spreadField}
-use Rattle.sets.specs.Marks.{Marks, markedOf}
+use Rattle.fields.specs.Field.{Field, holds, illegal, missing, members, allBits, setBits, bitsField, allEntries, spreadSet, spreadField}
 use Rattle.sets.specs.Sets.{bitsCounted, filledOf, setAnswer, listAfter, ReadSet, isIllegal}
 use Rattle.sets.specs.declared.SetRead.the-variants.{Missing, Count, Illegal, Short}
 use Rattle.sets.specs.declared.Counted.the-variants as counted
-use Rattle.sets.proofs.MarkLaws.{marked-pass}
 
 -- ---- answers
 pub read-missing : (f : Field) (list : List ℤ) → f ≡ holds missing → ReadSet f list list Missing
@@ -40,11 +36,6 @@ pub as-read : {f g : Field} {list list′ : List ℤ} {r : _} → f ≡ g → Re
 as-read {list} {list′} {r} e a = subst (λ (x : Field). ReadSet x list list′ r) e a
 
 -- ---- a field that is no illegal one
-pub illegal-is : (f : Field) → isIllegal f ≡ true → f ≡ illegal
-unfolding isIllegal
-illegal-is (holds v) e = holds-not e refl
-illegal-is illegal e = refl
-
 pub legal-not : (f : Field) (v : _) → f ≡ holds v → false ≡ isIllegal f
 unfolding isIllegal
 legal-not f v e = rw e
@@ -98,16 +89,3 @@ module _ (ok : ℤ → Bool) (w n : ℕ) (s : List ℕ) where
     pub spread-wrong : allEntries ok w n s ≡ false → spreadField ok w n s ≡ illegal
     unfolding spreadField
     spread-wrong e = rw (some, e)
-
-    pub spread-legal : isIllegal (spreadField ok w n s) ≡ false → spreadField ok w n s ≡ holds (members (spreadSet w n s))
-    spread-legal e = go (allEntries ok w n s) refl
-      where
-        go : (b : Bool) → allEntries ok w n s ≡ b → spreadField ok w n s ≡ holds (members (spreadSet w n s))
-        go true q = spread-members q
-        go false q = holds-not (sym (illegal-so _ (spread-wrong q))) e
-
--- the marked numbers, where marks of all numbers of w digits say what the subfields hold
-pub marked-set : (w n : ℕ) (s m : List ℕ) → length m ≡ 10 ^ w → Marks (λ x. someEntry x w n s) m → markedOf m ≡ spreadSet w n s
-marked-set w n s m e a =
-    let p : 1 ≤ length m = rw e (one-le-pow w 10 (omega arith)) in
-    marked-pass (λ x. someEntry x w n s) m a (length m - 1) 1 (omega arith) ∙ rw e

@@ -120,10 +120,11 @@ pub fn read_spread(
     bytes: &[u8],
     list: &mut [i64],
     scratch: &mut [u8],
+    present: &mut [u8],
 ) -> SetRead
     requires { ⌜ FieldsFacts (now t) rows row n b (length (now bytes)) ⌝ }
-    requires { ⌜ 10 ^ row .width ≤ length (now scratch) ⌝ }
     requires { ⌜ length (now scratch) ≤ 10000 ⌝ }
+    requires { ⌜ 10 ^ row .width ≤ length (now present) ⌝ }
     ensures { λ r. ⌜ ReadSet (spreadField (legal (now (t .entry)) rows row) (row .width) n (pick (now (bytes .entry)) (spreadPlaces (row .start - 1) b (row .width) n))) (now (list .entry)) (now (list .exit)) r ⌝ }
 {
     let w = row.width;
@@ -131,11 +132,21 @@ pub fn read_spread(
     if spread::spread_blank(bytes, at, b, w, n) {
         return SetRead::Missing;
     }
-    if spread_illegal(t, rows, row, n, b, bytes, scratch) {
-        return SetRead::Illegal;
-    }
     let top = reach(w);
-    spread::gather(bytes, at, b, w, n, &mut scratch[..top], list)
+    let k = marks_worth(row.lines, n, top, scratch.len());
+    spread::gather_and_list(
+        t,
+        rows,
+        row,
+        &mut scratch[..k],
+        bytes,
+        at,
+        b,
+        w,
+        n,
+        &mut present[..top],
+        list,
+    )
 }
 
 // The same of few subfields, with room for a number of each and no marks.

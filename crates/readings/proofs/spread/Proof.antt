@@ -23,20 +23,14 @@ at-most n x e =
 room-requires : tie.Need-read-few-requires
 room-requires c κs = (c .before .before .before .before .before .pre, at-most _ _ (c .before .before .if1 .taken))
 
-few-requires : tie.Need-read-spread-requires
-few-requires c κs = (c .before .before .before .before .before .before .before .pre, (pow-le-pow-right {n = 10} (omega arith) (c .before .before .if2 .taken), omega arith))
-
-many-requires : tie.Need-read-spread-requires-2
-many-requires c κs = (c .before .before .before .before .before .before .before .pre, (pow-le-pow-right {n = 10} (omega arith) (c .before .before .before .before .before .before .before .pre .few), omega arith))
+many-requires : tie.Need-read-spread-requires
+many-requires c κs = let p = c .before .before .before .before .before .before .pre in (p, (omega arith, pow-le-pow-right {n = 10} (omega arith) (p .few)))
 
 returns : tie.Need-returns
 returns c = spread-answered _ _ _ _ _ _ _ _ (c .set-answer .ensures) (c .before .before .before .read-few .ensures)
 
 returns-2 : tie.Need-returns-2
-returns-2 c = spread-answered _ _ _ _ _ _ _ _ (c .set-answer2 .ensures) (c .before .before .before .read-spread .ensures)
-
-returns-3 : tie.Need-returns-3
-returns-3 c = spread-answered _ _ _ _ _ _ _ _ (c .set-answer3 .ensures) (c .before .before .before .read-spread2 .ensures)
+returns-2 c = spread-answered _ _ _ _ _ _ _ _ (c .set-answer2 .ensures) (c .before .before .before .before .read-spread .ensures)
 
 pub spread-spec : {M : Type 1} → statement M
 spread-spec =
@@ -48,12 +42,8 @@ spread-spec =
     (λ c. search needs)
     returns
     (λ c. search needs)
-    few-requires
-    (λ c κs. tt)
-    (λ c. search needs)
-    returns-2
     (λ c. search needs)
     many-requires
     (λ c κs. tt)
     (λ c. search needs)
-    returns-3)
+    returns-2)

@@ -1,14 +1,10 @@
 -- `sets::read_few` meets its contract: spaces, a wrong subfield, or the numbers that the subfields hold.
-use mathlib.Core.Path.{_≡_, sym, _∙_}
-use mathlib.Core.Bool.{false}
-use Prim.Native.Nat.{_-_, _≤_}
+use mathlib.Core.Path.{sym, _∙_}
+use Prim.Native.Nat.{_-_}
 use native.Mathlib.Omega.{arith}
 use borrow.Author.Needs.{needs}
 use lib.ListN.{length}
-use Rattle.fields.specs.Number.{allSpaces}
 use Rattle.fields.specs.Field.{holds}
-use Rattle.fields.specs.Row.{spreadPlaces}
-use Rattle.places.specs.Places.{pick}
 use Rattle.sets.specs.Sets.{SpreadRoom}
 use Rattle.sets.proofs.SetLaws.{read-missing, read-illegal, as-read, spread-missing, spread-wrong}
 use Rattle.sets.proofs.FewLaws.{gathered-small, gathered-set}
