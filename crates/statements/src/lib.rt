@@ -25,20 +25,8 @@ fn note_word(classes: &[u8; 256], d: &[u8], t: Reading) -> Choice
     tokens::perhaps(classes, d, t, b"NOTE")
 }
 
-// NOTE and a string, as often as they stand between two statements, with the gaps around them. Most often there is none.
+// NOTE and a string, as often as they stand between two statements, with the gaps around them.
 pub fn notes_on(classes: &[u8; 256], d: &[u8], t: Reading) -> Reading
-    requires { ⌜ Classes (now classes) ⌝ }
-    ensures { λ r. ⌜ r ≡ notesOn (now (d .entry)) t ⌝ }
-{
-    let g = tokens::gap_on(classes, d, t);
-    match note_word(classes, d, g) {
-        Choice::Taken(_) => all_notes(classes, d, t),
-        Choice::Left => g,
-    }
-}
-
-// The same as notes_on, note by note.
-fn all_notes(classes: &[u8; 256], d: &[u8], t: Reading) -> Reading
     requires { ⌜ Classes (now classes) ⌝ }
     ensures { λ r. ⌜ r ≡ notesOn (now (d .entry)) t ⌝ }
 {

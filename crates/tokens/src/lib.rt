@@ -52,24 +52,8 @@ fn step_gap(classes: &[u8; 256], d: &[u8], at: usize) -> Pace
     }
 }
 
-// The spaces and comments from a place on: the place of the token behind them. Most gaps have no comment: then it is the first byte
-// that is no blank.
+// The spaces and comments from a place on: the place of the token behind them.
 pub fn skip_gap(classes: &[u8; 256], d: &[u8], at: usize) -> Reading
-    requires { ⌜ Classes (now classes) ⌝ }
-    ensures { λ r. ⌜ r ≡ gapAt (now (d .entry)) at ⌝ }
-{
-    let n = quotes::skip_blanks(d, at);
-    if n < d.len() {
-        let b = d[n];
-        if (32 < b) & (b != 60) {
-            return Reading::At(n);
-        }
-    }
-    long_gap(classes, d, n)
-}
-
-// The same as skip_gap, step by step.
-fn long_gap(classes: &[u8; 256], d: &[u8], at: usize) -> Reading
     requires { ⌜ Classes (now classes) ⌝ }
     ensures { λ r. ⌜ r ≡ gapAt (now (d .entry)) at ⌝ }
 {

@@ -1,15 +1,30 @@
-use mathlib.Core.Path.{_∙_, sym}
+-- `tokens::skip_gap` meets its contract. The invariant: the gap from here on ends as the whole gap does.
+use mathlib.Core.Path.{_≡_, refl, _∙_, sym}
+use Prim.Native.Nat.{_-_}
+use lib.ListN.{length}
 use borrow.Author.Needs.{needs}
-use Rattle.tokens.proofs.Gaps.{gap-past, gap-token}
+use Rattle.scan.proofs.Texts.{from-text}
+use Rattle.tokens.specs.Gap.{gapAt}
+use Rattle.tokens.proofs.Gaps.{gap-less, gap-again, gap-done, pace-on, pace-over}
 use Rattle.tokens.proofs.skip_gap.Statement.{statement}
 use Rattle.tokens.proofs.skip_gap.Tie as tie
 
-returns : tie.Need-returns
-returns c = sym (gap-past _ _ _ (c .before .before .before .skip-blanks .ensures) ∙ gap-token _ _ (c .before .before .if1 .taken) (c .if2 .taken))
+abbrev Inv-loop : tie.InvT-loop
+Inv-loop classes d at n₀ n = gapAt d at ≡ gapAt d n
 
-returns-2 : tie.Need-returns-2
-returns-2 c = c .long-gap .ensures ∙ sym (gap-past _ _ _ (c .before .before .skip-blanks .ensures))
+abbrev μ-loop : tie.MeasureT-loop
+μ-loop classes d at n₀ n = length d - n
+
+loop-less : tie.Need-loop-less Inv-loop μ-loop
+loop-less c = gap-less _ (from-text _ _) (pace-on (sym (c .before .before .before .step-gap .ensures) ∙ c .before .m .given .1))
+
+loop-again : tie.Need-loop-again Inv-loop μ-loop
+loop-again c = c .before .before .before .before .loop .inv ∙ gap-again _ _ (pace-on (sym (c .before .before .before .step-gap .ensures) ∙ c .before .m .given .1))
+
+returns : tie.Need-returns Inv-loop μ-loop
+returns c = sym (c .before .before .before .before .loop .inv ∙ gap-done _ _ (pace-over (sym (c .before .before .before .step-gap .ensures) ∙ c .before .r .given .1)))
 
 pub skip-gap-spec : {M : Type 1} → statement M
 skip-gap-spec =
-    tie.close (tie.spec (λ c κs. search needs) (λ c. search needs) returns (λ c κs. search needs) returns-2)
+    tie.close
+    (tie.spec Inv-loop μ-loop (λ c. refl) (λ c κs. search needs) (λ c. search needs) loop-less loop-again (λ c. search needs) returns)
