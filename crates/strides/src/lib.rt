@@ -153,14 +153,14 @@ pub fn differ(t: &[i64], at: usize, step: usize, n: usize) -> bool
 }
 
 // The first number where it is at most the second, else the second.
-fn lesser(a: i64, b: i64) -> i64
+pub fn lesser(a: i64, b: i64) -> i64
     ensures { λ r. ⌜ r ≡ cond (leZ a b) a b ⌝ }
 {
     if a <= b { a } else { b }
 }
 
 // The second number where the first is at most it, else the first.
-fn greater(a: i64, b: i64) -> i64
+pub fn greater(a: i64, b: i64) -> i64
     ensures { λ r. ⌜ r ≡ cond (leZ a b) b a ⌝ }
 {
     if a <= b { b } else { a }
