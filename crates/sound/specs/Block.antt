@@ -1,24 +1,21 @@
 -- The numbers on a row's lines: that they stand in the table, that they rise, the least and the most of them, and what follows for
 -- their limits, their widths and their being different.
-use mathlib.Core.Path.{_≡_, refl, sym, ap, _∙_}
-use mathlib.Core.Logic.{_⊎_, ⊎-elim}
+use mathlib.Core.Path.{_≡_, refl, _∙_}
 use mathlib.Core.Bool.{Bool, true, false, cond, not, _&&_, _||_}
 use mathlib.Core.List.{List}
-use Prim.Native.Nat.{ℕ, zero, suc, _+_, _-_, _*_, _/_, _^_, _≤_, _<_, max}
-use native.Mathlib.Nat.{eq-or-lt-of-le, le-of-suc-le-suc, not-suc-le-zero, le-antisymm, lt-of-le-of-lt}
-use native.Mathlib.Numerals.{add-one}
+use Prim.Native.Nat.{ℕ, _+_, _/_, _^_, _≤_, _<_, max}
+use native.Mathlib.Nat.{le-antisymm, lt-of-le-of-lt}
 use native.Mathlib.Omega.{arith}
-use borrow.Author.Tests.{lt-ltb, le-ltb, eqb-true, ltb-true, leb-true, not-true, ne-eqb}
-use lib.Dec.{eqb, ltb, leb}
+use borrow.Author.Tests.{leb-true}
 use lib.IntN.{ℤ, pos, negsuc}
 use lib.ListN.{length}
-use lib.Signed.{leZ, ltZ}
-use Rattle.below.specs.Below.{_and_, and-both, both-and, and-no, and-nor, and-yes, allBelow, all-none, all-more, all-at, all-of}
-use Rattle.below.specs.Below.{maxBelow, max-none, max-at, max-least, same-bool, holds-not, or-true, and-true, and-left}
+use lib.Signed.{leZ}
+use Rattle.below.specs.Below.{_and_, both-and, all-none, all-at, all-of}
+use Rattle.below.specs.Below.{maxBelow, max-none, max-at, max-least, same-bool, holds-not, and-true, and-left}
 use Rattle.below.specs.Below.{and-right}
-use Rattle.cells.specs.Cell.{eqZ, same-true, signedOf}
+use Rattle.cells.specs.Cell.{signedOf}
 use Rattle.ascii.specs.Tens.{digits-few}
-use Rattle.cells.specs.Order.{le-self, le-join, le-else}
+use Rattle.cells.specs.Order.{le-join}
 use Rattle.layout.specs.Layout.{mostRows, mostLines, headerSize, rowSize, lineSize, lineBase}
 use Rattle.layout.specs.declared.Row.{Row}
 use Rattle.layout.specs.declared.Spread.the-variants.{Bits, Fields}
@@ -26,8 +23,8 @@ use Rattle.layout.specs.declared.Kind.{Kind}
 use Rattle.layout.specs.declared.Kind.the-variants.{Single, Multiple, Quantity, Character, Logical}
 use Rattle.widths.specs.Width.{need, need-between, fitsKind, lowest, highest, sizeOf}
 use Rattle.widths.specs.Width.{size-small, FewDecimals, quantityWidth, wholeDigits, decimalsOf, tail-few}
-use Rattle.sound.specs.Sound.{valuesFit, widthGood, linesPlain, linesGood}
-use Rattle.sound.specs.Sound.{valuesGood, widthsGood, valueAt, rangeGood, rangeWidth, widest}
+use Rattle.sound.specs.Sound.{valuesFit, linesPlain, linesGood}
+use Rattle.sound.specs.Sound.{valueAt, rangeGood, rangeWidth, widest}
 use Rattle.strides.specs.declared.Hull.{Hull}
 use Rattle.strides.specs.Stride.{Strided, allDiffer}
 use Rattle.strides.specs.Hull.{Hulled}
@@ -54,16 +51,6 @@ pub record Placed (r : Row) : Type 0 where
   pub finish-low : r .finish ≤ 16384
   pub subfields : Subfielded (r .kind)
 
--- what a row's columns show before its numbers are looked at
-pub record Ready (t : List ℤ) (v : ℕ) (r : Row) : Type 0 where
-  pub lines : Standing t v (r .before) (r .lines)
-  pub placed : Placed r
-  pub decimals : FewDecimals (r .kind)
-
--- a row with lines, of which the range is good
-unfoldable pub linedGood : List ℤ → ℕ → Row → Bool
-linedGood t v r = linesGood t v r and widthsGood t v r
-
 -- ---- laws
 -- lines that stand are numbers four apart
 pub standing-strided : {t : List ℤ} {v b n : ℕ} → Standing t v b n → Strided t (lineBase v b) lineSize n
@@ -80,7 +67,7 @@ hullFits k h = leZ (lowest k) (h .least) && leZ (h .most) (highest k)
 unfoldable pub hullWidth : Kind → Hull → ℕ
 hullWidth k h = max (need k (h .least)) (need k (h .most))
 
-fits-small : (k : Kind) (z : ℤ) → fitsKind k z ≡ true → sizeOf z ≤ 999999999999999
+pub fits-small : (k : Kind) (z : ℤ) → fitsKind k z ≡ true → sizeOf z ≤ 999999999999999
 fits-small k z e = size-small k z (and-left (leZ (lowest k) z) (leZ z (highest k)) e) (and-right (leZ (lowest k) z) (leZ z (highest k)) e)
 
 module _ (k : Kind) (f : ℕ → ℤ) (n : ℕ) (h : Hull) (u : Hulled f n h) where
@@ -121,15 +108,6 @@ module _ (k : Kind) (f : ℕ → ℤ) (n : ℕ) (h : Hull) (u : Hulled f n h) wh
         rw (← u .most-is) at (max-at (λ j. need k (f j)) n (u .most-at) (u .most-below)),
       ))
 
--- a width that is as it should be is small
-pub width-few : (k : Kind) (w m : ℕ) → widthGood k w m ≡ true → m ≤ 9999 → w ≤ 9999
-unfolding widthGood
-width-few Single w m e h = omega (arith, eqb-true w m e)
-width-few (Multiple s) w m e h = omega (arith, eqb-true w m e)
-width-few (Quantity f) w m e h = omega (arith, eqb-true w m e)
-width-few Character w m e h = omega (arith, leb-true w 4096 (and-right (leb 1 w) (leb w 4096) e))
-width-few Logical w m e h = omega (arith, eqb-true w 1 e)
-
 -- ---- a number within the limits of its kind takes at most 9,999 bytes
 code-few : (z : ℤ) → leZ z (pos 9999) ≡ true → leZ (pos 1) z ≡ true → sizeOf z ≤ 9999
 unfolding signedOf
@@ -150,7 +128,7 @@ need-few (Quantity f) z d e =
 need-few Character z d e = omega arith
 need-few Logical z d e = omega arith
 
--- the range's ends, and the hull
+-- the range's ends
 pub range-few : (r : Row) → FewDecimals (r .kind) → rangeGood r ≡ true → rangeWidth r ≤ 9999
 unfolding rangeWidth
 range-few r d = go (r .range)
@@ -167,15 +145,6 @@ range-few r d = go (r .range)
     go false e = omega arith
 
 module _ (t : List ℤ) (v : ℕ) (r : Row) (h : Hull) (u : Hulled (valueAt t v (r .before)) (r .lines) h) where
-  pub hull-few : FewDecimals (r .kind) → hullFits (r .kind) h ≡ true → hullWidth (r .kind) h ≤ 9999
-  unfolding hullWidth
-  hull-few d e =
-      omega (
-        arith,
-        need-few (r .kind) (h .least) d (least-fits (r .kind) (valueAt t v (r .before)) (r .lines) h u e),
-        need-few (r .kind) (h .most) d (most-fits (r .kind) (valueAt t v (r .before)) (r .lines) h u e),
-      )
-
   pub widest-hull : hullFits (r .kind) h ≡ true → widest t v r ≡ max (rangeWidth r) (hullWidth (r .kind) h)
   unfolding widest
   widest-hull e = rw (hull-width (r .kind) (valueAt t v (r .before)) (r .lines) h u e)
@@ -188,36 +157,3 @@ widest-none t v r e = rw (e, max-none _) (omega arith)
 pub lines-none : (t : List ℤ) (v : ℕ) (r : Row) → r .lines ≡ 0 → linesGood t v r ≡ true
 unfolding linesGood linesPlain valuesFit allDiffer
 lines-none t v r e = rw e (both-and (both-and (all-none _) (all-none _)) (all-none _))
-
--- ---- a row with lines, clause by clause
-module _ (t : List ℤ) (v : ℕ) (r : Row) where
-  pub lined-plain : linesPlain t v (r .before) (r .lines) ≡ false → linedGood t v r ≡ false
-  unfolding linedGood linesGood
-  lined-plain e = and-no _ _ (and-no _ _ (and-no _ _ e))
-
-  pub lined-fits : valuesFit (r .kind) (valueAt t v (r .before)) (r .lines) ≡ false → linedGood t v r ≡ false
-  unfolding linedGood linesGood
-  lined-fits e = and-no _ _ (and-no _ _ (and-nor _ _ e))
-
-  pub lined-differ : allDiffer (valueAt t v (r .before)) (r .lines) ≡ false → linedGood t v r ≡ false
-  unfolding linedGood linesGood
-  lined-differ e = and-no _ _ (and-nor _ _ e)
-
-  pub lined-width : linesPlain t v (r .before) (r .lines) ≡ true
-      → valuesFit (r .kind) (valueAt t v (r .before)) (r .lines) ≡ true → allDiffer (valueAt t v (r .before)) (r .lines) ≡ true
-      → linedGood t v r ≡ widthsGood t v r
-  unfolding linedGood linesGood
-  lined-width e f g = and-yes _ _ (both-and (both-and e f) g)
-
-  -- a row without lines; a row by its range and its lines
-  pub range-not : rangeGood r ≡ false → (valuesGood t v r and widthsGood t v r) ≡ false
-  unfolding valuesGood
-  range-not e = and-no _ _ (and-no _ _ e)
-
-  pub lines-width : rangeGood r ≡ true → linesGood t v r ≡ true → (valuesGood t v r and widthsGood t v r) ≡ widthsGood t v r
-  unfolding valuesGood
-  lines-width e f = and-yes _ _ (both-and e f)
-
-  pub lines-lined : rangeGood r ≡ true → (valuesGood t v r and widthsGood t v r) ≡ linedGood t v r
-  unfolding valuesGood linedGood
-  lines-lined e = rw (and-yes _ (linesGood t v r) e)

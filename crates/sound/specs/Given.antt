@@ -1,27 +1,23 @@
 -- What the columns of a good row give, fact by fact, and that they are all that is needed to look at its numbers.
-use mathlib.Core.Path.{_≡_, refl, sym, ap, _∙_}
+use mathlib.Core.Path.{_≡_, refl, sym}
 use mathlib.Core.Logic.{_⊎_, inl, inr, ⊎-elim}
-use mathlib.Core.Bool.{Bool, true, false, cond, not, _&&_, _||_, Bool·beq}
+use mathlib.Core.Bool.{Bool, true, false, _&&_, _||_, Bool·beq}
 use mathlib.Core.List.{List}
-use Prim.Native.Nat.{ℕ, suc, _+_, _*_, _≤_, _<_}
+use Prim.Native.Nat.{ℕ, _+_, _≤_}
 use native.Mathlib.Omega.{arith}
-use borrow.Author.Tests.{eqb-true, eqb-false, leb-true, eq-eqb, ne-eqb}
+use borrow.Author.Tests.{eqb-true, eqb-false, leb-true, ne-eqb}
 use lib.Dec.{eqb, leb}
-use lib.IntN.{ℤ, pos}
+use lib.IntN.{ℤ}
 use lib.ListN.{length}
 use Rattle.below.specs.Below.{_and_, and-both, both-and, and-no, and-nor, and-yes, and-left, and-right, either-true, holds-not}
 use Rattle.layout.specs.Layout.{mark, headerSize, mostRows, mostLines, linesBase, lineBase, headerOf}
 use Rattle.layout.specs.declared.Header.{Header}
-use Rattle.layout.specs.Row.{rowOf, kindOf, kind-cases}
+use Rattle.layout.specs.Row.{kindOf, kind-cases}
 use Rattle.layout.specs.declared.Columns.{Columns}
-use Rattle.layout.specs.declared.Spread.the-variants.{Bits, Fields}
-use Rattle.layout.specs.declared.Kind.{Kind}
-use Rattle.layout.specs.declared.Kind.the-variants.{Single, Multiple, Quantity, Character, Logical}
 use Rattle.widths.specs.Width.{FewDecimals, decimalsOf}
-use Rattle.sound.specs.Sound.{typeKnown, decimalsFew, flagsPlain, lackedZero, pointGiven, valuesGiven}
-use Rattle.sound.specs.Sound.{countsGood, identGood, positionGood, subfieldsGood, textsGood, placesGood}
+use Rattle.sound.specs.Sound.{countsGood, subfieldsGood, placesGood}
 use Rattle.sound.specs.Sound.{columnsGood, rowGood, headCounts, headSums, rowsGood, identsDiffer, wellFormed}
-use Rattle.sound.specs.Block.{Standing, Subfielded, Placed, Ready}
+use Rattle.sound.specs.Block.{Standing}
 
 -- the clauses of a row's columns that the values of a row lean on
 pub record ColumnFacts (e before : ℕ) (c : Columns) : Type 0 where
@@ -96,11 +92,20 @@ module _ (e before : ℕ) (c : Columns) (g : columnsGood e before c ≡ true) wh
         lines-within = leb-true (before + c .lines) e (g4 .1);
       }
 
--- ---- a row whose columns are good is ready to be looked at
 beq-false : (a b : Bool) → Bool·beq a b ≡ true → a ≡ false → b ≡ false
 beq-false true b e f = holds-not refl f
 beq-false false true e f = sym e
 beq-false false false e f = refl
+
+-- subfields have a width
+pub paired-some : (c : Columns) → subfieldsGood c ≡ true → (c .subfields ≡ 0 → ⊥) → (1 ≤ c .subfields) × (1 ≤ c .subwidth)
+paired-some c g s = (
+  omega (arith, s),
+  omega (
+    arith,
+    eqb-false (c .subwidth) 0 (beq-false (eqb (c .subfields) 0) (eqb (c .subwidth) 0) g (ne-eqb (c .subfields) 0 s)),
+  ),
+)
 
 module _ (e before : ℕ) (c : Columns) (f : ColumnFacts e before c) where
   pub few-decimals : FewDecimals (kindOf c)
@@ -110,29 +115,8 @@ module _ (e before : ℕ) (c : Columns) (f : ColumnFacts e before c) where
       (λ k s. record { few = omega arith }) (λ k. record { few = f .decimals }) (λ k. record { few = omega arith })
       (record { few = omega arith })
 
-  -- subfields have a width
   pub sub-some : (c .subfields ≡ 0 → ⊥) → (1 ≤ c .subfields) × (1 ≤ c .subwidth)
-  sub-some s = (
-    omega (arith, s),
-    omega (
-      arith,
-      eqb-false (c .subwidth) 0
-          (beq-false (eqb (c .subfields) 0) (eqb (c .subwidth) 0) (f .subfields) (ne-eqb (c .subfields) 0 s)),
-    ),
-  )
-
-  pub row-ready : {t : List ℤ} {v : ℕ} → Standing t v 0 e → Ready t v (rowOf c)
-  unfolding rowOf
-  row-ready s = record {
-    lines = record { few-rows = s .few-rows; few-lines = omega arith; stand = omega arith };
-    placed = record {
-      from-one = f .from-one;
-      low = omega arith;
-      finish-low = f .low;
-      subfields = kind-cases c Subfielded (λ k. tt) (λ k z. tt) (λ k z. sub-some z) (λ k. tt) (λ k. tt) tt;
-    };
-    decimals = few-decimals;
-  }
+  sub-some s = paired-some c (f .subfields) s
 
 -- a good row's lines lie within the table's
 pub row-within : (t : List ℤ) (v e before : ℕ) (c : Columns) → rowGood t v e before c ≡ true → before + c .lines ≤ e

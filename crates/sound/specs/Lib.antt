@@ -2,4 +2,5 @@ pub mod Sound
 pub mod Types
 pub mod Block
 pub mod Given
+pub mod Values
 pub mod Rows

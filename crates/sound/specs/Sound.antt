@@ -1,7 +1,6 @@
 -- "A table is well formed when ..": each clause of document 01 under a name of its own. A negative number counts as more than every
 -- limit (`countOf`), so that each limit below also says "no number of it is negative".
-use mathlib.Core.Path.{_≡_}
-use mathlib.Core.Bool.{Bool, true, false, cond, not, _&&_, _||_, Bool·beq}
+use mathlib.Core.Bool.{Bool, cond, not, _&&_, _||_, Bool·beq}
 use mathlib.Core.List.{List}
 use Prim.Native.Nat.{ℕ, _+_, _*_, max}
 use lib.Dec.{eqb, leb}
@@ -9,8 +8,8 @@ use lib.IntN.{ℤ, pos}
 use lib.ListN.{length}
 use lib.Signed.{leZ}
 use Rattle.ascii.specs.Class.{within}
-use Rattle.below.specs.Below.{_and_, and-no, and-yes, allBelow, sumBelow, maxBelow}
-use Rattle.cells.specs.Cell.{cell, eqZ}
+use Rattle.below.specs.Below.{_and_, allBelow, sumBelow, maxBelow}
+use Rattle.cells.specs.Cell.{eqZ}
 use Rattle.strides.specs.Stride.{strideAt, allDiffer}
 use Rattle.layout.specs.Layout.{mark, mostRows, mostLines, headerSize, rowSize}
 use Rattle.layout.specs.Layout.{lineSize, rowBase, linesBase, lineBase, headerOf, columnsAt, lineAt}
@@ -195,13 +194,3 @@ unfoldable pub wellFormed : List ℤ → Bool
 wellFormed t =
     headCounts (headerOf t) and headSums (headerOf t) (length t) and rowsGood t (headerOf t)
     and identsDiffer t (headerOf t .rows)
-
--- ---- laws: a row by its columns, then by its values
-module _ (t : List ℤ) (v e before : ℕ) (c : Columns) where
-  pub row-columns : columnsGood e before c ≡ false → rowGood t v e before c ≡ false
-  unfolding rowGood
-  row-columns h = and-no _ _ h
-
-  pub row-values : columnsGood e before c ≡ true → rowGood t v e before c ≡ (valuesGood t v (rowOf c) and widthsGood t v (rowOf c))
-  unfolding rowGood
-  row-values h = and-yes _ _ h

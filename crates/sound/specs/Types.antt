@@ -1,7 +1,7 @@
 -- A row's columns by its type: the clauses of all types in the order in which they are looked at, each type with those that it has.
 use mathlib.Core.Path.{_≡_, refl, sym}
 use mathlib.Core.Logic.{⊎-elim}
-use mathlib.Core.Bool.{Bool, true, false, cond, _&&_, _||_, Bool·beq}
+use mathlib.Core.Bool.{Bool, true, false, cond, _&&_, _||_}
 use Prim.Native.Nat.{ℕ, suc, _+_, _≤_}
 use native.Mathlib.Nat.{eq-or-lt-of-le}
 use native.Mathlib.Omega.{arith}
@@ -11,7 +11,7 @@ use lib.IntN.{pos}
 use Rattle.below.specs.Below.{_and_, and-both, both-and, and-left, and-right, and-true, same-bool, either-true, or-true, holds-not}
 use Rattle.cells.specs.Cell.{eqZ}
 use Rattle.layout.specs.declared.Columns.{Columns}
-use Rattle.sound.specs.Sound.{typeKnown, decimalsFew, flagsPlain, lackedZero, rangeLacked, pointGiven, valuesGiven, countsGood}
+use Rattle.sound.specs.Sound.{typeKnown, decimalsFew, lackedZero, rangeLacked, pointGiven, valuesGiven, countsGood}
 use Rattle.sound.specs.Sound.{identGood, positionGood, subfieldsGood, textsGood, placesGood, columnsGood}
 
 -- no decimals and no point; no subfields; a point with few decimals, or neither
@@ -64,7 +64,33 @@ columns-shared e before c =
     let s1 = and-both (s2 .0) in
     let t2 = and-both (and-both g .1) in
     let t1 = and-both (t2 .0) in
-    both-and (both-and (both-and (both-and (t1 .0) (both-and (both-and (both-and (s1 .0) (s1 .1)) (t1 .1)) (s2 .1))) (t2 .1)) (s3 .1)) (s4 .1))
+    let places = both-and (both-and (both-and (s1 .0) (s1 .1)) (t1 .1)) (s2 .1) in
+    both-and (both-and (both-and (both-and (t1 .0) places) (t2 .1)) (s3 .1)) (s4 .1))
+
+-- where a row's bytes stand
+pub record Sited (c : Columns) : Type 0 where
+  pub from-one : 1 ≤ c .start
+  pub ordered : c .start ≤ c .finish
+  pub low : c .finish ≤ 16384
+
+module _ (e before : ℕ) (c : Columns) (g : sharedGood e before c ≡ true) where
+  pub shared-sited : Sited c
+  unfolding sharedGood
+  shared-sited =
+      let p = and-both (and-both (and-both (and-both g .0) .0) .0) .1 in
+      let q = and-left (leb 1 (c .start) && leb (c .start) (c .finish)) (leb (c .finish) 16384) p in
+      record {
+        from-one = leb-true 1 (c .start) (and-left (leb 1 (c .start)) (leb (c .start) (c .finish)) q);
+        ordered = leb-true (c .start) (c .finish) (and-right (leb 1 (c .start)) (leb (c .start) (c .finish)) q);
+        low = leb-true (c .finish) 16384 (and-right (leb 1 (c .start) && leb (c .start) (c .finish)) (leb (c .finish) 16384) p);
+      }
+
+  pub shared-lines : (c .before ≡ before) × (before + c .lines ≤ e)
+  unfolding sharedGood
+  shared-lines = (
+    eqb-true (c .before) before (and-both (and-both g .0) .1),
+    leb-true (before + c .lines) e (and-both g .1),
+  )
 
 -- the clauses of typeGood, one by one
 record Parts (c : Columns) : Type 0 where
@@ -106,6 +132,12 @@ module _ (c : Columns) where
   of-parts p =
       both-and (both-and (both-and (both-and (both-and (both-and (both-and (p .known) (p .decimals))
       (and-true (leb (c .point) 1) (leb (c .range) 1) (p .point) (p .range))) (p .lacked)) (p .plain)) (p .given)) (p .subfields)) (p .ends)
+
+  pub type-decimals : typeGood c ≡ true → c .decimals ≤ 9
+  type-decimals g = leb-true (c .decimals) 9 (parts-of g .decimals)
+
+  pub type-subfields : typeGood c ≡ true → subfieldsGood c ≡ true
+  type-subfields g = parts-of g .subfields
 
   -- a range or a line
   valued-of : leb (c .range) 1 ≡ true → (eqb (c .range) 1 || leb 1 (c .lines)) ≡ true → rangeLacked c ≡ true → valuedIs c ≡ true
@@ -205,7 +237,8 @@ module _ (c : Columns) where
       (λ g.
       let p = parts-of g in
       and-true (wholeIs c && subfieldsGood c) (valuedIs c)
-      (and-true (wholeIs c) (subfieldsGood c) (and-left (wholeIs c) true (and-left (wholeIs c && true) true (rw q at (p .lacked)))) (p .subfields))
+      (and-true (wholeIs c) (subfieldsGood c)
+      (and-left (wholeIs c) true (and-left (wholeIs c && true) true (rw q at (p .lacked)))) (p .subfields))
       (valued-of (p .range) (rw q at (p .given)) (p .ends)))
       (λ g.
       let b = and-left (wholeIs c && subfieldsGood c) (valuedIs c) g in

@@ -5,14 +5,19 @@ ghost use Prim.Native.Nat.{_+_, _*_, _≤_, _<_, max};
 ghost use lib.Dec.{leb};
 ghost use lib.ListN.{length};
 ghost use mathlib.Core.Bool.{true};
-ghost use Rattle.ascii.specs.Tens.{Tens};
+ghost use Rattle.ascii.specs.Tens.{Tens, digitsOf};
 ghost use Rattle.below.specs.Below.{_and_};
-ghost use Rattle.widths.specs.Width.{need, fitsKind, FewDecimals};
-ghost use Rattle.sound.specs.Sound.{headCounts, headSums, textsGood, linePlain, linesPlain, rangeGood, rangeWidth, widthGood, roomGood, valuesGood, widthsGood, columnsGood, rowGood, rowsGood, valueAt, identsDiffer, wellFormed};
-ghost use Rattle.sound.specs.Types.{wholeIs, undividedIs, formatGood, unrangedIs, valuedIs, valuelessIs, typeGood, sharedGood};
+ghost use Rattle.widths.specs.Width.{need, sizeOf, FewDecimals};
+ghost use Rattle.sound.specs.Sound.{headCounts, headSums, textsGood, subfieldsGood, linePlain, linesPlain, rangeWidth, holdsWidth, roomGood, rowGood, rowsGood, valueAt, identsDiffer, wellFormed};
+ghost use Rattle.sound.specs.Types.{wholeIs, undividedIs, formatGood, unrangedIs, valuedIs, valuelessIs, typeGood, sharedGood, Sited};
 ghost use Rattle.strides.specs.Hull.{Blocked};
-ghost use Rattle.sound.specs.Block.{Standing, hullFits, hullWidth, Placed, Ready, linedGood};
+ghost use Rattle.sound.specs.Block.{Standing, hullWidth, Placed};
+ghost use Rattle.sound.specs.Values.{rangeWithin, numbersWithin, bottomOf, topOf, endsWidth, valuedBy, spreadBy, multipleOf, quantityOf, valuesBy, rangeBlock, BlockTold};
+ghost use Rattle.layout.specs.Row.{kindOf, rowOf};
+ghost use Rattle.layout.specs.declared.Kind.the-variants.{Single};
+ghost use Rattle.layout.specs.declared.Spread.the-variants.{Bits, Fields};
 use layout::Columns;
+use layout::Format;
 use layout::Header;
 use layout::Kind;
 use layout::Line;
@@ -158,21 +163,6 @@ fn block_of(t: &[i64], v: usize, b: usize, n: usize) -> Block
     strides::block_of(t, Line::base(v, b), Line::SIZE, n)
 }
 
-fn fits_kind(kind: Kind, z: i64) -> bool
-    ensures { λ r. ⌜ r ≡ fitsKind kind z ⌝ }
-{
-    (widths::lowest_of(kind) <= z) & (z <= widths::highest_of(kind))
-}
-
-// Do the least and the most, and so all numbers between them, lie within the limits of their kind?
-fn hull_fits(kind: Kind, h: Hull) -> bool
-    ensures { λ r. ⌜ r ≡ hullFits kind h ⌝ }
-{
-    let least = h.least;
-    let most = h.most;
-    (widths::lowest_of(kind) <= least) & (most <= widths::highest_of(kind))
-}
-
 pub fn larger(a: usize, b: usize) -> usize
     ensures { λ r. ⌜ r ≡ max a b ⌝ }
 {
@@ -191,15 +181,6 @@ fn wider(powers: &[u64; 16], kind: Kind, a: i64, b: i64) -> usize
     )
 }
 
-fn range_good(r: Row) -> bool
-    ensures { λ b. ⌜ b ≡ rangeGood r ⌝ }
-{
-    let kind = r.kind;
-    let from = r.from;
-    let to = r.to;
-    !r.range | (cells::not_above(from, to) & (fits_kind(kind, from) & fits_kind(kind, to)))
-}
-
 // The bytes that the range's ends take.
 pub fn range_width(powers: &[u64; 16], r: Row) -> usize
     requires { ⌜ Tens (now powers) ⌝ }
@@ -213,19 +194,6 @@ pub fn range_width(powers: &[u64; 16], r: Row) -> usize
         wider(powers, kind, from, to)
     } else {
         0
-    }
-}
-
-// Is w the width that a row's numbers give, m being the widest of them?
-fn width_good(kind: Kind, w: usize, m: usize) -> bool
-    ensures { λ b. ⌜ b ≡ widthGood kind w m ⌝ }
-{
-    match kind {
-        Kind::Single => w == m,
-        Kind::Multiple(_) => w == m,
-        Kind::Quantity(_) => w == m,
-        Kind::Character => (1 <= w) & (w <= 4_096),
-        Kind::Logical => w == 1,
     }
 }
 
@@ -265,18 +233,6 @@ pub fn room_good(r: Row) -> bool
     }
 }
 
-// Is w as it should be, and does the position hold it?
-fn widths_good(r: Row, m: usize) -> bool
-    requires { ⌜ Placed r × (m ≤ 9999) ⌝ }
-    ensures { λ b. ⌜ b ≡ (widthGood (r .kind) (r .width) m and roomGood (r .kind) r) ⌝ }
-{
-    let kind = r.kind;
-    if !width_good(kind, r.width, m) {
-        return false;
-    }
-    room_good(r)
-}
-
 // The bytes that the widest number of a hull takes.
 pub fn hull_width(powers: &[u64; 16], kind: Kind, h: Hull) -> usize
     requires { ⌜ Tens (now powers) ⌝ }
@@ -288,57 +244,202 @@ pub fn hull_width(powers: &[u64; 16], kind: Kind, h: Hull) -> usize
     wider(powers, kind, least, most)
 }
 
-// Are the numbers of a row that has lines good, and is its width theirs?
-fn lined_good(t: &[i64], powers: &[u64; 16], v: usize, r: Row) -> bool
-    requires { ⌜ Tens (now powers) ⌝ }
-    requires { ⌜ Ready (now t) v r ⌝ }
-    requires { ⌜ (1 ≤ r .lines) × (rangeGood r ≡ true) ⌝ }
-    ensures { λ g. ⌜ g ≡ linedGood (now (t .entry)) v r ⌝ }
+// Is a row's range, where it has one, not reversed and within limits?
+fn range_fits(c: Columns, low: i64, high: i64) -> bool
+    ensures { λ b. ⌜ b ≡ rangeWithin (rowOf c) low high ⌝ }
 {
-    let kind = r.kind;
-    let b = r.before;
-    let n = r.lines;
-    if !lines_plain(t, v, b, n) {
+    let from = c.from;
+    let to = c.to;
+    if c.range == 1 {
+        return (low <= from) & (from <= to) & (to <= high);
+    }
+    true
+}
+
+// Do a row's range and the hull of its lines lie within limits?
+fn numbers_fit(c: Columns, h: Hull, low: i64, high: i64) -> bool
+    ensures { λ b. ⌜ b ≡ numbersWithin (rowOf c) h low high ⌝ }
+{
+    let least = h.least;
+    let most = h.most;
+    if !range_fits(c, low, high) {
         return false;
     }
-    let block = block_of(t, v, b, n);
-    let hull = block.hull;
-    if !hull_fits(kind, hull) {
+    (low <= least) & (most <= high)
+}
+
+// The least of a row's range and lines.
+fn bottom_of(c: Columns, h: Hull) -> i64
+    ensures { λ r. ⌜ r ≡ bottomOf (rowOf c) h ⌝ }
+{
+    let from = c.from;
+    let least = h.least;
+    if c.range == 1 {
+        return strides::lesser(least, from);
+    }
+    least
+}
+
+// The most of a row's range and lines.
+fn top_of(c: Columns, h: Hull) -> i64
+    ensures { λ r. ⌜ r ≡ topOf (rowOf c) h ⌝ }
+{
+    let to = c.to;
+    let most = h.most;
+    if c.range == 1 {
+        return strides::greater(most, to);
+    }
+    most
+}
+
+// The digits of a row's largest number.
+fn top_digits(powers: &[u64; 16], c: Columns, h: Hull) -> usize
+    requires { ⌜ Tens (now powers) ⌝ }
+    ensures { λ r. ⌜ r ≡ digitsOf (sizeOf (topOf (rowOf c) h)) ⌝ }
+{
+    ascii::digit_count(powers, cells::signed_of(top_of(c, h)).size)
+}
+
+// Does the position hold the row's width?
+fn width_held(c: Columns) -> bool
+    requires { ⌜ Sited c ⌝ }
+    ensures { λ b. ⌜ b ≡ holdsWidth (rowOf c) ⌝ }
+{
+    c.width <= c.finish + 1 - c.start
+}
+
+// Are the numbers and the width of a single good? The largest number is the widest.
+fn single_fits(powers: &[u64; 16], c: Columns, h: Hull) -> bool
+    requires { ⌜ Tens (now powers) ⌝ }
+    requires { ⌜ Sited c ⌝ }
+    ensures { λ b. ⌜ b ≡ valuedBy Single (rowOf c) h ⌝ }
+{
+    if !numbers_fit(c, h, 1, 9_999) {
         return false;
     }
-    if !block.differ {
+    (c.width == top_digits(powers, c, h)) & width_held(c)
+}
+
+// Is the width of a bitstring its largest number, and does the position hold it?
+fn bits_fit(c: Columns, h: Hull) -> bool
+    requires { ⌜ Sited c ⌝ }
+    ensures { λ b. ⌜ b ≡ spreadBy Bits (rowOf c) h ⌝ }
+{
+    (c.width == cells::signed_of(top_of(c, h)).size as usize) & width_held(c)
+}
+
+// Is the width of a spread that of its largest number, and do its subfields hold it and fit the position?
+fn fields_fit(powers: &[u64; 16], c: Columns, h: Hull) -> bool
+    requires { ⌜ Tens (now powers) ⌝ }
+    requires { ⌜ Sited c ⌝ }
+    requires { ⌜ (1 ≤ c .subfields) × (1 ≤ c .subwidth) ⌝ }
+    ensures { λ b. ⌜ b ≡ spreadBy (Fields (c .subfields) (c .subwidth)) (rowOf c) h ⌝ }
+{
+    if c.width != top_digits(powers, c, h) {
         return false;
     }
-    widths_good(
-        r,
-        larger(range_width(powers, r), hull_width(powers, kind, hull)),
+    (c.width <= c.subwidth) & subfields_fit(c.subfields, c.subwidth, c.start, c.finish)
+}
+
+// Are the numbers and the width of a multiple good?
+fn multiple_fits(powers: &[u64; 16], c: Columns, h: Hull) -> bool
+    requires { ⌜ Tens (now powers) ⌝ }
+    requires { ⌜ Sited c ⌝ }
+    requires { ⌜ subfieldsGood c ≡ true ⌝ }
+    ensures { λ b. ⌜ b ≡ valuedBy (multipleOf c) (rowOf c) h ⌝ }
+{
+    if !numbers_fit(c, h, 1, 9_999) {
+        return false;
+    }
+    if c.subfields == 0 {
+        return bits_fit(c, h);
+    }
+    fields_fit(powers, c, h)
+}
+
+// The bytes that the wider end of a quantity's numbers takes.
+fn quantity_ends(powers: &[u64; 16], c: Columns, h: Hull) -> usize
+    requires { ⌜ Tens (now powers) ⌝ }
+    requires { ⌜ c .decimals ≤ 9 ⌝ }
+    ensures { λ r. ⌜ r ≡ endsWidth (quantityOf c) (rowOf c) h ⌝ }
+{
+    let f = Format {
+        decimals: c.decimals,
+        point: c.point,
+    };
+    larger(
+        widths::quantity_width(powers, f, bottom_of(c, h)),
+        widths::quantity_width(powers, f, top_of(c, h)),
     )
 }
 
-// Are the numbers of a row good, and is its width theirs?
-fn row_good(t: &[i64], powers: &[u64; 16], v: usize, r: Row) -> bool
+// Are the numbers and the width of a quantity good?
+fn quantity_fits(powers: &[u64; 16], c: Columns, h: Hull) -> bool
     requires { ⌜ Tens (now powers) ⌝ }
-    requires { ⌜ Ready (now t) v r ⌝ }
-    ensures { λ g. ⌜ g ≡ (valuesGood (now (t .entry)) v r and widthsGood (now (t .entry)) v r) ⌝ }
+    requires { ⌜ Sited c ⌝ }
+    requires { ⌜ c .decimals ≤ 9 ⌝ }
+    ensures { λ b. ⌜ b ≡ valuedBy (quantityOf c) (rowOf c) h ⌝ }
 {
-    if !range_good(r) {
+    if !numbers_fit(c, h, -999_999_999_999_999, 999_999_999_999_999) {
         return false;
     }
-    if r.lines == 0 {
-        return widths_good(r, range_width(powers, r));
-    }
-    lined_good(t, powers, v, r)
+    (c.width == quantity_ends(powers, c, h)) & width_held(c)
 }
 
-// Are the columns of a row good by themselves, with `before` lines before its own, of the table's e?
-fn columns_good(e: usize, before: usize, c: Columns) -> bool
-    requires { ⌜ before ≤ e ⌝ }
-    ensures { λ r. ⌜ r ≡ columnsGood e before c ⌝ }
+// Are the numbers and the width of a row good, by the hull of its lines, or of its range where it has none?
+fn values_good(powers: &[u64; 16], c: Columns, h: Hull) -> bool
+    requires { ⌜ Tens (now powers) ⌝ }
+    requires { ⌜ Sited c ⌝ }
+    requires { ⌜ typeGood c ≡ true ⌝ }
+    ensures { λ b. ⌜ b ≡ valuesBy (kindOf c) (rowOf c) h ⌝ }
 {
-    if !shared_good(e, before, c) {
+    let kind = c.kind;
+    match kind {
+        1 => single_fits(powers, c, h),
+        2 => multiple_fits(powers, c, h),
+        3 => quantity_fits(powers, c, h),
+        4 => (1 <= c.width) & (c.width <= 4_096) & width_held(c),
+        _ => (c.width == 1) & width_held(c),
+    }
+}
+
+// Is a row good apart from the columns that all types have, and from its lines but for their hull?
+fn typed_good(powers: &[u64; 16], c: Columns, h: Hull) -> bool
+    requires { ⌜ Tens (now powers) ⌝ }
+    requires { ⌜ Sited c ⌝ }
+    ensures { λ b. ⌜ b ≡ (typeGood c and valuesBy (kindOf c) (rowOf c) h) ⌝ }
+{
+    if !type_good(c) {
         return false;
     }
-    type_good(c)
+    values_good(powers, c, h)
+}
+
+// An answer for a row whose lines were not looked at, with the hull of its range.
+fn range_block(c: Columns, differ: bool) -> Block
+    ensures { λ r. ⌜ r ≡ rangeBlock c differ ⌝ }
+{
+    let from = c.from;
+    let to = c.to;
+    let hull = Hull {
+        least: from,
+        most: to,
+    };
+    Block { differ, hull }
+}
+
+// Whether a row's lines are plain and their values differ, and the hull of these, or of the range where there are none.
+fn lines_block(t: &[i64], v: usize, c: Columns) -> Block
+    requires { ⌜ Standing (now t) v (c .before) (c .lines) ⌝ }
+    ensures { λ r. ⌜ BlockTold (now (t .entry)) v c r ⌝ }
+{
+    if c.lines == 0 {
+        return range_block(c, true);
+    }
+    if !lines_plain(t, v, c.before, c.lines) {
+        return range_block(c, false);
+    }
+    block_of(t, v, c.before, c.lines)
 }
 
 // Is a row good, with `before` lines before its own?
@@ -354,10 +455,15 @@ fn whole_row_good(
     requires { ⌜ Standing (now t) v 0 e × (before ≤ e) ⌝ }
     ensures { λ r. ⌜ r ≡ rowGood (now (t .entry)) v e before c ⌝ }
 {
-    if !columns_good(e, before, c) {
+    if !shared_good(e, before, c) {
         return false;
     }
-    row_good(t, powers, v, Row::of(c))
+    let block = lines_block(t, v, c);
+    if !block.differ {
+        return false;
+    }
+    let hull = block.hull;
+    typed_good(powers, c, hull)
 }
 
 // Are all rows good, their lines counted up, and L the highest finish?

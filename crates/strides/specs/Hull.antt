@@ -5,12 +5,13 @@ use mathlib.Core.Bool.{Bool, true, false, cond}
 use Prim.Native.Nat.{ℕ, _+_, _-_, _≤_, _<_}
 use native.Mathlib.Nat.{eq-or-lt-of-le}
 use native.Mathlib.Omega.{arith}
-use lib.IntN.{ℤ}
+use lib.IntN.{ℤ, pos}
 use lib.Signed.{leZ}
+use Rattle.cells.specs.Cell.{countOf}
 use Rattle.cells.specs.Order.{le-self, le-join, le-else}
 use Rattle.strides.specs.declared.Hull.{Hull}
 use Rattle.strides.specs.declared.Block.{Block}
-use Rattle.strides.specs.Stride.{allRise, allDiffer, rise-le}
+use Rattle.strides.specs.Stride.{allRise, allDiffer, rise-le, count-within}
 
 -- the least and the most of the first n, which are among them
 pub record Hulled (f : ℕ → ℤ) (n : ℕ) (h : Hull) : Type 0 where
@@ -104,3 +105,9 @@ rise-hulled f n r h = record {
   most-below = omega arith;
   most-is = refl;
 }
+
+-- numbers whose least and most keep within limits are counts below them
+pub counts-within : (f : ℕ → ℤ) (n m : ℕ) (h : Hull) → Hulled f n h → leZ (pos 0) (h .least) ≡ true → leZ (h .most) (pos m) ≡ true
+    → (k : ℕ) → k < n → countOf (f k) < m + 1
+counts-within f n m h u low high k l =
+    count-within (f k) m (le-join (pos 0) (h .least) (f k) low (u .low k l)) (le-join (f k) (h .most) (pos m) (u .high k l) high)

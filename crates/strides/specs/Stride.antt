@@ -6,14 +6,14 @@ use mathlib.Core.List.{List}
 use Prim.Native.Nat.{ℕ, zero, suc, _+_, _-_, _*_, _%_, _≤_, _<_}
 use native.Mathlib.Nat.{eq-or-lt-of-le, le-of-suc-le-suc, not-suc-le-zero, mul-suc, mul-le-mul-left}
 use native.Mathlib.Omega.{arith}
-use borrow.Author.Tests.{not-true, ne-eqb, eqb-true, eqb-false}
+use borrow.Author.Tests.{not-true, ne-eqb, eqb-true, eqb-false, leb-true}
 use lib.Seq.{getD-set-same, getD-set-other}
 use lib.Dec.{eqb}
-use lib.IntN.{ℤ}
+use lib.IntN.{ℤ, pos, negsuc}
 use lib.ListN.{length, getD, set}
 use lib.Signed.{leZ}
 use Rattle.below.specs.Below.{allBelow, all-none, all-more, all-at, all-of, holds-not, or-true}
-use Rattle.cells.specs.Cell.{cell, eqZ, same-true, signedOf}
+use Rattle.cells.specs.Cell.{cell, countOf, eqZ, same-true, signedOf}
 use Rattle.cells.specs.Order.{le-self, le-join, le-else}
 
 -- number k of those that stand from `at` on, `step` apart
@@ -52,9 +52,9 @@ allDiffer f n = allBelow n (numberNew f)
 unfoldable pub markOf : ℤ → ℕ
 markOf z = signedOf z .size % 16381
 
--- the first k numbers have left their marks
-pub record Left (f : ℕ → ℤ) (k : ℕ) (marks : List ℕ) : Type 0 where
-  pub left : (j : ℕ) → j < k → getD marks (markOf (f j)) 0 ≡ 1
+-- the first k numbers have left their marks, each at its place
+pub record Left (place : ℤ → ℕ) (f : ℕ → ℤ) (k : ℕ) (marks : List ℕ) : Type 0 where
+  pub left : (j : ℕ) → j < k → getD marks (place (f j)) 0 ≡ 1
 
 -- ---- laws
 -- a number of a stride stands in the table
@@ -77,34 +77,41 @@ module _ (f : ℕ → ℤ) where
   unfolding risesAt
   rises-not k h e = rw (e, ne-eqb k 0 (λ q. omega arith))
 
+module _ (place : ℤ → ℕ) (f : ℕ → ℤ) where
   -- a number whose mark's place is that of no earlier one is new
-  pub new-by-mark : (k : ℕ) → ((j : ℕ) → j < k → markOf (f k) ≡ markOf (f j) → ⊥) → numberNew f k ≡ true
+  new-by-mark : (k : ℕ) → ((j : ℕ) → j < k → place (f k) ≡ place (f j) → ⊥) → numberNew f k ≡ true
   unfolding numberNew
   new-by-mark k g = all-of (unlike f k) k (λ j h. go j h (eqZ (f k) (f j)) refl)
     where
       go : (j : ℕ) → j < k → (b : Bool) → eqZ (f k) (f j) ≡ b → not b ≡ true
-      go j h true e = absurd (g j h (ap markOf (same-true (f k) (f j) e)))
+      go j h true e = absurd (g j h (ap place (same-true (f k) (f j) e)))
       go j h false e = refl
 
   -- no mark at its place: a number is new
-  pub new-unmarked : (k place : ℕ) (marks : List ℕ) → Left f k marks → place ≡ markOf (f k) → getD marks place 0 ≡ 0 → numberNew f k ≡ true
-  new-unmarked k place marks l e z =
-      new-by-mark k (λ j h q. let a : getD marks (markOf (f j)) 0 ≡ 0 = rw (← q, ← e) z in omega (arith, l .left j h))
+  pub new-unmarked : (k p : ℕ) (marks : List ℕ) → Left place f k marks → p ≡ place (f k) → getD marks p 0 ≡ 0 → numberNew f k ≡ true
+  new-unmarked k p marks l e z =
+      new-by-mark k (λ j h q. let a : getD marks (place (f j)) 0 ≡ 0 = rw (← q, ← e) z in omega (arith, l .left j h))
 
   -- one mark more
-  pub left-more : (k place : ℕ) (marks : List ℕ) → place < length marks → place ≡ markOf (f k) → Left f k marks
-      → Left f (k + 1) (set marks place 1)
-  left-more k place marks h e l = record { left = λ j i. go j (eqb (markOf (f j)) place) refl (each k j i) }
+  pub left-more : (k p : ℕ) (marks : List ℕ) → p < length marks → p ≡ place (f k) → Left place f k marks
+      → Left place f (k + 1) (set marks p 1)
+  left-more k p marks h e l = record { left = λ j i. go j (eqb (place (f j)) p) refl (each k j i) }
     where
       each : (k j : ℕ) → j < k + 1 → (j ≡ k) ⊎ (j < k)
       each k j h = let g : j ≤ k = omega arith in eq-or-lt-of-le g
 
-      go : (j : ℕ) (b : Bool) → eqb (markOf (f j)) place ≡ b → (j ≡ k) ⊎ (j < k) → getD (set marks place 1) (markOf (f j)) 0 ≡ 1
-      go j true q c = rw (eqb-true (markOf (f j)) place q) (getD-set-same marks place 1 0 h)
+      go : (j : ℕ) (b : Bool) → eqb (place (f j)) p ≡ b → (j ≡ k) ⊎ (j < k) → getD (set marks p 1) (place (f j)) 0 ≡ 1
+      go j true q c = rw (eqb-true (place (f j)) p q) (getD-set-same marks p 1 0 h)
       go j false q c =
-          ⊎-elim (λ p. absurd (eqb-false (markOf (f j)) place q (rw p (sym e))))
-          (λ m. getD-set-other marks place (markOf (f j)) 1 0 (eqb-false (markOf (f j)) place q) ∙ l .left j m)
+          ⊎-elim (λ r. absurd (eqb-false (place (f j)) p q (rw r (sym e))))
+          (λ m. getD-set-other marks p (place (f j)) 1 0 (eqb-false (place (f j)) p q) ∙ l .left j m)
           c
+
+-- a number within limits is a count below them
+pub count-within : (z : ℤ) (m : ℕ) → leZ (pos 0) z ≡ true → leZ z (pos m) ≡ true → countOf z < m + 1
+unfolding countOf
+count-within (pos n) m e g = omega (arith, leb-true n m g)
+count-within (negsuc n) m e g = holds-not e refl
 
 -- ---- rising numbers: each later one is above each earlier one
 failed : (b : Bool) → (b ≡ true → false ≡ true) → b ≡ false

@@ -2,9 +2,10 @@
 // the least and the most of them. Above it stands the test of a table.
 ghost use mathlib.Core.Path.{_≡_};
 ghost use mathlib.Core.Bool.{cond, true};
-ghost use Prim.Native.Nat.{_+_, _*_, _≤_, _<_};
+ghost use Prim.Native.Nat.{ℕ, _+_, _*_, _≤_, _<_};
 ghost use lib.ListN.{length};
 ghost use lib.Signed.{leZ};
+ghost use Rattle.cells.specs.Cell.{countOf};
 ghost use Rattle.strides.specs.Stride.{Strided, strideAt, above, allRise, numberNew, allDiffer, markOf};
 ghost use Rattle.strides.specs.Hull.{hullWith, Hulled, Blocked};
 
@@ -115,6 +116,42 @@ fn differ_by_marks(t: &[i64], at: usize, step: usize, n: usize) -> bool
     differ_marked(t, at, step, n, &mut marks)
 }
 
+// Do the numbers differ? The same, where each leaves its mark at its own place.
+fn differ_placed(t: &[i64], at: usize, step: usize, n: usize, marks: &mut [u8]) -> bool
+    requires { ⌜ Strided (now t) at step n × ((k : ℕ) → k < n → countOf (strideAt (now t) at step k) < length (now marks)) ⌝ }
+    ensures { λ r. ⌜ r ≡ allDiffer (strideAt (now (t .entry)) at step) n ⌝ }
+{
+    let mut k: usize = 0;
+    while k < n {
+        let own = cells::count_of(number_at(t, at, step, n, k));
+        let mark = marks[own];
+        if !new_by_mark(t, at, step, n, k, mark) {
+            return false;
+        }
+        marks[own] = 1;
+        k += 1;
+    }
+    true
+}
+
+// Do low numbers differ? Fewer places are soon cleared.
+fn differ_low(t: &[i64], at: usize, step: usize, n: usize) -> bool
+    requires { ⌜ Strided (now t) at step n × ((k : ℕ) → k < n → countOf (strideAt (now t) at step k) < 1024) ⌝ }
+    ensures { λ r. ⌜ r ≡ allDiffer (strideAt (now (t .entry)) at step) n ⌝ }
+{
+    let mut marks = [0u8; 1024];
+    differ_placed(t, at, step, n, &mut marks)
+}
+
+// Do the numbers of categories differ?
+fn differ_middle(t: &[i64], at: usize, step: usize, n: usize) -> bool
+    requires { ⌜ Strided (now t) at step n × ((k : ℕ) → k < n → countOf (strideAt (now t) at step k) < 16384) ⌝ }
+    ensures { λ r. ⌜ r ≡ allDiffer (strideAt (now (t .entry)) at step) n ⌝ }
+{
+    let mut marks = [0u8; 16384];
+    differ_placed(t, at, step, n, &mut marks)
+}
+
 // Do the numbers differ? Each is held against all those before it.
 fn differ_pairwise(t: &[i64], at: usize, step: usize, n: usize) -> bool
     requires { ⌜ Strided (now t) at step n ⌝ }
@@ -153,14 +190,14 @@ pub fn differ(t: &[i64], at: usize, step: usize, n: usize) -> bool
 }
 
 // The first number where it is at most the second, else the second.
-fn lesser(a: i64, b: i64) -> i64
+pub fn lesser(a: i64, b: i64) -> i64
     ensures { λ r. ⌜ r ≡ cond (leZ a b) a b ⌝ }
 {
     if a <= b { a } else { b }
 }
 
 // The second number where the first is at most it, else the first.
-fn greater(a: i64, b: i64) -> i64
+pub fn greater(a: i64, b: i64) -> i64
     ensures { λ r. ⌜ r ≡ cond (leZ a b) b a ⌝ }
 {
     if a <= b { b } else { a }
@@ -196,6 +233,25 @@ pub fn hull_of(t: &[i64], at: usize, step: usize, n: usize) -> Hull
     h
 }
 
+// Do the numbers differ, whose least and most are known? Those that are no larger than a room has places leave their own marks.
+fn differ_within(t: &[i64], at: usize, step: usize, n: usize, h: Hull) -> bool
+    requires { ⌜ Strided (now t) at step n × Hulled (strideAt (now t) at step) n h ⌝ }
+    ensures { λ r. ⌜ r ≡ allDiffer (strideAt (now (t .entry)) at step) n ⌝ }
+{
+    let least = h.least;
+    let most = h.most;
+    if n <= 24 {
+        return differ_pairwise(t, at, step, n);
+    }
+    if cells::not_above(0, least) & cells::not_above(most, 1_023) {
+        return differ_low(t, at, step, n);
+    }
+    if cells::not_above(0, least) & cells::not_above(most, 16_383) {
+        return differ_middle(t, at, step, n);
+    }
+    differ_by_marks(t, at, step, n)
+}
+
 // Whether n numbers differ, and the least and the most of them.
 pub fn block_of(t: &[i64], at: usize, step: usize, n: usize) -> Block
     requires { ⌜ Strided (now t) at step n × (1 ≤ n) ⌝ }
@@ -208,7 +264,7 @@ pub fn block_of(t: &[i64], at: usize, step: usize, n: usize) -> Block
         };
         return Block { differ: true, hull };
     }
-    let differ = differ_unordered(t, at, step, n);
     let hull = hull_of(t, at, step, n);
+    let differ = differ_within(t, at, step, n, hull);
     Block { differ, hull }
 }

@@ -1,25 +1,42 @@
-use mathlib.Core.Path.{_≡_, sym, ap, _∙_}
+use mathlib.Core.Path.{_≡_, sym, _∙_}
 use mathlib.Core.Bool.{true}
+use native.Mathlib.Omega.{arith}
 use borrow.Author.Needs.{needs}
 use borrow.Author.Tests.{not-true, not-false}
-use Rattle.below.specs.Below.{_and_, and-no, and-yes}
-use Rattle.sound.specs.Sound.{columnsGood, rowGood, row-columns, row-values}
-use Rattle.sound.specs.Given.{column-facts, row-ready}
+use Rattle.below.specs.Below.{and-no, and-yes}
+use Rattle.sound.specs.Types.{sharedGood, shared-sited, shared-lines}
+use Rattle.sound.specs.Block.{Standing}
+use Rattle.sound.specs.Values.{row-shared}
 use Rattle.sound.proofs.whole_row_good.Statement.{statement}
 use Rattle.sound.proofs.whole_row_good.Tie as tie
 
 returns : tie.Need-returns
-returns c = sym (row-columns _ _ _ _ _ (sym (c .before .columns-good .ensures) ∙ not-true _ (c .if1 .taken)))
+returns c = sym (row-shared _ _ _ _ _ (sym (c .before .shared-good .ensures) ∙ not-true _ (c .if1 .taken)))
 
-good-here : (c : tie.Else1) → columnsGood (c .before .before .args .e) (c .before .before .args .before) (c .before .before .args .c) ≡ true
-good-here c = sym (c .before .columns-good .ensures) ∙ not-false _ (c .if1 .left)
+-- what the columns of all types showed
+shared-here : (c : tie.Else1) → sharedGood (c .before .before .args .e) (c .before .before .args .before) (c .before .before .args .c) ≡ true
+shared-here c = sym (c .before .shared-good .ensures) ∙ not-false _ (c .if1 .left)
 
-row-good-requires : tie.Need-row-good-requires
-row-good-requires c κs = (search needs, rw (c .of .ensures) (row-ready (c .before .before .before .args .e) (c .before .before .before .args .before) (c .before .before .before .args .c) (column-facts (c .before .before .before .args .e) (c .before .before .before .args .before) (c .before .before .before .args .c) (good-here (c .before))) (c .before .before .before .pre .1 .0)))
+lines-block-requires : tie.Need-lines-block-requires
+lines-block-requires c κs =
+    let s = c .before .before .pre .1 .0 in
+    let l = shared-lines (c .before .before .args .e) (c .before .before .args .before) (c .before .before .args .c) (shared-here c) in
+    record { few-rows = s .few-rows; few-lines = omega arith; stand = omega arith }
 
 returns-2 : tie.Need-returns-2
-returns-2 c = c .row-good .ensures ∙ rw (c .before .of .ensures) (sym (row-values _ _ _ _ _ (good-here (c .before .before))))
+returns-2 c =
+    let a = c .before .before .before .before .before .args in
+    sym (c .before .before .lines-block .ensures (a .e) (a .before) (shared-here (c .before .before .before)) ∙ and-no _ _ (not-true _ (c .if2 .taken)))
+
+typed-good-requires : tie.Need-typed-good-requires
+typed-good-requires c κs = (c .before .before .before .before .before .before .pre .0, shared-sited _ _ _ (shared-here (c .before .before .before .before)))
+
+returns-3 : tie.Need-returns-3
+returns-3 c =
+    let a = c .before .before .before .before .before .before .before .args in
+    c .typed-good .ensures
+    ∙ sym (c .before .before .before .before .lines-block .ensures (a .e) (a .before) (shared-here (c .before .before .before .before .before)) ∙ and-yes _ _ (not-false _ (c .before .before .if2 .left)))
 
 pub whole-row-good-spec : {M : Type 1} → statement M
 whole-row-good-spec =
-    tie.close (tie.spec (λ c κs. search needs) returns (λ c κs. search needs) row-good-requires returns-2)
+    tie.close (tie.spec (λ c κs. search needs) returns lines-block-requires returns-2 typed-good-requires returns-3)

@@ -13,7 +13,7 @@ use Rattle.strides.proofs.differ_marked.Statement.{statement}
 use Rattle.strides.proofs.differ_marked.Tie as tie
 
 abbrev Inv-loop : tie.InvT-loop
-Inv-loop t at step n marks₀ k₀ marks k = (k ≤ n) × (length marks ≡ 16384) × Left (strideAt t at step) k marks × (allBelow k (numberNew (strideAt t at step)) ≡ true)
+Inv-loop t at step n marks₀ k₀ marks k = (k ≤ n) × (length marks ≡ 16384) × Left markOf (strideAt t at step) k marks × (allBelow k (numberNew (strideAt t at step)) ≡ true)
 
 abbrev μ-loop : tie.MeasureT-loop
 μ-loop t at step n marks₀ k₀ marks k = n - k
@@ -29,7 +29,7 @@ inside-here : (c : tie.After-mark-of Inv-loop μ-loop) → c .mark-of .result < 
 inside-here c = rw (c .before .before .before .loop .inv .1) (c .mark-of .ensures .1)
 
 new-by-mark-requires : tie.Need-new-by-mark-requires Inv-loop μ-loop
-new-by-mark-requires c κs = ((c .before .before .before .before .before .before .pre .0, c .before .before .before .loop-test .taken), λ e. new-unmarked (strideAt (c .before .before .before .before .before .before .args .t .now) (c .before .before .before .before .before .before .args .at) (c .before .before .before .before .before .before .args .step)) _ _ _ (c .before .before .before .before .loop .inv .2) (place-here (c .before)) e)
+new-by-mark-requires c κs = ((c .before .before .before .before .before .before .pre .0, c .before .before .before .loop-test .taken), λ e. new-unmarked markOf (strideAt (c .before .before .before .before .before .before .args .t .now) (c .before .before .before .before .before .before .args .at) (c .before .before .before .before .before .before .args .step)) _ _ _ (c .before .before .before .before .loop .inv .2) (place-here (c .before)) e)
 
 same-length : tie.Need-same-length Inv-loop μ-loop
 same-length c = c .before .before .before .before .before .before .loop .inv .1 ∙ sym (c .before .before .before .before .before .before .before .before .pre .1)
@@ -42,7 +42,7 @@ loop-again : tie.Need-loop-again Inv-loop μ-loop
 loop-again c = (
   omega arith,
   simp length-set (c .before .before .before .before .before .before .loop .inv .1),
-  left-more (strideAt (c .before .before .before .before .before .before .before .before .args .t .now) (c .before .before .before .before .before .before .before .before .args .at) (c .before .before .before .before .before .before .before .before .args .step)) (c .before .before .before .before .before .before .loop .k) (c .before .before .before .mark-of .result) (c .before .before .before .before .before .before .loop .marks) (inside-here (c .before .before .before)) (place-here (c .before .before .before)) (c .before .before .before .before .before .before .loop .inv .2),
+  left-more markOf (strideAt (c .before .before .before .before .before .before .before .before .args .t .now) (c .before .before .before .before .before .before .before .before .args .at) (c .before .before .before .before .before .before .before .before .args .step)) (c .before .before .before .before .before .before .loop .k) (c .before .before .before .mark-of .result) (c .before .before .before .before .before .before .loop .marks) (inside-here (c .before .before .before)) (place-here (c .before .before .before)) (c .before .before .before .before .before .before .loop .inv .2),
   all-more _ _ (c .before .before .before .before .before .before .loop .inv .3) (sym (c .before .new-by-mark .ensures) ∙ not-false _ (c .if1 .left)),
 )
 
