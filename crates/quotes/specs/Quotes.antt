@@ -5,17 +5,13 @@ use mathlib.Core.List.{List}
 use mathlib.Core.Logic.{_⊎_, ⊎-elim}
 use Prim.Native.Nat.{ℕ, zero, suc, _+_, _-_, _≤_, _<_}
 use native.Mathlib.Omega.{arith}
-use lib.Dec.{eqb, ltb}
+use lib.Dec.{eqb}
 use lib.ListN.{length, getD}
 use Rattle.below.specs.Below.{anyBelow, any-none, any-next, any-holds, lt-or-le}
 
 -- a byte is one of three
 abbrev pub isMark : ℕ → ℕ → ℕ → ℕ → Bool
 isMark x y z b = eqb b x || (eqb b y || eqb b z)
-
--- a byte is above 32: neither dropped nor the space
-abbrev pub isAbove : ℕ → Bool
-isAbove b = ltb 32 b
 
 -- byte i is a mark
 abbrev pub markAt : (ℕ → Bool) → List ℕ → ℕ → Bool
@@ -97,14 +93,6 @@ unmarked-more f s from i n c e h = record {
   on = omega (arith, c .on);
   within = λ j a b. omega arith;
   plain = λ j a b. ⊎-elim (λ l. c .plain j a l) (λ l. none-at f s i n e j l b) (lt-or-le j i);
-}
-
--- one stretch behind another
-pub unmarked-join : (f : ℕ → Bool) (s : List ℕ) (from i to : ℕ) → Unmarked f s from i → Unmarked f s i to → Unmarked f s from to
-unmarked-join f s from i to c e = record {
-  on = omega (arith, c .on, e .on);
-  within = λ j a b. ⊎-elim (λ l. c .within j a l) (λ l. e .within j l b) (lt-or-le j i);
-  plain = λ j a b. ⊎-elim (λ l. c .plain j a l) (λ l. e .plain j l b) (lt-or-le j i);
 }
 
 -- one byte on

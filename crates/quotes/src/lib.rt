@@ -1,10 +1,9 @@
-// How far bytes go on with none of three or of two among them, as quotes, braces or angles, and how far blanks go: eight or sixteen
-// bytes are looked at together, so that a long string, comment or indent costs little. Above it stand the strings, comments and gaps
-// of a definition.
+// How far bytes go on with none of three or of two among them, as quotes, braces or angles: eight or sixteen bytes are looked at
+// together, so that a long string or comment costs little. Above it stand the strings and comments of a definition.
 ghost use mathlib.Core.Path.{_≡_};
 ghost use Prim.Native.Nat.{_+_, _≤_};
 ghost use lib.ListN.{length};
-ghost use Rattle.quotes.specs.Quotes.{isMark, isAbove, markAmong, Unmarked};
+ghost use Rattle.quotes.specs.Quotes.{isMark, markAmong, Unmarked};
 
 // Is one of the sixteen bytes from i on x, y or z? Nothing leaves the loop early, and each of the three is looked for by itself: so the
 // compiler looks at all bytes at once.
@@ -107,57 +106,6 @@ pub fn skip_pair(s: &[u8], from: usize, x: u8, y: u8) -> usize
             return i;
         }
         i += 1;
-    }
-    i
-}
-
-// Is one of the sixteen bytes from i on no blank, that is above 32?
-fn above_among(s: &[u8], i: usize) -> bool
-    requires { ⌜ i + 16 ≤ length (now s) ⌝ }
-    ensures { λ r. ⌜ r ≡ markAmong isAbove (now (s .entry)) i 16 ⌝ }
-{
-    let mut found = false;
-    let mut k: usize = 0;
-    while k < 16 {
-        found = found | (32 < s[i + k]);
-        k += 1;
-    }
-    found
-}
-
-// A place from `from` on with blanks alone before it, at whole steps of sixteen.
-fn wide_blanks(s: &[u8], from: usize) -> usize
-    ensures { λ r. ⌜ Unmarked isAbove (now (s .entry)) from r ⌝ }
-{
-    let n = s.len();
-    if n < 16 {
-        return from;
-    }
-    let last = n - 16;
-    let mut i = from;
-    while i <= last {
-        if above_among(s, i) {
-            return i;
-        }
-        i += 16;
-    }
-    i
-}
-
-// A place from `from` on with blanks alone before it: in fact that of the first byte above 32, or the end. Most runs of blanks are
-// short: one that is not is gone through in wide steps.
-pub fn skip_blanks(s: &[u8], from: usize) -> usize
-    ensures { λ r. ⌜ Unmarked isAbove (now (s .entry)) from r ⌝ }
-{
-    let mut i = from;
-    while i < s.len() {
-        if 32 < s[i] {
-            return i;
-        }
-        i += 1;
-        if i - from == 8 {
-            i = wide_blanks(s, i);
-        }
     }
     i
 }

@@ -27,11 +27,7 @@ module _ (d : List ℕ) (at : ℕ) where
   unfolding text kept
   text-kept h e = rw (drop-cons d at 0 h, ne-eqb _ _ e, add-one at)
 
--- ---- a byte is dropped below 32, and else kept
-pub dropped-byte : (b : ℕ) → b < 32 → classOf b ≡ 0
-unfolding classOf
-dropped-byte b h = rw (lt-ltb b 32 h)
-
+-- ---- a byte of 32 or above is kept
 pub kept-byte : (b : ℕ) → 32 ≤ b → classOf b ≡ 0 → ⊥
 unfolding classOf
 kept-byte b h = rw (le-ltb b 32 h) (by (eqb b 32) (within 48 57 b) (within 65 90 b || within 97 122 b) (eqb b 34) (eqb b 123 || eqb b 125) (eqb b 60 || eqb b 62)) where

@@ -87,7 +87,3 @@ runs d m =
 pub value-true : (d : List ℕ) (at : ℕ) → valueAt d at .size ≡ capped (valueOf d (valueAt d at .first) (valueAt d at .last))
 unfolding valueAt digitsFrom
 value-true d at = runs d (markOf at 45 (text d at) .next)
-
-pub value-held : (d : List ℕ) (at : ℕ) → valueAt d at .size ≤ 1000000000000000
-unfolding valueAt
-value-held d at = digits-held _ _ _ _

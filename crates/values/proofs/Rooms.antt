@@ -43,11 +43,6 @@ cells-more l s = cells-join l (s ∷ [])
 pub count-more : (l : List Said) (s : Said) → length (l ++ s ∷ []) ≡ length l + 1
 count-more l s = length-append l (s ∷ [])
 
--- the four numbers of a line, behind those of the lines before it
-pub cells-chunk : (a : List Said) (s : Said) (b : List Said) → drop (4 * length a) (cellsOf (a ++ s ∷ b)) ≡ lineCells s ++ cellsOf b
-unfolding cellsOf
-cells-chunk a s b = rw (cells-join a (s ∷ b), sym (cells-length a)) (drop-append-seam (cellsOf a) (cellsOf (s ∷ b)))
-
 -- the first of the four says the line's number
 pub cells-number : (l : List Said) (i : ℕ) → i < length l → cell (cellsOf l) (4 * i) ≡ numberAt l i
 unfolding cellsOf lineCells numberAt numbers
