@@ -13,7 +13,7 @@ use Rattle.marks.specs.Spelling.{decodeOf}
 use Rattle.layout.specs.Layout.{mark, headerSize, rowSize, lineSize, linesBase, lineBase}
 use Rattle.layout.specs.declared.Columns.{Columns}
 use Rattle.layout.specs.declared.Header.{Header}
-use Rattle.rows.specs.Cells.{rowCells, headerCells}
+use Rattle.rows.specs.Cells.{rowCells, headerCells, nameColumn}
 use Rattle.tokens.specs.declared.Fault.{Fault}
 use Rattle.tokens.specs.declared.Reading.{Reading}
 use Rattle.tokens.specs.declared.Reading.the-variants.{At, Refused}
@@ -88,7 +88,7 @@ pub record Held (l : List Variable) (y : Tally) (rows lines : List ℤ) : Type 0
 
 -- the name of row i, by its place in the room
 unfoldable pub nameIn : List ℕ → List ℤ → ℕ → List ℕ
-nameIn d rows i = decodeOf Plain 0 (text d (countOf (cell rows (rowSize * i + 14))))
+nameIn d rows i = decodeOf Plain 0 (text d (countOf (cell rows (rowSize * i + nameColumn))))
 
 pub record NamesJudged (d : List ℕ) (rows : List ℤ) (count r : ℕ) : Type 0 where
   pub fault-is : (names : List (List ℕ)) → length names ≡ count → ((i : ℕ) → i < count → nameIn d rows i ≡ nameAt names i) → r ≡ nameFault names

@@ -15,11 +15,17 @@ ghost use lib.ListN.{length, take};
 ghost use Rattle.ascii.specs.Class.{Classes};
 ghost use Rattle.ascii.specs.Tens.{Tens};
 ghost use Rattle.cells.specs.Cell.{cell, countOf};
-ghost use Rattle.layout.specs.Layout.{rowSize, lineSize, lineBase};
+ghost use Rattle.layout.specs.Layout.{rowSize, lineSize, lineBase, mostRows, mostLines};
+ghost use Rattle.rows.specs.Cells.{nameColumn};
 ghost use Rattle.variables.specs.Ident.{marked};
 ghost use Rattle.entries.specs.Entry.{entryOf, Stored};
 ghost use Rattle.definition.specs.Definition.{course, variablesFrom, endsOn, judged, surveyOf, outcomeOf, answerOf, tableAfter};
 ghost use Rattle.definition.specs.Code.{zeros, tallyWith, followed, turnAfter, RowStored, runOf, Laid, NamesJudged, laidOver, fillSays, fillLeaves, Settled};
+
+// Room for the most rows, and for the most lines.
+const ROWS_ROOM: usize = Row::SIZE * Header::MOST_ROWS;
+
+const LINES_ROOM: usize = Line::SIZE * Header::MOST_LINES;
 
 // The outcome: how many variables and value lines were read; or the refusal's number and place.
 pub enum Answer {
@@ -36,7 +42,7 @@ pub struct Tally {
 
 // With one variable more, after which there are so many lines.
 fn tally_with(y: Tally, c: Columns, last: usize) -> Tally
-    requires { ⌜ y .rows < 512 ⌝ }
+    requires { ⌜ y .rows < mostRows ⌝ }
     ensures { λ r. ⌜ r ≡ tallyWith y c last ⌝ }
 {
     Tally {
@@ -90,8 +96,8 @@ fn one_variable(
     requires { ⌜ Classes (now classes) ⌝ }
     requires { ⌜ Tens (now powers) ⌝ }
     requires { ⌜ length (now d) ≤ 1048576 ⌝ }
-    requires { ⌜ (y .rows ≤ 512) × (y .lines ≤ 4096) ⌝ }
-    requires { ⌜ (length (now rows) ≡ 9216) × (length (now lines) ≡ 16384) × (length (now marks) ≡ 16384) ⌝ }
+    requires { ⌜ (y .rows ≤ mostRows) × (y .lines ≤ mostLines) ⌝ }
+    requires { ⌜ (length (now rows) ≡ rowSize * mostRows) × (length (now lines) ≡ lineSize * mostLines) × (length (now marks) ≡ 16384) ⌝ }
     requires { ⌜ length (now seen) ≡ 10000 ⌝ }
     ensures { λ r. ⌜ r ≡ turnAfter (now (d .entry)) y (entryOf (now (d .entry)) at (marked (now (seen .entry))) (y .rows) (y .lines)) ⌝ }
     ensures { λ r. ⌜ RowStored y (entryOf (now (d .entry)) at (marked (now (seen .entry))) (y .rows) (y .lines)) (now (rows .entry)) (now (rows .exit)) ⌝ }
@@ -143,7 +149,7 @@ fn read_variables(
     requires { ⌜ Classes (now classes) ⌝ }
     requires { ⌜ Tens (now powers) ⌝ }
     requires { ⌜ length (now d) ≤ 1048576 ⌝ }
-    requires { ⌜ (length (now rows) ≡ 9216) × (length (now lines) ≡ 16384) × (length (now marks) ≡ 16384) ⌝ }
+    requires { ⌜ (length (now rows) ≡ rowSize * mostRows) × (length (now lines) ≡ lineSize * mostLines) × (length (now marks) ≡ 16384) ⌝ }
     requires { ⌜ now seen ≡ zeros 10000 ⌝ }
     ensures { λ r. ⌜ r ≡ runOf (variablesFrom (now (d .entry)) (course t [])) ⌝ }
     ensures { λ r. ⌜ Laid (variablesFrom (now (d .entry)) (course t [])) (now (rows .entry)) (now (rows .exit)) (now (lines .entry)) (now (lines .exit)) ⌝ }
@@ -189,8 +195,8 @@ fn read_ends(classes: &[u8; 256], d: &[u8], next: usize) -> Reading
 
 // The place of a row's name.
 fn name_place(rows: &[i64], i: usize) -> usize
-    requires { ⌜ (i < 512) × (length (now rows) ≡ 9216) ⌝ }
-    ensures { λ r. ⌜ r ≡ countOf (cell (now (rows .entry)) (rowSize * i + 14)) ⌝ }
+    requires { ⌜ (i < mostRows) × (length (now rows) ≡ rowSize * mostRows) ⌝ }
+    ensures { λ r. ⌜ r ≡ countOf (cell (now (rows .entry)) (rowSize * i + nameColumn)) ⌝ }
 {
     cells::count_at(rows, Row::SIZE * i + Row::NAME)
 }
@@ -198,10 +204,10 @@ fn name_place(rows: &[i64], i: usize) -> usize
 // The first row whose name breaks STANDARD NAMES; the count where none does.
 fn names_fault(classes: &[u8; 256], d: &[u8], rows: &[i64], count: usize) -> usize
     requires { ⌜ Classes (now classes) ⌝ }
-    requires { ⌜ (count ≤ 512) × (length (now rows) ≡ 9216) ⌝ }
+    requires { ⌜ (count ≤ mostRows) × (length (now rows) ≡ rowSize * mostRows) ⌝ }
     ensures { λ r. ⌜ NamesJudged (now (d .entry)) (now (rows .entry)) count r ⌝ }
 {
-    let mut keys = [0u64; 512];
+    let mut keys = [0u64; Header::MOST_ROWS];
     let mut i: usize = 0;
     while i < count {
         keys[i] = names::name_key(classes, d, name_place(rows, i));
@@ -212,8 +218,8 @@ fn names_fault(classes: &[u8; 256], d: &[u8], rows: &[i64], count: usize) -> usi
 
 // Header, rows and lines at the start of the table.
 fn lay(table: &mut [i64], rows: &[i64], lines: &[i64], y: Tally)
-    requires { ⌜ (y .rows ≤ 512) × (y .lines ≤ 4096) × (y .length ≤ 16384) ⌝ }
-    requires { ⌜ (length (now rows) ≡ 9216) × (length (now lines) ≡ 16384) × (lineBase (y .rows) (y .lines) ≤ length (now table)) ⌝ }
+    requires { ⌜ (y .rows ≤ mostRows) × (y .lines ≤ mostLines) × (y .length ≤ 16384) ⌝ }
+    requires { ⌜ (length (now rows) ≡ rowSize * mostRows) × (length (now lines) ≡ lineSize * mostLines) × (lineBase (y .rows) (y .lines) ≤ length (now table)) ⌝ }
     ensures { λ _. ⌜ now (table .exit) ≡ laidOver (now (table .entry)) y (now (rows .entry)) (now (lines .entry)) ⌝ }
 {
     let h = Header {
@@ -231,8 +237,8 @@ fn lay(table: &mut [i64], rows: &[i64], lines: &[i64], y: Tally)
 
 // 10 where the table is too short; else it is filled.
 fn fill(rows: &[i64], lines: &[i64], y: Tally, table: &mut [i64]) -> Answer
-    requires { ⌜ (y .rows ≤ 512) × (y .lines ≤ 4096) × (y .length ≤ 16384) ⌝ }
-    requires { ⌜ (length (now rows) ≡ 9216) × (length (now lines) ≡ 16384) ⌝ }
+    requires { ⌜ (y .rows ≤ mostRows) × (y .lines ≤ mostLines) × (y .length ≤ 16384) ⌝ }
+    requires { ⌜ (length (now rows) ≡ rowSize * mostRows) × (length (now lines) ≡ lineSize * mostLines) ⌝ }
     ensures { λ r. ⌜ r ≡ fillSays y (length (now (table .entry))) ⌝ }
     ensures { λ r. ⌜ now (table .exit) ≡ fillLeaves y (now (rows .entry)) (now (lines .entry)) (now (table .entry)) ⌝ }
 {
@@ -267,8 +273,8 @@ fn settle(
     table: &mut [i64],
 ) -> Answer
     requires { ⌜ Classes (now classes) ⌝ }
-    requires { ⌜ (y .rows ≤ 512) × (y .lines ≤ 4096) × (y .length ≤ 16384) ⌝ }
-    requires { ⌜ (length (now rows) ≡ 9216) × (length (now lines) ≡ 16384) ⌝ }
+    requires { ⌜ (y .rows ≤ mostRows) × (y .lines ≤ mostLines) × (y .length ≤ 16384) ⌝ }
+    requires { ⌜ (length (now rows) ≡ rowSize * mostRows) × (length (now lines) ≡ lineSize * mostLines) ⌝ }
     ensures { λ r. ⌜ Settled (now (d .entry)) standard y (now (rows .entry)) (now (lines .entry)) (now (table .entry)) (now (table .exit)) r ⌝ }
 {
     if !standard {
@@ -298,7 +304,7 @@ fn read_in(
     requires { ⌜ Classes (now classes) ⌝ }
     requires { ⌜ Tens (now powers) ⌝ }
     requires { ⌜ length (now d) ≤ 1048576 ⌝ }
-    requires { ⌜ (length (now rows) ≡ 9216) × (length (now lines) ≡ 16384) × (length (now marks) ≡ 16384) ⌝ }
+    requires { ⌜ (length (now rows) ≡ rowSize * mostRows) × (length (now lines) ≡ lineSize * mostLines) × (length (now marks) ≡ 16384) ⌝ }
     requires { ⌜ now seen ≡ zeros 10000 ⌝ }
     ensures { λ r. ⌜ r ≡ answerOf (judged (now (d .entry)) (length (now (table .entry))) (surveyOf (now (d .entry)))) ⌝ }
     ensures { λ r. ⌜ now (table .exit) ≡ tableAfter (judged (now (d .entry)) (length (now (table .entry))) (surveyOf (now (d .entry)))) (now (table .entry)) ⌝ }
@@ -334,8 +340,8 @@ pub fn read_definition(d: &[u8], table: &mut [i64]) -> Answer
     }
     let classes = ascii::classes();
     let powers = ascii::powers();
-    let mut rows = [0i64; 9216];
-    let mut lines = [0i64; 16384];
+    let mut rows = [0i64; ROWS_ROOM];
+    let mut lines = [0i64; LINES_ROOM];
     let mut marks = [0u16; 16384];
     let mut seen = [0u8; 10000];
     read_in(

@@ -12,6 +12,7 @@ ghost use Prim.Native.Nat.{_+_, _*_, _≤_};
 ghost use lib.ListN.{length};
 ghost use Rattle.ascii.specs.Class.{Classes};
 ghost use Rattle.ascii.specs.Tens.{Tens};
+ghost use Rattle.layout.specs.Layout.{lineSize, mostLines};
 ghost use Rattle.survey.specs.Width.{numberIn, Measurable};
 ghost use Rattle.variables.specs.Ident.{marked};
 ghost use Rattle.entries.specs.Entry.{endVariable, settledBy, GoodHead, restThen, entryOf, stoodOf, Stored};
@@ -68,7 +69,7 @@ fn rest_then(
     requires { ⌜ Classes (now classes) ⌝ }
     requires { ⌜ Tens (now powers) ⌝ }
     requires { ⌜ length (now d) ≤ 1048576 ⌝ }
-    requires { ⌜ (length (now lines) ≡ 16384) × (before ≤ 4096) × (length (now marks) ≡ 16384) ⌝ }
+    requires { ⌜ (length (now lines) ≡ lineSize * mostLines) × (before ≤ mostLines) × (length (now marks) ≡ 16384) ⌝ }
     requires { ⌜ GoodHead h ⌝ }
     ensures { λ s. ⌜ s ≡ stoodOf before (restThen (now (d .entry)) before h) ⌝ }
     ensures { λ s. ⌜ Stored before (restThen (now (d .entry)) before h) (now (lines .entry)) (now (lines .exit)) ⌝ }
@@ -109,7 +110,7 @@ pub fn variable_on(
     requires { ⌜ Classes (now classes) ⌝ }
     requires { ⌜ Tens (now powers) ⌝ }
     requires { ⌜ length (now d) ≤ 1048576 ⌝ }
-    requires { ⌜ (length (now lines) ≡ 16384) × (before ≤ 4096) × (length (now marks) ≡ 16384) ⌝ }
+    requires { ⌜ (length (now lines) ≡ lineSize * mostLines) × (before ≤ mostLines) × (length (now marks) ≡ 16384) ⌝ }
     requires { ⌜ length (now seen) ≡ 10000 ⌝ }
     ensures { λ s. ⌜ s ≡ stoodOf before (entryOf (now (d .entry)) t (marked (now (seen .entry))) count before) ⌝ }
     ensures { λ s. ⌜ Stored before (entryOf (now (d .entry)) t (marked (now (seen .entry))) count before) (now (lines .entry)) (now (lines .exit)) ⌝ }

@@ -12,6 +12,10 @@ rowCells c =
     ∷ pos (c .range) ∷ c .from ∷ c .to ∷ pos (c .before) ∷ pos (c .lines)
     ∷ pos (c .name) ∷ pos (c .«name_len») ∷ pos (c .label) ∷ pos (c .«label_len») ∷ []
 
+-- the column of a name's place among them
+abbrev pub nameColumn : ℕ
+nameColumn = 14
+
 unfoldable pub headerCells : Header → List ℤ
 headerCells h =
     pos (h .mark) ∷ pos (h .rows) ∷ pos (h .lines) ∷ pos (h .length) ∷ pos (h .«rows_at») ∷ pos (h .«lines_at») ∷ []

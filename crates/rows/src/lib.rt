@@ -8,9 +8,10 @@ ghost use Rattle.layout.specs.Layout.{rowSize, headerSize};
 ghost use Rattle.rows.specs.Cells.{SmallRow, SmallHeader, rowCells, headerCells};
 use layout::Columns;
 use layout::Header;
+use layout::Row;
 
 // The numbers of a row, column by column.
-pub fn row_cells(c: Columns) -> [i64; 18]
+pub fn row_cells(c: Columns) -> [i64; Row::SIZE]
     requires { ⌜ SmallRow c ⌝ }
     ensures { λ a. ⌜ a ≡ rowCells c ⌝ }
 {

@@ -11,6 +11,7 @@ use lib.ListN.{length}
 use Rattle.below.specs.Below.{anyBelow}
 use Rattle.cells.specs.Cell.{cell, eqZ, pasted}
 use Rattle.scan.specs.Loop.{Next, Again, Done, loopOf}
+use Rattle.layout.specs.Layout.{lineSize}
 use Rattle.tokens.specs.declared.Fault.{Fault}
 use Rattle.tokens.specs.declared.Reading.{Reading}
 use Rattle.tokens.specs.declared.Reading.the-variants.{At, Refused}
@@ -175,4 +176,4 @@ listedOf first (Is b l n) = listed.Is b (first + length l) n
 listedOf first (Not f) = listed.Not f
 
 pub record Stored (first : ℕ) (g : Given) (room end : List ℤ) : Type 0 where
-  pub stored : {b : Block} {l : List Said} {n : ℕ} → g ≡ Is b l n → end ≡ pasted room (4 * first) (cellsOf l)
+  pub stored : {b : Block} {l : List Said} {n : ℕ} → g ≡ Is b l n → end ≡ pasted room (lineSize * first) (cellsOf l)

@@ -7,6 +7,7 @@ use mathlib.Core.List.{List}
 use lib.IntN.{ℤ}
 use lib.ListN.{getD, set}
 use Rattle.cells.specs.Cell.{cell, signedOf, pasted}
+use Rattle.layout.specs.Layout.{lineSize}
 use Rattle.tokens.specs.declared.Amount.{Amount}
 use Rattle.values.specs.declared.Block.{Block}
 use Rattle.values.specs.declared.Said.{Said}
@@ -20,7 +21,7 @@ use Rattle.values.specs.Line.{lineRest, judgeLine, grownBy, lineCells, m
 
 -- the number that line i of the block says
 unfoldable pub roomAt : List ℤ → ℕ → ℕ → ℤ
-roomAt room first i = cell room (4 * (first + i))
+roomAt room first i = cell room (lineSize * (first + i))
 
 -- where a number leaves its mark: equal numbers at the same place, and few others there too, since 16,381 is a prime
 unfoldable pub slotOf : ℤ → ℕ
@@ -42,7 +43,7 @@ judgedTurn d b s (Good z) = moreOf d (grownBy b (s .value)) (s .next)
 judgedTurn d b s (Bad f) = turn.Not f
 
 abbrev pub judgedRoom : List ℤ → ℕ → Said → Verdict → List ℤ
-judgedRoom room last s (Good z) = pasted room (4 * last) (lineCells s)
+judgedRoom room last s (Good z) = pasted room (lineSize * last) (lineCells s)
 judgedRoom room last s (Bad f) = room
 
 abbrev pub judgedMarks : List ℕ → ℕ → Verdict → List ℕ

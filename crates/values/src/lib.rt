@@ -1,5 +1,7 @@
 // The values of a variable: a range, and the lines, each read whole and then judged. The numbers of the lines go into a lent list,
 // four a line. Above it stands the definition as a whole.
+use layout::Header;
+use layout::Line;
 use tokens::Amount;
 use tokens::Choice;
 use tokens::Fault;
@@ -15,6 +17,7 @@ ghost use lib.ListN.{length, set};
 ghost use lib.Signed.{ltZ};
 ghost use Rattle.ascii.specs.Class.{Classes};
 ghost use Rattle.cells.specs.Cell.{pasted};
+ghost use Rattle.layout.specs.Layout.{lineSize, mostLines};
 ghost use Rattle.values.specs.Value.{formOf, largeOf, trueOf, scaledOf, pointOf};
 ghost use Rattle.values.specs.Range.{limitRange, judgeRange, settled, rangedOf, rangeRest};
 ghost use Rattle.values.specs.Line.{saidOf, lineRest, numberOn, repeatedIn, lineFault, judgeLine, grownBy, lineCells, endOf, moreOf, stateOf, linesFrom, listedOf, Stored};
@@ -270,12 +273,12 @@ fn line_rest(classes: &[u8; 256], d: &[u8], a: Amount) -> Lined
 
 // Whether a line from the first to the last but one says z.
 fn repeated(lines: &[i64], first: usize, last: usize, z: i64) -> bool
-    requires { ⌜ (4 * last ≤ length (now lines)) × (first ≤ last) × (last ≤ 4096) ⌝ }
+    requires { ⌜ (lineSize * last ≤ length (now lines)) × (first ≤ last) × (last ≤ mostLines) ⌝ }
     ensures { λ r. ⌜ r ≡ repeatedIn (roomAt (now (lines .entry)) first) (last - first) z ⌝ }
 {
     let mut i: usize = first;
     while i < last {
-        let x = lines[4 * i];
+        let x = lines[Line::SIZE * i];
         if cells::same(x, z) {
             return true;
         }
@@ -301,7 +304,7 @@ fn leave_mark(marks: &mut [u16], stamp: u16, z: i64)
 
 // The same as repeated. A line that says z has left its mark, so that the lines are looked at only where there is one.
 fn said_before(lines: &[i64], marks: &[u16], stamp: u16, first: usize, last: usize, z: i64) -> bool
-    requires { ⌜ (4 * last ≤ length (now lines)) × (first ≤ last) × (last ≤ 4096) ⌝ }
+    requires { ⌜ (lineSize * last ≤ length (now lines)) × (first ≤ last) × (last ≤ mostLines) ⌝ }
     requires { ⌜ length (now marks) ≡ 16384 ⌝ }
     requires { ⌜ Marked (roomAt (now lines) first) (last - first) stamp (now marks) ⌝ }
     ensures { λ r. ⌜ r ≡ repeatedIn (roomAt (now (lines .entry)) first) (last - first) z ⌝ }
@@ -343,7 +346,7 @@ fn judge_line(
     b: Block,
     v: Value,
 ) -> Verdict
-    requires { ⌜ (4 * last ≤ length (now lines)) × (first ≤ last) × (last ≤ 4096) ⌝ }
+    requires { ⌜ (lineSize * last ≤ length (now lines)) × (first ≤ last) × (last ≤ mostLines) ⌝ }
     requires { ⌜ length (now marks) ≡ 16384 ⌝ }
     requires { ⌜ Marked (roomAt (now lines) first) (last - first) stamp (now marks) ⌝ }
     ensures { λ r. ⌜ r ≡ judgeLine (roomAt (now (lines .entry)) first) (last - first) first quantity b v ⌝ }
@@ -362,7 +365,7 @@ fn judge_line(
             place: v.place,
         });
     }
-    if 4096 <= last {
+    if Header::MOST_LINES <= last {
         return Verdict::Bad(Fault {
             number: 8,
             place: v.place,
@@ -426,10 +429,10 @@ fn more(classes: &[u8; 256], d: &[u8], b: Block, next: usize) -> Turn
 
 // The four numbers of a line, which says z, at the place of the line with this number.
 fn store(lines: &mut [i64], last: usize, z: i64, s: Said)
-    requires { ⌜ (4 * last + 4 ≤ length (now lines)) × (last ≤ 4096) ⌝ }
+    requires { ⌜ (lineSize * last + lineSize ≤ length (now lines)) × (last ≤ mostLines) ⌝ }
     requires { ⌜ storable s ⌝ }
     requires { ⌜ z ≡ numberOn s ⌝ }
-    ensures { λ _. ⌜ now (lines .exit) ≡ pasted (now (lines .entry)) (4 * last) (lineCells s) ⌝ }
+    ensures { λ _. ⌜ now (lines .exit) ≡ pasted (now (lines .entry)) (lineSize * last) (lineCells s) ⌝ }
 {
     let text = s.text;
     let numbers = [
@@ -438,7 +441,7 @@ fn store(lines: &mut [i64], last: usize, z: i64, s: Said)
         cells::cell_of(text.place),
         cells::cell_of(text.length),
     ];
-    cells::paste(lines, 4 * last, &numbers);
+    cells::paste(lines, Line::SIZE * last, &numbers);
 }
 
 // A line that was read: judged, and if it stands stored, and what follows it.
@@ -455,7 +458,7 @@ fn place_line(
     stamp: u16,
 ) -> Turn
     requires { ⌜ Classes (now classes) ⌝ }
-    requires { ⌜ (length (now lines) ≡ 16384) × (first ≤ last) × (last ≤ 4096) × (length (now marks) ≡ 16384) ⌝ }
+    requires { ⌜ (length (now lines) ≡ lineSize * mostLines) × (first ≤ last) × (last ≤ mostLines) × (length (now marks) ≡ 16384) ⌝ }
     requires { ⌜ Marked (roomAt (now lines) first) (last - first) stamp (now marks) ⌝ }
     requires { ⌜ storable s ⌝ }
     ensures { λ r. ⌜ r ≡ judgedTurn (now (d .entry)) b s (judgeLine (roomAt (now (lines .entry)) first) (last - first) first quantity b (s .value)) ⌝ }
@@ -489,7 +492,7 @@ fn one_line(
 ) -> Turn
     requires { ⌜ Classes (now classes) ⌝ }
     requires { ⌜ length (now d) ≤ 1048576 ⌝ }
-    requires { ⌜ (length (now lines) ≡ 16384) × (first ≤ last) × (last ≤ 4096) × (length (now marks) ≡ 16384) ⌝ }
+    requires { ⌜ (length (now lines) ≡ lineSize * mostLines) × (first ≤ last) × (last ≤ mostLines) × (length (now marks) ≡ 16384) ⌝ }
     requires { ⌜ Marked (roomAt (now lines) first) (last - first) stamp (now marks) ⌝ }
     ensures { λ r. ⌜ r ≡ turnOf (now (d .entry)) quantity first (standAt a b last (now (lines .entry))) ⌝ }
     ensures { λ r. ⌜ now (lines .exit) ≡ roomAfter (now (d .entry)) quantity first (standAt a b last (now (lines .entry))) ⌝ }
@@ -525,7 +528,7 @@ pub fn read_lines(
 ) -> Listed
     requires { ⌜ Classes (now classes) ⌝ }
     requires { ⌜ length (now d) ≤ 1048576 ⌝ }
-    requires { ⌜ (length (now lines) ≡ 16384) × (first ≤ 4096) × (length (now marks) ≡ 16384) ⌝ }
+    requires { ⌜ (length (now lines) ≡ lineSize * mostLines) × (first ≤ mostLines) × (length (now marks) ≡ 16384) ⌝ }
     ensures { λ r. ⌜ r ≡ listedOf first (linesFrom (now (d .entry)) quantity first (stateOf a b [])) ⌝ }
     ensures { λ r. ⌜ Stored first (linesFrom (now (d .entry)) quantity first (stateOf a b [])) (now (lines .entry)) (now (lines .exit)) ⌝ }
 {
@@ -608,7 +611,7 @@ fn range_then(
 ) -> Listed
     requires { ⌜ Classes (now classes) ⌝ }
     requires { ⌜ length (now d) ≤ 1048576 ⌝ }
-    requires { ⌜ (length (now lines) ≡ 16384) × (first ≤ 4096) × (length (now marks) ≡ 16384) ⌝ }
+    requires { ⌜ (length (now lines) ≡ lineSize * mostLines) × (first ≤ mostLines) × (length (now marks) ≡ 16384) ⌝ }
     ensures { λ s. ⌜ s ≡ listedOf first (rangeThen (now (d .entry)) quantity first r) ⌝ }
     ensures { λ s. ⌜ Stored first (rangeThen (now (d .entry)) quantity first r) (now (lines .entry)) (now (lines .exit)) ⌝ }
 {
@@ -641,7 +644,7 @@ pub fn values_on(
 ) -> Listed
     requires { ⌜ Classes (now classes) ⌝ }
     requires { ⌜ length (now d) ≤ 1048576 ⌝ }
-    requires { ⌜ (length (now lines) ≡ 16384) × (first ≤ 4096) × (length (now marks) ≡ 16384) ⌝ }
+    requires { ⌜ (length (now lines) ≡ lineSize * mostLines) × (first ≤ mostLines) × (length (now marks) ≡ 16384) ⌝ }
     ensures { λ r. ⌜ r ≡ listedOf first (valuesOn (now (d .entry)) quantity first t) ⌝ }
     ensures { λ r. ⌜ Stored first (valuesOn (now (d .entry)) quantity first t) (now (lines .entry)) (now (lines .exit)) ⌝ }
 {

@@ -7,6 +7,7 @@ use lib.Dec.{eqb}
 use lib.IntN.{ℤ}
 use lib.ListN.{length}
 use Rattle.cells.specs.Cell.{pasted}
+use Rattle.layout.specs.Layout.{lineSize}
 use Rattle.tokens.specs.declared.Fault.{Fault}
 use Rattle.tokens.specs.declared.Reading.{Reading}
 use Rattle.tokens.specs.declared.Reading.the-variants.{At, Refused}
@@ -97,4 +98,4 @@ restedOf first (Is x) = rested.Is (record {
 restedOf first (Not f) = rested.Not f
 
 pub record Stored (first : ℕ) (x : Told) (room end : List ℤ) : Type 0 where
-  pub stored : {y : Telling} → x ≡ Is y → end ≡ pasted room (4 * first) (cellsOf (y .lines))
+  pub stored : {y : Telling} → x ≡ Is y → end ≡ pasted room (lineSize * first) (cellsOf (y .lines))

@@ -13,9 +13,10 @@ use tokens::Reading;
 use values::Block;
 use values::Listed;
 ghost use mathlib.Core.Path.{_≡_};
-ghost use Prim.Native.Nat.{_+_, _≤_, _<_};
+ghost use Prim.Native.Nat.{_*_, _≤_};
 ghost use lib.ListN.{length};
 ghost use Rattle.ascii.specs.Class.{Classes};
+ghost use Rattle.layout.specs.Layout.{lineSize, mostLines};
 ghost use Rattle.variables.specs.Ident.{marked, wrongIdent, judgeIdent, identOn};
 ghost use Rattle.variables.specs.Head.{pastType, joinTitles, joinHead, headOn};
 ghost use Rattle.variables.specs.Rest.{valuesRest, joinSize, joinNothing, spreadThen, restOf, restedOf, Stored};
@@ -206,7 +207,7 @@ fn values_rest(
 ) -> Rested
     requires { ⌜ Classes (now classes) ⌝ }
     requires { ⌜ length (now d) ≤ 1048576 ⌝ }
-    requires { ⌜ (length (now lines) ≡ 16384) × (first ≤ 4096) × (length (now marks) ≡ 16384) ⌝ }
+    requires { ⌜ (length (now lines) ≡ lineSize * mostLines) × (first ≤ mostLines) × (length (now marks) ≡ 16384) ⌝ }
     ensures { λ r. ⌜ r ≡ restedOf first (valuesRest (now (d .entry)) quantity first t subfields subwidth) ⌝ }
     ensures { λ r. ⌜ Stored first (valuesRest (now (d .entry)) quantity first t subfields subwidth) (now (lines .entry)) (now (lines .exit)) ⌝ }
 {
@@ -275,7 +276,7 @@ fn spread_then(
 ) -> Rested
     requires { ⌜ Classes (now classes) ⌝ }
     requires { ⌜ length (now d) ≤ 1048576 ⌝ }
-    requires { ⌜ (length (now lines) ≡ 16384) × (first ≤ 4096) × (length (now marks) ≡ 16384) ⌝ }
+    requires { ⌜ (length (now lines) ≡ lineSize * mostLines) × (first ≤ mostLines) × (length (now marks) ≡ 16384) ⌝ }
     ensures { λ r. ⌜ r ≡ restedOf first (spreadThen (now (d .entry)) first t width) ⌝ }
     ensures { λ r. ⌜ Stored first (spreadThen (now (d .entry)) first t width) (now (lines .entry)) (now (lines .exit)) ⌝ }
 {
@@ -317,7 +318,7 @@ pub fn rest_on(
 ) -> Rested
     requires { ⌜ Classes (now classes) ⌝ }
     requires { ⌜ length (now d) ≤ 1048576 ⌝ }
-    requires { ⌜ (length (now lines) ≡ 16384) × (first ≤ 4096) × (length (now marks) ≡ 16384) ⌝ }
+    requires { ⌜ (length (now lines) ≡ lineSize * mostLines) × (first ≤ mostLines) × (length (now marks) ≡ 16384) ⌝ }
     ensures { λ r. ⌜ r ≡ restedOf first (restOf (now (d .entry)) first kind t width) ⌝ }
     ensures { λ r. ⌜ Stored first (restOf (now (d .entry)) first kind t width) (now (lines .entry)) (now (lines .exit)) ⌝ }
 {
