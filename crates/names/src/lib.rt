@@ -4,7 +4,9 @@
 use marks::Inside;
 use marks::Part;
 ghost use mathlib.Core.Path.{_≡_};
+ghost use mathlib.Core.Bool.{cond};
 ghost use Prim.Native.Nat.{_≤_};
+ghost use lib.Dec.{eqb};
 ghost use Rattle.ascii.specs.Class.{Classes};
 ghost use Rattle.scan.specs.Text.{text};
 ghost use Rattle.marks.specs.Spelling.{decodeOf};
@@ -57,11 +59,20 @@ fn wide(b: u8) -> u64
     b as u64
 }
 
-// The first row whose name is ill-formed or agrees with an earlier one; the count where there is none.
+// The first row that a row's name is held against: row 0, or none where no earlier name has left a mark at its place.
+fn held_from(mark: u8, row: usize) -> usize
+    ensures { λ r. ⌜ r ≡ cond (eqb mark 0) row 0 ⌝ }
+{
+    if mark == 0 { row } else { 0 }
+}
+
+// The first row whose name is ill-formed or agrees with an earlier one; the count where there is none. Names that agree leave their
+// marks at the same place, and few others do, since 2,039 is a prime.
 pub fn first_fault(keys: &[u64; 512], count: usize) -> usize
     requires { ⌜ count ≤ 512 ⌝ }
     ensures { λ r. ⌜ r ≡ faultOf (now (keys .entry)) count ⌝ }
 {
+    let mut marks = [0u8; 2048];
     let mut found = count;
     let mut j: usize = 0;
     'rows: while j < count {
@@ -70,7 +81,8 @@ pub fn first_fault(keys: &[u64; 512], count: usize) -> usize
             found = j;
             break 'rows;
         }
-        let mut i: usize = 0;
+        let place = (key % 2_039) as usize;
+        let mut i = held_from(marks[place], j);
         while i < j {
             if keys[i] == key {
                 found = j;
@@ -78,6 +90,7 @@ pub fn first_fault(keys: &[u64; 512], count: usize) -> usize
             }
             i += 1;
         }
+        marks[place] = 1;
         j += 1;
     }
     found
