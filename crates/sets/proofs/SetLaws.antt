@@ -1,7 +1,7 @@
 -- A set's answer and the list after it, by what was found; and a field of either form by the tests on it.
 -- Assumes nothing.
 use mathlib.Core.Path.{_≡_, refl, subst}
-use mathlib.Core.Bool.{Bool, true, false, cond}
+use mathlib.Core.Bool.{Bool, true, false, cond, not}
 use mathlib.Core.List.{List}
 use Prim.Native.Nat.{ℕ, _-_, _≤_, _<_}
 use native.Mathlib.Omega.{arith}
@@ -51,6 +51,12 @@ module _ (cs s : List ℕ) where
   bits-missing e = rw e
 
   module _ (some : allSpaces s ≡ false) where
+    -- illegal just where a byte is neither `0` nor `1`
+    pub bits-judged : (b : Bool) → b ≡ allBits s → not b ≡ isIllegal (bitsField cs s)
+    unfolding bitsField isIllegal
+    bits-judged true e = rw (some, ← e)
+    bits-judged false e = rw (some, ← e)
+
     all-bits : (n : ℕ) → bitsCounted cs s ≡ counted.Members n → allBits s ≡ true
     unfolding bitsCounted
     all-bits n e = go (allBits s) e

@@ -1,3 +1,4 @@
 pub mod Marks
 pub mod Sets
 pub mod Few
+pub mod Alike

@@ -12,6 +12,7 @@ ghost use Rattle.sets.specs.Marks.{Marks};
 ghost use Rattle.sets.specs.Sets.{bitsCounted, filledOf, BitsRoom, ReadSet, isIllegal};
 use super::Counted;
 use super::SetRead;
+use super::alike::all_are;
 use super::marks::allows;
 use super::marks::mark_legal;
 use layout::Row;
@@ -109,29 +110,16 @@ pub fn bits_fill(
     }
 }
 
-// Whether the bitstring is illegal. The marks are room for those of the row.
-pub fn judge(
-    t: &[i64],
-    rows: usize,
-    row: Row,
-    marks: &mut [u8],
-    bytes: &[u8],
-    at: usize,
-    w: usize,
-) -> bool
+// Whether the bitstring is illegal.
+pub fn judge(t: &[i64], rows: usize, row: Row, bytes: &[u8], at: usize, w: usize) -> bool
     requires { ⌜ LineFacts (now t) rows row ⌝ }
-    requires { ⌜ length (now marks) ≤ 10000 ⌝ }
     requires { ⌜ BitsRoom at w (length (now bytes)) ⌝ }
     ensures { λ r. ⌜ r ≡ isIllegal (bitsField (defined (legal (now (t .entry)) rows row) 1 w) (pick (now (bytes .entry)) (bitPlaces at (defined (legal (now (t .entry)) rows row) 1 w)))) ⌝ }
 {
-    mark_legal(t, rows, row, marks);
-    if bits_blank(t, rows, row, marks, bytes, at, w) {
+    if all_are(t, rows, row, bytes, at, w, 32, 32) {
         return false;
     }
-    match bits_counted(t, rows, row, marks, bytes, at, w) {
-        Counted::Members(_) => false,
-        Counted::Wrong => true,
-    }
+    !all_are(t, rows, row, bytes, at, w, 48, 49)
 }
 
 // The bitstring as a set at the start of the list.
