@@ -2,3 +2,4 @@ pub mod Marks
 pub mod Sets
 pub mod Few
 pub mod Alike
+pub mod Full
