@@ -1,13 +1,11 @@
 -- What the writers of sets ask for.
 use Prim.Native.Nat.{ℕ, _+_, _*_, _^_, _≤_, _<_}
-use mathlib.Core.Bool.{Bool, true, false, _&&_}
+use mathlib.Core.Bool.{Bool, false}
 use mathlib.Core.List.{List, [], _∷_}
 use lib.IntN.{ℤ, pos}
 use lib.ListN.{getD}
 use Rattle.cells.specs.Cell.{eqZ}
 use Rattle.widths.specs.Width.{sizeOf}
-use Rattle.fields.specs.Legal.{inRange}
-use Rattle.layout.specs.declared.Row.{Row}
 
 -- n subfields of b bytes lie in a record of len, and each holds w bytes
 pub record Subfields (len start b w n : ℕ) : Type 0 where
@@ -28,11 +26,3 @@ pub record Bitstring (at w len : ℕ) : Type 0 where
 unfoldable pub headIs : List ℤ → ℤ → Bool
 headIs [] c = false
 headIs (m ∷ ms) c = eqZ m c
-
--- whether the row's range has every category from 1 to w
-unfoldable pub hasAll : Row → ℕ → Bool
-hasAll r w = inRange r (pos 1) && inRange r (pos w)
-
--- every number is allowed
-abbrev pub always : ℤ → Bool
-always z = true

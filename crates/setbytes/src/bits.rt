@@ -11,7 +11,8 @@ ghost use Rattle.fields.specs.Row.{defined, bitPlaces};
 ghost use Rattle.fields.specs.Facts.{LineFacts};
 ghost use Rattle.fieldlaws.specs.RisingLaws.{Rising};
 ghost use Rattle.sets.specs.Marks.{Marks};
-ghost use Rattle.setbytes.specs.Sets.{headIs, Bitstring, hasAll, always};
+ghost use Rattle.sets.specs.Full.{hasAll, always};
+ghost use Rattle.setbytes.specs.Sets.{headIs, Bitstring};
 use layout::Row;
 use sets::marks::allows;
 
@@ -98,10 +99,7 @@ pub fn range_has(row: Row, w: usize) -> bool
     requires { ⌜ w ≤ 9999 ⌝ }
     ensures { λ r. ⌜ r ≡ hasAll row w ⌝ }
 {
-    if !legal::in_range(row, 1) {
-        return false;
-    }
-    legal::in_range(row, cells::cell_of(w))
+    sets::marks::range_has(row, w)
 }
 
 // `1` for each category from 1 to w that is a member, `0` for each other.

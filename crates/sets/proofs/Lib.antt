@@ -4,3 +4,4 @@ pub mod FillLaws
 pub mod SpreadLaws
 pub mod SetLaws
 pub mod FewLaws
+pub mod AlikeLaws

@@ -1,18 +1,16 @@
 -- A set's answer and the list after it, by what was found; and a field of either form by the tests on it.
 -- Assumes nothing.
-use mathlib.Core.Path.{_≡_, refl, subst}
-use mathlib.Core.Bool.{Bool, true, false, cond}
+use mathlib.Core.Path.{_≡_, subst}
+use mathlib.Core.Bool.{Bool, true, false, not}
 use mathlib.Core.List.{List}
 use Prim.Native.Nat.{ℕ, _-_, _≤_, _<_}
-use native.Mathlib.Omega.{arith}
 use borrow.Author.Tests.{le-leb, lt-leb}
 use lib.IntN.{ℤ}
 use lib.ListN.{length}
 use Rattle.fields.specs.Number.{allSpaces}
 use Rattle.fields.specs.Field.{Field, holds, illegal, missing, members, allBits, setBits, bitsField, allEntries, spreadSet, spreadField}
-use Rattle.sets.specs.Sets.{bitsCounted, filledOf, setAnswer, listAfter, ReadSet, isIllegal}
+use Rattle.sets.specs.Sets.{filledOf, setAnswer, listAfter, ReadSet, isIllegal}
 use Rattle.sets.specs.declared.SetRead.the-variants.{Missing, Count, Illegal, Short}
-use Rattle.sets.specs.declared.Counted.the-variants as counted
 
 -- ---- answers
 pub read-missing : (f : Field) (list : List ℤ) → f ≡ holds missing → ReadSet f list list Missing
@@ -51,29 +49,19 @@ module _ (cs s : List ℕ) where
   bits-missing e = rw e
 
   module _ (some : allSpaces s ≡ false) where
-    all-bits : (n : ℕ) → bitsCounted cs s ≡ counted.Members n → allBits s ≡ true
-    unfolding bitsCounted
-    all-bits n e = go (allBits s) e
-      where
-        go : (b : Bool) → cond b (counted.Members (length (setBits cs s))) counted.Wrong ≡ counted.Members n → b ≡ true
-        go true q = refl
-        go false q = let z : _≡_ {A = ℕ} 0 1 = cc in absurd (omega arith)
+    -- illegal just where a byte is neither `0` nor `1`
+    pub bits-judged : (b : Bool) → b ≡ allBits s → not b ≡ isIllegal (bitsField cs s)
+    unfolding bitsField isIllegal
+    bits-judged true e = rw (some, ← e)
+    bits-judged false e = rw (some, ← e)
 
-    pub bits-members : (n : ℕ) → bitsCounted cs s ≡ counted.Members n → bitsField cs s ≡ holds (members (setBits cs s))
+    pub bits-members : allBits s ≡ true → bitsField cs s ≡ holds (members (setBits cs s))
     unfolding bitsField
-    bits-members n e = rw (some, all-bits n e)
+    bits-members e = rw (some, e)
 
-    pub bits-count : (n : ℕ) → bitsCounted cs s ≡ counted.Members n → n ≡ length (setBits cs s)
-    unfolding bitsCounted
-    bits-count n e = let q : counted.Members (length (setBits cs s)) ≡ counted.Members n = rw (all-bits n e) at e in cc
-
-    pub bits-wrong : bitsCounted cs s ≡ counted.Wrong → bitsField cs s ≡ illegal
-    unfolding bitsField bitsCounted
-    bits-wrong e = rw some (go (allBits s) e)
-      where
-        go : (b : Bool) → cond b (counted.Members (length (setBits cs s))) counted.Wrong ≡ counted.Wrong → cond b (holds (members (setBits cs s))) illegal ≡ illegal
-        go false q = refl
-        go true q = let z : _≡_ {A = ℕ} 0 1 = cc in absurd (omega arith)
+    pub bits-wrong : allBits s ≡ false → bitsField cs s ≡ illegal
+    unfolding bitsField
+    bits-wrong e = rw (some, e)
 
 -- ---- a spread
 module _ (ok : ℤ → Bool) (w n : ℕ) (s : List ℕ) where

@@ -1,3 +1,5 @@
 pub mod Marks
 pub mod Sets
 pub mod Few
+pub mod Alike
+pub mod Full

@@ -6,21 +6,15 @@ use Prim.Native.Nat.{ℕ, _+_, _*_, _≤_}
 use lib.Dec.{leb}
 use lib.IntN.{ℤ}
 use lib.ListN.{length, drop}
-use Rattle.fields.specs.Field.{missing, number, members, text, truth, Field, holds, illegal, allBits, setBits}
+use Rattle.fields.specs.Field.{missing, number, members, text, truth, Field, holds, illegal}
 use Rattle.fields.specs.Facts.{LineFacts}
 use Rattle.layout.specs.declared.Row.{Row}
 use Rattle.sets.specs.declared.SetRead.{SetRead}
 use Rattle.sets.specs.declared.SetRead.the-variants.{Missing, Count, Illegal, Short}
-use Rattle.sets.specs.declared.Counted.{Counted}
-use Rattle.sets.specs.declared.Counted.the-variants as counted
 
 -- "a set fills the start of a lent list; the rest is kept"
 unfoldable pub filledOf : List ℤ → List ℤ → List ℤ
 filledOf ms list = ms ++ drop (length ms) list
-
--- how many categories are set, where every byte is `0` or `1`
-unfoldable pub bitsCounted : List ℕ → List ℕ → Counted
-bitsCounted cs s = cond (allBits s) (counted.Members (length (setBits cs s))) counted.Wrong
 
 -- a set's answer, and the list after it: a set longer than the list is refused and keeps it
 unfoldable pub setAnswer : Field → List ℤ → SetRead

@@ -1,51 +1,31 @@
 // A bitstring: byte c of the position for each category c that the row allows, each `0` or `1`. No other byte is looked at.
 ghost use mathlib.Core.Path.{_≡_};
+ghost use mathlib.Core.Bool.{true, cond};
+ghost use lib.Dec.{eqb};
 ghost use Prim.Native.Nat.{_+_, _≤_};
 ghost use lib.ListN.{length};
 ghost use Rattle.places.specs.Places.{pick};
 ghost use Rattle.fields.specs.Legal.{legal};
-ghost use Rattle.fields.specs.Number.{allSpaces};
-ghost use Rattle.fields.specs.Field.{setBits, bitsField};
+ghost use Rattle.fields.specs.Field.{holds, members, setBits, bitsField};
 ghost use Rattle.fields.specs.Row.{defined, bitPlaces};
 ghost use Rattle.fields.specs.Facts.{LineFacts};
+ghost use Rattle.sets.specs.Full.{hasAll, always};
 ghost use Rattle.sets.specs.Marks.{Marks};
-ghost use Rattle.sets.specs.Sets.{bitsCounted, filledOf, BitsRoom, ReadSet, isIllegal};
-use super::Counted;
+ghost use Rattle.sets.specs.Sets.{filledOf, BitsRoom, ReadSet, isIllegal};
 use super::SetRead;
+use super::alike::all_are;
 use super::marks::allows;
 use super::marks::mark_legal;
 use layout::Row;
 
-// Whether the bytes of the categories are all spaces.
-pub fn bits_blank(
-    t: &[i64],
-    rows: usize,
-    row: Row,
-    marks: &[u8],
-    bytes: &[u8],
-    at: usize,
-    w: usize,
-) -> bool
-    requires { ⌜ LineFacts (now t) rows row ⌝ }
-    requires { ⌜ Marks (λ x. legal (now t) rows row x) (now marks) ⌝ }
-    requires { ⌜ BitsRoom at w (length (now bytes)) ⌝ }
-    ensures { λ r. ⌜ r ≡ allSpaces (pick (now (bytes .entry)) (bitPlaces at (defined (legal (now (t .entry)) rows row) 1 w))) ⌝ }
+fn bit_of(b: u8) -> usize
+    ensures { λ r. ⌜ r ≡ cond (eqb b 49) 1 0 ⌝ }
 {
-    let mut i: usize = 0;
-    while i < w {
-        let k = i;
-        i += 1;
-        if allows(t, rows, row, marks, i) {
-            if bytes[at + k] != 32 {
-                return false;
-            }
-        }
-    }
-    true
+    if b == 49 { 1 } else { 0 }
 }
 
-// How many categories are set, or that a byte is neither `0` nor `1`.
-pub fn bits_counted(
+// How many categories are set.
+fn count_set(
     t: &[i64],
     rows: usize,
     row: Row,
@@ -53,11 +33,11 @@ pub fn bits_counted(
     bytes: &[u8],
     at: usize,
     w: usize,
-) -> Counted
+) -> usize
     requires { ⌜ LineFacts (now t) rows row ⌝ }
     requires { ⌜ Marks (λ x. legal (now t) rows row x) (now marks) ⌝ }
     requires { ⌜ BitsRoom at w (length (now bytes)) ⌝ }
-    ensures { λ r. ⌜ r ≡ bitsCounted (defined (legal (now (t .entry)) rows row) 1 w) (pick (now (bytes .entry)) (bitPlaces at (defined (legal (now (t .entry)) rows row) 1 w))) ⌝ }
+    ensures { λ r. ⌜ r ≡ length (setBits (defined (legal (now (t .entry)) rows row) 1 w) (pick (now (bytes .entry)) (bitPlaces at (defined (legal (now (t .entry)) rows row) 1 w)))) ⌝ }
 {
     let mut n: usize = 0;
     let mut i: usize = 0;
@@ -65,21 +45,28 @@ pub fn bits_counted(
         let k = i;
         i += 1;
         if allows(t, rows, row, marks, i) {
-            let b = bytes[at + k];
-            if b == 49 {
-                n += 1;
-            } else {
-                if b != 48 {
-                    return Counted::Wrong;
-                }
-            }
+            n += bit_of(bytes[at + k]);
         }
     }
-    Counted::Members(n)
+    n
+}
+
+// The same where every category from 1 to w is one.
+fn count_each(bytes: &[u8], at: usize, w: usize) -> usize
+    requires { ⌜ BitsRoom at w (length (now bytes)) ⌝ }
+    ensures { λ r. ⌜ r ≡ length (setBits (defined always 1 w) (pick (now (bytes .entry)) (bitPlaces at (defined always 1 w)))) ⌝ }
+{
+    let mut n: usize = 0;
+    let mut i: usize = 0;
+    while i < w {
+        n += bit_of(bytes[at + i]);
+        i += 1;
+    }
+    n
 }
 
 // The categories that are set, rising, at the start of the list, which has room for them.
-pub fn bits_fill(
+fn bits_fill(
     t: &[i64],
     rows: usize,
     row: Row,
@@ -109,33 +96,38 @@ pub fn bits_fill(
     }
 }
 
-// Whether the bitstring is illegal. The marks are room for those of the row.
-pub fn judge(
-    t: &[i64],
-    rows: usize,
-    row: Row,
-    marks: &mut [u8],
-    bytes: &[u8],
-    at: usize,
-    w: usize,
-) -> bool
-    requires { ⌜ LineFacts (now t) rows row ⌝ }
-    requires { ⌜ length (now marks) ≤ 10000 ⌝ }
+// The same where every category from 1 to w is one.
+fn fill_each(bytes: &[u8], at: usize, w: usize, list: &mut [i64])
     requires { ⌜ BitsRoom at w (length (now bytes)) ⌝ }
-    ensures { λ r. ⌜ r ≡ isIllegal (bitsField (defined (legal (now (t .entry)) rows row) 1 w) (pick (now (bytes .entry)) (bitPlaces at (defined (legal (now (t .entry)) rows row) 1 w)))) ⌝ }
+    requires { ⌜ length (setBits (defined always 1 w) (pick (now bytes) (bitPlaces at (defined always 1 w)))) ≤ length (now list) ⌝ }
+    ensures { λ _. ⌜ now (list .exit) ≡ filledOf (setBits (defined always 1 w) (pick (now (bytes .entry)) (bitPlaces at (defined always 1 w)))) (now (list .entry)) ⌝ }
 {
-    mark_legal(t, rows, row, marks);
-    if bits_blank(t, rows, row, marks, bytes, at, w) {
-        return false;
-    }
-    match bits_counted(t, rows, row, marks, bytes, at, w) {
-        Counted::Members(_) => false,
-        Counted::Wrong => true,
+    let mut n: usize = 0;
+    let mut i: usize = 0;
+    while i < w {
+        let k = i;
+        i += 1;
+        if bytes[at + k] == 49 {
+            list[n] = cells::cell_of(i);
+            n += 1;
+        }
     }
 }
 
-// The bitstring as a set at the start of the list.
-pub fn list_set(
+// Whether the bitstring is illegal.
+pub fn judge(t: &[i64], rows: usize, row: Row, bytes: &[u8], at: usize, w: usize) -> bool
+    requires { ⌜ LineFacts (now t) rows row ⌝ }
+    requires { ⌜ BitsRoom at w (length (now bytes)) ⌝ }
+    ensures { λ r. ⌜ r ≡ isIllegal (bitsField (defined (legal (now (t .entry)) rows row) 1 w) (pick (now (bytes .entry)) (bitPlaces at (defined (legal (now (t .entry)) rows row) 1 w)))) ⌝ }
+{
+    if all_are(t, rows, row, bytes, at, w, 32, 32) {
+        return false;
+    }
+    !all_are(t, rows, row, bytes, at, w, 48, 49)
+}
+
+// A bitstring whose bytes are all `0` and `1`, as a set at the start of the list.
+fn list_set(
     t: &[i64],
     rows: usize,
     row: Row,
@@ -148,24 +140,41 @@ pub fn list_set(
     requires { ⌜ LineFacts (now t) rows row ⌝ }
     requires { ⌜ Marks (λ x. legal (now t) rows row x) (now marks) ⌝ }
     requires { ⌜ BitsRoom at w (length (now bytes)) ⌝ }
+    requires { ⌜ bitsField (defined (legal (now t) rows row) 1 w) (pick (now bytes) (bitPlaces at (defined (legal (now t) rows row) 1 w))) ≡ holds (members (setBits (defined (legal (now t) rows row) 1 w) (pick (now bytes) (bitPlaces at (defined (legal (now t) rows row) 1 w))))) ⌝ }
     ensures { λ r. ⌜ ReadSet (bitsField (defined (legal (now (t .entry)) rows row) 1 w) (pick (now (bytes .entry)) (bitPlaces at (defined (legal (now (t .entry)) rows row) 1 w)))) (now (list .entry)) (now (list .exit)) r ⌝ }
 {
-    if bits_blank(t, rows, row, marks, bytes, at, w) {
-        return SetRead::Missing;
+    let n = count_set(t, rows, row, marks, bytes, at, w);
+    if n <= list.len() {
+        bits_fill(t, rows, row, marks, bytes, at, w, list);
+        return SetRead::Count(n);
     }
-    match bits_counted(t, rows, row, marks, bytes, at, w) {
-        Counted::Members(n) => {
-            if n <= list.len() {
-                bits_fill(t, rows, row, marks, bytes, at, w, list);
-                return SetRead::Count(n);
-            }
-            SetRead::Short
-        }
-        Counted::Wrong => SetRead::Illegal,
-    }
+    SetRead::Short
 }
 
-// The same, with room for the marks of the row.
+// The same where the row's range has every category.
+pub fn list_each(
+    t: &[i64],
+    rows: usize,
+    row: Row,
+    bytes: &[u8],
+    at: usize,
+    w: usize,
+    list: &mut [i64],
+) -> SetRead
+    requires { ⌜ hasAll row w ≡ true ⌝ }
+    requires { ⌜ BitsRoom at w (length (now bytes)) ⌝ }
+    requires { ⌜ bitsField (defined (legal (now t) rows row) 1 w) (pick (now bytes) (bitPlaces at (defined (legal (now t) rows row) 1 w))) ≡ holds (members (setBits (defined (legal (now t) rows row) 1 w) (pick (now bytes) (bitPlaces at (defined (legal (now t) rows row) 1 w))))) ⌝ }
+    ensures { λ r. ⌜ ReadSet (bitsField (defined (legal (now (t .entry)) rows row) 1 w) (pick (now (bytes .entry)) (bitPlaces at (defined (legal (now (t .entry)) rows row) 1 w)))) (now (list .entry)) (now (list .exit)) r ⌝ }
+{
+    let n = count_each(bytes, at, w);
+    if n <= list.len() {
+        fill_each(bytes, at, w, list);
+        return SetRead::Count(n);
+    }
+    SetRead::Short
+}
+
+// What `list_set` does, with room for the marks of the row.
 pub fn mark_and_list(
     t: &[i64],
     rows: usize,
@@ -179,6 +188,7 @@ pub fn mark_and_list(
     requires { ⌜ LineFacts (now t) rows row ⌝ }
     requires { ⌜ length (now marks) ≤ 10000 ⌝ }
     requires { ⌜ BitsRoom at w (length (now bytes)) ⌝ }
+    requires { ⌜ bitsField (defined (legal (now t) rows row) 1 w) (pick (now bytes) (bitPlaces at (defined (legal (now t) rows row) 1 w))) ≡ holds (members (setBits (defined (legal (now t) rows row) 1 w) (pick (now bytes) (bitPlaces at (defined (legal (now t) rows row) 1 w))))) ⌝ }
     ensures { λ r. ⌜ ReadSet (bitsField (defined (legal (now (t .entry)) rows row) 1 w) (pick (now (bytes .entry)) (bitPlaces at (defined (legal (now (t .entry)) rows row) 1 w)))) (now (list .entry)) (now (list .exit)) r ⌝ }
 {
     mark_legal(t, rows, row, marks);

@@ -10,6 +10,7 @@ ghost use Rattle.fields.specs.Row.{categories, bitPlaces, spreadPlaces};
 ghost use Rattle.sets.specs.Sets.{ReadSet, isIllegal, BitsFacts, FieldsFacts};
 use layout::Row;
 
+mod alike;
 mod bits;
 mod few;
 pub mod marks;
@@ -42,16 +43,13 @@ fn marks_worth(lines: usize, tests: usize, size: usize, room: usize) -> usize
     if lines * tests / 4 <= size { 0 } else { size }
 }
 
-// Whether the bitstring of a row is illegal.
+// Whether the bitstring of a row is illegal. It needs no marks, so the scratch is left as it is.
 pub fn bits_illegal(t: &[i64], rows: usize, row: Row, bytes: &[u8], scratch: &mut [u8]) -> bool
     requires { ⌜ BitsFacts (now t) rows row (length (now bytes)) ⌝ }
     requires { ⌜ length (now scratch) ≤ 10000 ⌝ }
     ensures { λ r. ⌜ r ≡ isIllegal (bitsField (categories (now (t .entry)) rows row) (pick (now (bytes .entry)) (bitPlaces (row .start - 1) (categories (now (t .entry)) rows row)))) ⌝ }
 {
-    let w = row.width;
-    let at = row.start - 1;
-    let n = marks_worth(row.lines, w, w + 1, scratch.len());
-    bits::judge(t, rows, row, &mut scratch[..n], bytes, at, w)
+    bits::judge(t, rows, row, bytes, row.start - 1, row.width)
 }
 
 // The bitstring of a row, as a set at the start of the list.
@@ -69,6 +67,15 @@ pub fn read_bits(
 {
     let w = row.width;
     let at = row.start - 1;
+    if alike::all_are(t, rows, row, bytes, at, w, 32, 32) {
+        return SetRead::Missing;
+    }
+    if !alike::all_are(t, rows, row, bytes, at, w, 48, 49) {
+        return SetRead::Illegal;
+    }
+    if marks::range_has(row, w) {
+        return bits::list_each(t, rows, row, bytes, at, w, list);
+    }
     let n = marks_worth(row.lines, w, w + 1, scratch.len());
     bits::mark_and_list(t, rows, row, &mut scratch[..n], bytes, at, w, list)
 }

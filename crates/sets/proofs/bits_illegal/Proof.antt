@@ -1,41 +1,14 @@
--- `sets::bits_illegal` meets its contract: the room for the marks, and the judgement with them.
-use mathlib.Core.Path.{sym}
-use Prim.Native.Nat.{_-_, _≤_}
+-- `sets::bits_illegal` meets its contract: the row's bytes lie in the record.
+use Prim.Native.Nat.{_-_}
 use native.Mathlib.Omega.{arith}
 use borrow.Author.Needs.{needs}
-use lib.ListN.{length}
-use Rattle.sets.specs.Sets.{BitsRoom}
-use lib.Seq.{length-take-le}
 use Rattle.sets.proofs.bits_illegal.Statement.{statement}
 use Rattle.sets.proofs.bits_illegal.Tie as tie
 
--- the row's bytes lie in the record
-room : (c : tie.Start) → BitsRoom (c .args .row .start - 1) (c .args .row .width) (length (c .args .bytes .now))
-room c = record { few = c .pre .0 .few; inside = let h = c .pre .0 .inside in let g = c .pre .0 .from-one in omega arith }
-
-marks-worth-requires : tie.Need-marks-worth-requires
-marks-worth-requires c κs = let l = c .before .before .before .pre .0 .lines .few-lines in let w = c .before .before .before .pre .0 .few in (omega arith, omega arith)
-
-few : (c : tie.After-marks-worth) → c .marks-worth .result ≤ length (c .before .before .before .before .args .scratch .now)
-few c = let w = c .before .before .before .before .pre .0 .few in let s = c .before .before .before .before .pre .1 in omega (arith, c .marks-worth .ensures)
-
-slice-aggregate-judge : tie.Need-slice-aggregate-judge
-slice-aggregate-judge c = sym (length-take-le _ _ (few (c .before)))
-
 judge-requires : tie.Need-judge-requires
 judge-requires c κs =
-    let f = few (c .before) in let s = c .before .before .before .before .before .pre .1 in
-    (c .before .before .before .before .before .pre .0 .lines, (rw (length-take-le (c .before .marks-worth .result) (c .before .before .before .before .before .args .scratch .now) f) (omega arith), room (c .before .before .before .before .before)))
+    let p = c .before .before .before .pre .0 in
+    (p .lines, record { few = p .few; inside = let h = p .inside in let g = p .from-one in omega arith })
 
 pub bits-illegal-spec : {M : Type 1} → statement M
-bits-illegal-spec =
-    tie.close
-    (tie.spec
-    (λ c. let h = c .before .before .before .pre .0 .from-one in omega arith)
-    (λ c. let h = c .before .before .before .pre .0 .few in omega arith)
-    marks-worth-requires
-    (λ c. few c)
-    slice-aggregate-judge
-    judge-requires
-    (λ c. search needs)
-    (λ c. c .before .before .judge .ensures))
+bits-illegal-spec = tie.close (tie.spec (λ c. c .before .before .before .pre .0 .from-one) judge-requires (λ c. search needs))

@@ -1,11 +1,18 @@
--- `sets::read_bits` meets its contract: the room for the marks, and the reading with them.
-use mathlib.Core.Path.{sym}
+-- `sets::read_bits` meets its contract: by what the bytes are, and how the members are told from the rest.
+use mathlib.Core.Path.{_≡_, sym, _∙_}
+use mathlib.Core.Bool.{true, false}
 use Prim.Native.Nat.{_-_, _≤_}
 use native.Mathlib.Omega.{arith}
 use borrow.Author.Needs.{needs}
+use borrow.Author.Tests.{not-true, not-false}
 use lib.ListN.{length}
-use Rattle.sets.specs.Sets.{BitsRoom}
 use lib.Seq.{length-take-le}
+use Rattle.places.specs.Places.{pick}
+use Rattle.fields.specs.Field.{holds, members, setBits, bitsField}
+use Rattle.fields.specs.Row.{categories, bitPlaces}
+use Rattle.sets.specs.Sets.{BitsRoom}
+use Rattle.sets.proofs.AlikeLaws.{spaces-alike, bits-alike}
+use Rattle.sets.proofs.SetLaws.{read-missing, read-illegal, bits-missing, bits-members, bits-wrong}
 use Rattle.sets.proofs.read_bits.Statement.{statement}
 use Rattle.sets.proofs.read_bits.Tie as tie
 
@@ -13,29 +20,50 @@ use Rattle.sets.proofs.read_bits.Tie as tie
 room : (c : tie.Start) → BitsRoom (c .args .row .start - 1) (c .args .row .width) (length (c .args .bytes .now))
 room c = record { few = c .pre .0 .few; inside = let h = c .pre .0 .inside in let g = c .pre .0 .from-one in omega arith }
 
+returns : tie.Need-returns
+returns c = read-missing _ _ (bits-missing _ _ (spaces-alike _ ∙ sym (c .before .all-are .ensures) ∙ c .if1 .taken))
+
+returns-2 : tie.Need-returns-2
+returns-2 c =
+    read-illegal _ _
+    (bits-wrong _ _ (spaces-alike _ ∙ sym (c .before .before .before .all-are .ensures) ∙ c .before .before .if1 .left) (bits-alike _ ∙ sym (c .before .all-are2 .ensures) ∙ not-true _ (c .if2 .taken)))
+
+-- all bytes are `0` and `1`
+set : (c : tie.Else2) → let a = c .before .before .before .before .before .before .before .args in let cs = categories (a .t .now) (a .rows) (a .row) in let s = pick (a .bytes .now) (bitPlaces (a .row .start - 1) cs) in
+    bitsField cs s ≡ holds (members (setBits cs s))
+set c = bits-members _ _ (spaces-alike _ ∙ sym (c .before .before .before .all-are .ensures) ∙ c .before .before .if1 .left) (bits-alike _ ∙ sym (c .before .all-are2 .ensures) ∙ not-false _ (c .if2 .left))
+
+list-each-requires : tie.Need-list-each-requires
+list-each-requires c κs = (sym (c .before .before .range-has .ensures) ∙ c .before .if3 .taken, (room (c .before .before .before .before .before .before .before .before .before .before), set (c .before .before .before)))
+
 marks-worth-requires : tie.Need-marks-worth-requires
-marks-worth-requires c κs = let l = c .before .before .before .pre .0 .lines .few-lines in let w = c .before .before .before .pre .0 .few in (omega arith, omega arith)
+marks-worth-requires c κs = let l = c .before .before .before .before .before .before .before .before .before .pre .0 .lines .few-lines in let w = c .before .before .before .before .before .before .before .before .before .pre .0 .few in (omega arith, omega arith)
 
-few : (c : tie.After-marks-worth) → c .marks-worth .result ≤ length (c .before .before .before .before .args .scratch .now)
-few c = let w = c .before .before .before .before .pre .0 .few in let s = c .before .before .before .before .pre .1 in omega (arith, c .marks-worth .ensures)
-
-slice-aggregate-mark-and-list : tie.Need-slice-aggregate-mark-and-list
-slice-aggregate-mark-and-list c = sym (length-take-le _ _ (few (c .before)))
+few : (c : tie.After-marks-worth) → c .marks-worth .result ≤ length (c .before .before .before .before .before .before .before .before .before .before .args .scratch .now)
+few c = let w = c .before .before .before .before .before .before .before .before .before .before .pre .0 .few in let s = c .before .before .before .before .before .before .before .before .before .before .pre .1 in omega (arith, c .marks-worth .ensures)
 
 mark-and-list-requires : tie.Need-mark-and-list-requires
 mark-and-list-requires c κs =
-    let f = few (c .before .before) in let s = c .before .before .before .before .before .before .pre .1 in
-    (c .before .before .before .before .before .before .pre .0 .lines, (rw (length-take-le (c .before .before .marks-worth .result) (c .before .before .before .before .before .before .args .scratch .now) f) (omega arith), room (c .before .before .before .before .before .before)))
+    let f = few (c .before .before) in let s = c .before .before .before .before .before .before .before .before .before .before .before .before .pre .1 in
+    (c .before .before .before .before .before .before .before .before .before .before .before .before .pre .0 .lines, (rw (length-take-le (c .before .before .marks-worth .result) (c .before .before .before .before .before .before .before .before .before .before .before .before .args .scratch .now) f) (omega arith), (room (c .before .before .before .before .before .before .before .before .before .before .before .before), set (c .before .before .before .before .before))))
 
 pub read-bits-spec : {M : Type 1} → statement M
 read-bits-spec =
     tie.close
     (tie.spec
     (λ c. let h = c .before .before .before .pre .0 .from-one in omega arith)
-    (λ c. let h = c .before .before .before .pre .0 .few in omega arith)
+    (λ c κs. (c .before .before .before .pre .0 .lines, room (c .before .before .before)))
+    returns
+    (λ c κs. (c .before .before .before .before .before .pre .0 .lines, room (c .before .before .before .before .before)))
+    returns-2
+    (λ c κs. c .before .before .before .before .before .before .before .pre .0 .few)
+    list-each-requires
+    (λ c. search needs)
+    (λ c. c .before .list-each .ensures)
+    (λ c. let h = c .before .before .before .before .before .before .before .before .before .pre .0 .few in omega arith)
     marks-worth-requires
     (λ c. few c)
-    slice-aggregate-mark-and-list
+    (λ c. sym (length-take-le _ _ (few (c .before))))
     mark-and-list-requires
     (λ c. search needs)
     (λ c. search needs)

@@ -1,6 +1,6 @@
 -- `setbytes::bits::put_all` meets its contract: every category is legal.
 use borrow.Author.Needs.{needs}
-use Rattle.setbytes.proofs.AllSteps.{all-defined}
+use Rattle.sets.specs.Full.{all-defined}
 use Rattle.setbytes.proofs.bits.put_all.Statement.{statement}
 use Rattle.setbytes.proofs.bits.put_all.Tie as tie
 

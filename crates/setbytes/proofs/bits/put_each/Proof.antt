@@ -9,7 +9,7 @@ use lib.ListN.{length, drop, length-set}
 use Rattle.fields.specs.Row.{defined, bitPlaces}
 use Rattle.fields.specs.Field.{bitBytes}
 use Rattle.places.specs.Places.{put}
-use Rattle.setbytes.specs.Sets.{always}
+use Rattle.sets.specs.Full.{always}
 use Rattle.setbytes.proofs.BitSteps.{rest, Left, left-on, taken, done}
 use Rattle.setbytes.proofs.bits.put_each.Statement.{statement}
 use Rattle.setbytes.proofs.bits.put_each.Tie as tie
