@@ -1,10 +1,10 @@
 -- What the writers of sets ask for.
-use Prim.Native.Nat.{ℕ, _+_, _*_, _^_, _≤_, _<_}
+use Prim.Native.Nat.{ℕ, _+_, _-_, _*_, _^_, _≤_, _<_}
 use mathlib.Core.Bool.{Bool, false}
 use mathlib.Core.List.{List, [], _∷_}
 use lib.IntN.{ℤ, pos}
-use lib.ListN.{getD}
-use Rattle.cells.specs.Cell.{eqZ}
+use lib.ListN.{getD, set}
+use Rattle.cells.specs.Cell.{countOf, eqZ}
 use Rattle.widths.specs.Width.{sizeOf}
 
 -- n subfields of b bytes lie in a record of len, and each holds w bytes
@@ -26,3 +26,8 @@ pub record Bitstring (at w len : ℕ) : Type 0 where
 unfoldable pub headIs : List ℤ → ℤ → Bool
 headIs [] c = false
 headIs (m ∷ ms) c = eqZ m c
+
+-- `1` at the place of each member, in a position that starts at the place `at`
+unfoldable pub withMembers : List ℕ → ℕ → List ℤ → List ℕ
+withMembers r at [] = r
+withMembers r at (m ∷ ms) = withMembers (set r (at + (countOf m - 1)) 49) at ms

@@ -1,6 +1,7 @@
 // A bitstring: byte c of the position for each category c that the row allows. No other byte is touched.
 ghost use mathlib.Core.Path.{_≡_};
 ghost use mathlib.Core.Bool.{cond, true};
+ghost use mathlib.Core.List.{[]};
 ghost use Prim.Native.Nat.{_+_, _≤_};
 ghost use lib.IntN.{pos};
 ghost use lib.ListN.{length, drop};
@@ -12,7 +13,7 @@ ghost use Rattle.fields.specs.Facts.{LineFacts};
 ghost use Rattle.fieldlaws.specs.RisingLaws.{Rising};
 ghost use Rattle.sets.specs.Marks.{Marks};
 ghost use Rattle.sets.specs.Full.{hasAll, always};
-ghost use Rattle.setbytes.specs.Sets.{headIs, Bitstring};
+ghost use Rattle.setbytes.specs.Sets.{headIs, withMembers, Bitstring};
 use layout::Row;
 use sets::marks::allows;
 
@@ -102,19 +103,28 @@ pub fn range_has(row: Row, w: usize) -> bool
     sets::marks::range_has(row, w)
 }
 
-// `1` for each category from 1 to w that is a member, `0` for each other.
-fn put_each(bytes: &mut [u8], at: usize, w: usize, list: &[i64])
-    requires { ⌜ Bitstring at w (length (now bytes)) × Rising 1 w (now list) ⌝ }
-    ensures { λ _. ⌜ now (bytes .exit) ≡ put (now (bytes .entry)) (bitPlaces at (defined always 1 w)) (bitBytes (now (list .entry)) (defined always 1 w)) ⌝ }
+// `0` for each category from 1 to w.
+fn clear_each(bytes: &mut [u8], at: usize, w: usize)
+    requires { ⌜ Bitstring at w (length (now bytes)) ⌝ }
+    ensures { λ _. ⌜ now (bytes .exit) ≡ put (now (bytes .entry)) (bitPlaces at (defined always 1 w)) (bitBytes [] (defined always 1 w)) ⌝ }
 {
-    let mut j: usize = 0;
     let mut i: usize = 0;
     while i < w {
-        let k = i;
+        bytes[at + i] = 48;
         i += 1;
-        let yes = next_is(list, j, i);
-        j += step_of(yes);
-        bytes[at + k] = bit_of(yes);
+    }
+}
+
+// `1` for each member.
+fn set_members(bytes: &mut [u8], at: usize, w: usize, list: &[i64])
+    requires { ⌜ Bitstring at w (length (now bytes)) × Rising 1 w (now list) ⌝ }
+    ensures { λ _. ⌜ now (bytes .exit) ≡ withMembers (now (bytes .entry)) at (now (list .entry)) ⌝ }
+{
+    let mut j: usize = 0;
+    while j < list.len() {
+        let c = cells::count_of(list[j]);
+        bytes[at + (c - 1)] = 49;
+        j += 1;
     }
 }
 
@@ -132,7 +142,8 @@ pub fn put_all(
     requires { ⌜ Bitstring at w (length (now bytes)) × Rising 1 w (now list) ⌝ }
     ensures { λ _. ⌜ now (bytes .exit) ≡ put (now (bytes .entry)) (bitPlaces at (defined (legal (now (t .entry)) rows row) 1 w)) (bitBytes (now (list .entry)) (defined (legal (now (t .entry)) rows row) 1 w)) ⌝ }
 {
-    put_each(bytes, at, w, list);
+    clear_each(bytes, at, w);
+    set_members(bytes, at, w, list);
 }
 
 // What `blank_bits` does, for a row whose range has every category.
