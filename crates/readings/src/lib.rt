@@ -224,7 +224,7 @@ fn set_illegal(
     ensures { λ r. ⌜ r ≡ isIllegal (readingOf (now (t .entry)) rows row (now (bytes .entry))) ⌝ }
 {
     if n == 0 {
-        return sets::bits_illegal(t, rows, row, bytes, scratch);
+        return sets::bits_illegal(t, rows, row, bytes);
     }
     sets::spread_illegal(t, rows, row, n, b, bytes, scratch)
 }

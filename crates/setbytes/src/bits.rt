@@ -95,14 +95,6 @@ pub fn blank_bits(
     }
 }
 
-// Whether the row's range has every category from 1 to w: then no byte needs a test of its own.
-pub fn range_has(row: Row, w: usize) -> bool
-    requires { ⌜ w ≤ 9999 ⌝ }
-    ensures { λ r. ⌜ r ≡ hasAll row w ⌝ }
-{
-    sets::marks::range_has(row, w)
-}
-
 // `0` for each category from 1 to w.
 fn clear_each(bytes: &mut [u8], at: usize, w: usize)
     requires { ⌜ Bitstring at w (length (now bytes)) ⌝ }

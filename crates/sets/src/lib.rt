@@ -43,10 +43,9 @@ fn marks_worth(lines: usize, tests: usize, size: usize, room: usize) -> usize
     if lines * tests / 4 <= size { 0 } else { size }
 }
 
-// Whether the bitstring of a row is illegal. It needs no marks, so the scratch is left as it is.
-pub fn bits_illegal(t: &[i64], rows: usize, row: Row, bytes: &[u8], scratch: &mut [u8]) -> bool
+// Whether the bitstring of a row is illegal.
+pub fn bits_illegal(t: &[i64], rows: usize, row: Row, bytes: &[u8]) -> bool
     requires { ⌜ BitsFacts (now t) rows row (length (now bytes)) ⌝ }
-    requires { ⌜ length (now scratch) ≤ 10000 ⌝ }
     ensures { λ r. ⌜ r ≡ isIllegal (bitsField (categories (now (t .entry)) rows row) (pick (now (bytes .entry)) (bitPlaces (row .start - 1) (categories (now (t .entry)) rows row)))) ⌝ }
 {
     bits::judge(t, rows, row, bytes, row.start - 1, row.width)

@@ -52,7 +52,7 @@ fn bits_set(
     if !setbytes::judge::set_fits(t, rows, row, marks, list) {
         return Wrote::NotLegal;
     }
-    if setbytes::bits::range_has(row, w) {
+    if sets::marks::range_has(row, w) {
         setbytes::bits::put_all(t, rows, row, bytes, at, w, list);
         return Wrote::Done;
     }
@@ -67,7 +67,7 @@ fn bits_blanked(t: &[i64], rows: usize, row: Row, bytes: &mut [u8]) -> Wrote
 {
     let w = row.width;
     let at = row.start - 1;
-    if setbytes::bits::range_has(row, w) {
+    if sets::marks::range_has(row, w) {
         setbytes::bits::blank_all(t, rows, row, bytes, at, w);
         return Wrote::Done;
     }
@@ -86,7 +86,7 @@ fn bits_written(t: &[i64], rows: usize, row: Row, list: &[i64], bytes: &mut [u8]
     ensures { λ r. ⌜ WrittenBy (kind.Multiple spread.Bits) (now (t .entry)) rows row given.Set (now (list .entry)) [] (now (bytes .entry)) (now (bytes .exit)) r ⌝ }
 {
     let w = row.width;
-    if setbytes::bits::range_has(row, w) {
+    if sets::marks::range_has(row, w) {
         let mut none = [0; 1];
         return bits_set(t, rows, row, list, &mut none, bytes);
     }

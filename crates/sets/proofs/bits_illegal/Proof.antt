@@ -7,8 +7,8 @@ use Rattle.sets.proofs.bits_illegal.Tie as tie
 
 judge-requires : tie.Need-judge-requires
 judge-requires c κs =
-    let p = c .before .before .before .pre .0 in
+    let p = c .before .before .pre in
     (p .lines, record { few = p .few; inside = let h = p .inside in let g = p .from-one in omega arith })
 
 pub bits-illegal-spec : {M : Type 1} → statement M
-bits-illegal-spec = tie.close (tie.spec (λ c. c .before .before .before .pre .0 .from-one) judge-requires (λ c. search needs))
+bits-illegal-spec = tie.close (tie.spec (λ c. c .before .before .pre .from-one) judge-requires (λ c. search needs))
