@@ -149,7 +149,8 @@ unfolding terminatorOf
 first-low [] = omega arith
 first-low (b ∷ s) = go (eqb b 13) (eqb b 10) (first-low s)
   where
-    go : (p q : Bool) → terminatorOf s .first < 32 → cond p (terminatorAt 13 10 s) (cond q (terminatorAt 10 13 s) (terminatorOf s)) .first < 32
+    go : (p q : Bool) → terminatorOf s .first < 32
+        → cond p (terminatorAt 13 10 s) (cond q (terminatorAt 10 13 s) (terminatorOf s)) .first < 32
     go true q h = at-low 13 10 s (omega arith)
     go false true h = at-low 10 13 s (omega arith)
     go false false h = h
@@ -166,19 +167,22 @@ module _ (d : List ℕ) where
   pub unbroken-plain : (w : Terminator) (from to : ℕ) → w .first < 32 → Clear d from to → Unbroken d w from to
   unbroken-plain w from to h c = record { on = c .on; within = c .within; no-first = λ j a b. not-low j (w .first) (c .plain j a b) h }
 
-  end-past : (w : Terminator) (start n i : ℕ) → i + n ≤ length d → ((j : ℕ) → i ≤ j → j < i + n → getD d j 0 ≡ w .first → ⊥) → endFrom w start i (drop i d) ≡ endFrom w start (i + n) (drop (i + n) d)
+  end-past : (w : Terminator) (start n i : ℕ) → i + n ≤ length d → ((j : ℕ) → i ≤ j → j < i + n → getD d j 0 ≡ w .first → ⊥)
+      → endFrom w start i (drop i d) ≡ endFrom w start (i + n) (drop (i + n) d)
   end-past w start zero i h g = let e : i + 0 ≡ i = omega arith in rw e
   end-past w start (suc n) i h g =
       let e : i + suc n ≡ i + 1 + n = omega arith in
       end-on d i w start (omega arith) (stands-not d i w (omega arith) (g i (omega arith) (omega arith)))
       ∙ rw e (end-past w start n (i + 1) (omega arith) (λ j a b. g j (omega arith) (omega arith)))
 
-  pub end-unbroken : (w : Terminator) (start from to : ℕ) → Unbroken d w from to → endFrom w start from (drop from d) ≡ endFrom w start to (drop to d)
+  pub end-unbroken : (w : Terminator) (start from to : ℕ) → Unbroken d w from to
+      → endFrom w start from (drop from d) ≡ endFrom w start to (drop to d)
   end-unbroken w start from to u =
       let e : from + (to - from) ≡ to = omega (arith, u .on) in
       rw e at (end-past w start (to - from) from (rw e (u .within)) (λ j a b. u .no-first j a (rw e at b)))
 
-  found-past : (n i : ℕ) → i + n ≤ length d → ((j : ℕ) → i ≤ j → j < i + n → lowAt d j ≡ false) → terminatorOf (drop i d) ≡ terminatorOf (drop (i + n) d)
+  found-past : (n i : ℕ) → i + n ≤ length d → ((j : ℕ) → i ≤ j → j < i + n → lowAt d j ≡ false)
+      → terminatorOf (drop i d) ≡ terminatorOf (drop (i + n) d)
   found-past zero i h g = let e : i + 0 ≡ i = omega arith in rw e
   found-past (suc n) i h g =
       let e : i + suc n ≡ i + 1 + n = omega arith in

@@ -91,7 +91,8 @@ unfoldable pub nameIn : List ℕ → List ℤ → ℕ → List ℕ
 nameIn d rows i = decodeOf Plain 0 (text d (countOf (cell rows (rowSize * i + nameColumn))))
 
 pub record NamesJudged (d : List ℕ) (rows : List ℤ) (count r : ℕ) : Type 0 where
-  pub fault-is : (names : List (List ℕ)) → length names ≡ count → ((i : ℕ) → i < count → nameIn d rows i ≡ nameAt names i) → r ≡ nameFault names
+  pub fault-is : (names : List (List ℕ)) → length names ≡ count → ((i : ℕ) → i < count → nameIn d rows i ≡ nameAt names i)
+      → r ≡ nameFault names
 
 unfoldable pub headerBy : Tally → Header
 headerBy y = record {

@@ -63,7 +63,8 @@ clear-next s from i c e h = record {
 }
 
 -- to the end, if none is among the last n bytes
-pub clear-end : (s : List ℕ) (from i last n : ℕ) → Clear s from i → lowAmong s last n ≡ false → last ≤ i → last + n ≡ length s → Clear s from (length s)
+pub clear-end : (s : List ℕ) (from i last n : ℕ) → Clear s from i → lowAmong s last n ≡ false → last ≤ i → last + n ≡ length s
+    → Clear s from (length s)
 clear-end s from i last n c e h l = record {
   on = omega (arith, c .on, c .within);
   within = omega arith;

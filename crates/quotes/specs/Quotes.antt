@@ -32,7 +32,8 @@ pub among-none : (f : ℕ → Bool) (s : List ℕ) (i : ℕ) → markAmong f s i
 unfolding markAmong
 among-none f s i = any-none (λ k. markAt f s (i + k))
 
-pub among-more : (f : ℕ → Bool) (s : List ℕ) (i n : ℕ) (b : Bool) → b ≡ markAmong f s i n → (b || markAt f s (i + n)) ≡ markAmong f s i (n + 1)
+pub among-more : (f : ℕ → Bool) (s : List ℕ) (i n : ℕ) (b : Bool) → b ≡ markAmong f s i n
+    → (b || markAt f s (i + n)) ≡ markAmong f s i (n + 1)
 unfolding markAmong
 among-more f s i n b e = ap (λ x. x || markAt f s (i + n)) e ∙ sym (any-next (λ k. markAt f s (i + k)) n)
 
@@ -88,7 +89,8 @@ none-at f s i n e j a b =
     failed (markAt f s j) (λ t. sym e ∙ any-holds (λ k. markAt f s (i + k)) n (j - i) (omega arith) (rw q t))
 
 -- as far as n bytes on, if none is among them
-pub unmarked-more : (f : ℕ → Bool) (s : List ℕ) (from i n : ℕ) → Unmarked f s from i → markAmong f s i n ≡ false → i + n ≤ length s → Unmarked f s from (i + n)
+pub unmarked-more : (f : ℕ → Bool) (s : List ℕ) (from i n : ℕ) → Unmarked f s from i → markAmong f s i n ≡ false → i + n ≤ length s
+    → Unmarked f s from (i + n)
 unmarked-more f s from i n c e h = record {
   on = omega (arith, c .on);
   within = λ j a b. omega arith;
@@ -96,7 +98,8 @@ unmarked-more f s from i n c e h = record {
 }
 
 -- one byte on
-pub unmarked-next : (f : ℕ → Bool) (s : List ℕ) (from i : ℕ) → Unmarked f s from i → markAt f s i ≡ false → i < length s → Unmarked f s from (i + 1)
+pub unmarked-next : (f : ℕ → Bool) (s : List ℕ) (from i : ℕ) → Unmarked f s from i → markAt f s i ≡ false → i < length s
+    → Unmarked f s from (i + 1)
 unmarked-next f s from i c e h = unmarked-more f s from i 1 c (sym (among-more f s i 0 false (sym (among-none f s i))) ∙ rw (i-zero i) e) (omega arith)
   where
     i-zero : (i : ℕ) → i + 0 ≡ i
