@@ -3,7 +3,8 @@ ghost use mathlib.Core.Path.{_≡_};
 ghost use mathlib.Core.Bool.{true};
 ghost use Prim.Native.Nat.{_+_, _≤_, _<_};
 ghost use lib.ListN.{length, drop};
-ghost use Rattle.cuts.specs.Cut.{terminatorAt, terminatorOf, wholeAt, beginsAt, nextOf, nextFrom, Found, Unbroken};
+ghost use Rattle.cuts.specs.rule.Cut.{terminatorAt, terminatorOf, wholeAt, beginsAt, nextOf, nextFrom, Found};
+ghost use Rattle.cuts.specs.Cut.{Unbroken};
 ghost use Rattle.cuts.specs.Records.{PlainNext};
 
 // A file's terminator: one byte or two, and how many; none where the file has no CR and no LF.

@@ -8,32 +8,34 @@ use lib.Dec.{ltb}
 use lib.IntN.{ℤ}
 use lib.ListN.{length}
 use borrow.Author.Tests.{ltb-false}
-use Rattle.cells.specs.Cell.{pasted}
-use Rattle.scan.specs.Loop.{Next, Again, Done, onNext, loopOf}
+use Rattle.cells.specs.rule.Cell.{pasted}
+use Rattle.scan.specs.rule.Loop.{Next, Again, Done, onNext, loopOf}
 use Rattle.tokens.specs.declared.Reading.{Reading}
 use Rattle.tokens.specs.declared.Reading.the-variants.{At, Refused}
 use Rattle.tokens.specs.declared.Choice.{Choice}
 use Rattle.tokens.specs.declared.Choice.the-variants.{Taken, Left}
-use Rattle.tokens.specs.Gap.{fault}
-use Rattle.tokens.specs.Token.{choiceOf}
-use Rattle.statements.specs.Words.{END}
-use Rattle.statements.specs.Note.{notesOn}
+use Rattle.tokens.specs.rule.Gap.{fault}
+use Rattle.tokens.specs.rule.Token.{choiceOf}
+use Rattle.statements.specs.rule.Words.{END}
+use Rattle.statements.specs.rule.Note.{notesOn}
 use Rattle.heading.specs.declared.Front.{Front}
-use Rattle.heading.specs.Heading.{frontOn}
-use Rattle.sound.specs.Sound.{wellFormed}
-use Rattle.survey.specs.Survey.{Variable, linesAll, identMet, tableOf}
+use Rattle.heading.specs.rule.Heading.{frontOn}
+use Rattle.sound.specs.rule.Sound.{wellFormed}
+use Rattle.survey.specs.rule.Survey.{Variable, linesAll, identMet, tableOf}
 use Rattle.survey.specs.Good.{Good}
 use Rattle.survey.specs.Good as good
 use Rattle.survey.proofs.Snoc.{added, length-with}
-use Rattle.entries.specs.Entry.{Entry}
-use Rattle.entries.specs.Entry as entry
+use Rattle.entries.specs.rule.Entry.{Entry}
+use Rattle.entries.specs.rule.Entry as entry
 use Rattle.entries.proofs.Goods.{entry-good}
 use Rattle.built.specs.Nth.{few-lines}
 use Rattle.built.specs.Built.{table-well-formed}
-use Rattle.names.specs.Standard.{nameFault}
-use Rattle.definition.specs.Definition.{Variables, Course, course, endOr, entered, variableStep, variablesFrom, endsOn, Survey, Read, Whole, Faulty, ended, closed, surveyOf, namesOf, quoteAt, Outcome, Built, Refusal, fitting, named, judged, outcomeOf, answerOf, tableAfter}
+use Rattle.names.specs.rule.Standard.{nameFault}
+use Rattle.definition.specs.rule.Definition.{Variables, Course, course, endOr, entered, variableStep, variablesFrom, endsOn, Survey}
+use Rattle.definition.specs.rule.Definition.{Read, Whole, Faulty, ended, closed, surveyOf, namesOf, quoteAt, Outcome, Built}
+use Rattle.definition.specs.rule.Definition.{Refusal, fitting, named, judged, outcomeOf, answerOf, tableAfter}
 use Rattle.definition.specs.declared.Answer.{Answer}
-use Rattle.definition.specs.Definition as variables
+use Rattle.definition.specs.rule.Definition as variables
 use Rattle.definition.proofs.Courses.{next-entry}
 
 none : {A : Type 0} → _≡_ {A = ℕ} 0 1 → A

@@ -3,7 +3,7 @@ use mathlib.Core.Path.{_≡_}
 use mathlib.Core.List.{List, [], _∷_, _++_}
 use Prim.Native.Nat.{ℕ, _≤_, max}
 use native.Mathlib.Omega.{arith}
-use Rattle.survey.specs.Survey.{Variable, linesAll, highestIn}
+use Rattle.survey.specs.rule.Survey.{Variable, linesAll, highestIn}
 use Rattle.survey.specs.Good.{Good, GoodVariable}
 use Rattle.survey.specs.Good as good
 use Rattle.survey.proofs.Snoc.{highest-with}

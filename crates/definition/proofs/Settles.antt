@@ -11,22 +11,23 @@ use lib.Dec.{ltb}
 use lib.IntN.{ℤ, pos}
 use lib.ListN.{length, take, getD, length-append}
 use lib.Seq.{getD-append-add, getD-take}
-use Rattle.cells.specs.Cell.{cell, countOf, pasted, paste-more}
-use Rattle.scan.specs.Text.{text}
+use Rattle.cells.specs.rule.Cell.{cell, countOf, pasted}
+use Rattle.cells.specs.Cell.{paste-more}
+use Rattle.scan.specs.rule.Text.{text}
 use Rattle.marks.specs.declared.Inside.the-variants.{Plain}
-use Rattle.marks.specs.Spelling.{decodeOf}
-use Rattle.layout.specs.Layout.{headerSize, rowSize, lineSize, linesBase, lineBase}
+use Rattle.marks.specs.rule.Spelling.{decodeOf}
+use Rattle.layout.specs.rule.Layout.{headerSize, rowSize, lineSize, linesBase, lineBase}
 use Rattle.layout.specs.declared.Header.{Header}
 use Rattle.definition.proofs.Rans.{at-start}
-use Rattle.rows.specs.Cells.{rowCells, headerCells}
-use Rattle.names.specs.Standard.{nameAt, nameFault}
-use Rattle.survey.specs.Width.{fullColumns, widened, plainColumns}
-use Rattle.survey.specs.Survey.{Variable, linesIn, columnsIn, linesAll, highestIn, headerFor, rowsFrom, allLines, tableOf}
+use Rattle.rows.specs.rule.Cells.{rowCells, headerCells}
+use Rattle.names.specs.rule.Standard.{nameAt, nameFault}
+use Rattle.survey.specs.rule.Width.{fullColumns, widened, plainColumns}
+use Rattle.survey.specs.rule.Survey.{Variable, linesIn, columnsIn, linesAll, highestIn, headerFor, rowsFrom, allLines, tableOf}
 use Rattle.survey.proofs.Snoc.{row-length, rows-length, lines-length, table-length}
 use Rattle.definition.specs.declared.Tally.{Tally}
 use Rattle.definition.specs.declared.Answer.{Answer}
 use Rattle.definition.specs.declared.Answer.the-variants as answer
-use Rattle.definition.specs.Definition.{namesOf, quoteAt, Outcome, Built, Refusal, fitting, named, answerOf, tableAfter}
+use Rattle.definition.specs.rule.Definition.{namesOf, quoteAt, Outcome, Built, Refusal, fitting, named, answerOf, tableAfter}
 use Rattle.definition.specs.Code.{tallyOf, Held, nameIn, NamesJudged, headerBy, laidOver, fillSays, fillLeaves, Settled}
 
 -- ---- the place of the name of variable i

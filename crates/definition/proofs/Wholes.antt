@@ -8,14 +8,14 @@ use lib.Dec.{ltb}
 use lib.IntN.{ℤ}
 use lib.ListN.{length, take}
 use lib.Seq.{take-at}
-use Rattle.cells.specs.Cell.{pasted}
-use Rattle.layout.specs.Layout.{rowSize, lineSize}
+use Rattle.cells.specs.rule.Cell.{pasted}
+use Rattle.layout.specs.rule.Layout.{rowSize, lineSize}
 use Rattle.tokens.specs.declared.Fault.{Fault}
 use Rattle.tokens.specs.declared.Reading.{Reading}
 use Rattle.tokens.specs.declared.Reading.the-variants.{At, Refused}
 use Rattle.heading.specs.declared.Front.{Front}
-use Rattle.heading.specs.Heading.{frontOn}
-use Rattle.survey.specs.Survey.{Variable, linesAll, highestIn, rowsFrom, allLines}
+use Rattle.heading.specs.rule.Heading.{frontOn}
+use Rattle.survey.specs.rule.Survey.{Variable, linesAll, highestIn, rowsFrom, allLines}
 use Rattle.survey.specs.Good.{Good}
 use Rattle.survey.proofs.Snoc.{rows-length, lines-length}
 use Rattle.built.specs.Nth.{few-rows, few-lines}
@@ -24,8 +24,9 @@ use Rattle.definition.specs.declared.Run.{Run}
 use Rattle.definition.specs.declared.Run.the-variants as run
 use Rattle.definition.specs.declared.Answer.{Answer}
 use Rattle.definition.specs.declared.Answer.the-variants as answer
-use Rattle.definition.specs.Definition.{Variables, course, variablesFrom, endsOn, Read, Whole, Faulty, ended, closed, surveyOf, Outcome, Refusal, named, judged, outcomeOf, answerOf, tableAfter}
-use Rattle.definition.specs.Definition as variables
+use Rattle.definition.specs.rule.Definition.{Variables, course, variablesFrom, endsOn, Read, Whole, Faulty, ended, closed, surveyOf}
+use Rattle.definition.specs.rule.Definition.{Outcome, Refusal, named, judged, outcomeOf, answerOf, tableAfter}
+use Rattle.definition.specs.rule.Definition as variables
 use Rattle.definition.specs.Code.{tallyOf, runOf, Laid, Held, Settled}
 use Rattle.definition.proofs.Goods.{AllGood, variables-good}
 use Rattle.definition.proofs.Lows.{highest-low}

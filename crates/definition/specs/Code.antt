@@ -6,29 +6,30 @@ use Prim.Native.Nat.{ℕ, zero, suc, _+_, _-_, _*_, _≤_, _<_, max}
 use lib.Dec.{ltb}
 use lib.IntN.{ℤ}
 use lib.ListN.{length, take}
-use Rattle.cells.specs.Cell.{cell, countOf, pasted}
-use Rattle.scan.specs.Text.{text}
+use Rattle.cells.specs.rule.Cell.{cell, countOf, pasted}
+use Rattle.scan.specs.rule.Text.{text}
 use Rattle.marks.specs.declared.Inside.the-variants.{Plain}
-use Rattle.marks.specs.Spelling.{decodeOf}
-use Rattle.layout.specs.Layout.{mark, headerSize, rowSize, lineSize, linesBase, lineBase}
+use Rattle.marks.specs.rule.Spelling.{decodeOf}
+use Rattle.layout.specs.rule.Layout.{mark, headerSize, rowSize, lineSize, linesBase, lineBase}
 use Rattle.layout.specs.declared.Columns.{Columns}
 use Rattle.layout.specs.declared.Header.{Header}
-use Rattle.rows.specs.Cells.{rowCells, headerCells, nameColumn}
+use Rattle.rows.specs.rule.Cells.{rowCells, headerCells}
+use Rattle.rows.specs.Cells.{nameColumn}
 use Rattle.tokens.specs.declared.Fault.{Fault}
 use Rattle.tokens.specs.declared.Reading.{Reading}
 use Rattle.tokens.specs.declared.Reading.the-variants.{At, Refused}
 use Rattle.tokens.specs.declared.Choice.{Choice}
 use Rattle.tokens.specs.declared.Choice.the-variants.{Taken, Left}
-use Rattle.tokens.specs.Token.{choiceOf}
-use Rattle.statements.specs.Words.{END}
-use Rattle.statements.specs.Note.{notesOn}
-use Rattle.names.specs.Standard.{nameAt, nameFault}
-use Rattle.survey.specs.Survey.{Variable, linesIn, columnsIn, linesAll, highestIn, rowsFrom, allLines}
+use Rattle.tokens.specs.rule.Token.{choiceOf}
+use Rattle.statements.specs.rule.Words.{END}
+use Rattle.statements.specs.rule.Note.{notesOn}
+use Rattle.names.specs.rule.Standard.{nameAt, nameFault}
+use Rattle.survey.specs.rule.Survey.{Variable, linesIn, columnsIn, linesAll, highestIn, rowsFrom, allLines}
 use Rattle.survey.specs.Good.{Good}
-use Rattle.entries.specs.Entry.{Entry}
-use Rattle.entries.specs.Entry as entry
-use Rattle.definition.specs.Definition.{Variables, Outcome, Refusal, named, answerOf, tableAfter}
-use Rattle.definition.specs.Definition as variables
+use Rattle.entries.specs.rule.Entry.{Entry}
+use Rattle.entries.specs.rule.Entry as entry
+use Rattle.definition.specs.rule.Definition.{Variables, Outcome, Refusal, named, answerOf, tableAfter}
+use Rattle.definition.specs.rule.Definition as variables
 use Rattle.definition.specs.declared.Tally.{Tally}
 use Rattle.definition.specs.declared.Turn.{Turn}
 use Rattle.definition.specs.declared.Turn.the-variants as turn

@@ -1,2 +1,2 @@
-pub mod Definition
+pub mod rule
 pub mod Code

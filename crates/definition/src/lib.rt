@@ -13,13 +13,15 @@ ghost use mathlib.Core.List.{[]};
 ghost use Prim.Native.Nat.{_+_, _-_, _*_, _≤_, _<_};
 ghost use lib.ListN.{length, take};
 ghost use Rattle.ascii.specs.Class.{Classes};
-ghost use Rattle.ascii.specs.Tens.{Tens};
-ghost use Rattle.cells.specs.Cell.{cell, countOf};
-ghost use Rattle.layout.specs.Layout.{rowSize, lineSize, lineBase, mostRows, mostLines};
+ghost use Rattle.ascii.specs.rule.Tens.{Tens};
+ghost use Rattle.cells.specs.rule.Cell.{cell, countOf};
+ghost use Rattle.layout.specs.rule.Layout.{rowSize, lineSize, lineBase, mostRows, mostLines};
 ghost use Rattle.rows.specs.Cells.{nameColumn};
 ghost use Rattle.variables.specs.Ident.{marked};
-ghost use Rattle.entries.specs.Entry.{entryOf, Stored};
-ghost use Rattle.definition.specs.Definition.{course, variablesFrom, endsOn, judged, surveyOf, outcomeOf, answerOf, tableAfter};
+ghost use Rattle.entries.specs.rule.Entry.{entryOf};
+ghost use Rattle.entries.specs.Entry.{Stored};
+ghost use Rattle.definition.specs.rule.Definition.{course, variablesFrom, endsOn, judged, surveyOf, outcomeOf, answerOf};
+ghost use Rattle.definition.specs.rule.Definition.{tableAfter};
 ghost use Rattle.definition.specs.Code.{zeros, tallyWith, followed, turnAfter, RowStored, runOf, Laid, NamesJudged, laidOver, fillSays, fillLeaves, Settled};
 
 // Room for the most rows, and for the most lines.

@@ -1,2 +1,3 @@
+pub mod rule
 pub mod Entry
 pub mod Good

@@ -11,11 +11,12 @@ ghost use mathlib.Core.Path.{_≡_};
 ghost use Prim.Native.Nat.{_+_, _*_, _≤_};
 ghost use lib.ListN.{length};
 ghost use Rattle.ascii.specs.Class.{Classes};
-ghost use Rattle.ascii.specs.Tens.{Tens};
-ghost use Rattle.layout.specs.Layout.{lineSize, mostLines};
+ghost use Rattle.ascii.specs.rule.Tens.{Tens};
+ghost use Rattle.layout.specs.rule.Layout.{lineSize, mostLines};
 ghost use Rattle.survey.specs.Width.{numberIn, Measurable};
 ghost use Rattle.variables.specs.Ident.{marked};
-ghost use Rattle.entries.specs.Entry.{endVariable, settledBy, GoodHead, restThen, entryOf, stoodOf, Stored};
+ghost use Rattle.entries.specs.rule.Entry.{endVariable, restThen, entryOf};
+ghost use Rattle.entries.specs.Entry.{settledBy, GoodHead, stoodOf, Stored};
 
 // A variable that stands: its columns, how many value lines there are then in all, and the place after END VARIABLE.
 pub enum Stood {

@@ -5,26 +5,26 @@ use mathlib.Core.Bool.{Bool, true, false}
 use mathlib.Core.List.{List, []}
 use Prim.Native.Nat.{ℕ, _+_, _-_}
 use lib.IntN.{pos}
-use Rattle.ascii.specs.Tens.{countFrom, digitsOf}
-use Rattle.below.specs.Below.{maxBelow}
-use Rattle.cells.specs.Cell.{signedOf}
-use Rattle.layout.specs.Row.{rowOf, kindOf}
-use Rattle.widths.specs.Width.{need, quantityWidth, wholeDigits, tailOf}
-use Rattle.sound.specs.Sound.{rangeWidth, roomGood}
+use Rattle.ascii.specs.rule.Tens.{countFrom, digitsOf}
+use Rattle.below.specs.rule.Below.{maxBelow}
+use Rattle.cells.specs.rule.Cell.{signedOf}
+use Rattle.layout.specs.rule.Row.{rowOf, kindOf}
+use Rattle.widths.specs.rule.Width.{need, quantityWidth, wholeDigits, tailOf}
+use Rattle.sound.specs.rule.Sound.{rangeWidth, roomGood}
 use Rattle.tokens.specs.declared.Quoted.{Quoted}
 use Rattle.tokens.specs.declared.Reading.{Reading}
 use Rattle.tokens.specs.declared.Reading.the-variants.{At}
-use Rattle.tokens.specs.Gap.{fault}
+use Rattle.tokens.specs.rule.Gap.{fault}
 use Rattle.variables.specs.declared.Head.{Head}
 use Rattle.variables.specs.declared.Headed.the-variants as headed
-use Rattle.variables.specs.Ident.{identOn}
-use Rattle.variables.specs.Head.{headOn}
-use Rattle.variables.specs.Rest.{Telling, restOf}
-use Rattle.variables.specs.Rest as told
-use Rattle.survey.specs.Width.{flagOf, plainColumns, widened, fullColumns, linesWidth, widestOf, widthOf}
-use Rattle.survey.specs.Survey.{countedIn, columnsIn, holdsIn}
-use Rattle.entries.specs.Entry.{variable, endVariable, entryOf}
-use Rattle.entries.specs.Entry as entry
+use Rattle.variables.specs.rule.Ident.{identOn}
+use Rattle.variables.specs.rule.Head.{headOn}
+use Rattle.variables.specs.rule.Rest.{Telling, restOf}
+use Rattle.variables.specs.rule.Rest as told
+use Rattle.survey.specs.rule.Width.{flagOf, plainColumns, widened, fullColumns, linesWidth, widestOf, widthOf}
+use Rattle.survey.specs.rule.Survey.{countedIn, columnsIn, holdsIn}
+use Rattle.entries.specs.rule.Entry.{variable, endVariable, entryOf}
+use Rattle.entries.specs.rule.Entry as entry
 use Rattle.entries.proofs.Goods.{narrow-is-7}
 
 -- a quantity in bytes 1 and 2, whatever its ident, its texts and their places

@@ -9,23 +9,24 @@ use borrow.Author.Tests.{lt-ltb, le-leb, lt-leb}
 use lib.IntN.{ℤ}
 use lib.ListN.{length, take, drop}
 use lib.Seq.{take-take, take-append-seam}
-use Rattle.places.specs.Places.{pick, run}
+use Rattle.places.specs.rule.Places.{pick, run}
 use Rattle.places.specs.Laws.{pick-run}
-use Rattle.layout.specs.Row.{rowAt}
+use Rattle.layout.specs.rule.Row.{rowAt}
 use Rattle.layout.specs.declared.Row.{Row}
 use Rattle.layout.specs.declared.Kind.{Kind}
 use Rattle.layout.specs.declared.Kind.the-variants.{Single, Multiple, Quantity, Character, Logical}
-use Rattle.fields.specs.Field.{Value, missing, number, members, text, truth, holds, spaces, textBytes, textFits}
-use Rattle.fields.specs.Row.{fits, placesBy, fitsBy, bytesBy}
+use Rattle.fields.specs.rule.Field.{Value, missing, number, members, text, truth, holds, spaces, textBytes, textFits}
+use Rattle.fields.specs.rule.Row.{fits, placesBy, fitsBy, bytesBy}
 use Rattle.fields.specs.Facts.{KindFacts, WidthFacts}
 use Rattle.fieldlaws.specs.BackLaws.{fit-legal}
 use Rattle.fieldlaws.specs.TextLaws.{fitting}
-use Rattle.sound.specs.Rows.{rowsOf, lengthOf, row-facts}
-use Rattle.sets.specs.Sets.{filledOf, listAfter}
+use Rattle.sound.specs.rule.Rows.{rowsOf, lengthOf}
+use Rattle.sound.specs.Rows.{row-facts}
+use Rattle.sets.specs.rule.Sets.{filledOf, listAfter}
 use Rattle.readings.specs.declared.Answer.{Answer}
-use Rattle.records.specs.Value.{nothing, numberIs, setOf, textAt, truthIs, refused, said, outcomeOf, readAs, listAs, ValueRead}
+use Rattle.records.specs.rule.Value.{nothing, numberIs, setOf, textAt, truthIs, refused, said, outcomeOf, readAs, listAs, ValueRead}
 use Rattle.writes.specs.declared.Wrote.the-variants.{Done}
-use Rattle.writes.specs.Public.{Written}
+use Rattle.writes.specs.rule.Public.{Written}
 use Rattle.laws.specs.Writing.{done-accepted, keeps-length, read-back, bytes-put}
 
 module _ {t : List ℤ} {i : ℕ} {x : Value} {old new : List ℕ} (w : Written t i x old new Done) {list list′ : List ℤ} {r : Answer}

@@ -6,15 +6,15 @@ use mathlib.Core.List.{List}
 use Prim.Native.Nat.{ℕ}
 use lib.Dec.{eqb}
 use lib.IntN.{ℤ}
-use Rattle.sound.specs.Sound.{wellFormed}
-use Rattle.cuts.specs.Cut.{nextOf}
+use Rattle.sound.specs.rule.Sound.{wellFormed}
+use Rattle.cuts.specs.rule.Cut.{nextOf}
 use Rattle.cuts.specs.declared.Next.{Next}
-use Rattle.records.specs.Verdict.{Verdict, sound, refused, refusedAt, judgedAs}
+use Rattle.records.specs.rule.Verdict.{Verdict, sound, refused, refusedAt, judgedAs}
 use Rattle.records.specs.declared.Judged.{Judged}
 use Rattle.records.specs.declared.Judged.the-variants as judged
 use Rattle.files.specs.declared.Judgement.{Judgement}
 use Rattle.files.specs.declared.Judgement.the-variants as J
-use Rattle.files.specs.File.{FileVerdict, soundWith, badTable, faultIn, fileSaid, fileVerdict}
+use Rattle.files.specs.rule.File.{FileVerdict, soundWith, badTable, faultIn, fileSaid, fileVerdict}
 
 pub table-settled : (t : List ℤ) (r₁ r₂ : Bool) → r₁ ≡ wellFormed t → r₂ ≡ wellFormed t → r₁ ≡ r₂
 table-settled t r₁ r₂ a b = a ∙ sym b

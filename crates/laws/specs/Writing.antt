@@ -9,19 +9,21 @@ use borrow.Author.Tests.{leb-true, leb-false, ltb-true, ltb-false, le-leb, lt-le
 use lib.Dec.{eqb, leb, ltb}
 use lib.IntN.{ℤ}
 use lib.ListN.{length, getD}
-use Rattle.places.specs.Places.{pick, put, Out, Apart}
-use Rattle.layout.specs.Row.{rowAt}
-use Rattle.fields.specs.Field.{Value, missing, holds}
-use Rattle.fields.specs.Number.{allSpaces}
-use Rattle.fields.specs.Row.{Fit, fits, otherType, notLegal, tooMany, placesOf, readingOf, fitOf, bytesOf, writtenOf}
+use Rattle.places.specs.rule.Places.{pick, put}
+use Rattle.places.specs.Places.{Out, Apart}
+use Rattle.layout.specs.rule.Row.{rowAt}
+use Rattle.fields.specs.rule.Field.{Value, missing, holds}
+use Rattle.fields.specs.rule.Number.{allSpaces}
+use Rattle.fields.specs.rule.Row.{Fit, fits, otherType, notLegal, tooMany, placesOf, readingOf, fitOf, bytesOf, writtenOf}
 use Rattle.fields.specs.Facts.{RowFacts}
 use Rattle.fieldlaws.specs.Corrections.{written-length, written-keeps, others-read, either-order, last-counts}
 use Rattle.fieldlaws.specs.Corrections.{written-bytes, reads-back, read-fits, Plain, writes-back-bytes, blank-reads, blank-kept}
-use Rattle.sound.specs.Sound.{wellFormed}
-use Rattle.sound.specs.Rows.{rowsOf, lengthOf, row-facts}
+use Rattle.sound.specs.rule.Sound.{wellFormed}
+use Rattle.sound.specs.rule.Rows.{rowsOf, lengthOf}
+use Rattle.sound.specs.Rows.{row-facts}
 use Rattle.writes.specs.declared.Wrote.{Wrote}
 use Rattle.writes.specs.declared.Wrote.the-variants.{Done, NotWellFormed, NoRow, TooShort, OtherType, NotLegal, TooMany}
-use Rattle.writes.specs.Public.{numberOf, fitNumber, refusalOf, recordAfter, Written}
+use Rattle.writes.specs.rule.Public.{numberOf, fitNumber, refusalOf, recordAfter, Written}
 use Rattle.laws.specs.Tops.{row-topped}
 
 -- ---- EXACTLY WHEN: each number with what it says, in document 01's words; 0 is a write without fault

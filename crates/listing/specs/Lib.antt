@@ -1,3 +1,4 @@
+pub mod rule
 pub mod Values
 pub mod Listing
 pub mod Turns

@@ -4,28 +4,29 @@ use mathlib.Core.Path.{_≡_, refl}
 use mathlib.Core.List.{List, [], _∷_, _++_}
 use Prim.Native.Nat.{ℕ}
 use lib.IntN.{ℤ, pos, negsuc}
-use Rattle.ascii.specs.Tens.{countFrom, digitsOf}
-use Rattle.below.specs.Below.{_and_, allBelow, anyBelow, sumBelow, maxBelow}
-use Rattle.cells.specs.Cell.{countOf, signedOf, numberOf, eqZ}
-use Rattle.layout.specs.Layout.{headerOf, columnsAt, lineAt}
-use Rattle.layout.specs.Row.{rowOf, kindOf, spreadOf}
-use Rattle.widths.specs.Width.{need, tailOf, wholeDigits, quantityWidth, lowest, highest}
-use Rattle.strides.specs.Stride.{allDiffer, numberNew}
-use Rattle.sound.specs.Sound.{linesPlain, valuesFit, rangeWidth, widest, widthGood, roomGood, linesGood, valuesGood, widthsGood, countsGood}
-use Rattle.sound.specs.Sound.{placesGood, columnsGood, rowGood, identsDiffer, rowsGood, wellFormed}
-use Rattle.fields.specs.Legal.{inRange, onLine, legal}
-use Rattle.fields.specs.Number.{allSpaces, unspaced, digitsOnly, decimalFrom, codeAfter, codeOf, amountForm, amountSize, amountOf}
-use Rattle.fields.specs.Number.{quantityAfter, quantityOf, padded}
-use Rattle.fields.specs.Field.{numberField, singleSays, quantitySays, allBits, setBits, bitsField}
-use Rattle.fields.specs.Row.{defined, bitPlaces, placesBy, fieldBy, readingOf}
-use Rattle.sets.specs.Sets.{isIllegal}
-use Rattle.records.specs.First.{firstFrom}
-use Rattle.records.specs.Verdict.{rowVerdict, byteVerdict, rowsVerdict}
-use Rattle.cuts.specs.Cut.{beginsWith, terminatorAt, terminatorOf, wholeAt, beginsAt}
-use Rattle.cuts.specs.Records.{atEnd, cut, recordsOf}
-use Rattle.files.specs.File.{recordVerdict, goOn, firstLength, isSound}
-use Rattle.lines.specs.Text.{numeral, numberText, codesAfter, codes, valueText, lineText, fieldText, okText, faultText}
-use Rattle.listing.specs.Listing.{rowText, rowsText, identOf, faultOf, lastText, recordsText, listingOf}
+use Rattle.ascii.specs.rule.Tens.{countFrom, digitsOf}
+use Rattle.below.specs.rule.Below.{_and_, allBelow, anyBelow, sumBelow, maxBelow}
+use Rattle.cells.specs.rule.Cell.{countOf, signedOf, numberOf, eqZ}
+use Rattle.layout.specs.rule.Layout.{headerOf, columnsAt, lineAt}
+use Rattle.layout.specs.rule.Row.{rowOf, kindOf, spreadOf}
+use Rattle.widths.specs.rule.Width.{need, tailOf, wholeDigits, quantityWidth, lowest, highest}
+use Rattle.strides.specs.rule.Stride.{allDiffer, numberNew}
+use Rattle.sound.specs.rule.Sound.{linesPlain, valuesFit, rangeWidth, widest, widthGood, roomGood, linesGood, valuesGood, widthsGood}
+use Rattle.sound.specs.rule.Sound.{countsGood, placesGood, columnsGood, rowGood, identsDiffer, rowsGood, wellFormed}
+use Rattle.fields.specs.rule.Legal.{inRange, onLine, legal}
+use Rattle.fields.specs.rule.Number.{allSpaces, unspaced, digitsOnly, decimalFrom, codeAfter, codeOf, amountForm, amountSize, amountOf}
+use Rattle.fields.specs.rule.Number.{quantityAfter, quantityOf, padded}
+use Rattle.fields.specs.rule.Field.{numberField, singleSays, quantitySays, allBits, setBits, bitsField}
+use Rattle.fields.specs.rule.Row.{defined, bitPlaces, placesBy, fieldBy, readingOf}
+use Rattle.sets.specs.rule.Sets.{isIllegal}
+use Rattle.records.specs.rule.First.{firstFrom}
+use Rattle.records.specs.rule.Verdict.{rowVerdict, byteVerdict, rowsVerdict}
+use Rattle.cuts.specs.rule.Cut.{beginsWith, terminatorAt, terminatorOf, wholeAt, beginsAt}
+use Rattle.cuts.specs.rule.Records.{atEnd, cut, recordsOf}
+use Rattle.files.specs.rule.File.{recordVerdict, goOn, firstLength, isSound}
+use Rattle.lines.specs.rule.Text.{numeral, numberText, codesAfter, codes, valueText, lineText, fieldText, okText, faultText}
+use Rattle.listing.specs.rule.Listing.{rowText, rowsText, identOf, faultOf, lastText, recordsText}
+use Rattle.listing.specs.Listing.{listingOf}
 
 -- the table of the sample survey: desk, seen, wait
 abbrev table : List ℤ

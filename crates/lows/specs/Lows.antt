@@ -7,7 +7,8 @@ use Prim.Native.Nat.{ℕ, _+_, _-_, _≤_, _<_}
 use native.Mathlib.Omega.{arith}
 use lib.Dec.{ltb}
 use lib.ListN.{length, getD}
-use Rattle.below.specs.Below.{anyBelow, any-none, any-next, any-holds, lt-or-le}
+use Rattle.below.specs.rule.Below.{anyBelow}
+use Rattle.below.specs.Below.{any-none, any-next, any-holds, lt-or-le}
 
 -- byte i is below 32
 abbrev pub lowAt : List ℕ → ℕ → Bool

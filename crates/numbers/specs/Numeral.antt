@@ -3,9 +3,9 @@ use mathlib.Core.Path.{_≡_}
 use mathlib.Core.Bool.{Bool, cond}
 use mathlib.Core.List.{List}
 use Prim.Native.Nat.{ℕ, _≤_}
-use Rattle.cells.specs.Cell.{numberOf}
+use Rattle.cells.specs.rule.Cell.{numberOf}
 use Rattle.layout.specs.declared.Format.{Format}
-use Rattle.fields.specs.Number.{Said, blank, says, wrong, digitsOnly, decimalFrom}
+use Rattle.fields.specs.rule.Number.{Said, blank, says, wrong, digitsOnly, decimalFrom}
 use Rattle.numbers.specs.declared.Numeral.{Numeral}
 use Rattle.numbers.specs.declared.Numeral.the-variants.{Blank, Says, Wrong}
 use Rattle.numbers.specs.declared.Digits.{Digits}

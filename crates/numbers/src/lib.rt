@@ -3,8 +3,8 @@
 ghost use mathlib.Core.Path.{_≡_};
 ghost use Prim.Native.Nat.{_+_, _*_, _^_, _≤_, _<_};
 ghost use lib.ListN.{length, drop};
-ghost use Rattle.fields.specs.Number.{codeOf, quantityOf, amountOf, unspaced};
-ghost use Rattle.cells.specs.Cell.{numberOf};
+ghost use Rattle.fields.specs.rule.Number.{codeOf, quantityOf, amountOf, unspaced};
+ghost use Rattle.cells.specs.rule.Cell.{numberOf};
 ghost use Rattle.numbers.specs.Numeral.{saidOf, digitsRead, decimalsRead, FormatFacts};
 use layout::Format;
 

@@ -13,14 +13,15 @@ use lib.IntN.{ℤ, pos}
 use lib.ListN.{length, take, drop, getD, length-append, length-drop, take-append-drop}
 use lib.Seq.{take-append-seam, drop-append-add, getD-append-seam, take-length, drop-length, drop-cons, length-take-le}
 use Rattle.numbers.proofs.Laws.{code-nonempty}
-use Rattle.below.specs.Below.{_and_, and-both, holds-not}
-use Rattle.ascii.specs.Class.{within}
-use Rattle.cells.specs.Cell.{numberOf}
+use Rattle.below.specs.rule.Below.{_and_}
+use Rattle.below.specs.Below.{and-both, holds-not}
+use Rattle.ascii.specs.rule.Class.{within}
+use Rattle.cells.specs.rule.Cell.{numberOf}
 use Rattle.layout.specs.declared.Format.{Format}
-use Rattle.widths.specs.Width.{tailOf, tail-point}
-use Rattle.fields.specs.Number.{Said, blank, says, wrong, allSpaces, unspaced, digitsOnly}
-use Rattle.fields.specs.Number.{decimalFrom, decimal, codeAfter, codeOf, wholePart, decimalPart}
-use Rattle.fields.specs.Number.{pointStands, amountForm, amountSize, amountOf, quantityAfter, quantityOf}
+use Rattle.widths.specs.rule.Width.{tailOf}
+use Rattle.widths.specs.Width.{tail-point}
+use Rattle.fields.specs.rule.Number.{Said, blank, says, wrong, allSpaces, unspaced, digitsOnly, decimalFrom, decimal, codeAfter, codeOf}
+use Rattle.fields.specs.rule.Number.{wholePart, decimalPart, pointStands, amountForm, amountSize, amountOf, quantityAfter, quantityOf}
 use Rattle.numbers.specs.Numeral.{FormatFacts}
 use Rattle.numbers.specs.Room.{is-digit, first-digit}
 

@@ -11,11 +11,12 @@ use lib.Dec.{eqb}
 use lib.IntN.{ℤ, pos}
 use lib.ListN.{length}
 use Rattle.below.specs.Below.{holds-not}
-use Rattle.cells.specs.Cell.{eqZ, same-true, same-self}
+use Rattle.cells.specs.rule.Cell.{eqZ}
+use Rattle.cells.specs.Cell.{same-true, same-self}
 use Rattle.layout.specs.declared.Format.{Format}
-use Rattle.fields.specs.Number.{Said, blank, says, wrong, allSpaces, codeOf, quantityOf}
-use Rattle.fields.specs.Field.{missing, number, members, holds, illegal, numberField, singleSays}
-use Rattle.fields.specs.Field.{singleField, quantitySays, quantityField, allBits, setBits, bitsField}
+use Rattle.fields.specs.rule.Number.{Said, blank, says, wrong, allSpaces, codeOf, quantityOf}
+use Rattle.fields.specs.rule.Field.{missing, number, members, holds, illegal, numberField, singleSays}
+use Rattle.fields.specs.rule.Field.{singleField, quantitySays, quantityField, allBits, setBits, bitsField}
 use Rattle.numbers.specs.Numeral.{FormatFacts}
 use Rattle.read_laws.specs.Forms.{Spaces, CodeForm, QuantityForm, code-exactly, code-blank-exactly, quantity-exactly}
 

@@ -8,11 +8,11 @@ use Rattle.layout.specs.declared.Spread.the-variants.{Bits, Fields}
 use Rattle.layout.specs.declared.Kind.{Kind}
 use Rattle.layout.specs.declared.Kind.the-variants.{Single, Multiple, Quantity, Character, Logical}
 use Rattle.layout.specs.declared.Row.{Row}
-use Rattle.places.specs.Places.{pick}
-use Rattle.fields.specs.Number.{codeOf, codeAfter, quantityOf, quantityAfter}
-use Rattle.fields.specs.Field.{Value, missing, Field, holds, illegal, singleSays}
-use Rattle.fields.specs.Field.{quantitySays, bitsField, spreadField, textField, truthField}
-use Rattle.fields.specs.Row.{fieldBy, placesOf, readingOf}
+use Rattle.places.specs.rule.Places.{pick}
+use Rattle.fields.specs.rule.Number.{codeOf, codeAfter, quantityOf, quantityAfter}
+use Rattle.fields.specs.rule.Field.{Value, missing, Field, holds, illegal, singleSays}
+use Rattle.fields.specs.rule.Field.{quantitySays, bitsField, spreadField, textField, truthField}
+use Rattle.fields.specs.rule.Row.{fieldBy, placesOf, readingOf}
 use Rattle.read_laws.specs.Forms.{Spaces, spaces-all, all-gap}
 
 -- ---- spaces read as missing, for every kind

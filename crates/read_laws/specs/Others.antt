@@ -11,10 +11,11 @@ use lib.Dec.{eqb}
 use lib.IntN.{ℤ, pos}
 use lib.ListN.{take, drop}
 use Rattle.below.specs.Below.{holds-not}
-use Rattle.cells.specs.Cell.{eqZ, same-true, same-self}
-use Rattle.fields.specs.Number.{Said, blank, says, wrong, allSpaces, codeOf}
-use Rattle.fields.specs.Field.{missing, members, text, truth, holds, illegal, allPlain, unended, textField, truthField}
-use Rattle.fields.specs.Field.{entryGood, entryIs, allEntries, someEntry, passing, spreadSet, spreadField, isMember, risingFrom}
+use Rattle.cells.specs.rule.Cell.{eqZ}
+use Rattle.cells.specs.Cell.{same-true, same-self}
+use Rattle.fields.specs.rule.Number.{Said, blank, says, wrong, allSpaces, codeOf}
+use Rattle.fields.specs.rule.Field.{missing, members, text, truth, holds, illegal, allPlain, unended, textField, truthField}
+use Rattle.fields.specs.rule.Field.{entryGood, entryIs, allEntries, someEntry, passing, spreadSet, spreadField, isMember, risingFrom}
 use Rattle.fieldlaws.specs.TextLaws.{unended-blank}
 use Rattle.read_laws.specs.Forms.{Spaces, CodeForm, code-exactly, code-blank-exactly, spaces-all, all-spaces}
 

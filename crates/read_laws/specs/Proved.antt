@@ -5,24 +5,23 @@ use mathlib.Core.Bool.{true, false}
 use mathlib.Core.List.{List, [], _∷_, _++_}
 use Prim.Native.Nat.{ℕ}
 use lib.IntN.{ℤ, pos, negsuc}
-use Rattle.ascii.specs.Tens.{countFrom, digitsOf}
-use Rattle.below.specs.Below.{_and_, allBelow, anyBelow, sumBelow, maxBelow}
-use Rattle.cells.specs.Cell.{countOf, signedOf, numberOf, eqZ}
-use Rattle.layout.specs.Layout.{headerOf, columnsAt, lineAt}
-use Rattle.layout.specs.Row.{rowOf, rowAt, kindOf, spreadOf}
-use Rattle.widths.specs.Width.{need, tailOf, wholeDigits, quantityWidth, lowest, highest}
-use Rattle.strides.specs.Stride.{allDiffer, numberNew}
-use Rattle.sound.specs.Sound.{linesPlain, valuesFit, rangeWidth, widest, widthGood, roomGood, linesGood, valuesGood}
-use Rattle.sound.specs.Sound.{widthsGood, countsGood, placesGood, columnsGood, rowGood, columnsOf, identsDiffer, rowsGood}
-use Rattle.sound.specs.Sound.{wellFormed}
-use Rattle.fields.specs.Legal.{inRange, onLine, legal}
-use Rattle.fields.specs.Number.{allSpaces, unspaced, digitsOnly, decimalFrom, codeAfter}
-use Rattle.fields.specs.Number.{codeOf, amountForm, amountSize, amountOf, quantityAfter, quantityOf}
-use Rattle.fields.specs.Field.{numberField, singleSays, quantitySays, allBits, setBits, bitsField}
-use Rattle.fields.specs.Field.{entryGood, entryIs, allEntries, someEntry, passing, spreadField, truthField}
-use Rattle.fields.specs.Row.{defined, bitPlaces, spreadPlaces, placesBy, fieldBy, readingOf}
-use Rattle.sets.specs.Sets.{filledOf, listAfter}
-use Rattle.records.specs.Value.{nothing, numberIs, setOf, truthIs, refused, outcomeOf, readAs, listAs}
+use Rattle.ascii.specs.rule.Tens.{countFrom, digitsOf}
+use Rattle.below.specs.rule.Below.{_and_, allBelow, anyBelow, sumBelow, maxBelow}
+use Rattle.cells.specs.rule.Cell.{countOf, signedOf, numberOf, eqZ}
+use Rattle.layout.specs.rule.Layout.{headerOf, columnsAt, lineAt}
+use Rattle.layout.specs.rule.Row.{rowOf, rowAt, kindOf, spreadOf}
+use Rattle.widths.specs.rule.Width.{need, tailOf, wholeDigits, quantityWidth, lowest, highest}
+use Rattle.strides.specs.rule.Stride.{allDiffer, numberNew}
+use Rattle.sound.specs.rule.Sound.{linesPlain, valuesFit, rangeWidth, widest, widthGood, roomGood, linesGood, valuesGood, widthsGood}
+use Rattle.sound.specs.rule.Sound.{countsGood, placesGood, columnsGood, rowGood, columnsOf, identsDiffer, rowsGood, wellFormed}
+use Rattle.fields.specs.rule.Legal.{inRange, onLine, legal}
+use Rattle.fields.specs.rule.Number.{allSpaces, unspaced, digitsOnly, decimalFrom, codeAfter}
+use Rattle.fields.specs.rule.Number.{codeOf, amountForm, amountSize, amountOf, quantityAfter, quantityOf}
+use Rattle.fields.specs.rule.Field.{numberField, singleSays, quantitySays, allBits, setBits, bitsField}
+use Rattle.fields.specs.rule.Field.{entryGood, entryIs, allEntries, someEntry, passing, spreadField, truthField}
+use Rattle.fields.specs.rule.Row.{defined, bitPlaces, spreadPlaces, placesBy, fieldBy, readingOf}
+use Rattle.sets.specs.rule.Sets.{filledOf, listAfter}
+use Rattle.records.specs.rule.Value.{nothing, numberIs, setOf, truthIs, refused, outcomeOf, readAs, listAs}
 
 -- a table of one row, with no lines and no label, whose position is a whole record of n bytes. Of the row are given the type, start and
 -- finish, w, decimals and point, subfields and their width, whether it has a range, from and to

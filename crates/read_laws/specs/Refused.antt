@@ -11,12 +11,12 @@ use borrow.Author.Tests.{le-leb, leb-true, lt-leb, le-ltb, ltb-false}
 use lib.Dec.{leb}
 use lib.IntN.{ℤ}
 use lib.ListN.{length, getD}
-use Rattle.sets.specs.Sets.{isIllegal}
-use Rattle.sound.specs.Sound.{wellFormed}
-use Rattle.sound.specs.Rows.{rowsOf, lengthOf}
-use Rattle.records.specs.First.{firstFrom, lowAt, badRow}
-use Rattle.records.specs.Value.{readingAt}
-use Rattle.records.specs.Verdict.{sound, refused, refusedAt, rowVerdict, byteVerdict, rowsVerdict, verdictOf}
+use Rattle.sets.specs.rule.Sets.{isIllegal}
+use Rattle.sound.specs.rule.Sound.{wellFormed}
+use Rattle.sound.specs.rule.Rows.{rowsOf, lengthOf}
+use Rattle.records.specs.rule.First.{firstFrom, lowAt, badRow}
+use Rattle.records.specs.rule.Value.{readingAt}
+use Rattle.records.specs.rule.Verdict.{sound, refused, refusedAt, rowVerdict, byteVerdict, rowsVerdict, verdictOf}
 use Rattle.records.specs.declared.Found.{Found}
 use Rattle.records.specs.declared.Found.the-variants.{At, Nothing}
 

@@ -7,9 +7,9 @@ use lib.Dec.{eqb}
 use lib.IntN.{ℤ}
 use Rattle.readings.specs.declared.Answer.{Answer}
 use Rattle.readings.specs.declared.Answer.the-variants as answer
-use Rattle.records.specs.Value.{Outcome, nothing, numberIs, setOf, textAt, truthIs, refused, said, ValueRead}
-use Rattle.records.specs.Verdict as verdict
-use Rattle.records.specs.Verdict.{Verdict, sound, refusedAt, judgedAs, verdictOf}
+use Rattle.records.specs.rule.Value.{Outcome, nothing, numberIs, setOf, textAt, truthIs, refused, said, ValueRead}
+use Rattle.records.specs.rule.Verdict as verdict
+use Rattle.records.specs.rule.Verdict.{Verdict, sound, refusedAt, judgedAs, verdictOf}
 use Rattle.records.specs.declared.Judged.{Judged}
 use Rattle.records.specs.declared.Judged.the-variants as judged
 

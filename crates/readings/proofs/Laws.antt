@@ -10,26 +10,29 @@ use lib.Dec.{leb, eqb}
 use lib.IntN.{ℤ, pos}
 use lib.ListN.{length, getD, take, drop}
 use Rattle.below.specs.Below.{holds-not}
-use Rattle.cells.specs.Cell.{cell, countOf, eqZ}
-use Rattle.layout.specs.Layout.{rowBase, columnsAt}
-use Rattle.layout.specs.Row.{spreadOf, kindOf, rowOf, rowAt}
+use Rattle.cells.specs.rule.Cell.{cell, countOf, eqZ}
+use Rattle.layout.specs.rule.Layout.{rowBase, columnsAt}
+use Rattle.layout.specs.rule.Row.{spreadOf, kindOf, rowOf, rowAt}
 use Rattle.layout.specs.declared.Format.{Format}
 use Rattle.layout.specs.declared.Spread.the-variants.{Bits, Fields}
 use Rattle.layout.specs.declared.Kind.{Kind}
 use Rattle.layout.specs.declared.Kind.the-variants.{Single, Multiple, Quantity, Character, Logical}
 use Rattle.layout.specs.declared.Row.{Row}
-use Rattle.places.specs.Places.{pick, run}
+use Rattle.places.specs.rule.Places.{pick, run}
 use Rattle.places.specs.Laws.{pick-run}
-use Rattle.fields.specs.Legal.{legal}
-use Rattle.fields.specs.Number.{Said, blank, says, wrong, codeOf, quantityOf, allSpaces}
-use Rattle.fields.specs.Field.{Field, holds, illegal, missing, number, members, text, truth, numberField, singleSays, singleField, quantitySays, quantityField, allBits, setBits, bitsField, allEntries, spreadSet, spreadField, allPlain, unended, textField, truthField}
-use Rattle.fields.specs.Row.{categories, bitPlaces, spreadPlaces, placesBy, fieldBy, readingOf}
+use Rattle.fields.specs.rule.Legal.{legal}
+use Rattle.fields.specs.rule.Number.{Said, blank, says, wrong, codeOf, quantityOf, allSpaces}
+use Rattle.fields.specs.rule.Field.{Field, holds, illegal, missing, number, members, text, truth, numberField, singleSays, singleField}
+use Rattle.fields.specs.rule.Field.{quantitySays, quantityField, allBits, setBits, bitsField, allEntries, spreadSet, spreadField}
+use Rattle.fields.specs.rule.Field.{allPlain, unended, textField, truthField}
+use Rattle.fields.specs.rule.Row.{categories, bitPlaces, spreadPlaces, placesBy, fieldBy, readingOf}
 use Rattle.letters.specs.Letters.{textSaid, truthSaid}
 use Rattle.letters.specs.declared.Text.the-variants as t
 use Rattle.letters.specs.declared.Truth.the-variants as b
 use Rattle.sets.specs.declared.SetRead.{SetRead}
 use Rattle.sets.specs.declared.SetRead.the-variants as set
-use Rattle.sets.specs.Sets.{setAnswer, listAfter, ReadSet, isIllegal}
+use Rattle.sets.specs.Sets.{setAnswer, ReadSet}
+use Rattle.sets.specs.rule.Sets.{listAfter, isIllegal}
 use Rattle.readings.specs.Answer.{answerOf, numeralField, setSaid, illegalAnswer, SetAnswered, RowRead}
 use Rattle.readings.specs.Ready.{Plain}
 use Rattle.readings.specs.declared.Answer.{Answer}

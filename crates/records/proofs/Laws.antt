@@ -11,20 +11,21 @@ use borrow.Author.Tests.{lt-ltb, le-ltb, le-leb, lt-leb}
 use lib.IntN.{ℤ}
 use lib.ListN.{length}
 use native.Mathlib.Nat.{eq-or-lt-of-le, sub-eq-zero-of-le}
-use Rattle.layout.specs.Layout.{headerOf}
-use Rattle.layout.specs.Row.{rowAt}
+use Rattle.layout.specs.rule.Layout.{headerOf}
+use Rattle.layout.specs.rule.Row.{rowAt}
 use Rattle.layout.specs.declared.Header.{Header}
 use Rattle.layout.specs.declared.Row.{Row}
-use Rattle.fields.specs.Row.{readingOf}
+use Rattle.fields.specs.rule.Row.{readingOf}
 use Rattle.readings.specs.Answer.{RowRead}
 use Rattle.readings.specs.Ready.{RowReady, Plain}
 use Rattle.readings.specs.declared.Answer.{Answer}
 use Rattle.readings.specs.declared.Answer.the-variants as answer
-use Rattle.sound.specs.Sound.{wellFormed}
-use Rattle.sound.specs.Rows.{rowsOf, lengthOf}
-use Rattle.records.specs.First.{firstFrom, lowAt}
-use Rattle.records.specs.Value.{said, readAs, listAs, readingAt, ValueRead, said-answer}
-use Rattle.records.specs.Verdict.{rowsVerdict, verdictOf, refused}
+use Rattle.sound.specs.rule.Sound.{wellFormed}
+use Rattle.sound.specs.rule.Rows.{rowsOf, lengthOf}
+use Rattle.records.specs.rule.First.{firstFrom, lowAt}
+use Rattle.records.specs.rule.Value.{said, readAs, listAs, readingAt, ValueRead}
+use Rattle.records.specs.Value.{said-answer}
+use Rattle.records.specs.rule.Verdict.{rowsVerdict, verdictOf, refused}
 use Rattle.records.specs.Tables.{TableReady, table-ready}
 use Rattle.records.specs.declared.Found.the-variants.{At, Nothing}
 

@@ -9,19 +9,19 @@ use Rattle.tokens.specs.declared.Reading.{Reading}
 use Rattle.tokens.specs.declared.Reading.the-variants.{At, Refused}
 use Rattle.tokens.specs.declared.Choice.{Choice}
 use Rattle.tokens.specs.declared.Choice.the-variants.{Taken, Left}
-use Rattle.tokens.specs.Gap.{fault}
-use Rattle.tokens.specs.Token.{choiceOf, wordOn}
-use Rattle.statements.specs.Words.{END, RECORD, SURVEY, SSS}
-use Rattle.statements.specs.Note.{notesOn, statementOn}
-use Rattle.heading.specs.Heading.{frontOn}
-use Rattle.names.specs.Standard.{nameFault}
-use Rattle.survey.specs.Survey.{Variable, linesAll, identMet, tableOf}
-use Rattle.entries.specs.Entry.{Entry, entryOf}
-use Rattle.entries.specs.Entry as entry
-use Rattle.definition.specs.Definition.{Variables, Course, course, endOr, entered, variableStep, variablesFrom, endsOn}
-use Rattle.definition.specs.Definition.{Read, Whole, Faulty, ended, closed, surveyOf, namesOf, quoteAt}
-use Rattle.definition.specs.Definition.{Outcome, Built, Refusal, fitting, named, judged, outcomeOf, answerOf}
-use Rattle.definition.specs.Definition as variables
+use Rattle.tokens.specs.rule.Gap.{fault}
+use Rattle.tokens.specs.rule.Token.{choiceOf, wordOn}
+use Rattle.statements.specs.rule.Words.{END, RECORD, SURVEY, SSS}
+use Rattle.statements.specs.rule.Note.{notesOn, statementOn}
+use Rattle.heading.specs.rule.Heading.{frontOn}
+use Rattle.names.specs.rule.Standard.{nameFault}
+use Rattle.survey.specs.rule.Survey.{Variable, linesAll, identMet, tableOf}
+use Rattle.entries.specs.rule.Entry.{Entry, entryOf}
+use Rattle.entries.specs.rule.Entry as entry
+use Rattle.definition.specs.rule.Definition.{Variables, Course, course, endOr, entered, variableStep, variablesFrom, endsOn}
+use Rattle.definition.specs.rule.Definition.{Read, Whole, Faulty, ended, closed, surveyOf, namesOf, quoteAt}
+use Rattle.definition.specs.rule.Definition.{Outcome, Built, Refusal, fitting, named, judged, outcomeOf, answerOf}
+use Rattle.definition.specs.rule.Definition as variables
 use Rattle.definition.specs.declared.Answer.the-variants as answer
 use Rattle.refusals.specs.Loops.{Onward, loop-keeps}
 use Rattle.refusals.specs.Scanned.{either}

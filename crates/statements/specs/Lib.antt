@@ -1,7 +1,1 @@
-pub mod Words
-pub mod Note
-pub mod Opening
-pub mod Kinds
-pub mod Position
-pub mod Spread
-pub mod Size
+pub mod rule

@@ -6,20 +6,22 @@ use Prim.Native.Nat.{ℕ, _≤_, max}
 use native.Mathlib.Omega.{arith}
 use lib.IntN.{ℤ}
 use Rattle.below.specs.Below.{all-at, max-least}
-use Rattle.layout.specs.Row.{kindOf, rowOf}
+use Rattle.layout.specs.rule.Row.{kindOf, rowOf}
 use Rattle.layout.specs.declared.Columns.{Columns}
 use Rattle.layout.specs.declared.Row.{Row}
 use Rattle.layout.specs.declared.Kind.{Kind}
 use Rattle.layout.specs.declared.Kind.the-variants.{Single, Multiple, Quantity, Character, Logical}
-use Rattle.widths.specs.Width.{need, fitsKind, FewDecimals, Valued}
-use Rattle.sound.specs.Sound.{rangeGood, valuesFit, rangeWidth, roomGood}
+use Rattle.widths.specs.rule.Width.{need, fitsKind}
+use Rattle.widths.specs.Width.{FewDecimals, Valued}
+use Rattle.sound.specs.rule.Sound.{rangeGood, valuesFit, rangeWidth, roomGood}
 use Rattle.sound.specs.Block.{Placed, Subfielded, need-few, range-few}
-use Rattle.tokens.specs.Gap.{fault}
+use Rattle.tokens.specs.rule.Gap.{fault}
 use Rattle.variables.specs.declared.Head.{Head}
 use Rattle.variables.specs.declared.Rest.{Rest}
 use Rattle.survey.specs.declared.Measured.{Measured}
 use Rattle.survey.specs.declared.Measured.the-variants.{Is, Not}
-use Rattle.survey.specs.Width.{plainColumns, widened, linesWidth, widestOf, widthOf, fullColumns, numberIn, Ready, Measurable, measured}
+use Rattle.survey.specs.rule.Width.{plainColumns, widened, linesWidth, widestOf, widthOf, fullColumns}
+use Rattle.survey.specs.Width.{numberIn, Ready, Measurable, measured}
 
 -- ---- the width
 lines-few : (k : Kind) (f : ℕ → ℤ) (n : ℕ) → FewDecimals k → valuesFit k f n ≡ true → linesWidth k f n ≤ 9999

@@ -7,11 +7,12 @@ use native.Mathlib.Omega.{arith}
 use lib.Dec.{eqb}
 use lib.IntN.{ℤ}
 use lib.ListN.{length, length-append}
-use Rattle.layout.specs.Layout.{rowSize, lineSize, lineBase}
-use Rattle.rows.specs.Cells.{rowCells, headerCells}
-use Rattle.values.specs.Line.{cellsOf}
+use Rattle.layout.specs.rule.Layout.{rowSize, lineSize, lineBase}
+use Rattle.rows.specs.rule.Cells.{rowCells, headerCells}
+use Rattle.values.specs.rule.Line.{cellsOf}
 use Rattle.values.proofs.Rooms.{cells-length}
-use Rattle.survey.specs.Survey.{Variable, linesIn, columnsIn, linesAll, highestIn, identMet, headerFor, rowsFrom, allLines, tableOf}
+use Rattle.survey.specs.rule.Survey.{Variable, linesIn, columnsIn, linesAll, highestIn, identMet, headerFor, rowsFrom, allLines}
+use Rattle.survey.specs.rule.Survey.{tableOf}
 
 abbrev pub added : List Variable → Variable → List Variable
 added l v = l ++ v ∷ []

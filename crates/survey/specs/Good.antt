@@ -5,14 +5,14 @@ use mathlib.Core.Bool.{Bool, true, false}
 use mathlib.Core.List.{List, [], _∷_, _++_}
 use Prim.Native.Nat.{ℕ, _+_, _*_, _≤_, _<_}
 use lib.ListN.{length}
-use Rattle.below.specs.Below.{allBelow}
-use Rattle.strides.specs.Stride.{allDiffer}
-use Rattle.layout.specs.Layout.{mostRows, mostLines, lineSize, lineAt}
-use Rattle.layout.specs.Row.{kindOf, rowOf}
-use Rattle.sound.specs.Sound.{countsGood, placesGood, rangeLacked, rangeGood, linePlain, valuesFit, widthGood}
-use Rattle.values.specs.Line.{numberAt, cellsOf}
-use Rattle.survey.specs.Width.{widestOf}
-use Rattle.survey.specs.Survey.{Variable, linesIn, columnsIn, holdsIn, linesAll, identMet}
+use Rattle.below.specs.rule.Below.{allBelow}
+use Rattle.strides.specs.rule.Stride.{allDiffer}
+use Rattle.layout.specs.rule.Layout.{mostRows, mostLines, lineSize, lineAt}
+use Rattle.layout.specs.rule.Row.{kindOf, rowOf}
+use Rattle.sound.specs.rule.Sound.{countsGood, placesGood, rangeLacked, rangeGood, linePlain, valuesFit, widthGood}
+use Rattle.values.specs.rule.Line.{numberAt, cellsOf}
+use Rattle.survey.specs.rule.Width.{widestOf}
+use Rattle.survey.specs.rule.Survey.{Variable, linesIn, columnsIn, holdsIn, linesAll, identMet}
 
 -- a variable before whose lines `before` others stand
 pub record GoodVariable (before : ℕ) (v : Variable) : Type 0 where

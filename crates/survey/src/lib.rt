@@ -2,8 +2,9 @@
 // the definition as a whole.
 ghost use mathlib.Core.Path.{_≡_};
 ghost use Prim.Native.Nat.{_≤_};
-ghost use Rattle.ascii.specs.Tens.{Tens};
-ghost use Rattle.survey.specs.Width.{flagOf, plainColumns, widened, numberIn, linesWidth, widestOf, widthOf, fullColumns, Ready, Measurable, measured};
+ghost use Rattle.ascii.specs.rule.Tens.{Tens};
+ghost use Rattle.survey.specs.rule.Width.{flagOf, plainColumns, widened, linesWidth, widestOf, widthOf, fullColumns};
+ghost use Rattle.survey.specs.Width.{numberIn, Ready, Measurable, measured};
 use layout::Columns;
 use layout::Kind;
 use layout::Line;

@@ -1,7 +1,5 @@
-pub mod Value
-pub mod Range
+pub mod rule
 pub mod Line
 pub mod Room
-pub mod Block
 pub mod Good
 pub mod Order

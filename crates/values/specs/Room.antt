@@ -6,8 +6,8 @@ use mathlib.Core.Bool.{Bool}
 use mathlib.Core.List.{List}
 use lib.IntN.{ℤ}
 use lib.ListN.{getD, set}
-use Rattle.cells.specs.Cell.{cell, signedOf, pasted}
-use Rattle.layout.specs.Layout.{lineSize}
+use Rattle.cells.specs.rule.Cell.{cell, signedOf, pasted}
+use Rattle.layout.specs.rule.Layout.{lineSize}
 use Rattle.tokens.specs.declared.Amount.{Amount}
 use Rattle.values.specs.declared.Block.{Block}
 use Rattle.values.specs.declared.Said.{Said}
@@ -17,7 +17,7 @@ use Rattle.values.specs.declared.Verdict.{Verdict}
 use Rattle.values.specs.declared.Verdict.the-variants.{Good, Bad}
 use Rattle.values.specs.declared.Turn.{Turn}
 use Rattle.values.specs.declared.Turn.the-variants as turn
-use Rattle.values.specs.Line.{lineRest, judgeLine, grownBy, lineCells, moreOf}
+use Rattle.values.specs.rule.Line.{lineRest, judgeLine, grownBy, lineCells, moreOf}
 
 -- the number that line i of the block says
 unfoldable pub roomAt : List ℤ → ℕ → ℕ → ℤ

@@ -8,19 +8,21 @@ use borrow.Author.Tests.{le-leb, lt-leb, lt-ltb, le-ltb}
 use lib.Dec.{eqb}
 use lib.IntN.{ℤ}
 use lib.ListN.{length}
-use Rattle.layout.specs.Layout.{headerOf, mostRows, rowBase, rowSize}
-use Rattle.layout.specs.Row.{rowAt}
+use Rattle.layout.specs.rule.Layout.{headerOf, mostRows, rowBase, rowSize}
+use Rattle.layout.specs.rule.Row.{rowAt}
 use Rattle.layout.specs.declared.Header.{Header}
 use Rattle.layout.specs.declared.Row.{Row}
-use Rattle.fields.specs.Field as field
-use Rattle.fields.specs.Row.{Fit, fits, otherType, notLegal, tooMany, fitOf, writtenOf}
-use Rattle.sound.specs.Sound.{wellFormed}
-use Rattle.sound.specs.Rows.{rowsOf, lengthOf, row-facts}
+use Rattle.fields.specs.rule.Field as field
+use Rattle.fields.specs.rule.Row.{Fit, fits, otherType, notLegal, tooMany, fitOf, writtenOf}
+use Rattle.sound.specs.rule.Sound.{wellFormed}
+use Rattle.sound.specs.rule.Rows.{rowsOf, lengthOf}
+use Rattle.sound.specs.Rows.{row-facts}
 use Rattle.writes.specs.declared.Value.{Value}
 use Rattle.writes.specs.declared.Wrote.{Wrote}
 use Rattle.writes.specs.declared.Wrote.the-variants.{NotWellFormed, NoRow, TooShort}
-use Rattle.writes.specs.Write.{valueOf, WrittenBy, Ready, ready, answerBy, leftBy}
-use Rattle.writes.specs.Public.{numberOf, fitNumber, refusalOf, recordAfter, Written}
+use Rattle.writes.specs.rule.Write.{valueOf}
+use Rattle.writes.specs.Write.{WrittenBy, Ready, ready, answerBy, leftBy}
+use Rattle.writes.specs.rule.Public.{numberOf, fitNumber, refusalOf, recordAfter, Written}
 
 -- the number of an answer by the fit is the fit's, and the record is kept but where it is 0
 number-by : (f : Fit) → numberOf (answerBy f) ≡ fitNumber f

@@ -1,3 +1,3 @@
 -- The definitions that the face's contracts cite.
-pub mod Face
+pub mod rule
 pub mod Truth

@@ -1,6 +1,6 @@
 use mathlib.Core.Path.{_∙_}
 use borrow.Author.Needs.{needs}
-use Rattle.cuts.specs.Cut.{nextOf}
+use Rattle.cuts.specs.rule.Cut.{nextOf}
 use Rattle.cuts.proofs.next_record.Statement.{statement}
 use Rattle.cuts.proofs.next_record.Tie as tie
 

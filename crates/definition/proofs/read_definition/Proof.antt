@@ -4,7 +4,7 @@ use lib.Dec.{ltb}
 use lib.ListN.{length}
 use borrow.Author.Needs.{needs}
 use borrow.Author.Tests.{lt-ltb, le-ltb}
-use Rattle.definition.specs.Definition.{outcomeOf, answerOf, tableAfter}
+use Rattle.definition.specs.rule.Definition.{outcomeOf, answerOf, tableAfter}
 use Rattle.definition.specs.Code.{zeros}
 use Rattle.definition.proofs.read_definition.Statement.{statement}
 use Rattle.definition.proofs.read_definition.Tie as tie

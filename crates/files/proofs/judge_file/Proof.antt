@@ -1,7 +1,7 @@
 -- `files::judge_file` meets its contract: the table, and then its records.
 use mathlib.Core.Path.{sym, _∙_}
 use borrow.Author.Needs.{needs}
-use Rattle.files.specs.File.{fileSaid, fileVerdict}
+use Rattle.files.specs.rule.File.{fileSaid, fileVerdict}
 use Rattle.files.proofs.judge_file.Statement.{statement}
 use Rattle.files.proofs.judge_file.Tie as tie
 

@@ -4,13 +4,13 @@ use Prim.Native.Nat.{_+_, _-_, _≤_}
 use native.Mathlib.Omega.{arith}
 use borrow.Author.Needs.{needs}
 use lib.ListN.{length}
-use Rattle.cells.specs.Cell.{cell, countOf}
-use Rattle.layout.specs.Layout.{rowBase}
-use Rattle.layout.specs.Row.{spreadOf, rowAt}
+use Rattle.cells.specs.rule.Cell.{cell, countOf}
+use Rattle.layout.specs.rule.Layout.{rowBase}
+use Rattle.layout.specs.rule.Row.{spreadOf, rowAt}
 use Rattle.layout.specs.declared.Kind.the-variants.{Single, Multiple, Quantity, Character}
 use Rattle.layout.specs.declared.Row.{Row}
-use Rattle.fields.specs.Row.{readingOf}
-use Rattle.sets.specs.Sets.{isIllegal}
+use Rattle.fields.specs.rule.Row.{readingOf}
+use Rattle.sets.specs.rule.Sets.{isIllegal}
 use Rattle.readings.specs.Answer.{illegalAnswer}
 use Rattle.readings.specs.Ready.{single-ready, quantity-ready, text-ready}
 use Rattle.readings.proofs.Laws.{as-single, as-quantity, as-text, as-truth, at-row, row-single, row-multiple, row-quantity, row-text, row-truth, row-finish, text-legal, illegal-back}

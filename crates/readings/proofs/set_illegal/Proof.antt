@@ -1,7 +1,7 @@
 -- `readings::set_illegal` meets its contract: by its subfields.
 use mathlib.Core.Path.{sym, ap, _∙_}
 use borrow.Author.Needs.{needs}
-use Rattle.sets.specs.Sets.{isIllegal}
+use Rattle.sets.specs.rule.Sets.{isIllegal}
 use Rattle.readings.specs.Ready.{bits-ready, spread-ready}
 use Rattle.readings.proofs.Laws.{as-bits, as-spread, bits-kind, fields-kind}
 use Rattle.readings.proofs.set_illegal.Statement.{statement}

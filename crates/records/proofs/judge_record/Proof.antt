@@ -2,7 +2,7 @@
 use mathlib.Core.Path.{sym, _∙_}
 use Prim.Native.Nat.{_-_}
 use borrow.Author.Needs.{needs}
-use Rattle.records.specs.Verdict.{judgedAs}
+use Rattle.records.specs.rule.Verdict.{judgedAs}
 use Rattle.records.proofs.Laws.{verdict-table, verdict-short, verdict-rows, rows-ready}
 use Rattle.records.proofs.judge_record.Statement.{statement}
 use Rattle.records.proofs.judge_record.Tie as tie

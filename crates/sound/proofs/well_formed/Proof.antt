@@ -4,8 +4,8 @@ use mathlib.Core.Bool.{true}
 use lib.ListN.{length}
 use borrow.Author.Needs.{needs}
 use borrow.Author.Tests.{not-true, not-false}
-use Rattle.layout.specs.Layout.{headerOf}
-use Rattle.sound.specs.Sound.{headCounts, headSums}
+use Rattle.layout.specs.rule.Layout.{headerOf}
+use Rattle.sound.specs.rule.Sound.{headCounts, headSums}
 use Rattle.sound.specs.Block.{Standing}
 use Rattle.sound.specs.Given.{head-few, head-standing, standing-rows, form-counts, form-sums, form-rows, form-idents}
 use Rattle.sound.proofs.well_formed.Statement.{statement}

@@ -1,4 +1,4 @@
-use Rattle.survey.specs.Width.{flagOf}
+use Rattle.survey.specs.rule.Width.{flagOf}
 use Rattle.survey.proofs.flag.Statement.{statement}
 use Rattle.survey.proofs.flag.Tie as tie
 

@@ -4,7 +4,8 @@ use native.Mathlib.Omega.{arith}
 use borrow.Author.Needs.{needs}
 use Rattle.below.specs.Below.{max-none}
 use Rattle.sound.specs.Block.{hull-fits, hull-width}
-use Rattle.survey.specs.Width.{linesWidth, numberIn}
+use Rattle.survey.specs.rule.Width.{linesWidth}
+use Rattle.survey.specs.Width.{numberIn}
 use Rattle.survey.proofs.lines_width.Statement.{statement}
 use Rattle.survey.proofs.lines_width.Tie as tie
 

@@ -2,7 +2,7 @@ use mathlib.Core.Path.{_≡_}
 use mir.Syntax.{w64}
 use mir.Val.{toZ, ofZ}
 use borrow.Author.Needs.{needs}
-use Rattle.survey.specs.Width.{plainColumns}
+use Rattle.survey.specs.rule.Width.{plainColumns}
 use Rattle.survey.proofs.plain_columns.Statement.{statement}
 use Rattle.survey.proofs.plain_columns.Tie as tie
 

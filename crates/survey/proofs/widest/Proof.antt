@@ -1,5 +1,5 @@
 use mathlib.Core.Path.{_∙_, sym}
-use Rattle.survey.specs.Width.{widestOf}
+use Rattle.survey.specs.rule.Width.{widestOf}
 use borrow.Author.Needs.{needs}
 use Rattle.survey.proofs.widest.Statement.{statement}
 use Rattle.survey.proofs.widest.Tie as tie

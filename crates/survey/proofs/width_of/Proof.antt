@@ -1,5 +1,5 @@
 use mathlib.Core.Path.{_∙_}
-use Rattle.survey.specs.Width.{widthOf}
+use Rattle.survey.specs.rule.Width.{widthOf}
 use borrow.Author.Needs.{needs}
 use Rattle.survey.proofs.Measures.{width-valued}
 use Rattle.survey.proofs.width_of.Statement.{statement}

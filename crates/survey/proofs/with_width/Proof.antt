@@ -1,5 +1,5 @@
 use mathlib.Core.Path.{refl}
-use Rattle.survey.specs.Width.{widened}
+use Rattle.survey.specs.rule.Width.{widened}
 use Rattle.survey.proofs.with_width.Statement.{statement}
 use Rattle.survey.proofs.with_width.Tie as tie
 

@@ -3,7 +3,7 @@ use mathlib.Core.Path.{_≡_, sym, _∙_}
 use mathlib.Core.Bool.{true}
 use borrow.Author.Needs.{needs}
 use borrow.Author.Tests.{not-true, not-false}
-use Rattle.sound.specs.Sound.{wellFormed}
+use Rattle.sound.specs.rule.Sound.{wellFormed}
 use Rattle.writes.proofs.Whole.{not-formed, no-row, too-short, row-stands, row-ready, row-written}
 use Rattle.writes.proofs.write_value.Statement.{statement}
 use Rattle.writes.proofs.write_value.Tie as tie

@@ -1,8 +1,8 @@
 -- `zarfolin::fault_cells` meets its contract, case by case.
 use borrow.Author.Needs.{needs, sfits-of}
 use mir.Facts.{toZ-ofZ}
-use Rattle.zarfolin.specs.Face.{faultCells}
-use Rattle.records.specs.Verdict.{judgedAs}
+use Rattle.zarfolin.specs.rule.Face.{faultCells}
+use Rattle.records.specs.rule.Verdict.{judgedAs}
 use Rattle.zarfolin.proofs.fault_cells.Statement.{statement}
 use Rattle.zarfolin.proofs.fault_cells.Tie as tie
 

@@ -2,8 +2,8 @@
 use mathlib.Core.Path.{sym}
 use borrow.Author.Needs.{needs, sfits-of}
 use mir.Facts.{toZ-ofZ}
-use Rattle.zarfolin.specs.Face.{faultCells, fileCells}
-use Rattle.files.specs.File.{fileSaid}
+use Rattle.zarfolin.specs.rule.Face.{faultCells, fileCells}
+use Rattle.files.specs.rule.File.{fileSaid}
 use Rattle.zarfolin.proofs.file_cells.Statement.{statement}
 use Rattle.zarfolin.proofs.file_cells.Tie as tie
 

@@ -1,7 +1,7 @@
 -- `zarfolin::zarfolin_write_number` meets its contract.
 use mathlib.Core.Path.{_∙_}
 use mir.Facts.{toZ-ofZ}
-use Rattle.writes.specs.Write.{valueOf}
+use Rattle.writes.specs.rule.Write.{valueOf}
 use borrow.Author.Needs.{needs}
 use Rattle.zarfolin.proofs.zarfolin_write_number.Statement.{statement}
 use Rattle.zarfolin.proofs.zarfolin_write_number.Tie as tie

@@ -1,8 +1,8 @@
 -- `zarfolin::zarfolin_write_truth` meets its contract.
 use mathlib.Core.Path.{_∙_}
 use borrow.Author.Tests.{lt-ltb, le-ltb}
-use Rattle.writes.specs.Write.{valueOf}
-use Rattle.zarfolin.specs.Truth.{truthNumber, truthAfter}
+use Rattle.writes.specs.rule.Write.{valueOf}
+use Rattle.zarfolin.specs.rule.Truth.{truthNumber, truthAfter}
 use borrow.Author.Needs.{needs}
 use Rattle.zarfolin.proofs.zarfolin_write_truth.Statement.{statement}
 use Rattle.zarfolin.proofs.zarfolin_write_truth.Tie as tie

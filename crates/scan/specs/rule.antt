@@ -1,0 +1,6 @@
+-- What the contracts of the public calls say, in reading order. Nothing else stands here.
+pub mod Text
+pub mod Word
+pub mod Number
+pub mod Order
+pub mod Loop
