@@ -22,7 +22,7 @@
  *   Threads   The library has no state: no variable of its own, no allocation, no lock, no errno, no locale. Calls may run
  *             at once on any threads as long as each keeps to "Change"; a table or a record that is only read may be
  *             shared by all of them. A call may be made in a signal handler, if there is stack enough.
- *   Stack     See ZARFOLIN_STACK_READ_DEFINITION below: up to 257 KB. Small threads (musl's have 128 KiB) need more for it.
+ *   Stack     See ZARFOLIN_STACK_READ_DEFINITION below: up to 261,000 bytes. A small thread (musl gives 128 KiB) is not enough.
  *   Needs     Of the C library memcpy and memset alone.
  *   Refusal   The value returned is 0 for done, otherwise a refusal, ZARFOLIN_E_TOO_LONG to ZARFOLIN_E_LENGTH below, which
  *             zarfolin_message puts into words. zarfolin_next_record alone has its own meaning for it. A later library may
@@ -284,13 +284,13 @@ zarfolin_number zarfolin_next_record(const uint8_t *data, size_t data_len, uint6
  * The most bytes of stack that each call takes, its own return address included, memcpy and memset too. Measured on
  * painted stacks by tests/c/stack.c, which the merge gate holds to these figures. Deeper than that no call goes: none
  * calls itself but the one that skips comments, at most ZARFOLIN_MAX_LEVEL deep. */
-#define ZARFOLIN_STACK_READ_DEFINITION 259000
+#define ZARFOLIN_STACK_READ_DEFINITION 261000
 #define ZARFOLIN_STACK_READ_VALUE 38000
 #define ZARFOLIN_STACK_JUDGE_RECORD 27500
-#define ZARFOLIN_STACK_WRITE 27500
+#define ZARFOLIN_STACK_WRITE 27600
 #define ZARFOLIN_STACK_JUDGE_FILE 27500
-#define ZARFOLIN_STACK_NEXT_RECORD 256
-#define ZARFOLIN_STACK_VERSION 64
+#define ZARFOLIN_STACK_NEXT_RECORD 128
+#define ZARFOLIN_STACK_VERSION 16
 
 /* ---- in plain C, for convenience: no part of the archive, and not proved --------------------------------------------- */
 

@@ -29,7 +29,7 @@ pub struct Definition<'t> {
 }
 
 impl<'t> Definition<'t> {
-    /// Reads a definition. It takes up to 257 KB of stack.
+    /// Reads a definition. It takes up to 261,000 bytes of stack.
     pub fn read(text: &'t [u8]) -> Result<Definition<'t>, DefinitionError> {
         let mut table = vec![0; limit::MAX_TABLE];
         let counts = calls::read_definition(text, &mut table)?;
