@@ -69,3 +69,19 @@ fn messages() {
         assert_eq!(said, refusal.message(), "{name}");
     }
 }
+
+/// The manual has every refusal too, with its name and its words.
+#[test]
+fn manual() {
+    let page = std::fs::read_to_string(concat!(env!("CARGO_MANIFEST_DIR"), "/../../man/zarfolin.3")).unwrap();
+    let names = named(&text());
+    for &refusal in Refusal::ALL {
+        let number = refusal.number();
+        let name = names.iter().find(|(name, n)| name.starts_with("E_") && **n == number).unwrap().0;
+        let row = format!("\n{number}\tZARFOLIN_{name}\tT{{\n{}\nT}}\n", refusal.message());
+        assert!(page.contains(&row), "man/zarfolin.3 has no {row}");
+    }
+    for call in text().split("\nzarfolin_number ").skip(1).filter_map(|rest| rest.split('(').next()) {
+        assert!(page.contains(&format!("zarfolin_number {call}(")), "man/zarfolin.3 has no {call}");
+    }
+}
