@@ -13,7 +13,7 @@ unsafe fn give(answer: *mut i64, numbers: [i64; 4]) -> Number {
 
 #[unsafe(no_mangle)]
 pub extern "C" fn zarfolin_version() -> Number {
-    1
+    zarfolin::VERSION
 }
 
 #[unsafe(no_mangle)]
