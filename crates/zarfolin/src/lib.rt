@@ -17,6 +17,9 @@ ghost use Rattle.zarfolin.specs.rule.Face.{verdictCells, outcomeCells, f
 ghost use Rattle.zarfolin.specs.rule.Face as face;
 ghost use Rattle.zarfolin.specs.rule.Truth.{badTruth, TruthTold};
 ghost use Rattle.zarfolin.specs.Truth.{kindNumber};
+
+mod version;
+
 use cuts::Next;
 use files::Judgement;
 use layout::Header;

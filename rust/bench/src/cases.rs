@@ -3,6 +3,7 @@
 use crate::inputs::*;
 use std::hint::black_box;
 use zarfolin_compare::face::{Face, Plain};
+use zarfolin_compare::shape::row_at;
 
 type Step = Box<dyn FnMut(&dyn Face) -> u64>;
 
@@ -258,7 +259,7 @@ fn judge(table: Vec<i64>, more: usize, fault: Fault) -> Case {
             23
         }
         Fault::Row(row) => {
-            record[table[6 + 18 * row + 3] as usize - 1] = b'?';
+            record[table[row_at(row) + 3] as usize - 1] = b'?';
             24
         }
     };

@@ -1,6 +1,7 @@
 //! One call with its inputs, what two implementations leave behind, and how a case that differs is cut down.
 
 use crate::face::Face;
+use crate::shape::{HEADER, ROW};
 use std::time::{Duration, Instant};
 
 /// The calls, in the order in which the bridge numbers them.
@@ -191,13 +192,13 @@ pub fn show(case: &Case) -> String {
         return text + &format!("  table: room for {} numbers", case.table.len());
     }
     if !case.table.is_empty() {
-        text += &format!("  table header {:?}\n", &case.table[..case.table.len().min(6)]);
+        text += &format!("  table header {:?}\n", &case.table[..case.table.len().min(HEADER)]);
         let rows = case.table.get(1).map_or(0, |&v| v.clamp(0, 512) as usize);
-        let rest = case.table.get(6..).unwrap_or(&[]);
-        for row in rest.chunks(18).take(rows.min(8)) {
+        let rest = case.table.get(HEADER..).unwrap_or(&[]);
+        for row in rest.chunks(ROW).take(rows.min(8)) {
             text += &format!("  row {row:?}\n");
         }
-        let lines = rest.get(18 * rows..).unwrap_or(&[]);
+        let lines = rest.get(ROW * rows..).unwrap_or(&[]);
         text += &format!("  lines {}\n", cut(format!("{:?}", lines)));
     }
     text + &format!("  list {}", cut(format!("{:?}", case.list)))

@@ -9,6 +9,7 @@ use zarfolin_compare::definitions::{self, SMALL, Size, Style};
 use zarfolin_compare::face::{Face, Plain, other};
 use zarfolin_compare::records;
 use zarfolin_compare::rng::Rng;
+use zarfolin_compare::shape::{length, row_at};
 use zarfolin_compare::tables;
 
 /// The other implementation, and how often each number was met in a test.
@@ -380,7 +381,7 @@ fn tables_with_cells_changed() {
 
 /// A write of some value to this row, mostly of the row's own kind.
 fn write_case(r: &mut Rng, table: Vec<i64>, row: u64, record: Vec<u8>) -> Case {
-    let kind = if row < 600 { table.get(6 + 18 * row as usize + 1).copied().unwrap_or(1) } else { 1 };
+    let kind = if row < 600 { table.get(row_at(row as usize) + 1).copied().unwrap_or(1) } else { 1 };
     let own = match kind {
         1 | 3 => Call::WriteNumber,
         2 => Call::WriteSet,
@@ -438,7 +439,7 @@ fn records_read_judged_and_written() {
                     Case { table: table.clone(), bytes, row, list: vec![-7; 10_000], ..Case::new(Call::ReadValue) };
                 let again = check(&mut tally, seed, &again);
                 let [_, kind, first, second] = again.answer;
-                let start = table[6 + 18 * row as usize + 2] - 1;
+                let start = table[row_at(row as usize) + 2] - 1;
                 let same = match case.call {
                     Call::WriteMissing => [kind, first, second] == [0, 0, 0],
                     Call::WriteNumber => [kind, first, second] == [1, case.number, 0],
@@ -503,7 +504,7 @@ mod planted {
                 0 if number == 10 => table.iter_mut().take(1).for_each(|x| *x += 1),
                 1 if number == 2 && answer[1] as usize == def.len() => answer[1] -= 1,
                 2 if number == 0 => {
-                    let used = (6 + 18 * answer[2] + 4 * answer[3]) as usize;
+                    let used = length(answer[2] as usize, answer[3] as usize);
                     table.iter_mut().skip(used).for_each(|x| *x = 0);
                 }
                 _ => {}

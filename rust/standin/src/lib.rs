@@ -12,6 +12,11 @@ unsafe fn give(answer: *mut i64, numbers: [i64; 4]) -> Number {
 }
 
 #[unsafe(no_mangle)]
+pub extern "C" fn zarfolin_version() -> Number {
+    zarfolin::VERSION
+}
+
+#[unsafe(no_mangle)]
 pub unsafe extern "C" fn zarfolin_read_definition(
     def: *const u8,
     def_len: usize,
