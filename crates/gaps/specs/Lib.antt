@@ -1,1 +1,3 @@
+pub mod Strings
 pub mod Comments
+pub mod Gaps
