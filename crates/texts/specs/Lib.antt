@@ -1,0 +1,7 @@
+pub mod Bytes
+pub mod Definitions
+pub mod Tables
+pub mod Sample
+pub mod Listed
+pub mod Refused
+pub mod Proved
