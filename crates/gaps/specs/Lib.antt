@@ -1,3 +1,4 @@
 pub mod Strings
 pub mod Comments
 pub mod Gaps
+pub mod Tokens

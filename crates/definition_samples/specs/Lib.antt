@@ -4,4 +4,5 @@ pub mod Tables
 pub mod Sample
 pub mod Listed
 pub mod Refused
+pub mod Written
 pub mod Proved

@@ -13,8 +13,8 @@ use Rattle.rows.specs.rule.Cells.{rowCells, headerCells}
 use Rattle.survey.specs.rule.Survey.{Variable, tableOf}
 use Rattle.definition.specs.declared.Answer.the-variants as answer
 use Rattle.definition.specs.rule.Definition.{Read, Whole, Faulty, surveyOf, Built, Refusal, outcomeOf, answerOf, tableAfter}
-use Rattle.texts.specs.Bytes.{bytes}
-use Rattle.texts.specs.Definitions.{definitions}
+use Rattle.definition_samples.specs.Bytes.{bytes}
+use Rattle.definition_samples.specs.Definitions.{definitions}
 
 -- the text, a line feed after each line
 abbrev pub sample : List ℕ

@@ -7,9 +7,9 @@ use Rattle.rows.specs.rule.Cells.{rowCells, headerCells}
 use Rattle.survey.specs.rule.Survey.{Variable, tableOf}
 use Rattle.definition.specs.rule.Definition.{Built, outcomeOf}
 use Rattle.listing.specs.Listing.{listingOf}
-use Rattle.texts.specs.Bytes.{bytes}
-use Rattle.texts.specs.Tables.{tables}
-use Rattle.texts.specs.Sample.{sample, sampleTable, sample-read}
+use Rattle.definition_samples.specs.Bytes.{bytes}
+use Rattle.definition_samples.specs.Tables.{tables}
+use Rattle.definition_samples.specs.Sample.{sample, sampleTable, sample-read}
 
 -- the record of the sample, and one whose `seen` is illegal
 abbrev first : List ℕ

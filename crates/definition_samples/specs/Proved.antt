@@ -6,19 +6,20 @@ use mathlib.Core.List.{List, [], _∷_, _++_}
 use Prim.Native.Nat.{ℕ}
 use Prim.Native.String.{String}
 use lib.IntN.{ℤ, pos, negsuc}
+use lib.ListN.{replicate}
 use Rattle.definition.specs.rule.Definition.{outcomeOf, tableAfter}
 use Rattle.records.specs.rule.Value.{nothing, numberIs, setOf, truthIs, refused, readAs, listAs}
-use Rattle.texts.specs.Bytes.{bytes}
-use Rattle.texts.specs.Definitions.{definitions}
-use Rattle.texts.specs.Tables.{tables}
-use Rattle.texts.specs.Refused.{RefusedAt, variable}
+use Rattle.definition_samples.specs.Bytes.{bytes}
+use Rattle.definition_samples.specs.Definitions.{definitions}
+use Rattle.definition_samples.specs.Tables.{tables}
+use Rattle.definition_samples.specs.Refused.{RefusedAt, variable}
 
 -- numbers that stand for what the lent memory held before: nine for the list of members, forty for the table
 abbrev nine : List ℤ
 nine = pos 70 ∷ pos 71 ∷ pos 72 ∷ pos 73 ∷ pos 74 ∷ pos 75 ∷ pos 76 ∷ pos 77 ∷ pos 78 ∷ []
 
 abbrev forty : List ℤ
-forty = nine ++ nine ++ nine ++ nine ++ (pos 79 ∷ pos 80 ∷ pos 81 ∷ pos 82 ∷ [])
+forty = replicate 40 (pos 79)
 
 -- the table once a definition of one variable is read into it: given are the variable's type, its position and what the type has. (A
 -- text that is refused would leave the forty numbers, by which nothing is read.)

@@ -9,8 +9,8 @@ use lib.Dec.{ltb}
 use lib.ListN.{length}
 use borrow.Author.Tests.{lt-ltb}
 use Rattle.definition.specs.rule.Definition.{Refusal, outcomeOf}
-use Rattle.texts.specs.Bytes.{bytes}
-use Rattle.texts.specs.Definitions.{definitions}
+use Rattle.definition_samples.specs.Bytes.{bytes}
+use Rattle.definition_samples.specs.Definitions.{definitions}
 
 -- 1: every text that is too long, whatever it says
 pub too-long : (d : List ℕ) (n : ℕ) → 1048576 < length d → outcomeOf d n ≡ Refusal 1 0
