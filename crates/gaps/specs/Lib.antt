@@ -2,3 +2,4 @@ pub mod Strings
 pub mod Comments
 pub mod Gaps
 pub mod Tokens
+pub mod Values
