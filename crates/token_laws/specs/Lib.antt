@@ -3,3 +3,4 @@ pub mod Comments
 pub mod Gaps
 pub mod Tokens
 pub mod Values
+pub mod Opening
