@@ -21,7 +21,9 @@ second = bytes " 713x1x-1.0\n"
 abbrev lines : List ℕ
 lines = bytes "1 1 N 7\n" ++ bytes "1 2 S 1,4\n" ++ bytes "1 3 N -10\n"
 
-by-table : (listingOf sampleTable first ≡ lines ++ bytes "ok 1\n") × (listingOf sampleTable (first ++ second) ≡ lines ++ bytes "fault 24 2 2\n")
+by-table :
+    (listingOf sampleTable first ≡ lines ++ bytes "ok 1\n")
+    × (listingOf sampleTable (first ++ second) ≡ lines ++ bytes "fault 24 2 2\n")
 unfolding tables rowCells headerCells
 by-table = (refl, refl)
 

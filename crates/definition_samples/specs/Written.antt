@@ -42,7 +42,8 @@ written-around = (refl, refl, refl, refl)
 -- every type; a range, a range WITH lines, and lines; SPECIAL; notes before a range, a line and END; the brace forms of a string
 pub written-values :
     Reads (variable "SINGLE POSITION 1 VALUES 1 TO 9 END VALUES" ++ ends) 1 0
-    × Reads (variable "SINGLE POSITION 1 VALUES NOTE \"\" 1 TO 7 WITH NOTE \"\" 8 \"x\" SPECIAL NOTE \"\" 9 \"y\" NOTE \"\" END VALUES" ++ ends) 1 2
+    × Reads (variable "SINGLE POSITION 1 VALUES NOTE \"\" 1 TO 7 WITH NOTE \"\" 8 \"x\" SPECIAL"
+    ++ bytes " NOTE \"\" 9 \"y\" NOTE \"\" END VALUES" ++ ends) 1 2
     × Reads (variable "MULTIPLE POSITION 1 TO 4 SPREAD 2 VALUES 1 \"a\" 12 \"b\" END VALUES" ++ ends) 1 2
     × Reads (variable "QUANTITY POSITION 1 TO 4 VALUES -.5 TO 1.5 END VALUES" ++ ends) 1 0
     × Reads (variable "CHARACTER POSITION 1 TO 4 SIZE 3" ++ ends) 1 0

@@ -1,17 +1,17 @@
 -- The five loops of the rule: spaces and comments, notes, the heading's statements, value lines, variables. Each is what its steps lead
 -- to, however many they are: those that its definition counts are enough.
 use mathlib.Core.Logic.{_↔_}
-use mathlib.Core.Path.{_≡_, refl, _∙_, sym}
+use mathlib.Core.Path.{_≡_, refl}
 use mathlib.Core.Bool.{Bool}
 use mathlib.Core.List.{List}
 use Prim.Native.Nat.{ℕ, _+_, _-_, _<_}
 use native.Mathlib.Omega.{arith}
 use lib.ListN.{length}
 use Rattle.scan.specs.rule.Text.{text}
-use Rattle.scan.specs.rule.Loop.{Next, Again, Done}
+use Rattle.scan.specs.rule.Loop.{Again}
 use Rattle.scan.proofs.Texts.{from-text}
 use Rattle.tokens.specs.declared.Reading.{Reading}
-use Rattle.tokens.specs.declared.Reading.the-variants.{At, Refused}
+use Rattle.tokens.specs.declared.Reading.the-variants.{At}
 use Rattle.tokens.specs.declared.Choice.{Choice}
 use Rattle.tokens.specs.declared.Choice.the-variants.{Taken, Left}
 use Rattle.tokens.specs.rule.Gap.{fault, gapStep, gapAt, left}
@@ -59,10 +59,12 @@ module _ (d : List ℕ) where
       runs-exactly (λ e. entryStep d e (entryOf d (e .next))) (entered noHeading (At 0)) (λ e. left d (e .next)) (headings.falls d)
 
   -- value lines, of which 4,096 may be read in all
-  pub lines-enough : (quantity : Bool) (first : ℕ) (l : Listing) (r : Given) → (linesFrom d quantity first l ≡ r) ↔ Runs (lineStep d quantity first) l r
+  pub lines-enough : (quantity : Bool) (first : ℕ) (l : Listing) (r : Given)
+      → (linesFrom d quantity first l ≡ r) ↔ Runs (lineStep d quantity first) l r
   unfolding linesFrom
   lines-enough quantity first =
-      runs-exactly (lineStep d quantity first) (given.Not (fault 0 0)) (λ l. 4096 - (first + length (l .lines))) (lines.falls d quantity first)
+      runs-exactly (lineStep d quantity first) (given.Not (fault 0 0)) (λ l. 4096 - (first + length (l .lines)))
+      (lines.falls d quantity first)
 
   -- variables, of which 512 may be read
   abbrev next : Course → Entry

@@ -1,7 +1,7 @@
 -- What is done again and again until it is over, as a relation that counts no steps and makes no answer up; and that a loop of the rule
 -- is that, where each step lowers a measure and the loop has one step more than the measure.
 use mathlib.Core.Logic.{_↔_}
-use mathlib.Core.Path.{_≡_, refl, _∙_, sym}
+use mathlib.Core.Path.{_≡_, refl, _∙_}
 use Prim.Native.Nat.{ℕ, zero, suc, _<_}
 use native.Mathlib.Omega.{arith}
 use Rattle.scan.specs.rule.Loop.{Next, Again, Done, loopOf}

@@ -2,12 +2,12 @@
 -- And it is over after so many turns at most.
 use mathlib.Core.Path.{_≡_, refl, sym, ap, _∙_}
 use mathlib.Core.Bool.{true}
-use mathlib.Core.List.{List, [], _++_, append-nil}
+use mathlib.Core.List.{List, _++_, append-nil}
 use Prim.Native.Nat.{ℕ, suc, _+_, _-_, _≤_}
 use native.Mathlib.Omega.{arith}
 use lib.IntN.{ℤ}
-use lib.ListN.{length, take, drop}
-use Rattle.places.specs.rule.Places.{pick, put, run}
+use lib.ListN.{length}
+use Rattle.places.specs.rule.Places.{run}
 use Rattle.places.specs.Laws.{back, once-run, below-run, length-run, pick-run}
 use Rattle.sound.specs.rule.Sound.{wellFormed}
 use Rattle.cuts.specs.declared.Terminator.{Terminator}
@@ -42,7 +42,8 @@ module _ {t : List ℤ} {w : Terminator} {d : List ℕ} where
   turns-rest : {p : Place} {s : List ℕ} → Turns t w d p s → s ≡ placeText t w d p
   unfolding turnEnd turnText
   turns-rest (over l) = there (l .stands) ∙ sym (append-nil (l .text)) ∙ sym (l .goes-on)
-  turns-rest (on {rest = rest} l r) = ap (λ (x : List ℕ). x ++ rest) (there (l .stands)) ∙ ap (λ (x : List ℕ). l .text ++ x) (turns-rest r) ∙ sym (l .goes-on)
+  turns-rest (on {rest = rest} l r) =
+      ap (λ (x : List ℕ). x ++ rest) (there (l .stands)) ∙ ap (λ (x : List ℕ). l .text ++ x) (turns-rest r) ∙ sym (l .goes-on)
 
   -- how many they are
   pub turnsIn : {p : Place} {s : List ℕ} → Turns t w d p s → ℕ

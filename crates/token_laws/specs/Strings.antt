@@ -4,10 +4,6 @@ use mathlib.Core.Path.{_≡_, _∙_, sym}
 use mathlib.Core.List.{List}
 use Prim.Native.Nat.{ℕ}
 use Rattle.scan.specs.rule.Text.{Text}
-use Rattle.marks.specs.declared.Inside.the-variants.{Plain}
-use Rattle.marks.specs.declared.Skip.the-variants.{Past}
-use Rattle.marks.specs.rule.Marks.{stringOf}
-use Rattle.marks.specs.rule.Spelling.{decodeOf}
 use Rattle.marks.specs.Spelling.{Spelt}
 use Rattle.marks.proofs.Complete.{string-complete, string-decoded}
 

@@ -3,12 +3,12 @@
 use mathlib.Core.Logic.{_↔_}
 use mathlib.Core.Path.{_≡_, refl, _∙_, sym, ap}
 use mathlib.Core.Bool.{Bool, true, false, cond, _&&_, _||_}
-use mathlib.Core.List.{List, [], _∷_, _++_, append-assoc, append-nil}
+use mathlib.Core.List.{List, [], _∷_, _++_, append-nil}
 use Prim.Native.Nat.{ℕ, _+_, _*_, _-_, _≤_, _<_}
 use native.Mathlib.Omega.{arith}
 use lib.Dec.{eqb, ltb}
-use lib.ListN.{length, length-append}
-use borrow.Author.Tests.{eqb-true, eqb-false, eq-eqb, ne-eqb, ltb-true, ltb-false, lt-ltb, le-ltb}
+use lib.ListN.{length}
+use borrow.Author.Tests.{eqb-true, eq-eqb, ne-eqb, ltb-true, ltb-false}
 use Rattle.ascii.specs.rule.Class.{classOf}
 use Rattle.scan.specs.rule.Text.{Text, stop, sign, text}
 use Rattle.scan.specs.rule.Number.{isDigit, isValue, runOf, bytesOf, decimalOf, capped, digitsFrom}
@@ -16,7 +16,6 @@ use Rattle.scan.proofs.Texts.{From, at-stop, at-sign, from-text}
 use Rattle.scan.proofs.Runs.{held}
 use Rattle.scan.proofs.Orders.{run-ahead}
 use Rattle.tokens.specs.declared.Mark.{Mark}
-use Rattle.tokens.specs.declared.Value.{Value}
 use Rattle.tokens.specs.rule.Token.{markOf, valueAt}
 
 -- ---- the words
@@ -89,12 +88,14 @@ module _ (d : List ℕ) where
     first f true = other f
     first f false = empty
 
-    by : (x : Bool) → isDigit b ≡ x → Stops isDigit (runAt (runOf isDigit (p + 1) u)) → Stops isDigit (runAt (cond x (runOf isDigit (p + 1) u) n))
+    by : (x : Bool) → isDigit b ≡ x → Stops isDigit (runAt (runOf isDigit (p + 1) u))
+        → Stops isDigit (runAt (cond x (runOf isDigit (p + 1) u) n))
     by true f ih = ih
     by false f ih = rw (← q) (first f (isValue b))
 
   -- the place after the run is that of what stands behind its digits
-  past-digits : {n : ℕ} {t : Text} → From d n t → t ≡ text d n → runOf isValue n t ≡ runOf isValue (runOf isDigit n t) (text d (runOf isDigit n t))
+  past-digits : {n : ℕ} {t : Text} → From d n t → t ≡ text d n
+      → runOf isValue n t ≡ runOf isValue (runOf isDigit n t) (text d (runOf isDigit n t))
   unfolding runOf
   past-digits {n} at-stop q = ap (runOf isValue n) q
   past-digits {n} (at-sign {p = p} {b = b} {u = u} g w i r) q = by (isDigit b) refl (past-digits r i) where
@@ -106,7 +107,8 @@ module _ (d : List ℕ) where
 
   -- ---- a byte that may stand
   module _ (c : ℕ) (v : isValue c ≡ true) where
-    after-mark : {n : ℕ} {t : Text} → From d n t → t ≡ text d n → bytesOf isValue t ≡ perhaps (markOf n c t .there) c ++ runAt (markOf n c t .next)
+    after-mark : {n : ℕ} {t : Text} → From d n t → t ≡ text d n
+        → bytesOf isValue t ≡ perhaps (markOf n c t .there) c ++ runAt (markOf n c t .next)
     unfolding bytesOf markOf
     after-mark at-stop q = ap (bytesOf isValue) q
     after-mark {n} (at-sign {p = p} {b = b} {u = u} g w i r) q = by (eqb b c) refl where
@@ -116,7 +118,8 @@ module _ (d : List ℕ) where
       by true f = rw (eqb-true b c f, v, i)
       by false f = ap (bytesOf isValue) q
 
-    past-mark : {n : ℕ} {t : Text} → From d n t → t ≡ text d n → runOf isValue n t ≡ runOf isValue (markOf n c t .next) (text d (markOf n c t .next))
+    past-mark : {n : ℕ} {t : Text} → From d n t → t ≡ text d n
+        → runOf isValue n t ≡ runOf isValue (markOf n c t .next) (text d (markOf n c t .next))
     unfolding runOf markOf
     past-mark {n} at-stop q = ap (runOf isValue n) q
     past-mark {n} (at-sign {p = p} {b = b} {u = u} g w i r) q = by (eqb b c) refl where
@@ -142,7 +145,7 @@ module _ (d : List ℕ) where
       by false f e = (refl, rw (← q) (first f (isValue b)))
 
   -- ---- nothing is left of the run
-  run-empty : {n : ℕ} {t : Text} → From d n t → (runOf isValue n t ≡ n) ↔ (bytesOf isValue t ≡ [])
+  pub run-empty : {n : ℕ} {t : Text} → From d n t → (runOf isValue n t ≡ n) ↔ (bytesOf isValue t ≡ [])
   unfolding bytesOf runOf
   run-empty at-stop = (λ e. refl, λ e. refl)
   run-empty {n} (at-sign {p = p} {b = b} {u = u} g w i r) = by (isValue b) (run-ahead d isValue r) where
@@ -281,24 +284,28 @@ module _ (d : List ℕ) (at : ℕ) where
         (valueAt d at .minus ≡ f .minus) × (valueAt d at .point ≡ f .point) × (valueAt d at .decimals ≡ length (f .rest))
         × (valueAt d at .size ≡ capped (decimalOf 0 (f .whole ++ f .rest)))
     unfolding valueAt digitsFrom
-    value-says = (same-minus .0, same-point .0, rw (same-rest .0) (omega arith),
-        rw (same-whole .0, same-rest .0, decimal-append (f .whole) (f .rest) 0) (held (decimalOf 0 (f .whole)) (f .rest)))
+    value-says = (
+      same-minus .0,
+      same-point .0,
+      rw (same-rest .0) (omega arith),
+      rw (same-whole .0, same-rest .0, decimal-append (f .whole) (f .rest) 0) (held (decimalOf 0 (f .whole)) (f .rest)),
+    )
 
     formed-so : valueAt d at .formed ≡ true
     unfolding valueAt digitsFrom
     formed-so =
         rw (eq-eqb _ _ (run-empty d (from-text d last) .1 (same-rest .1)))
         (by (ltb 0 (0 + length whole)) (ltb 0 (0 + length rest)) refl refl) where
-      by : (x y : Bool) → ltb 0 (0 + length whole) ≡ x → ltb 0 (0 + length rest) ≡ y → (x || y) ≡ true
-      by true y e g = refl
-      by false true e g = refl
-      by false false e g =
-          let a = ltb-false 0 (0 + length whole) e in
-          let b = ltb-false 0 (0 + length rest) g in
-          let h = ap length (same-whole .0) in
-          let k = ap length (same-rest .0) in
-          let z = f .some in
-          absurd (omega arith)
+          by : (x y : Bool) → ltb 0 (0 + length whole) ≡ x → ltb 0 (0 + length rest) ≡ y → (x || y) ≡ true
+          by true y e g = refl
+          by false true e g = refl
+          by false false e g =
+              let a = ltb-false 0 (0 + length whole) e in
+              let b = ltb-false 0 (0 + length rest) g in
+              let h = ap length (same-whole .0) in
+              let k = ap length (same-rest .0) in
+              let z = f .some in
+              absurd (omega arith)
 
   form-of : valueAt d at .formed ≡ true → Form (runAt d at)
   unfolding valueAt digitsFrom
