@@ -4,3 +4,5 @@ pub mod Gaps
 pub mod Tokens
 pub mod Values
 pub mod Opening
+pub mod Judged
+pub mod Places
