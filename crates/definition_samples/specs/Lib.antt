@@ -4,5 +4,6 @@ pub mod Tables
 pub mod Sample
 pub mod Listed
 pub mod Refused
+pub mod Each
 pub mod Written
 pub mod Proved

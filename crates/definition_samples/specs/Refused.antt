@@ -110,3 +110,27 @@ pub refused-9 :
     "\"Ab\" LABEL \"\" TYPE LOGICAL POSITION 1 END VARIABLE END RECORD END SURVEY END SSS"
 unfolding definitions
 refused-9 = ((λ n. refl), (λ n. refl), (λ n. refl))
+
+-- ---- which of several comes: "the first 2 or 3 met, then 4 to 8 by lowest number, equal numbers by earlier place"
+-- 2 and 3 before the statement is judged, a comment before an optional word included; 7 at the first number before 7 at the second; 7 at
+-- the second number before 8 at the first
+pub refused-first :
+    RefusedAt 2 (variable "SINGLE POSITION 0 TO ") "x"
+    × RefusedAt 3 (variable "SINGLE POSITION 0 ") "<TO 9"
+    × RefusedAt 3 (variable "MULTIPLE POSITION 1 TO 4 SPREAD 3 ") "<OF 2"
+    × RefusedAt 3 (variable "SINGLE POSITION 1 VALUES 9 TO 8 ") "<WITH"
+    × RefusedAt 3 (variable "SINGLE POSITION 1 VALUES 0 \"a\" ") "<SPECIAL"
+    × RefusedAt 7 (variable "MULTIPLE POSITION 1 TO 4 SPREAD ") "0 OF 0"
+    × RefusedAt 7 (variable "SINGLE POSITION 20000 TO ") "19999"
+    × RefusedAt 7 (variable "SINGLE POSITION ") "0 TO 20000"
+    × RefusedAt 6 (variable "QUANTITY POSITION 1 TO 20 VALUES 9999999999999999 TO ") "1.5"
+unfolding definitions
+refused-first = ((λ n. refl), (λ n. refl), (λ n. refl), (λ n. refl), (λ n. refl), (λ n. refl), (λ n. refl), (λ n. refl), (λ n. refl))
+
+-- width after END VARIABLE; ranges and lines one by one, before what follows them
+pub refused-in-turn :
+    RefusedAt 2 (variable "SINGLE POSITION 1 VALUES 1 TO 10 END VALUES END ") "RECORD"
+    × RefusedAt 6 (variable "SINGLE POSITION 1 VALUES 9 TO ") "8 WITH 1 \"a"
+    × RefusedAt 6 (variable "SINGLE POSITION 1 VALUES 1 \"a\" ") "1 \"b\" 2 \"c"
+unfolding definitions
+refused-in-turn = ((λ n. refl), (λ n. refl), (λ n. refl))
