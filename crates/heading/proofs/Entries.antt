@@ -76,7 +76,7 @@ module _ (d : List ℕ) (t : Reading) where
     by false = omega (arith, notes-left d (wordOn d (At m) NAMES), word-left d (At m) 78 (65 ∷ 77 ∷ 69 ∷ 83 ∷ []))
 
 module _ (d : List ℕ) where
-  falls : (e f : Entered) → entryStep d e (entryOf d (e .next)) ≡ Again f → left d (f .next) < left d (e .next)
+  pub falls : (e f : Entered) → entryStep d e (entryOf d (e .next)) ≡ Again f → left d (f .next) < left d (e .next)
   falls e f = by (entryOf d (e .next)) (takes d (e .next)) where
     by : (k : Entry) → Takes d (e .next) k → entryStep d e k ≡ Again f → left d (f .next) < left d (e .next)
     by (Text k m) (text l) q = let j : textEntry d (e .heading) (e .next) k m ≡ f = cc in rw (← j) (text-less d (e .next) (e .heading) k m l)

@@ -2,4 +2,3 @@ pub mod Tops
 pub mod Writing
 pub mod ReadBack
 pub mod Settled
-pub mod Narrow

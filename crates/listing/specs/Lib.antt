@@ -4,4 +4,4 @@ pub mod Listing
 pub mod Turns
 pub mod RowLaws
 pub mod Places
-pub mod Samples
+pub mod Pages

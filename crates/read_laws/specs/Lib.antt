@@ -1,4 +1,3 @@
-pub mod Proved
 pub mod Settled
 pub mod Alone
 pub mod Refused

@@ -226,7 +226,7 @@ module _ (d : List ℕ) (quantity : Bool) (first : ℕ) where
   abbrev left : Listing → ℕ
   left l = 4096 - (first + length (l .lines))
 
-  falls : (l m : Listing) → lineStep d quantity first l ≡ Again m → left m < left l
+  pub falls : (l m : Listing) → lineStep d quantity first l ≡ Again m → left m < left l
   unfolding lineStep
   falls l m = by (lineRest d (l .amount)) where
     on : (s : Said) (t : Turn) → first + length (l .lines) < 4096 → after (l .lines ++ s ∷ []) t ≡ Again m → left m < left l

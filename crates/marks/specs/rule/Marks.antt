@@ -46,12 +46,17 @@ pub data Mode : Type 0 where
 unfoldable pub levelsOf : ℕ → ℕ → Mode → Text → Skip
 levelsOf base l m (stop p) = Unclosed
 levelsOf base l between (sign p b t) =
-    cond (eqb b 62) (cond (eqb l base) (Past (p + 1)) (levelsOf base (l - 1) between t))
-    (cond (eqb b 34) (levelsOf base l (within-string Plain) t)
-    (cond (eqb b 60) (cond (ltb l 32) (levelsOf base (l + 1) between t) (Bad p))
-    (levelsOf base l between t)))
+    let shut = levelsOf base (l - 1) between t in
+    let quoted = levelsOf base l (within-string Plain) t in
+    let deeper = levelsOf base (l + 1) between t in
+    let on = levelsOf base l between t in
+    cond (eqb b 62) (cond (eqb l base) (Past (p + 1)) shut)
+    (cond (eqb b 34) quoted
+    (cond (eqb b 60) (cond (ltb l 32) deeper (Bad p))
+    on))
 levelsOf base l (within-string s) (sign p b t) =
-    moved (insideOf s b p) (λ s. levelsOf base l (within-string s) t) (levelsOf base l between t)
+    let unquoted = levelsOf base l between t in
+    moved (insideOf s b p) (λ s. levelsOf base l (within-string s) t) unquoted
 
 unfoldable pub commentOf : ℕ → Text → Skip
 commentOf l t = levelsOf l l between t

@@ -9,7 +9,7 @@ use Rattle.scan.specs.rule.Number.{isDigit, decimalOf}
 -- the digits of a text that stand before the place `end`, a sign and a point left out
 unfoldable pub digitsTo : ℕ → Text → List ℕ
 digitsTo end (stop p) = []
-digitsTo end (sign p b t) = cond (leb end p) [] (cond (isDigit b) (b ∷ digitsTo end t) (digitsTo end t))
+digitsTo end (sign p b t) = let rest = digitsTo end t in cond (leb end p) [] (cond (isDigit b) (b ∷ rest) rest)
 
 -- the number that the digits of the file d from `at` to `end` say
 unfoldable pub valueOf : List ℕ → ℕ → ℕ → ℕ

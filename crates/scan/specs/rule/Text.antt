@@ -13,7 +13,7 @@ pub data Text : Type 0 where
 -- the bytes of a list that starts at place p
 unfoldable pub kept : ℕ → List ℕ → Text
 kept p [] = stop p
-kept p (b ∷ s) = cond (eqb (classOf b) 0) (kept (p + 1) s) (sign p b (kept (p + 1) s))
+kept p (b ∷ s) = let rest = kept (p + 1) s in cond (eqb (classOf b) 0) rest (sign p b rest)
 
 -- what is left to read of the file d from a place on
 unfoldable pub text : List ℕ → ℕ → Text

@@ -26,7 +26,9 @@ gapSkip p (Bad q) = Done (Refused (fault 3 q))
 
 unfoldable pub gapStep : Text → Next ℕ Reading
 gapStep (stop p) = Done (At p)
-gapStep (sign p b t) = cond (isSpace b) (Again (p + 1)) (cond (eqb b 60) (gapSkip p (commentOf 1 t)) (Done (At p)))
+gapStep (sign p b t) =
+    let past = gapSkip p (commentOf 1 t) in
+    cond (isSpace b) (Again (p + 1)) (cond (eqb b 60) past (Done (At p)))
 
 -- spaces and comments from `at` on, as long as there are any: the place of the token behind them
 unfoldable pub gapAt : List ℕ → ℕ → Reading
