@@ -7,27 +7,28 @@ use Prim.Native.Nat.{ℕ}
 use lib.Dec.{eqb}
 use lib.IntN.{ℤ}
 use Rattle.sound.specs.rule.Sound.{wellFormed}
-use Rattle.cuts.specs.rule.Cut.{nextOf}
+use Rattle.cuts.specs.rule.Cut.{NextFound}
 use Rattle.cuts.specs.declared.Next.{Next}
-use Rattle.records.specs.rule.Verdict.{Verdict, sound, refused, refusedAt, judgedAs}
+use Rattle.records.specs.rule.Verdict.{Verdict, sound, refused, lowByte, badField, judgedAs}
 use Rattle.records.specs.declared.Judged.{Judged}
 use Rattle.records.specs.declared.Judged.the-variants as judged
 use Rattle.files.specs.declared.Judgement.{Judgement}
 use Rattle.files.specs.declared.Judgement.the-variants as J
-use Rattle.files.specs.rule.File.{FileVerdict, soundWith, badTable, faultIn, fileSaid, fileVerdict}
+use Rattle.files.specs.rule.File.{FileVerdict, soundWith, badTable, faultIn, fileSaid, FileJudged}
 
 pub table-settled : (t : List ℤ) (r₁ r₂ : Bool) → r₁ ≡ wellFormed t → r₂ ≡ wellFormed t → r₁ ≡ r₂
 table-settled t r₁ r₂ a b = a ∙ sym b
 
-pub next-settled : (d : List ℕ) (from : ℕ) (r₁ r₂ : Next) → r₁ ≡ nextOf d from → r₂ ≡ nextOf d from → r₁ ≡ r₂
-next-settled d from r₁ r₂ a b = a ∙ sym b
+pub next-settled : {d : List ℕ} {from : ℕ} {r₁ r₂ : Next} → NextFound d from r₁ → NextFound d from r₂ → r₁ ≡ r₂
+next-settled a b = a .says ∙ sym (b .says)
 
 -- the answer that says a verdict on a file
 abbrev unfault : ℕ → Verdict → Judgement
 unfault n sound = J.Fault n judged.Sound
 unfault n (refused k) =
     cond (eqb k 30) (J.Unended n) (cond (eqb k 31) (J.OtherLength n) (J.Fault n (cond (eqb k 20) judged.BadTable judged.ShortRecord)))
-unfault n (refusedAt k p) = J.Fault n (cond (eqb k 23) (judged.LowByte p) (judged.Illegal p))
+unfault n (lowByte p) = J.Fault n (judged.LowByte p)
+unfault n (badField i) = J.Fault n (judged.Illegal i)
 
 abbrev unsaid : FileVerdict → Judgement
 unsaid (soundWith n) = J.Sound n
@@ -51,5 +52,8 @@ said-back (J.OtherLength n) = refl
 said-back (J.Fault n j) = fault-back n j
 
 -- JUDGING A FILE: one answer
-pub file-settled : (t : List ℤ) (d : List ℕ) (r₁ r₂ : Judgement) → fileSaid r₁ ≡ fileVerdict t d → fileSaid r₂ ≡ fileVerdict t d → r₁ ≡ r₂
-file-settled t d r₁ r₂ a b = sym (said-back r₁) ∙ ap unsaid (a ∙ sym b) ∙ said-back r₂
+pub file-one : {t : List ℤ} {d : List ℕ} {v₁ v₂ : FileVerdict} → FileJudged t d v₁ → FileJudged t d v₂ → v₁ ≡ v₂
+file-one a b = a .says ∙ sym (b .says)
+
+pub file-settled : {t : List ℤ} {d : List ℕ} (r₁ r₂ : Judgement) → FileJudged t d (fileSaid r₁) → FileJudged t d (fileSaid r₂) → r₁ ≡ r₂
+file-settled r₁ r₂ a b = sym (said-back r₁) ∙ ap unsaid (file-one a b) ∙ said-back r₂

@@ -14,9 +14,10 @@ use lib.ListN.{length, getD}
 use Rattle.sets.specs.rule.Sets.{isIllegal}
 use Rattle.sound.specs.rule.Sound.{wellFormed}
 use Rattle.sound.specs.rule.Rows.{rowsOf, lengthOf}
-use Rattle.records.specs.rule.First.{firstFrom, lowAt, badRow}
+use Rattle.lows.specs.rule.Lows.{lowAt}
+use Rattle.records.specs.rule.First.{firstFrom, badRow}
 use Rattle.records.specs.rule.Value.{readingAt}
-use Rattle.records.specs.rule.Verdict.{sound, refused, refusedAt, rowVerdict, byteVerdict, rowsVerdict, verdictOf}
+use Rattle.records.specs.rule.Verdict.{sound, refused, lowByte, badField, rowVerdict, byteVerdict, rowsVerdict, verdictOf}
 use Rattle.records.specs.declared.Found.{Found}
 use Rattle.records.specs.declared.Found.the-variants.{At, Nothing}
 
@@ -118,7 +119,7 @@ module _ (t : List ℤ) (good : wellFormed t ≡ true) (bytes : List ℕ) where
 
   module _ (long : lengthOf t ≤ length bytes) where
     -- 23 with the first byte below 32
-    pub low-refused : (p : ℕ) → firstFrom (lowAt bytes) 0 (length bytes) ≡ At p → verdictOf t bytes ≡ refusedAt 23 p
+    pub low-refused : (p : ℕ) → firstFrom (lowAt bytes) 0 (length bytes) ≡ At p → verdictOf t bytes ≡ lowByte p
     unfolding verdictOf rowsVerdict byteVerdict
     low-refused p e = rw (good, le-leb _ _ long, e)
 
@@ -127,7 +128,7 @@ module _ (t : List ℤ) (good : wellFormed t ≡ true) (bytes : List ℕ) where
 
     -- 24 with the lowest illegal row, where no byte is below 32
     pub row-refused : (i : ℕ) → firstFrom (lowAt bytes) 0 (length bytes) ≡ Nothing
-        → firstFrom (badRow t (rowsOf t) bytes) 0 (rowsOf t) ≡ At i → verdictOf t bytes ≡ refusedAt 24 i
+        → firstFrom (badRow t (rowsOf t) bytes) 0 (rowsOf t) ≡ At i → verdictOf t bytes ≡ badField i
     unfolding verdictOf rowsVerdict byteVerdict rowVerdict
     row-refused i q e = rw (good, le-leb _ _ long, q, e)
 
