@@ -6,3 +6,5 @@ pub mod Forms
 pub mod Kinds
 pub mod Others
 pub mod Missing
+pub mod Exactly
+pub mod Reading
