@@ -3,3 +3,4 @@ pub mod Writing
 pub mod ReadBack
 pub mod Settled
 pub mod Narrow
+pub mod WriteBack

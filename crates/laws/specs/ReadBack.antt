@@ -75,7 +75,7 @@ module _ {t : List ℤ} {i : ℕ} {old new : List ℕ} {list list′ : List ℤ}
   truth-back w read = reads-written w read
 
 -- ---- a text: the bytes where the answer says are the text
-text-kind : (k : Kind) (t : List ℤ) (v : ℕ) (r : Row) (s : List ℕ) → fitsBy k t v r (text s) ≡ fits
+pub text-kind : (k : Kind) (t : List ℤ) (v : ℕ) (r : Row) (s : List ℕ) → fitsBy k t v r (text s) ≡ fits
     → (k ≡ Character) × (textFits (r .width) s ≡ true)
 unfolding fitsBy
 text-kind Character t v r s e = (refl, fit-legal (textFits (r .width) s) e)
@@ -90,11 +90,11 @@ text-bytes : (k : Kind) (t : List ℤ) (v : ℕ) (r : Row) (s new : List ℕ) �
 unfolding placesBy bytesBy
 text-bytes k t v r s new e q = rw e at q
 
-text-room : (k : Kind) (r : Row) → k ≡ Character → KindFacts k r → WidthFacts 4096 r
+pub text-room : (k : Kind) (r : Row) → k ≡ Character → KindFacts k r → WidthFacts 4096 r
 text-room k r e f = rw e at f
 
 -- the first bytes of a text with spaces behind it
-text-first : (w p : ℕ) (s new : List ℕ) → length s ≤ w → take w (drop p new) ≡ textBytes w s → take (length s) (drop p new) ≡ s
+pub text-first : (w p : ℕ) (s new : List ℕ) → length s ≤ w → take w (drop p new) ≡ textBytes w s → take (length s) (drop p new) ≡ s
 unfolding textBytes
 text-first w p s new h e =
     sym (take-take (length s) w (drop p new) h) ∙ ap (take (length s)) e ∙ take-append-seam s (spaces (w - length s))

@@ -1,17 +1,21 @@
--- "No two outcomes" for the calls whose promise is one equation: the test of a table, the next record, the judgement of a file. Those of
--- reading and judging a record stand in crate `read_laws` (value-settled, verdict-settled), that of writing in Writing (one-outcome).
+-- "No two outcomes" for the test of a table, the next record and the judgement of a file. Those of reading and judging a record stand in
+-- crate `read_laws` (value-settled, verdict-settled), that of writing in Writing (one-outcome), those of the face in `zarfolin`.
 use mathlib.Core.Path.{_≡_, refl, sym, ap, _∙_}
 use mathlib.Core.Bool.{Bool, cond}
 use mathlib.Core.List.{List}
 use Prim.Native.Nat.{ℕ}
+use native.Mathlib.Omega.{arith}
 use lib.Dec.{eqb}
 use lib.IntN.{ℤ}
+use lib.ListN.{length}
 use Rattle.sound.specs.rule.Sound.{wellFormed}
 use Rattle.cuts.specs.rule.Cut.{NextFound}
 use Rattle.cuts.specs.declared.Next.{Next}
 use Rattle.records.specs.rule.Verdict.{Verdict, sound, refused, lowByte, badField, judgedAs}
 use Rattle.records.specs.declared.Judged.{Judged}
 use Rattle.records.specs.declared.Judged.the-variants as judged
+use Rattle.definition.specs.declared.Answer.the-variants as definition
+use Rattle.definition.specs.rule.Definition.{Outcome, Built, Refusal, outcomeOf, answerOf, tableAfter, DefinitionRead}
 use Rattle.files.specs.declared.Judgement.{Judgement}
 use Rattle.files.specs.declared.Judgement.the-variants as J
 use Rattle.files.specs.rule.File.{FileVerdict, soundWith, badTable, faultIn, fileSaid, FileJudged}
@@ -57,3 +61,12 @@ file-one a b = a .says ∙ sym (b .says)
 
 pub file-settled : {t : List ℤ} {d : List ℕ} (r₁ r₂ : Judgement) → FileJudged t d (fileSaid r₁) → FileJudged t d (fileSaid r₂) → r₁ ≡ r₂
 file-settled r₁ r₂ a b = sym (said-back r₁) ∙ ap unsaid (file-one a b) ∙ said-back r₂
+
+-- A REFUSED DEFINITION KEEPS THE TABLE
+pub definition-refused-keeps : {d : List ℕ} {t t′ : List ℤ} {n p : ℕ} → DefinitionRead d t t′ (definition.Refused n p) → t′ ≡ t
+unfolding answerOf tableAfter
+definition-refused-keeps {d} {t} {t′} {n} {p} w = go (outcomeOf d (length t)) (w .says) (w .leaves)
+  where
+    go : (o : Outcome) → definition.Refused n p ≡ answerOf o → t′ ≡ tableAfter o t → t′ ≡ t
+    go (Built l) e q = let z : _≡_ {A = ℕ} 0 1 = cc in absurd (omega arith)
+    go (Refusal k at) e q = q
