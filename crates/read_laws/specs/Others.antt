@@ -10,7 +10,7 @@ use borrow.Author.Tests.{eqb-true, eq-eqb, ne-eqb, lt-ltb, ltb-true}
 use lib.Dec.{eqb, lit<}
 use lib.IntN.{ℤ, pos, negsuc}
 use lib.ListN.{length, take, drop, length-append, length-take}
-use Rattle.below.specs.Below.{holds-not}
+use Rattle.below.specs.Below.{holds-not, and-left, and-right, or-true, either-true}
 use Rattle.cells.specs.rule.Cell.{eqZ}
 use Rattle.cells.specs.Cell.{same-true, same-self}
 use Rattle.fields.specs.rule.Number.{Said, blank, says, wrong, allSpaces, codeOf, decimalFrom}
@@ -142,10 +142,6 @@ module _ (ok : ℤ → Bool) (x : List ℕ) where
   entry-of (unused r) = rw (code-blank-exactly x .1 r)
   entry-of (zero-entry f) = rw (code-exactly x (pos 0) .1 f, same-self (pos 0))
   entry-of (entry z f l) = rw (code-exactly x z .1 f, l) (or-true (eqZ z (pos 0)))
-    where
-      or-true : (c : Bool) → c || true ≡ true
-      or-true true = refl
-      or-true false = refl
 
 -- each of n subfields of w bytes
 pub data Entries (ok : ℤ → Bool) (w : ℕ) : ℕ → List ℕ → Type 0 where
@@ -157,21 +153,14 @@ pub data SomeSays (c : ℤ) (w : ℕ) : ℕ → List ℕ → Type 0 where
   here : {n : ℕ} {s : List ℕ} → CodeForm (take w s) c → SomeSays c w (suc n) s
   there : {n : ℕ} {s : List ℕ} → SomeSays c w n (drop w s) → SomeSays c w (suc n) s
 
-both-true : (a b : Bool) → a && b ≡ true → (a ≡ true) × (b ≡ true)
-both-true true b e = (refl, e)
-both-true false b e = holds-not e refl
-
-either-true : {A : Type 0} (a b : Bool) → a || b ≡ true → (a ≡ true → A) → (b ≡ true → A) → A
-either-true true b e f g = f refl
-either-true false b e f g = g e
-
 module _ (ok : ℤ → Bool) (w : ℕ) where
   entries-from : (n : ℕ) (s : List ℕ) → allEntries ok w n s ≡ true → Entries ok w n s
   unfolding allEntries
   entries-from zero s e = done
   entries-from (suc n) s e =
-      let p = both-true (entryGood ok (codeOf (take w s))) (allEntries ok w n (drop w s)) e in
-      next (entry-by ok (take w s) (codeOf (take w s)) refl (p .0)) (entries-from n (drop w s) (p .1))
+      let first = entryGood ok (codeOf (take w s)) in
+      let rest = allEntries ok w n (drop w s) in
+      next (entry-by ok (take w s) (codeOf (take w s)) refl (and-left first rest e)) (entries-from n (drop w s) (and-right first rest e))
 
   entries-to : {n : ℕ} {s : List ℕ} → Entries ok w n s → allEntries ok w n s ≡ true
   unfolding allEntries
@@ -193,21 +182,13 @@ module _ (c : ℤ) (w : ℕ) where
   unfolding someEntry
   some-from zero s e = holds-not e refl
   some-from (suc n) s e =
-      either-true (entryIs c (codeOf (take w s))) (someEntry c w n (drop w s)) e
-      (λ q. here (says-by (take w s) (codeOf (take w s)) refl q)) (λ q. there (some-from n (drop w s) q))
+      ⊎-elim (λ q. here (says-by (take w s) (codeOf (take w s)) refl q)) (λ q. there (some-from n (drop w s) q))
+      (either-true (entryIs c (codeOf (take w s))) (someEntry c w n (drop w s)) e)
 
   some-to : {n : ℕ} {s : List ℕ} → SomeSays c w n s → someEntry c w n s ≡ true
   unfolding someEntry
   some-to (here {s} f) = rw (says-of (take w s) f)
   some-to (there {n} {s} r) = rw (some-to r) (or-true (entryIs c (codeOf (take w s))))
-    where
-      or-true : (b : Bool) → b || true ≡ true
-      or-true true = refl
-      or-true false = refl
-
-or-true : (b : Bool) → b || true ≡ true
-or-true true = refl
-or-true false = refl
 
 pos-same : (c k : ℕ) → eqZ (pos c) (pos k) ≡ true → c ≡ k
 unfolding eqZ
@@ -235,9 +216,9 @@ module _ (f : ℤ → Bool) where
           → (isMember (passing f (suc c) n) (pos k) ≡ true → (suc c ≤ k) × (k < suc c + n) × (f (pos k) ≡ true))
           → (c ≤ k) × (k < c + suc n) × (f (pos k) ≡ true)
       go true p q ih =
-          either-true (eqZ (pos c) (pos k)) (isMember (passing f (suc c) n) (pos k)) q
-          (λ a. let w : c ≡ k = pos-same c k a in (omega arith, omega arith, rw w at p))
+          ⊎-elim (λ a. let w : c ≡ k = pos-same c k a in (omega arith, omega arith, rw w at p))
           (λ a. let r = ih a in (omega (arith, r .0), omega (arith, r .1), r .2))
+          (either-true (eqZ (pos c) (pos k)) (isMember (passing f (suc c) n) (pos k)) q)
       go false p q ih = let r = ih q in (omega (arith, r .0), omega (arith, r .1), r .2)
 
   pub passing-of : (n c k : ℕ) → c ≤ k → k < c + n → f (pos k) ≡ true → isMember (passing f c n) (pos k) ≡ true
