@@ -2,17 +2,19 @@
 -- promises stand in specs/rule of their crates: TableTested (sound), ValueRead and RecordJudged (records), Written (writes), NextFound
 -- (cuts), FileJudged (files), DefinitionRead (definition); those of the exported functions (zarfolin) hold them, or are they.
 use mathlib.Core.Path.{_≡_}
+use mathlib.Core.Logic.{⊎-elim}
 use mathlib.Core.Bool.{true}
 use mathlib.Core.List.{List}
-use Prim.Native.Nat.{ℕ}
+use Prim.Native.Nat.{ℕ, _-_}
 use lib.Dec.{eqb}
 use lib.IntN.{ℤ}
-use lib.ListN.{length, getD}
+use lib.ListN.{length, getD, take, drop}
+use Rattle.below.specs.Below.{lt-or-le}
 use Rattle.places.specs.Places.{Out, Apart}
 use Rattle.layout.specs.rule.Row.{rowAt}
 use Rattle.layout.specs.declared.Kind.{Kind}
 use Rattle.layout.specs.declared.Row.{Row}
-use Rattle.fields.specs.rule.Field.{Value, holds, illegal, truth}
+use Rattle.fields.specs.rule.Field.{Value, holds, illegal, text, truth}
 use Rattle.fields.specs.rule.Row.{placesOf, fieldBy}
 use Rattle.sound.specs.rule.Sound.{wellFormed}
 use Rattle.sound.specs.rule.Rows.{rowsOf}
@@ -20,7 +22,8 @@ use Rattle.cuts.specs.declared.Next.{Next}
 use Rattle.cuts.specs.rule.Cut.{NextFound, terminatorOf}
 use Rattle.cuts.specs.rule.Records.{Records, recordsOf}
 use Rattle.cuts.specs.Records.{laid, laid-again, countEnded}
-use Rattle.records.specs.rule.Value.{Outcome, refused, readingAt, ValueRead}
+use Rattle.records.specs.rule.Value.{Outcome, refused, outcomeOf, readingAt, ValueRead}
+use Rattle.sets.specs.rule.Sets.{listAfter}
 use Rattle.records.specs.rule.Verdict.{Verdict, RecordJudged}
 use Rattle.files.specs.rule.File.{FileVerdict, soundWith, fileVerdict, FileJudged}
 use Rattle.writes.specs.rule.Public.{refusalOf, Written}
@@ -43,6 +46,7 @@ use Rattle.file_laws.specs.Only.{Clean}
 use Rattle.file_laws.specs.Only as cutting
 use Rattle.laws.specs.Settled as settled
 use Rattle.laws.specs.Writing as writing
+use Rattle.laws.specs.ReadBack as back
 use Rattle.laws.specs.WriteBack.{Answered}
 use Rattle.laws.specs.WriteBack as again
 use Rattle.zarfolin.specs.rule.Face.{RecordTold, ValueTold, FileTold, DefinitionTold, NextTold}
@@ -106,6 +110,9 @@ module _ {t : List ℤ} {i : ℕ} {old : List ℕ} where
   pub refused-write-keeps : {x : Value} {new : List ℕ} {a : ℕ} → (a ≡ 0 → ⊥) → Written t i x old new a → new ≡ old
   refused-write-keeps = writing.refused-keeps
 
+  pub refused-truth-keeps : {b : ℕ} {new : List ℕ} {r : ℕ} → (r ≡ 0 → ⊥) → TruthTold t i b old new r → new ≡ old
+  refused-truth-keeps {b} n x = ⊎-elim (λ l. writing.refused-keeps n (x .given l)) (λ l. x .other l .keeps) (lt-or-le b 2)
+
 -- ==== 2. EXACT READING, EXACT REFUSALS BOTH WAYS, READ-BACK
 -- a value is read, or refused, exactly when the line of `ReadOutcome` for it is so
 pub read-so : (t : List ℤ) (i : ℕ) (bytes : List ℕ) (l : List ℤ) {l′ : List ℤ} {o : Outcome}
@@ -159,9 +166,25 @@ so-write = writing.only
 pub table-signs : (t : List ℤ) → wellFormed t ≡ true → TableSigns t
 table-signs = signs.formed-not-negative
 
+-- a definition that is read leaves a well-formed table
+pub definition-formed : {d : List ℕ} {t t′ : List ℤ} {v e : ℕ} → DefinitionRead d t t′ (definition.Read v e) → wellFormed t′ ≡ true
+definition-formed = settled.definition-well-formed
+
 -- what was written is read back
 pub read-back : {t : List ℤ} {i : ℕ} {x : Value} {old new : List ℕ} → Written t i x old new 0 → readingAt t i new ≡ holds x
 read-back = writing.read-back
+
+pub call-read-back : {t : List ℤ} {i : ℕ} {x : Value} {old new : List ℕ} → Written t i x old new 0 → {l l′ : List ℤ} {o : Outcome}
+    → ValueRead t i new l l′ o → o ≡ outcomeOf (rowAt t i .start - 1) (length l) (holds x)
+call-read-back = back.reads-written
+
+pub list-read-back : {t : List ℤ} {i : ℕ} {x : Value} {old new : List ℕ} → Written t i x old new 0 → {l l′ : List ℤ} {o : Outcome}
+    → ValueRead t i new l l′ o → l′ ≡ listAfter (holds x) l
+list-read-back = back.list-written
+
+pub text-read-back : {t : List ℤ} {i : ℕ} {s old new : List ℕ} → Written t i (text s) old new 0
+    → take (length s) (drop (rowAt t i .start - 1) new) ≡ s
+text-read-back = back.text-there
 
 -- ==== 3. THE LAWS OF CORRECTIONS, for the call and, since they promise `Written` too, for the exported functions
 -- locality

@@ -1,7 +1,7 @@
 -- "No two outcomes" for the test of a table, the next record and the judgement of a file. Those of reading and judging a record stand in
 -- crate `read_laws` (value-settled, verdict-settled), that of writing in Writing (one-outcome), those of the face in `zarfolin`.
 use mathlib.Core.Path.{_≡_, refl, sym, ap, _∙_}
-use mathlib.Core.Bool.{Bool, cond}
+use mathlib.Core.Bool.{Bool, true, cond}
 use mathlib.Core.List.{List}
 use Prim.Native.Nat.{ℕ}
 use native.Mathlib.Omega.{arith}
@@ -15,6 +15,7 @@ use Rattle.records.specs.rule.Verdict.{Verdict, sound, refused, lowByte, badFie
 use Rattle.records.specs.declared.Judged.{Judged}
 use Rattle.records.specs.declared.Judged.the-variants as judged
 use Rattle.definition.specs.declared.Answer.the-variants as definition
+use Rattle.definition.proofs.Goods.{read-well-formed}
 use Rattle.definition.specs.rule.Definition.{Outcome, Built, Refusal, outcomeOf, answerOf, tableAfter, DefinitionRead}
 use Rattle.files.specs.declared.Judgement.{Judgement}
 use Rattle.files.specs.declared.Judgement.the-variants as J
@@ -70,3 +71,12 @@ definition-refused-keeps {d} {t} {t′} {n} {p} w = go (outcomeOf d (length t)) 
     go : (o : Outcome) → definition.Refused n p ≡ answerOf o → t′ ≡ tableAfter o t → t′ ≡ t
     go (Built l) e q = let z : _≡_ {A = ℕ} 0 1 = cc in absurd (omega arith)
     go (Refusal k at) e q = q
+
+-- WHAT IS READ IS WELL FORMED: the table that the call leaves passes the test of every call on records
+pub definition-well-formed : {d : List ℕ} {t t′ : List ℤ} {v e : ℕ} → DefinitionRead d t t′ (definition.Read v e) → wellFormed t′ ≡ true
+unfolding answerOf
+definition-well-formed {d} {t} {t′} {v} {e} w = go (outcomeOf d (length t)) refl (w .says)
+  where
+    go : (o : Outcome) → outcomeOf d (length t) ≡ o → definition.Read v e ≡ answerOf o → wellFormed t′ ≡ true
+    go (Built l) q f = rw (w .leaves) (read-well-formed d t l q)
+    go (Refusal k at) q f = let z : _≡_ {A = ℕ} 0 1 = cc in absurd (omega arith)
