@@ -9,7 +9,8 @@ use borrow.Author.Tests.{eq-eqb, ne-eqb, ltb-false}
 use lib.Seq.{drop-cons}
 use lib.Dec.{eqb}
 use lib.ListN.{length, drop, getD, drop-of-length-le}
-use Rattle.lows.specs.Lows.{lowAt, Clear}
+use Rattle.lows.specs.rule.Lows.{lowAt}
+use Rattle.lows.specs.Lows.{Clear}
 use Rattle.cuts.specs.declared.Terminator.{Terminator}
 use Rattle.cuts.specs.declared.Next.the-variants.{Ended, Unended, Nothing}
 use Rattle.cuts.specs.rule.Cut.{single, pair, none, beginsWith, terminatorAt, terminatorOf, wholeAt, beginsAt, endFrom, nextFrom}

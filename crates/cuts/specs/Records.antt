@@ -11,7 +11,8 @@ use lib.Dec.{eqb}
 use lib.ListN.{length, take, drop, getD, length-take, length-drop, drop-of-length-le}
 use lib.Seq.{drop-cons, drop-drop, drop-nil, take-suc, take-all, getD-drop, getD-take}
 use Rattle.below.specs.Below.{and-left, and-right, holds-not, lt-or-le}
-use Rattle.lows.specs.Lows.{lowAt, Clear}
+use Rattle.lows.specs.rule.Lows.{lowAt}
+use Rattle.lows.specs.Lows.{Clear}
 use Rattle.cuts.specs.declared.Terminator.{Terminator}
 use Rattle.cuts.specs.declared.Next.{Next}
 use Rattle.cuts.specs.declared.Next.the-variants.{Ended, Unended, Nothing}

@@ -33,7 +33,7 @@ use Rattle.built.specs.Built.{table-well-formed}
 use Rattle.names.specs.rule.Standard.{nameFault}
 use Rattle.definition.specs.rule.Definition.{Variables, Course, course, endOr, entered, variableStep, variablesFrom, endsOn, Survey}
 use Rattle.definition.specs.rule.Definition.{Read, Whole, Faulty, ended, closed, surveyOf, namesOf, quoteAt, Outcome, Built}
-use Rattle.definition.specs.rule.Definition.{Refusal, fitting, named, judged, outcomeOf, answerOf, tableAfter}
+use Rattle.definition.specs.rule.Definition.{Refusal, fitting, named, judged, outcomeOf, tableAfter, DefinitionRead}
 use Rattle.definition.specs.declared.Answer.{Answer}
 use Rattle.definition.specs.rule.Definition as variables
 use Rattle.definition.proofs.Courses.{next-entry}
@@ -138,5 +138,5 @@ read-well-formed d t l e =
     rw e (table-well-formed l t (g .0) (g .1) (g .2))
 
 -- ---- NO TWO OUTCOMES: the contract settles the answer and the table
-pub definition-settled : (d : List ℕ) (t t₁ t₂ : List ℤ) (r₁ r₂ : Answer) → r₁ ≡ answerOf (outcomeOf d (length t)) → t₁ ≡ tableAfter (outcomeOf d (length t)) t → r₂ ≡ answerOf (outcomeOf d (length t)) → t₂ ≡ tableAfter (outcomeOf d (length t)) t → (r₁ ≡ r₂) × (t₁ ≡ t₂)
-definition-settled d t t₁ t₂ r₁ r₂ a b c e = (a ∙ sym c, b ∙ sym e)
+pub definition-settled : {d : List ℕ} {t t₁ t₂ : List ℤ} {r₁ r₂ : Answer} → DefinitionRead d t t₁ r₁ → DefinitionRead d t t₂ r₂ → (r₁ ≡ r₂) × (t₁ ≡ t₂)
+definition-settled a b = (a .says ∙ sym (b .says), a .leaves ∙ sym (b .leaves))

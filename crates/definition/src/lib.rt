@@ -20,8 +20,8 @@ ghost use Rattle.rows.specs.Cells.{nameColumn};
 ghost use Rattle.variables.specs.Ident.{marked};
 ghost use Rattle.entries.specs.rule.Entry.{entryOf};
 ghost use Rattle.entries.specs.Entry.{Stored};
-ghost use Rattle.definition.specs.rule.Definition.{course, variablesFrom, endsOn, judged, surveyOf, outcomeOf, answerOf};
-ghost use Rattle.definition.specs.rule.Definition.{tableAfter};
+ghost use Rattle.definition.specs.rule.Definition.{course, variablesFrom, endsOn, judged, surveyOf, answerOf};
+ghost use Rattle.definition.specs.rule.Definition.{tableAfter, DefinitionRead};
 ghost use Rattle.definition.specs.Code.{zeros, tallyWith, followed, turnAfter, RowStored, runOf, Laid, NamesJudged, laidOver, fillSays, fillLeaves, Settled};
 
 // Room for the most rows, and for the most lines.
@@ -331,8 +331,7 @@ fn read_in(
 
 // Reads a definition into a lent table. The table is filled from its start, or kept whole.
 pub fn read_definition(d: &[u8], table: &mut [i64]) -> Answer
-    ensures { λ r. ⌜ r ≡ answerOf (outcomeOf (now (d .entry)) (length (now (table .entry)))) ⌝ }
-    ensures { λ r. ⌜ now (table .exit) ≡ tableAfter (outcomeOf (now (d .entry)) (length (now (table .entry)))) (now (table .entry)) ⌝ }
+    ensures { λ r. ⌜ DefinitionRead (now (d .entry)) (now (table .entry)) (now (table .exit)) r ⌝ }
 {
     if 1_048_576 < d.len() {
         return Answer::Refused {

@@ -9,7 +9,7 @@ use lib.IntN.{ℤ}
 use lib.ListN.{length}
 use Rattle.cuts.specs.rule.Records.{Records, over, unended, record-and}
 use Rattle.sound.specs.rule.Rows.{rowsOf, lengthOf}
-use Rattle.records.specs.rule.Verdict.{Verdict, sound, refused, refusedAt, rowsVerdict}
+use Rattle.records.specs.rule.Verdict.{Verdict, sound, refused, lowByte, badField, rowsVerdict}
 use Rattle.records.specs.declared.Judged.{Judged}
 use Rattle.records.specs.declared.Judged.the-variants as judged
 use Rattle.files.specs.rule.File.{FileVerdict, soundWith, badTable, faultIn, recordVerdict, goOn, firstLength, recordsVerdict}
@@ -26,13 +26,15 @@ pub go-sound : (v : Verdict) (n : ℕ) (rest : FileVerdict) → isSound v ≡ tr
 unfolding isSound goOn
 go-sound sound n rest e = refl
 go-sound (refused k) n rest e = holds-not e refl
-go-sound (refusedAt k p) n rest e = holds-not e refl
+go-sound (lowByte p) n rest e = holds-not e refl
+go-sound (badField i) n rest e = holds-not e refl
 
 pub go-fault : (v : Verdict) (n : ℕ) (rest : FileVerdict) → isSound v ≡ false → goOn v n rest ≡ faultIn (n + 1) v
 unfolding isSound goOn
 go-fault sound n rest e = holds-not refl e
 go-fault (refused k) n rest e = refl
-go-fault (refusedAt k p) n rest e = refl
+go-fault (lowByte p) n rest e = refl
+go-fault (badField i) n rest e = refl
 
 module _ (t : List ℤ) (first : ℕ) (r : List ℕ) where
   pub verdict-other : (length r ≡ first → ⊥) → recordVerdict t first r ≡ refused 31
@@ -68,7 +70,8 @@ pub so-far : (v : Verdict) (n : ℕ) → soundSoFar (goOn v n (soundWith (n + 1)
 unfolding soundSoFar goOn isSound
 so-far sound n = refl
 so-far (refused k) n = refl
-so-far (refusedAt k p) n = refl
+so-far (lowByte p) n = refl
+so-far (badField i) n = refl
 
 pub go-same : (v : Verdict) (n : ℕ) (a b : FileVerdict) → isSound v ≡ false → goOn v n a ≡ goOn v n b
 go-same v n a b e = go-fault v n a e ∙ sym (go-fault v n b e)

@@ -6,7 +6,7 @@ ghost use lib.ListN.{length};
 ghost use Rattle.cuts.specs.rule.Cut.{Found};
 ghost use Rattle.cuts.specs.rule.Records.{recordsOf};
 ghost use Rattle.records.specs.rule.Verdict.{judgedAs};
-ghost use Rattle.files.specs.rule.File.{fileSaid, recordVerdict, goOn, soundWith, firstLength, recordsVerdict, fileVerdict};
+ghost use Rattle.files.specs.rule.File.{fileSaid, recordVerdict, goOn, soundWith, firstLength, recordsVerdict, FileJudged};
 ghost use Rattle.files.specs.rule.File.{isSound};
 ghost use Rattle.files.specs.File.{soundSoFar};
 ghost use Rattle.files.specs.rule.Tested.{Tested};
@@ -179,7 +179,7 @@ pub fn judge_records(t: &[i64], h: Header, d: &[u8], w: Terminator, scratch: &mu
 
 // Judges a file by a table.
 pub fn judge_file(t: &[i64], d: &[u8]) -> Judgement
-    ensures { λ r. ⌜ fileSaid r ≡ fileVerdict (now (t .entry)) (now (d .entry)) ⌝ }
+    ensures { λ r. ⌜ FileJudged (now (t .entry)) (now (d .entry)) (fileSaid r) ⌝ }
 {
     if sound::well_formed(t) {
         let h = Header::read(t);

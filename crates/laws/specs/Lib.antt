@@ -2,3 +2,4 @@ pub mod Tops
 pub mod Writing
 pub mod ReadBack
 pub mod Settled
+pub mod WriteBack

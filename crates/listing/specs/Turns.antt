@@ -12,7 +12,7 @@ use lib.ListN.{length}
 use Rattle.below.specs.Below.{holds-not}
 use Rattle.sound.specs.rule.Rows.{rowsOf, lengthOf}
 use Rattle.cuts.specs.rule.Records.{Records, record-and}
-use Rattle.records.specs.rule.Verdict.{Verdict, sound, refused, refusedAt, rowsVerdict}
+use Rattle.records.specs.rule.Verdict.{Verdict, sound, refused, lowByte, badField, rowsVerdict}
 use Rattle.files.specs.rule.File.{FileVerdict, soundWith, badTable, faultIn, recordVerdict, goOn, firstLength, isSound}
 use Rattle.lines.specs.rule.Appended.{Appended}
 use Rattle.lines.specs.Appended.{nothing-more}
@@ -176,4 +176,5 @@ pub count-on : (v : Verdict) (n : ℕ) → countIn (goOn v n (soundWith (n + 1))
 unfolding countIn goOn
 count-on sound n = refl
 count-on (refused k) n = refl
-count-on (refusedAt k p) n = refl
+count-on (lowByte p) n = refl
+count-on (badField i) n = refl

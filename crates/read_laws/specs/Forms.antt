@@ -88,12 +88,12 @@ digits-read m (b ∷ s) e =
 digit-within : (d : ℕ) → d ≤ 9 → within 48 57 (48 + d) ≡ true
 digit-within d h = rw (le-leb 48 (48 + d) (omega arith), le-leb (48 + d) 57 (omega arith))
 
-digits-only : {m n : ℕ} {s : List ℕ} → Digits m s n → digitsOnly s ≡ true
+pub digits-only : {m n : ℕ} {s : List ℕ} → Digits m s n → digitsOnly s ≡ true
 unfolding digitsOnly
 digits-only end = refl
 digits-only (digit {d} h r) = rw (digit-within d h, digits-only r)
 
-digits-say : {m n : ℕ} {s : List ℕ} → Digits m s n → decimalFrom m s ≡ n
+pub digits-say : {m n : ℕ} {s : List ℕ} → Digits m s n → decimalFrom m s ≡ n
 unfolding decimalFrom
 digits-say end = refl
 digits-say (digit {m} {d} h r) = let e : 48 + d - 48 ≡ d = omega arith in rw e (digits-say r)

@@ -21,14 +21,14 @@ use Rattle.numbers.specs.Numeral.{FormatFacts}
 use Rattle.read_laws.specs.Forms.{Spaces, CodeForm, QuantityForm, code-exactly, code-blank-exactly, quantity-exactly}
 
 -- ---- zero or not
-zero-not : (z : ℤ) → (z ≡ pos 0 → ⊥) → eqZ z (pos 0) ≡ false
+pub zero-not : (z : ℤ) → (z ≡ pos 0 → ⊥) → eqZ z (pos 0) ≡ false
 zero-not z h = go (eqZ z (pos 0)) refl
   where
     go : (c : Bool) → eqZ z (pos 0) ≡ c → c ≡ false
     go true e = absurd (h (same-true z (pos 0) e))
     go false e = refl
 
-not-zero : (z : ℤ) → eqZ z (pos 0) ≡ false → z ≡ pos 0 → ⊥
+pub not-zero : (z : ℤ) → eqZ z (pos 0) ≡ false → z ≡ pos 0 → ⊥
 not-zero z e q = holds-not (rw q (same-self (pos 0))) e
 
 module _ (ok : ℤ → Bool) (s : List ℕ) (z : ℤ) where

@@ -5,3 +5,5 @@ pub mod Forms
 pub mod Kinds
 pub mod Others
 pub mod Missing
+pub mod Exactly
+pub mod Reading

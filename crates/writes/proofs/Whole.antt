@@ -40,16 +40,16 @@ left-by notLegal new old = refl
 left-by tooMany new old = refl
 
 module _ (t : List ℤ) (i : ℕ) (x : field.Value) (old : List ℕ) where
-  pub not-formed : wellFormed t ≡ false → Written t i x old old NotWellFormed
+  pub not-formed : wellFormed t ≡ false → Written t i x old old (numberOf NotWellFormed)
   unfolding refusalOf recordAfter numberOf
   not-formed e = record { says = rw e; leaves = rw e }
 
   module _ (good : wellFormed t ≡ true) where
-    pub no-row : rowsOf t ≤ i → Written t i x old old NoRow
+    pub no-row : rowsOf t ≤ i → Written t i x old old (numberOf NoRow)
     unfolding refusalOf recordAfter numberOf
     no-row h = record { says = rw (good, le-leb (rowsOf t) i h); leaves = rw (good, le-leb (rowsOf t) i h) }
 
-    pub too-short : i < rowsOf t → length old < lengthOf t → Written t i x old old TooShort
+    pub too-short : i < rowsOf t → length old < lengthOf t → Written t i x old old (numberOf TooShort)
     unfolding refusalOf recordAfter numberOf
     too-short h l = record {
       says = rw (good, lt-leb (rowsOf t) i h, lt-ltb (length old) (lengthOf t) l);
@@ -77,7 +77,7 @@ module _ (t : List ℤ) (i : ℕ) (old : List ℕ) (good : wellFormed t ≡ true
     row-ready = rw (q, e) (ready (length old) (row-facts t good i below) long-enough)
 
     pub row-written : {value : Value} {list : List ℤ} {text : List ℕ} {new : List ℕ} {a : Wrote}
-        → WrittenBy (r .kind) t (h .rows) r value list text old new a → Written t i (valueOf value list text) old new a
+        → WrittenBy (r .kind) t (h .rows) r value list text old new a → Written t i (valueOf value list text) old new (numberOf a)
     unfolding recordAfter writtenOf
     row-written {value} {list} {text} {new} {a} w =
         let w′ : WrittenBy (rowAt t i .kind) t (rowsOf t) (rowAt t i) value list text old new a = rw (q, e) at w in

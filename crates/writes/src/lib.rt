@@ -4,7 +4,7 @@ ghost use lib.ListN.{length};
 ghost use Rattle.ascii.specs.rule.Tens.{Tens};
 ghost use Rattle.writes.specs.Write.{WrittenBy, Ready};
 ghost use Rattle.writes.specs.rule.Write.{valueOf};
-ghost use Rattle.writes.specs.rule.Public.{Written};
+ghost use Rattle.writes.specs.rule.Public.{numberOf, Written};
 use layout::Header;
 use layout::Row;
 
@@ -66,7 +66,7 @@ pub fn write_value(
     text: &[u8],
     bytes: &mut [u8],
 ) -> Wrote
-    ensures { λ r. ⌜ Written (now (table .entry)) row (valueOf value (now (list .entry)) (now (text .entry))) (now (bytes .entry)) (now (bytes .exit)) r ⌝ }
+    ensures { λ r. ⌜ Written (now (table .entry)) row (valueOf value (now (list .entry)) (now (text .entry))) (now (bytes .entry)) (now (bytes .exit)) (numberOf r) ⌝ }
 {
     if !sound::well_formed(table) {
         return Wrote::NotWellFormed;

@@ -55,6 +55,10 @@ nextFrom w from (c ∷ s) = endFrom w from from (c ∷ s)
 unfoldable pub nextOf : List ℕ → ℕ → Next
 nextOf d from = nextFrom (terminatorOf d) from (drop from d)
 
+-- THE PROMISE of the call that finds the next record
+pub record NextFound (d : List ℕ) (from : ℕ) (n : Next) : Type 0 where
+  pub says : n ≡ nextOf d from
+
 -- the file's terminator, of two bytes at most
 pub record Found (d : List ℕ) (w : Terminator) : Type 0 where
   pub is : w ≡ terminatorOf d

@@ -13,7 +13,7 @@ returns : tie.Need-returns
 unfolding outcomeOf answerOf tableAfter
 returns c =
     let e : ltb 1048576 (length (c .before .before .args .d .now)) ≡ true = lt-ltb _ _ (c .if1 .taken) in
-    (rw e, rw e)
+    record { says = rw e; leaves = rw e }
 
 read-in-requires : tie.Need-read-in-requires
 unfolding zeros
@@ -23,7 +23,8 @@ returns-2 : tie.Need-returns-2
 unfolding outcomeOf
 returns-2 c =
     let e : ltb 1048576 (length (c .before .before .before .before .before .before .before .before .before .before .before .before .before .before .before .before .before .args .d .now)) ≡ false = le-ltb _ _ (c .before .before .before .before .before .before .before .before .before .before .before .before .before .before .before .if1 .left) in
-    (rw e (c .before .before .before .before .before .read-in .ensures .0), rw e (c .before .before .before .before .before .read-in .ensures .1))
+    let q = c .before .before .before .before .before .read-in .ensures in
+    record { says = rw e (q .0); leaves = rw e (q .1) }
 
 pub read-definition-spec : {M : Type 1} → statement M
 read-definition-spec =

@@ -1,5 +1,6 @@
 -- A definition as a whole: SSS VERSION 1.1, the heading, SURVEY, an optional TITLE, RECORD and a letter; one or more variables; END
 -- RECORD, END SURVEY, END SSS; what follows is ignored. It means a survey, and a survey a table.
+use mathlib.Core.Path.{_≡_}
 use mathlib.Core.Bool.{Bool, true, false, cond}
 use mathlib.Core.List.{List, [], _∷_, _++_}
 use Prim.Native.Nat.{ℕ, zero, suc, _+_, _-_, _*_}
@@ -126,3 +127,8 @@ answerOf (Refusal number place) = answer.Refused number place
 unfoldable pub tableAfter : Outcome → List ℤ → List ℤ
 tableAfter (Built l) t = pasted t 0 (tableOf l)
 tableAfter (Refusal number place) t = t
+
+-- THE PROMISE of the call, whose answer holds document 01's number and place: the answer, and the table afterwards
+pub record DefinitionRead (d : List ℕ) (t t′ : List ℤ) (a : Answer) : Type 0 where
+  pub says : a ≡ answerOf (outcomeOf d (length t))
+  pub leaves : t′ ≡ tableAfter (outcomeOf d (length t)) t

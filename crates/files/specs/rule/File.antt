@@ -1,5 +1,6 @@
 -- "After 20, each record is judged 30, 31, 22, 23, 24", in the file's order, up to the first fault. A fault names the record, from 1, the
 -- row for 24 and the byte's place in the record for 23; a file without one, the count of its records.
+use mathlib.Core.Path.{_≡_}
 use mathlib.Core.Bool.{Bool, true, false, cond}
 use mathlib.Core.List.{List}
 use Prim.Native.Nat.{ℕ, _+_}
@@ -9,7 +10,7 @@ use lib.ListN.{length}
 use Rattle.cuts.specs.rule.Records.{Records, over, unended, record-and, recordsOf}
 use Rattle.sound.specs.rule.Sound.{wellFormed}
 use Rattle.sound.specs.rule.Rows.{rowsOf, lengthOf}
-use Rattle.records.specs.rule.Verdict.{Verdict, sound, refused, refusedAt, rowsVerdict, judgedAs}
+use Rattle.records.specs.rule.Verdict.{Verdict, sound, refused, lowByte, badField, rowsVerdict, judgedAs}
 use Rattle.files.specs.declared.Judgement.{Judgement}
 use Rattle.files.specs.declared.Judgement.the-variants as J
 
@@ -36,7 +37,8 @@ recordVerdict t first r =
 unfoldable pub goOn : Verdict → ℕ → FileVerdict → FileVerdict
 goOn sound n rest = rest
 goOn (refused k) n rest = faultIn (n + 1) (refused k)
-goOn (refusedAt k p) n rest = faultIn (n + 1) (refusedAt k p)
+goOn (lowByte p) n rest = faultIn (n + 1) (lowByte p)
+goOn (badField i) n rest = faultIn (n + 1) (badField i)
 
 -- the length of the first record, once it is known
 unfoldable pub firstLength : ℕ → ℕ → ℕ → ℕ
@@ -53,8 +55,13 @@ recordsVerdict t n first (record-and r rs) =
 unfoldable pub fileVerdict : List ℤ → List ℕ → FileVerdict
 fileVerdict t d = cond (wellFormed t) (recordsVerdict t 0 0 (recordsOf d)) badTable
 
+-- THE PROMISE of the call
+pub record FileJudged (t : List ℤ) (d : List ℕ) (v : FileVerdict) : Type 0 where
+  pub says : v ≡ fileVerdict t d
+
 -- whether a record's verdict is sound
 unfoldable pub isSound : Verdict → Bool
 isSound sound = true
 isSound (refused k) = false
-isSound (refusedAt k p) = false
+isSound (lowByte p) = false
+isSound (badField i) = false

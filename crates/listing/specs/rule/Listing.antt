@@ -3,14 +3,14 @@
 use mathlib.Core.Bool.{cond}
 use mathlib.Core.List.{List, [], _++_}
 use Prim.Native.Nat.{ℕ, zero, suc, _+_, _-_}
-use lib.Dec.{eqb, leb, ltb}
+use lib.Dec.{leb, ltb}
 use lib.IntN.{ℤ}
 use lib.ListN.{length}
 use Rattle.layout.specs.rule.Row.{rowAt}
 use Rattle.sound.specs.rule.Rows.{rowsOf, lengthOf}
 use Rattle.cuts.specs.rule.Records.{Records, over, unended, record-and}
 use Rattle.records.specs.rule.Value.{readingAt}
-use Rattle.records.specs.rule.Verdict.{Verdict, sound, refused, refusedAt}
+use Rattle.records.specs.rule.Verdict.{Verdict, sound, refused, lowByte, badField}
 use Rattle.files.specs.rule.File.{FileVerdict, soundWith, badTable, faultIn, recordVerdict, goOn, firstLength, isSound}
 use Rattle.lines.specs.rule.Text.{fieldText, okText, faultText}
 
@@ -34,7 +34,8 @@ identOf t i = cond (ltb i (rowsOf t)) (rowAt t i .ident) 0
 unfoldable pub faultOf : List ℤ → ℕ → Verdict → List ℕ
 faultOf t n sound = okText n
 faultOf t n (refused k) = faultText k n 0
-faultOf t n (refusedAt k i) = cond (eqb k 24) (faultText k n (identOf t i)) (faultText k n 0)
+faultOf t n (lowByte p) = faultText 23 n 0
+faultOf t n (badField i) = faultText 24 n (identOf t i)
 
 unfoldable pub lastText : List ℤ → FileVerdict → List ℕ
 lastText t (soundWith n) = okText n

@@ -15,13 +15,13 @@ judge-rows-requires : tie.Need-judge-rows-requires
 judge-rows-requires c κs = (rows-ready _ (c .before .before .before .before .before .before .before .before .before .args .bytes .now) (sym (c .before .before .before .before .before .before .before .well-formed .ensures) ∙ c .before .before .before .before .before .before .if1 .taken) _ (c .before .before .before .before .before .read .ensures) (c .before .before .before .if2 .left), search needs)
 
 returns-2 : tie.Need-returns-2
-returns-2 c = c .before .judge-rows .ensures ∙ verdict-rows _ _ (sym (c .before .before .before .before .before .before .before .before .before .well-formed .ensures) ∙ c .before .before .before .before .before .before .before .before .if1 .taken) _ (c .before .before .before .before .before .before .before .read .ensures) (c .before .before .before .before .before .if2 .left)
+returns-2 c = verdict-rows _ _ (sym (c .before .before .before .before .before .before .before .before .before .well-formed .ensures) ∙ c .before .before .before .before .before .before .before .before .if1 .taken) _ (c .before .before .before .before .before .before .before .read .ensures) (c .before .before .before .before .before .if2 .left) (c .before .judge-rows .ensures)
 
 judge-rows-requires-2 : tie.Need-judge-rows-requires-2
 judge-rows-requires-2 c κs = (rows-ready _ (c .before .before .before .before .before .before .before .before .before .args .bytes .now) (sym (c .before .before .before .before .before .before .before .well-formed .ensures) ∙ c .before .before .before .before .before .before .if1 .taken) _ (c .before .before .before .before .before .read .ensures) (c .before .before .before .if2 .left), search needs)
 
 returns-3 : tie.Need-returns-3
-returns-3 c = c .before .judge-rows2 .ensures ∙ verdict-rows _ _ (sym (c .before .before .before .before .before .before .before .before .before .well-formed .ensures) ∙ c .before .before .before .before .before .before .before .before .if1 .taken) _ (c .before .before .before .before .before .before .before .read .ensures) (c .before .before .before .before .before .if2 .left)
+returns-3 c = verdict-rows _ _ (sym (c .before .before .before .before .before .before .before .before .before .well-formed .ensures) ∙ c .before .before .before .before .before .before .before .before .if1 .taken) _ (c .before .before .before .before .before .before .before .read .ensures) (c .before .before .before .before .before .if2 .left) (c .before .judge-rows2 .ensures)
 
 returns-4 : tie.Need-returns-4
 unfolding judgedAs

@@ -2,9 +2,7 @@
 use mathlib.Core.Bool.{Bool, cond}
 use mathlib.Core.List.{List}
 use Prim.Native.Nat.{ℕ, zero, suc}
-use lib.Dec.{ltb}
 use lib.IntN.{ℤ}
-use lib.ListN.{getD}
 use Rattle.layout.specs.rule.Row.{rowAt}
 use Rattle.fields.specs.rule.Row.{readingOf}
 use Rattle.sets.specs.rule.Sets.{isIllegal}
@@ -15,10 +13,6 @@ use Rattle.records.specs.declared.Found.the-variants.{At, Nothing}
 unfoldable pub firstFrom : (ℕ → Bool) → ℕ → ℕ → Found
 firstFrom f i zero = Nothing
 firstFrom f i (suc n) = cond (f i) (At i) (firstFrom f (suc i) n)
-
--- byte i of a record is below 32
-abbrev pub lowAt : List ℕ → ℕ → Bool
-lowAt bytes i = ltb (getD bytes i 0) 32
 
 -- row i of a table of v rows is illegal in a record
 abbrev pub badRow : List ℤ → ℕ → List ℕ → ℕ → Bool

@@ -65,7 +65,7 @@ listAs t i bytes list =
     cond (wellFormed t)
     (cond (ltb i (rowsOf t)) (cond (leb (lengthOf t) (length bytes)) (listAfter (readingAt t i bytes) list) list) list) list
 
--- THE PROMISE of the call
-pub record ValueRead (t : List ℤ) (i : ℕ) (bytes : List ℕ) (list list′ : List ℤ) (r : Answer) : Type 0 where
-  pub says : said r ≡ readAs t i bytes (length list)
+-- THE PROMISE of the call: its outcome, and the list after it
+pub record ValueRead (t : List ℤ) (i : ℕ) (bytes : List ℕ) (list list′ : List ℤ) (o : Outcome) : Type 0 where
+  pub says : o ≡ readAs t i bytes (length list)
   pub leaves : list′ ≡ listAs t i bytes list

@@ -42,7 +42,7 @@ refusalOf t i x n =
 unfoldable pub recordAfter : List ℤ → ℕ → Value → List ℕ → List ℕ
 recordAfter t i x old = cond (eqb (refusalOf t i x (length old)) 0) (writtenOf t (rowsOf t) (rowAt t i) x old) old
 
--- the public contract
-pub record Written (t : List ℤ) (i : ℕ) (x : Value) (old new : List ℕ) (answer : Wrote) : Type 0 where
-  pub says : numberOf answer ≡ refusalOf t i x (length old)
+-- THE PROMISE of the call: the number, and the record afterwards
+pub record Written (t : List ℤ) (i : ℕ) (x : Value) (old new : List ℕ) (number : ℕ) : Type 0 where
+  pub says : number ≡ refusalOf t i x (length old)
   pub leaves : new ≡ recordAfter t i x old

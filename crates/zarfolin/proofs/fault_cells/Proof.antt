@@ -2,12 +2,12 @@
 use borrow.Author.Needs.{needs, sfits-of}
 use mir.Facts.{toZ-ofZ}
 use Rattle.zarfolin.specs.rule.Face.{faultCells}
-use Rattle.records.specs.rule.Verdict.{judgedAs}
+use Rattle.records.specs.rule.Verdict.{judgedAs, verdictNumber}
 use Rattle.zarfolin.proofs.fault_cells.Statement.{statement}
 use Rattle.zarfolin.proofs.fault_cells.Tie as tie
 
 pub fault-cells-spec : {M : Type 1} → statement M
-unfolding faultCells judgedAs
+unfolding faultCells judgedAs verdictNumber
 fault-cells-spec =
     tie.close
     (tie.spec

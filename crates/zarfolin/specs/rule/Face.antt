@@ -4,18 +4,17 @@ use mathlib.Core.Path.{_≡_}
 use mathlib.Core.Bool.{Bool, true, false, cond}
 use mathlib.Core.List.{List, [], _∷_}
 use Prim.Native.Nat.{ℕ}
-use lib.Dec.{eqb, ltb}
+use lib.Dec.{ltb}
 use lib.IntN.{ℤ, pos}
-use lib.ListN.{length}
-use Rattle.fields.specs.rule.Field as field
 use Rattle.records.specs.rule.Verdict as verdict
 use Rattle.records.specs.rule.Value as value
-use Rattle.files.specs.rule.File.{FileVerdict, soundWith, badTable, faultIn}
+use Rattle.files.specs.rule.File.{FileVerdict, soundWith, badTable, faultIn, FileJudged}
+use Rattle.cuts.specs.rule.Cut.{NextFound}
 use Rattle.cuts.specs.declared.Next.{Next}
 use Rattle.cuts.specs.declared.Next.the-variants.{Ended, Unended, Nothing}
+use Rattle.definition.specs.rule.Definition.{DefinitionRead}
 use Rattle.definition.specs.declared.Answer.{Answer}
 use Rattle.definition.specs.declared.Answer.the-variants as definition
-use Rattle.writes.specs.rule.Public.{refusalOf, recordAfter}
 use Rattle.zarfolin.specs.declared.Told.{Told}
 
 -- a count as a signed number: itself, up to the largest there is, which no place in a slice reaches
@@ -38,11 +37,29 @@ pub record Telling (c : Told) (answer : List ℤ) (r : ℕ) : Type 0 where
   pub holds : answer ≡ cellOf (c .number) ∷ c .first ∷ c .second ∷ c .third ∷ []
   pub gives : r ≡ c .number
 
--- a record judged: "23 comes with the byte's place, 24 with the lowest row"
+-- what comes with a verdict: "23 comes with the byte's place, 24 with the lowest row"
+abbrev pub placeCell : verdict.Verdict → ℤ
+placeCell verdict.sound = pos 0
+placeCell (verdict.refused k) = pos 0
+placeCell (verdict.lowByte p) = cellOf p
+placeCell (verdict.badField i) = pos 0
+
+abbrev pub rowCell : verdict.Verdict → ℤ
+rowCell verdict.sound = pos 0
+rowCell (verdict.refused k) = pos 0
+rowCell (verdict.lowByte p) = pos 0
+rowCell (verdict.badField i) = cellOf i
+
+-- the one of them that there is
+abbrev pub besideCell : verdict.Verdict → ℤ
+besideCell verdict.sound = pos 0
+besideCell (verdict.refused k) = pos 0
+besideCell (verdict.lowByte p) = cellOf p
+besideCell (verdict.badField i) = cellOf i
+
+-- a record judged: the number, and the byte's place or the row
 unfoldable pub verdictCells : verdict.Verdict → Told
-verdictCells verdict.sound = bare 0
-verdictCells (verdict.refused k) = bare k
-verdictCells (verdict.refusedAt k p) = four k (cellOf p) (pos 0) (pos 0)
+verdictCells v = four (verdict.verdictNumber v) (besideCell v) (pos 0) (pos 0)
 
 -- a row read: the number, the kind (0 missing, 1 number, 2 set, 3 text, 4 truth), and the value
 unfoldable pub outcomeCells : value.Outcome → Told
@@ -55,10 +72,7 @@ outcomeCells (value.refused k) = bare k
 
 -- record n of a file: the number, the record, the row for 24, the byte's place for 23
 unfoldable pub faultCells : ℕ → verdict.Verdict → Told
-faultCells n verdict.sound = four 0 (cellOf n) (pos 0) (pos 0)
-faultCells n (verdict.refused k) = four k (cellOf n) (pos 0) (pos 0)
-faultCells n (verdict.refusedAt k p) =
-    four k (cellOf n) (cond (eqb k 24) (cellOf p) (pos 0)) (cond (eqb k 23) (cellOf p) (pos 0))
+faultCells n v = four (verdict.verdictNumber v) (cellOf n) (rowCell v) (placeCell v)
 
 -- a file judged: a sound one comes with the count of its records
 unfoldable pub fileCells : FileVerdict → Told
@@ -77,12 +91,29 @@ nextCells (Ended start end next) = four 1 (cellOf start) (cellOf end) (cellOf ne
 nextCells (Unended start end) = four 2 (cellOf start) (cellOf end) (cellOf end)
 nextCells Nothing = bare 0
 
--- THE PROMISE of reading a value: the four numbers, and the list afterwards
-pub record ValueTold (t : List ℤ) (i : ℕ) (bytes : List ℕ) (list list′ answer : List ℤ) (r : ℕ) : Type 0 where
-  pub tells : Telling (outcomeCells (value.readAs t i bytes (length list))) answer r
-  pub leaves : list′ ≡ value.listAs t i bytes list
+-- ---- THE PROMISES: that of the call, and its outcome told in four numbers. A write gives its number back, and promises just what the
+-- call does.
+pub record RecordTold (t : List ℤ) (bytes : List ℕ) (answer : List ℤ) (r : ℕ) : Type 0 where
+  pub outcome : verdict.Verdict
+  pub promise : verdict.RecordJudged t bytes outcome
+  pub tells : Telling (verdictCells outcome) answer r
 
--- THE PROMISE of a write: the number given back, and the record afterwards
-pub record WriteTold (t : List ℤ) (i : ℕ) (x : field.Value) (old new : List ℕ) (r : ℕ) : Type 0 where
-  pub gives : r ≡ refusalOf t i x (length old)
-  pub leaves : new ≡ recordAfter t i x old
+pub record ValueTold (t : List ℤ) (i : ℕ) (bytes : List ℕ) (list list′ answer : List ℤ) (r : ℕ) : Type 0 where
+  pub outcome : value.Outcome
+  pub promise : value.ValueRead t i bytes list list′ outcome
+  pub tells : Telling (outcomeCells outcome) answer r
+
+pub record FileTold (t : List ℤ) (d : List ℕ) (answer : List ℤ) (r : ℕ) : Type 0 where
+  pub outcome : FileVerdict
+  pub promise : FileJudged t d outcome
+  pub tells : Telling (fileCells outcome) answer r
+
+pub record DefinitionTold (d : List ℕ) (t t′ answer : List ℤ) (r : ℕ) : Type 0 where
+  pub outcome : Answer
+  pub promise : DefinitionRead d t t′ outcome
+  pub tells : Telling (definitionCells outcome) answer r
+
+pub record NextTold (d : List ℕ) (from : ℕ) (answer : List ℤ) (r : ℕ) : Type 0 where
+  pub outcome : Next
+  pub promise : NextFound d from outcome
+  pub tells : Telling (nextCells outcome) answer r

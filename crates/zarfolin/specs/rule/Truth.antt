@@ -3,12 +3,12 @@
 use mathlib.Core.Path.{_≡_}
 use mathlib.Core.Bool.{false, cond}
 use mathlib.Core.List.{List}
-use Prim.Native.Nat.{ℕ}
-use lib.Dec.{eqb, ltb}
+use Prim.Native.Nat.{ℕ, _≤_, _<_}
+use lib.Dec.{eqb}
 use lib.IntN.{ℤ}
 use lib.ListN.{length}
 use Rattle.fields.specs.rule.Field.{truth}
-use Rattle.writes.specs.rule.Public.{refusalOf, recordAfter}
+use Rattle.writes.specs.rule.Public.{refusalOf, Written}
 
 -- the number for what is no truth, where k is the number for a truth
 unfoldable pub noTruth : ℕ → ℕ
@@ -17,14 +17,12 @@ noTruth k = cond (eqb k 0) 27 k
 abbrev pub badTruth : List ℤ → ℕ → ℕ → ℕ
 badTruth t i n = noTruth (refusalOf t i (truth false) n)
 
--- THE NUMBER given back for the number b, in a record of n bytes
-unfoldable pub truthNumber : List ℤ → ℕ → ℕ → ℕ → ℕ
-truthNumber t i b n = cond (ltb b 2) (refusalOf t i (truth (eqb b 1)) n) (badTruth t i n)
+-- what is given for what is no truth: the number, and the record as it was
+pub record NoTruth (t : List ℤ) (i : ℕ) (old new : List ℕ) (r : ℕ) : Type 0 where
+  pub says : r ≡ badTruth t i (length old)
+  pub keeps : new ≡ old
 
--- and the record afterwards
-unfoldable pub truthAfter : List ℤ → ℕ → ℕ → List ℕ → List ℕ
-truthAfter t i b old = cond (ltb b 2) (recordAfter t i (truth (eqb b 1)) old) old
-
+-- THE PROMISE for the number b: the write of that truth, or none
 pub record TruthTold (t : List ℤ) (i b : ℕ) (old new : List ℕ) (r : ℕ) : Type 0 where
-  pub gives : r ≡ truthNumber t i b (length old)
-  pub leaves : new ≡ truthAfter t i b old
+  pub given : b < 2 → Written t i (truth (eqb b 1)) old new r
+  pub other : 2 ≤ b → NoTruth t i old new r
