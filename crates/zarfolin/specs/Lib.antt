@@ -1,3 +1,4 @@
 -- The definitions that the face's contracts cite.
 pub mod rule
 pub mod Truth
+pub mod Whole
