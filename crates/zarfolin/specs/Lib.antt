@@ -3,3 +3,4 @@ pub mod rule
 pub mod Truth
 pub mod Version
 pub mod Settled
+pub mod Whole
