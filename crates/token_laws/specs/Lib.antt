@@ -3,6 +3,7 @@ pub mod Comments
 pub mod Gaps
 pub mod Tokens
 pub mod Values
+pub mod Numbers
 pub mod Opening
 pub mod Judged
 pub mod Places
