@@ -15,7 +15,7 @@ use Rattle.sound.specs.rule.Sound.{wellFormed}
 use Rattle.sound.specs.rule.Rows.{rowsOf, lengthOf}
 use Rattle.record_values.specs.declared.Whole.{Whole}
 use Rattle.record_values.specs.declared.Whole.the-variants as whole
-use Rattle.record_values.specs.rule.Record as record
+use Rattle.record_values.specs.rule.Record as rows
 use Rattle.record_values.specs.rule.Record.{membersOf, fourOf, wholeOf, RecordRead}
 use Rattle.record_values.specs.Room.{list-room}
 use Rattle.record_values.specs.Record.{startOf, row-numbers, row-members, usable}
@@ -26,14 +26,14 @@ use Rattle.zarfolin.specs.rule.Whole.{wholeCells, RecordTold}
 -- "just those that read_value answers for it, but for a set: kind, count, and in the fourth where its members start in the list"
 pub data Same (start : ℕ) : List ℤ → List ℤ → Type 0 where
   alike : {a : List ℤ} → Same start a a
-  set : {n : ℕ} → Same start (pos 0 ∷ pos 2 ∷ cellOf n ∷ cellOf start ∷ []) (pos 0 ∷ pos 2 ∷ cellOf n ∷ pos 0 ∷ [])
+  set : (n : ℕ) → Same start (pos 0 ∷ pos 2 ∷ cellOf n ∷ cellOf start ∷ []) (pos 0 ∷ pos 2 ∷ cellOf n ∷ pos 0 ∷ [])
 
 -- the four numbers of an outcome, as the two calls tell them
 four-same : (start : ℕ) (o : Outcome) (c : Told) → c ≡ outcomeCells o → Same start (fourOf start o) (cellOf (c .number) ∷ c .first ∷ c .second ∷ c .third ∷ [])
-unfolding fourOf outcomeCells cellOf flagOf record.cellOf record.flagOf
+unfolding fourOf outcomeCells cellOf flagOf rows.cellOf rows.flagOf
 four-same start nothing c e = rw e alike
 four-same start (numberIs z) c e = rw e alike
-four-same start (setOf n) c e = rw e set
+four-same start (setOf n) c e = rw e (set n)
 four-same start (textAt p n) c e = rw e alike
 four-same start (truthIs b) c e = rw e alike
 four-same start (refused k) c e = rw e alike
