@@ -14,6 +14,7 @@ use Rattle.fields.specs.rule.Field.{Value, truth}
 use Rattle.writes.specs.rule.Public.{Written}
 use Rattle.zarfolin.specs.rule.Face.{Telling, verdictCells, outcomeCells, fileCells, definitionCells, nextCells}
 use Rattle.zarfolin.specs.rule.Face.{RecordTold, ValueTold, FileTold, DefinitionTold, NextTold}
+use Rattle.zarfolin.specs.rule.Whole.{wholeCells, WholeTold}
 use Rattle.zarfolin.specs.rule.Truth.{noTruth, TruthTold}
 use Rattle.zarfolin.specs.declared.Told.{Told}
 
@@ -49,6 +50,15 @@ pub definition-told-one : {d : List ℕ} {t t₁ t₂ a₁ a₂ : List ℤ} {r�
 definition-told-one x y = (
   telling-one (ap definitionCells (x .promise .says ∙ sym (y .promise .says))) (x .tells) (y .tells),
   x .promise .leaves ∙ sym (y .promise .leaves),
+)
+
+-- ---- zarfolin_read_record: the rows' numbers and the list too
+pub whole-told-one : {t : List ℤ} {bytes : List ℕ} {out out₁ out₂ list list₁ list₂ a₁ a₂ : List ℤ} {r₁ r₂ : ℕ}
+    → WholeTold t bytes out out₁ list list₁ a₁ r₁ → WholeTold t bytes out out₂ list list₂ a₂ r₂
+    → ((r₁ ≡ r₂) × (a₁ ≡ a₂)) × ((out₁ ≡ out₂) × (list₁ ≡ list₂))
+whole-told-one x y = (
+  telling-one (ap wholeCells (x .promise .says ∙ sym (y .promise .says))) (x .tells) (y .tells),
+  (x .promise .rows ∙ sym (y .promise .rows), x .promise .leaves ∙ sym (y .promise .leaves)),
 )
 
 -- ---- zarfolin_write_missing, _number, _set, _text promise `Written`, as the call does: the number and the record

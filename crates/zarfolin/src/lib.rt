@@ -14,7 +14,7 @@ ghost use Rattle.zarfolin.specs.rule.Face.{RecordTold, ValueTold, FileTo
 ghost use Rattle.zarfolin.specs.rule.Face.{verdictCells, outcomeCells, faultCells, fileCells, nextCells, definitionCells};
 ghost use Rattle.zarfolin.specs.rule.Face as face;
 ghost use Rattle.zarfolin.specs.rule.Truth.{badTruth, TruthTold};
-ghost use Rattle.zarfolin.specs.rule.Whole.{wholeCells, RecordTold};
+ghost use Rattle.zarfolin.specs.rule.Whole.{wholeCells, WholeTold};
 ghost use Rattle.zarfolin.specs.Truth.{kindNumber};
 
 mod version;
@@ -394,7 +394,7 @@ pub extern "C" fn zarfolin_read_record(
     list: &mut [i64],
     answer: &mut [i64; 4],
 ) -> u64
-    ensures { λ r. ⌜ RecordTold (now (table .entry)) (now (bytes .entry)) (now (out .entry)) (now (out .exit)) (now (list .entry)) (now (list .exit)) (now (answer .exit)) r ⌝ }
+    ensures { λ r. ⌜ WholeTold (now (table .entry)) (now (bytes .entry)) (now (out .entry)) (now (out .exit)) (now (list .entry)) (now (list .exit)) (now (answer .exit)) r ⌝ }
 {
     tell(
         answer,

@@ -5,9 +5,9 @@ use Rattle.zarfolin.proofs.zarfolin_read_record.Tie as tie
 
 returns : tie.Need-returns
 returns c = record {
-  tells = rw (← (c .before .before .before .before .read-record .ensures .says), ← (c .before .whole-cells .ensures)) (c .tell .ensures);
-  rows = c .before .before .before .before .read-record .ensures .rows;
-  leaves = c .before .before .before .before .read-record .ensures .leaves;
+  outcome = _;
+  promise = c .before .before .before .before .read-record .ensures;
+  tells = rw (← (c .before .whole-cells .ensures)) (c .tell .ensures);
 }
 
 pub zarfolin-read-record-spec : {M : Type 1} → statement M
