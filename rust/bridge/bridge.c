@@ -11,16 +11,6 @@
 #include <stdlib.h>
 #include <string.h>
 
-/* For a library that has no reader of definitions yet (rust/test sees to it): a number that no call gives back. */
-#ifdef NO_DEFINITIONS
-zarfolin_number zarfolin_read_definition(const uint8_t *def, size_t def_len, int64_t *table, size_t table_len,
-                                         int64_t *answer) {
-    (void)def, (void)def_len, (void)table, (void)table_len;
-    answer[0] = answer[1] = answer[2] = answer[3] = 99;
-    return 99;
-}
-#endif
-
 #define AROUND 64
 #define ANSWER INT64_C(0x7a6172666f6c696e)
 

@@ -17,13 +17,11 @@ pub struct Case {
 /// A case's name, and how it is made: only when its turn comes.
 pub type Maker = (String, Box<dyn FnOnce() -> Case>);
 
-/// All cases; those that read a definition only where the library can.
-pub fn cases(with_definitions: bool) -> Vec<Maker> {
+/// All cases.
+pub fn cases() -> Vec<Maker> {
     let mut cases = vec![];
-    if with_definitions {
-        definitions(&mut cases);
-        odd_definitions(&mut cases);
-    }
+    definitions(&mut cases);
+    odd_definitions(&mut cases);
     tables(&mut cases);
     readings(&mut cases);
     judgements(&mut cases);

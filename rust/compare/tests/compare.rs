@@ -1,9 +1,11 @@
 //! The plain Rust against the library: linked (feature `ffi`), or in a process of its own (the command ZARFOLIN_BRIDGE); or
 //! against the naive Rust where there is neither.
 //!
-//! ZARFOLIN_CASES=n runs n times as many seeds; ZARFOLIN_SEED=n runs that one seed alone in every test.
+//! ZARFOLIN_CASES=n runs n times as many seeds; ZARFOLIN_SEED=n runs that one seed alone in every test. ZARFOLIN_COUNTS=path has each
+//! test add a line to that file: how many cases it put, and to whom (rust/test sums them).
 
 use std::collections::BTreeMap;
+use std::io::Write;
 use zarfolin_compare::case::{Call, Case, Difference, Outcome, compare, report, run};
 use zarfolin_compare::definitions::{self, SMALL, Size, Style};
 use zarfolin_compare::face::{Face, Plain, other};
@@ -48,6 +50,14 @@ impl Tally {
         assert!(reports.is_empty(), "{} kinds of difference, one of each:\n{}", reports.len(), reports.concat());
     }
 
+    /// Adds the tally to the file ZARFOLIN_COUNTS, one write a line: other tests add theirs at the same time.
+    fn count(&self, what: &str) {
+        if let Some(path) = std::env::var_os("ZARFOLIN_COUNTS") {
+            let mut file = std::fs::OpenOptions::new().append(true).create(true).open(path).unwrap();
+            file.write_all(format!("{}\t{}\t{what}\n", self.cases, self.other.name()).as_bytes()).unwrap();
+        }
+    }
+
     /// Prints the tally; every number of `wanted` must have been met, unless one seed alone was run.
     fn end(self, what: &str, least: u64, wanted: &[u64]) {
         println!(
@@ -56,6 +66,7 @@ impl Tally {
             self.other.name(),
             self.numbers
         );
+        self.count(what);
         self.fail();
         if std::env::var_os("ZARFOLIN_SEED").is_some() {
             return;
