@@ -16,6 +16,7 @@ ghost use Rattle.zarfolin.specs.rule.Face.{cellOf, flagOf, Telling, Valu
 ghost use Rattle.zarfolin.specs.rule.Face.{verdictCells, outcomeCells, faultCells, fileCells, nextCells, definitionCells};
 ghost use Rattle.zarfolin.specs.rule.Face as face;
 ghost use Rattle.zarfolin.specs.rule.Truth.{badTruth, TruthTold};
+ghost use Rattle.zarfolin.specs.rule.Whole.{wholeCells, RecordTold};
 ghost use Rattle.zarfolin.specs.Truth.{kindNumber};
 
 mod version;
@@ -26,6 +27,7 @@ use layout::Header;
 use layout::Kind;
 use layout::Row;
 use readings::Answer;
+use record_values::Whole;
 use records::Judged;
 use writes::Value;
 use writes::Wrote;
@@ -368,4 +370,37 @@ pub extern "C" fn zarfolin_write_text(table: &[i64], row: u64, text: &[u8], byte
     ensures { λ r. ⌜ WriteTold (now (table .entry)) row (field.text (now (text .entry))) (now (bytes .entry)) (now (bytes .exit)) r ⌝ }
 {
     number_of(writes::write_value(table, row as usize, Value::Text, table, text, bytes))
+}
+
+fn whole_cells(w: Whole) -> Told
+    ensures { λ r. ⌜ r ≡ wholeCells w ⌝ }
+{
+    match w {
+        Whole::Read(members, refused) => Told {
+            number: 0,
+            first: cell(members),
+            second: cell(refused),
+            third: 0,
+        },
+        Whole::BadTable => bare(20),
+        Whole::ShortRecord => bare(22),
+        Whole::ShortRoom => bare(25),
+    }
+}
+
+// Reads all rows of a record.
+#[no_mangle]
+pub extern "C" fn zarfolin_read_record(
+    table: &[i64],
+    bytes: &[u8],
+    out: &mut [i64],
+    list: &mut [i64],
+    answer: &mut [i64; 4],
+) -> u64
+    ensures { λ r. ⌜ RecordTold (now (table .entry)) (now (bytes .entry)) (now (out .entry)) (now (out .exit)) (now (list .entry)) (now (list .exit)) (now (answer .exit)) r ⌝ }
+{
+    tell(
+        answer,
+        whole_cells(record_values::read_record(table, bytes, out, list)),
+    )
 }

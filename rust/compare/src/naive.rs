@@ -982,4 +982,36 @@ impl Face for Naive {
             (start, None) => give(answer, [2, start as i64, data.len() as i64, data.len() as i64]),
         }
     }
+
+    fn read_record(&self, t: &[i64], record: &[u8], out: &mut [i64], list: &mut [i64], answer: &mut [i64; 4]) -> u64 {
+        let Some(t) = understood(t) else { return give(answer, [20, 0, 0, 0]) };
+        if record.len() < t.least {
+            return give(answer, [22, 0, 0, 0]);
+        }
+        let (mut all, mut members, mut refused) = (vec![], vec![], 0);
+        for row in &t.rows {
+            all.push(match row.value(record) {
+                None => {
+                    refused += 1;
+                    [24, 0, 0, 0]
+                }
+                Some(Value::Missing) => [0, 0, 0, 0],
+                Some(Value::Number(n)) => [0, 1, n, 0],
+                Some(Value::Text(place, length)) => [0, 3, place as i64, length as i64],
+                Some(Value::Truth(t)) => [0, 4, t, 0],
+                Some(Value::Set(set)) => {
+                    let start = members.len();
+                    members.extend(set);
+                    [0, 2, (members.len() - start) as i64, start as i64]
+                }
+            });
+        }
+        let all = all.concat();
+        if out.len() < all.len() || list.len() < members.len() {
+            return give(answer, [25, 0, 0, 0]);
+        }
+        out[..all.len()].copy_from_slice(&all);
+        list[..members.len()].copy_from_slice(&members);
+        give(answer, [0, members.len() as i64, refused, 0])
+    }
 }

@@ -468,6 +468,72 @@ fn records_read_judged_and_written() {
     tally.end("records", 100_000, &[0, 21, 22, 23, 24, 25, 26, 27, 28]);
 }
 
+/// All rows of a record: every length of both buffers around what is due, many faults at once, tables that are none. What is
+/// answered is held against the rows read one by one as well.
+#[test]
+fn whole_records() {
+    let mut tally = Tally::default();
+    for seed in seeds(20_000) {
+        let mut r = Rng::new(seed ^ 0x3ec0);
+        let size = match r.below(60) {
+            0 => Size { variables: 60, lines: 10, text: 1 },
+            1 => Size { variables: 3, lines: 400, text: 1 },
+            _ => Size { variables: 5, lines: 5, text: 1 },
+        };
+        let mut table = tables::sound_table(&mut r, size);
+        if r.once_in(20) {
+            tables::changed(&mut r, &mut table);
+        }
+        let mut record = records::record(&mut r, &table);
+        if r.once_in(3) && !record.is_empty() {
+            for _ in 0..r.below(6) {
+                let at = r.below(record.len());
+                record[at] = r.pick(&[b' ', b'0', b'1', b'x', 7]);
+            }
+        }
+        let rows = table.get(1).map_or(0, |&v| v.clamp(0, 600) as usize);
+        let whole = Case { table, bytes: record, out: vec![-9; 4 * rows + 3], ..Case::new(Call::ReadRecord) };
+        let outcome = check(&mut tally, seed, &Case { list: vec![-7; 40_000], ..whole.clone() });
+        let members = outcome.answer[1] as usize;
+        if outcome.number == 0 {
+            one_by_one(&mut r, &whole, &outcome);
+        }
+        // Just enough, one too few, some.
+        for list in [members, members.saturating_sub(1), r.below(members + 3)] {
+            check(&mut tally, seed, &Case { list: vec![-7; list], ..whole.clone() });
+        }
+        for out in [4 * rows, (4 * rows).saturating_sub(1), r.below(4 * rows + 1)] {
+            check(&mut tally, seed, &Case { out: vec![-9; out], list: vec![-7; members], ..whole.clone() });
+        }
+    }
+    tally.end("whole records", 100_000, &[0, 20, 22, 25]);
+}
+
+/// The rows of a record that was read whole, read one by one: the same four numbers, but for a set's start, and the same members.
+fn one_by_one(r: &mut Rng, whole: &Case, outcome: &Outcome) {
+    let rows = whole.table[1] as usize;
+    let (out, list) = (&outcome.out[8..8 + 4 * rows], &outcome.list[8..]);
+    let (mut used, mut refused) = (0, 0);
+    for (row, four) in out.chunks_exact(4).enumerate() {
+        let mut one = vec![-5; 10_000];
+        let mut answer = [0; 4];
+        let number = Plain.read_value(&whole.table, row as u64, &whole.bytes, &mut one, &mut answer);
+        refused += (number != 0) as i64;
+        if answer[1] == 2 {
+            let count = answer[2] as usize;
+            assert_eq!(four, [0, 2, count as i64, used as i64], "row {row} of {}", zarfolin_compare::case::show(whole));
+            assert_eq!(list[used..used + count], one[..count]);
+            used += count;
+        } else {
+            assert_eq!(four, answer, "row {row} of {}", zarfolin_compare::case::show(whole));
+        }
+    }
+    assert_eq!(outcome.answer, [0, used as i64, refused, 0]);
+    assert_eq!(list[used], -7, "the list beyond {used} is kept");
+    let beyond = 8 + 4 * rows + r.below(3);
+    assert_eq!(outcome.out[beyond], -9, "out beyond its rows is kept");
+}
+
 #[test]
 fn files() {
     let mut tally = Tally::default();
@@ -561,11 +627,25 @@ mod planted {
         fn next_record(&self, data: &[u8], from: u64, answer: &mut [i64; 4]) -> u64 {
             Plain.next_record(data, from, answer)
         }
+        fn read_record(
+            &self,
+            t: &[i64],
+            record: &[u8],
+            out: &mut [i64],
+            list: &mut [i64],
+            answer: &mut [i64; 4],
+        ) -> u64 {
+            let number = Plain.read_record(t, record, out, list, answer);
+            if self.0 == 6 && number == 0 && answer[1] > 0 {
+                out.chunks_exact_mut(4).take(t[1] as usize).filter(|four| four[1] == 2).for_each(|four| four[3] += 1);
+            }
+            number
+        }
     }
 
     #[test]
     fn faults_are_found() {
-        for fault in 0..6 {
+        for fault in 0..7 {
             let found = (0..2_000).any(|seed| {
                 let mut r = Rng::new(seed);
                 let model = definitions::model(&mut r, SMALL);
@@ -582,6 +662,10 @@ mod planted {
                     2 => definition(bytes, table.len() + 1),
                     3 => Case { table, bytes: record, row, list: vec![-7; 50], ..Case::new(Call::ReadValue) },
                     4 => write_case(&mut r, table, row, record),
+                    6 => {
+                        let out = vec![-9; 4 * table[1] as usize];
+                        Case { table, bytes: record, out, list: vec![-7; 50], ..Case::new(Call::ReadRecord) }
+                    }
                     _ => Case { bytes: records::file(&mut r, &table), table, ..Case::new(Call::JudgeFile) },
                 };
                 run(&Plain, &case) != run(&Wrong(fault), &case)

@@ -170,3 +170,26 @@ pub unsafe extern "C" fn zarfolin_next_record(data: *const u8, data_len: usize, 
         give(answer, numbers)
     }
 }
+
+#[unsafe(no_mangle)]
+pub unsafe extern "C" fn zarfolin_read_record(
+    table: *const i64,
+    table_len: usize,
+    record: *const u8,
+    record_len: usize,
+    out: *mut i64,
+    out_len: usize,
+    list: *mut i64,
+    list_len: usize,
+    answer: *mut i64,
+) -> Number {
+    unsafe {
+        let (table, record) = (from_raw_parts(table, table_len), from_raw_parts(record, record_len));
+        let (out, list) = (from_raw_parts_mut(out, out_len), from_raw_parts_mut(list, list_len));
+        let numbers = match plain::read_record(table, record, out, list) {
+            Ok((members, refused)) => [0, members as i64, refused as i64, 0],
+            Err(number) => [number as i64, 0, 0, 0],
+        };
+        give(answer, numbers)
+    }
+}

@@ -104,4 +104,16 @@ unsafe extern "C" {
 
     /// Finds the record that starts at `from`. [`calls::next_record`](crate::calls::next_record).
     pub fn zarfolin_next_record(data: *const u8, data_len: usize, from: u64, answer: *mut i64) -> Number;
+
+    pub fn zarfolin_read_record(
+        table: *const i64,
+        table_len: usize,
+        record: *const u8,
+        record_len: usize,
+        out: *mut i64,
+        out_len: usize,
+        list: *mut i64,
+        list_len: usize,
+        answer: *mut i64,
+    ) -> Number;
 }
