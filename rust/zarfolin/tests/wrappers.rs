@@ -186,6 +186,27 @@ VALUES 1 TO 5 END VALUES END VARIABLE END RECORD END SURVEY END SSS";
     assert_eq!(calls::read_record(definition.table(), &record[1..], &mut out, &mut list), Err(Refusal::Short));
 }
 
+/// One definition shared by threads that judge at once, each on a stack of 128 KiB.
+#[test]
+fn threads() {
+    let definition = Definition::read(SAMPLE).unwrap();
+    let good = " 710x1x-1.0ab   1\r\n".repeat(500);
+    let bad = format!("{good}13\r\n");
+    std::thread::scope(|scope| {
+        for n in 0..8 {
+            let (definition, data) = (&definition, if n % 2 == 0 { &good } else { &bad });
+            let thread = std::thread::Builder::new().stack_size(128 << 10);
+            let judge = move || {
+                for _ in 0..20 {
+                    assert_eq!(definition.judge(data.as_bytes()).is_ok(), n % 2 == 0);
+                    assert_eq!(definition.records(data.as_bytes()).count(), 500 + n % 2);
+                }
+            };
+            thread.spawn_scoped(scope, judge).unwrap();
+        }
+    });
+}
+
 /// A refusal that this version doesn't know is a refusal, with its number, and no panic.
 #[test]
 fn unknown_refusals() {
