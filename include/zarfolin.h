@@ -302,7 +302,7 @@ zarfolin_number zarfolin_next_record(const uint8_t *data, size_t data_len, uint6
  * calls itself but the one that skips comments, at most ZARFOLIN_MAX_LEVEL deep. */
 #define ZARFOLIN_STACK_READ_DEFINITION 261000
 #define ZARFOLIN_STACK_READ_VALUE 38000
-#define ZARFOLIN_STACK_READ_RECORD 38000
+#define ZARFOLIN_STACK_READ_RECORD 102000
 #define ZARFOLIN_STACK_JUDGE_RECORD 27500
 #define ZARFOLIN_STACK_WRITE 27600
 #define ZARFOLIN_STACK_JUDGE_FILE 27500
