@@ -10,7 +10,7 @@
 #include <stdlib.h>
 #include "zarfolin.h"
 
-/* A whole file in memory, which nobody else changes. Room for one byte more, so that an empty file has an address too. */
+/* A whole file in memory, which nobody else changes; never NULL, also for an empty file. It is freed when the program ends. */
 static uint8_t *whole(const char *name, size_t *length) {
     FILE *file = fopen(name, "rb");
     uint8_t *bytes = NULL;
