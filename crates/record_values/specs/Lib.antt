@@ -3,3 +3,4 @@ pub mod rule
 pub mod Rows
 pub mod Members
 pub mod Room
+pub mod Record

@@ -47,7 +47,7 @@ refusals-room p n (holds (text s)) h = refl
 refusals-room p n (holds (truth b)) h = refl
 refusals-room p n illegal h = refl
 
-list-room : (f : Field) (list : List ℤ) → length (membersOf f) ≤ length list → listAfter f list ≡ filledOf (membersOf f) list
+pub list-room : (f : Field) (list : List ℤ) → length (membersOf f) ≤ length list → listAfter f list ≡ filledOf (membersOf f) list
 unfolding listAfter filledOf membersOf
 list-room (holds missing) list h = refl
 list-room (holds (number z)) list h = refl

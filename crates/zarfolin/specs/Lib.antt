@@ -2,3 +2,4 @@
 pub mod rule
 pub mod Truth
 pub mod Version
+pub mod Whole
