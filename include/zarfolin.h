@@ -228,15 +228,16 @@ zarfolin_number zarfolin_read_value(const int64_t *table, size_t table_len, uint
 
 /* Reads all rows of a record: the table is tested once.
  *
- * Answers 0, or the first of 20, 22, 25 that holds; 25 if out has fewer than 4 V numbers or the list has no room for the
- * members of all sets together.
+ * Answers 0, or the first of 20, 22, 25 that holds; 25 if out has fewer than ZARFOLIN_ANSWER * V numbers, or the list has no
+ * room for the members of all sets together.
  * answer: the number; the members in the list; the rows refused; 0. On a refusal all three are 0.
- * out:    on 0 four numbers for each row, from out[4 * row] on: just those that zarfolin_read_value answers for it (24 for an
- *         illegal field, so that all faults of a record come at once), but for a set
+ * out:    on 0 four numbers for each row, from out[ZARFOLIN_ANSWER * row] on: just those that zarfolin_read_value answers for it (24
+ *         for an illegal field, so that all faults of a record come at once), but for a set
  *             0; ZARFOLIN_IS_SET; the count of members; where they start in the list
- *         What lies beyond 4 V numbers is kept. On a refusal all of it is kept.
+ *         What lies beyond ZARFOLIN_ANSWER * V numbers is kept. On a refusal all of it is kept.
  * list:   on 0 the members of the sets, row after row, rising inside each; an empty set starts where the next one does.
- *         What lies beyond them is kept. On a refusal all of it is kept. 9,999 numbers for each MULTIPLE are enough.
+ *         What lies beyond them is kept. On a refusal all of it is kept. For each MULTIPLE as many numbers
+ *         as it has subfields, or bytes of width where it has none, are enough.
  * table, record: only read. No byte outside the rows' value places decides anything. */
 zarfolin_number zarfolin_read_record(const int64_t *table, size_t table_len, const uint8_t *record, size_t record_len,
                                      int64_t *out, size_t out_len, int64_t *list, size_t list_len, int64_t *answer);
@@ -301,6 +302,7 @@ zarfolin_number zarfolin_next_record(const uint8_t *data, size_t data_len, uint6
  * calls itself but the one that skips comments, at most ZARFOLIN_MAX_LEVEL deep. */
 #define ZARFOLIN_STACK_READ_DEFINITION 261000
 #define ZARFOLIN_STACK_READ_VALUE 38000
+#define ZARFOLIN_STACK_READ_RECORD 102000
 #define ZARFOLIN_STACK_JUDGE_RECORD 27500
 #define ZARFOLIN_STACK_WRITE 27600
 #define ZARFOLIN_STACK_JUDGE_FILE 27500

@@ -118,6 +118,22 @@ static void readings(void) {
     CHECK(zarfolin_read_value(table + 1, table_len - 1, 0, record, length, list, 4, answer) == ZARFOLIN_E_TABLE);
     CHECK(zarfolin_read_value(table, table_len, 0, bytes("7 10x1x-1.0ab   120 1"), length, list, 4, answer) == ZARFOLIN_E_FIELD);
 
+    /* All rows at once: as one by one, but that a set says where it starts in the list. */
+    int64_t out[ZARFOLIN_ANSWER * 6 + 1], all[5] = {-1, -1, -1, -1, -1};
+    out[ZARFOLIN_ANSWER * 6] = -1;
+    CHECK(zarfolin_read_record(table, table_len, record, length, out, ZARFOLIN_ANSWER * 6 - 1, all, 5, answer) == ZARFOLIN_E_LIST_ROOM);
+    CHECK(zarfolin_read_record(table, table_len, record, length, out, ZARFOLIN_ANSWER * 6, all, 3, answer) == ZARFOLIN_E_LIST_ROOM);
+    CHECK(is(answer, 25, 0, 0, 0) && all[0] == -1);
+    CHECK(zarfolin_read_record(table, table_len, record, length - 1, out, ZARFOLIN_ANSWER * 6, all, 5, answer) == ZARFOLIN_E_SHORT);
+    CHECK(zarfolin_read_record(table + 1, table_len - 1, record, length, out, ZARFOLIN_ANSWER * 6, all, 5, answer) == ZARFOLIN_E_TABLE);
+    CHECK(zarfolin_read_record(table, table_len, record, length, out, ZARFOLIN_ANSWER * 6 + 1, all, 5, answer) == ZARFOLIN_OK);
+    CHECK(is(answer, 0, 4, 0, 0) && out[ZARFOLIN_ANSWER * 6] == -1);
+    CHECK(is(out, 0, ZARFOLIN_IS_NUMBER, 7, 0) && is(out + ZARFOLIN_ANSWER, 0, ZARFOLIN_IS_SET, 2, 0));
+    CHECK(is(out + ZARFOLIN_ANSWER * 3, 0, ZARFOLIN_IS_TEXT, 11, 2) && is(out + ZARFOLIN_ANSWER * 5, 0, ZARFOLIN_IS_SET, 2, 2));
+    CHECK(all[0] == 1 && all[1] == 4 && all[2] == 1 && all[3] == 20 && all[4] == -1);
+    CHECK(zarfolin_read_record(table, table_len, bytes("7 10x1x-1.0ab   220 1"), length, out, ZARFOLIN_ANSWER * 6, all, 5, answer) == 0);
+    CHECK(is(answer, 0, 4, 2, 0) && is(out, 24, 0, 0, 0) && is(out + ZARFOLIN_ANSWER * 4, 24, 0, 0, 0));
+
     CHECK(zarfolin_judge_record(table, table_len, record, length, answer) == ZARFOLIN_OK);
     CHECK(is(answer, 0, 0, 0, 0));
     CHECK(zarfolin_judge_record(table, table_len, bytes(" 710x1x-1.0a\tb  120 1"), length, answer) == ZARFOLIN_E_LOW_BYTE);

@@ -28,6 +28,8 @@ static size_t def_len;
 static int64_t table[ZARFOLIN_MAX_TABLE];
 static int64_t list[ZARFOLIN_MAX_SET];
 static size_t list_len = ZARFOLIN_MAX_SET;
+static int64_t out[ZARFOLIN_ANSWER * ZARFOLIN_MAX_VARIABLES];
+static int64_t members[4 * ZARFOLIN_MAX_LOCATION];
 static uint8_t record[ZARFOLIN_MAX_LOCATION + 8];
 static size_t record_len;
 static uint64_t row;
@@ -41,6 +43,9 @@ static void nothing(void) { got = 0; }
 static void version(void) { got = zarfolin_version(); }
 static void read_definition(void) { got = zarfolin_read_definition(TEXT, TABLE, answer); }
 static void read_value(void) { got = zarfolin_read_value(TABLE, row, record, record_len, list, list_len, answer); }
+static void read_record(void) {
+    got = zarfolin_read_record(TABLE, record, record_len, out, sizeof out / sizeof out[0], members, 4 * ZARFOLIN_MAX_LOCATION, answer);
+}
 static void judge_record(void) { got = zarfolin_judge_record(TABLE, record, record_len, answer); }
 static void write_missing(void) { got = zarfolin_write_missing(TABLE, row, record, record_len); }
 static void write_number(void) { got = zarfolin_write_number(TABLE, row, number, record, record_len); }
@@ -60,6 +65,7 @@ static struct measured {
     {"zarfolin_version", version, ZARFOLIN_STACK_VERSION, 0, 0},
     {"zarfolin_read_definition", read_definition, ZARFOLIN_STACK_READ_DEFINITION, 0, 0},
     {"zarfolin_read_value", read_value, ZARFOLIN_STACK_READ_VALUE, 0, 0},
+    {"zarfolin_read_record", read_record, ZARFOLIN_STACK_READ_RECORD, 0, 0},
     {"zarfolin_judge_record", judge_record, ZARFOLIN_STACK_JUDGE_RECORD, 0, 0},
     {"zarfolin_write_missing", write_missing, ZARFOLIN_STACK_WRITE, 0, 0},
     {"zarfolin_write_number", write_number, ZARFOLIN_STACK_WRITE, 0, 0},
@@ -146,6 +152,7 @@ static void records(void) {
         record_len = (size_t)table[ZARFOLIN_H_RECORD];
         memset(record, fillers[f], sizeof record);
         measure(judge_record);
+        measure(read_record);
         for (row = 0; row <= rows; row += rows > 8 ? rows / 8 : 1) {
             list_len = ZARFOLIN_MAX_SET;
             measure(read_value);
@@ -166,11 +173,12 @@ static void records(void) {
             }
             measure(write_missing);
             measure(read_value);
+            measure(read_record);
         }
         measure(judge_record);
     }
     row = 0, record_len = 3;
-    measure(judge_record), measure(read_value), measure(write_missing), measure(write_number);
+    measure(judge_record), measure(read_value), measure(read_record), measure(write_missing), measure(write_number);
 }
 
 /* Files with each terminator, of sound and faulty records. */

@@ -73,11 +73,6 @@ pub fn read_definition(def: &[u8], table: &mut [i64]) -> Result<Counts, Definiti
 /// Reads one row's value from a record. A set goes to the start of the list and is answered as a part of it;
 /// with [`MAX_SET`](crate::table::limit::MAX_SET) numbers the list is long enough for any.
 pub fn read_value<'a>(table: &[i64], row: u64, record: &'a [u8], list: &'a mut [i64]) -> Result<Value<'a>, Refusal> {
-    value_of(&raw_value(table, row, record, list), record, list)
-}
-
-/// The four numbers that reading one row answers.
-pub(crate) fn raw_value(table: &[i64], row: u64, record: &[u8], list: &mut [i64]) -> [i64; 4] {
     let mut answer = [0i64; 4];
     // SAFETY: as above.
     unsafe {
@@ -92,7 +87,7 @@ pub(crate) fn raw_value(table: &[i64], row: u64, record: &[u8], list: &mut [i64]
             answer.as_mut_ptr(),
         )
     };
-    answer
+    value_of(&answer, record, list)
 }
 
 /// What the four numbers of a value mean; a set stands at the start of the list.
@@ -110,6 +105,33 @@ pub(crate) fn value_of<'a>(answer: &[i64; 4], record: &'a [u8], list: &'a [i64])
         // No kind that a library of this version answers.
         _ => Err(Refusal::Unknown(0)),
     }
+}
+
+/// Reads all rows of a record, the table tested once. `out` gets four numbers a row: those of
+/// [`zarfolin_read_record`]. Answers how many members stand in the list, and how many rows were refused.
+pub fn read_record(
+    table: &[i64],
+    record: &[u8],
+    out: &mut [[i64; 4]],
+    list: &mut [i64],
+) -> Result<(usize, usize), Refusal> {
+    let out = out.as_flattened_mut();
+    let mut answer = [0i64; 4];
+    // SAFETY: as above.
+    let number = unsafe {
+        zarfolin_read_record(
+            table.as_ptr(),
+            table.len(),
+            record.as_ptr(),
+            record.len(),
+            out.as_mut_ptr(),
+            out.len(),
+            list.as_mut_ptr(),
+            list.len(),
+            answer.as_mut_ptr(),
+        )
+    };
+    Refusal::of(number).map_or(Ok((answer[1] as usize, answer[2] as usize)), Err)
 }
 
 /// Judges a whole record.

@@ -105,6 +105,7 @@ unsafe extern "C" {
     /// Finds the record that starts at `from`. [`calls::next_record`](crate::calls::next_record).
     pub fn zarfolin_next_record(data: *const u8, data_len: usize, from: u64, answer: *mut i64) -> Number;
 
+    /// Reads all rows of a record. [`calls::read_record`](crate::calls::read_record).
     pub fn zarfolin_read_record(
         table: *const i64,
         table_len: usize,

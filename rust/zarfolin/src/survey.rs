@@ -478,22 +478,10 @@ pub struct Values<'a> {
 impl<'a> Values<'a> {
     /// Reads every row of a record, of whatever file.
     pub fn read(definition: &'a Definition<'a>, record: &'a [u8]) -> Result<Values<'a>, Refusal> {
-        if record.len() < definition.record_length() {
-            return Err(Refusal::Short);
-        }
-        let mut rows = Vec::with_capacity(definition.variables().len());
-        let mut list = vec![];
-        for variable in definition.variables() {
-            let (start, room) = (list.len(), most_members(&variable));
-            list.resize(start + room, 0);
-            let mut answer = calls::raw_value(&definition.table, variable.row as u64, record, &mut list[start..]);
-            let is_set = answer[0] == 0 && answer[1] == table::value::SET;
-            list.truncate(start + if is_set { answer[2] as usize } else { 0 });
-            if is_set {
-                answer[3] = start as i64;
-            }
-            rows.push(answer);
-        }
+        let mut rows = vec![[0; 4]; definition.variables().len()];
+        let mut list = vec![0; definition.variables().map(|variable| most_members(&variable)).sum()];
+        let (members, _) = calls::read_record(&definition.table, record, &mut rows, &mut list)?;
+        list.truncate(members);
         Ok(Values { definition, record, rows, list })
     }
 

@@ -177,6 +177,13 @@ VALUES 1 TO 5 END VALUES END VARIABLE END RECORD END SURVEY END SSS";
     for row in 0..2 {
         assert_eq!(values.get(row), Some(calls::read_value(definition.table(), row as u64, &record, &mut list)));
     }
+    let mut out = [[0; 4]; 2];
+    assert_eq!(calls::read_record(definition.table(), &record, &mut out, &mut list), Err(Refusal::ListRoom));
+    list.resize(MAX_SET + 5, 0);
+    assert_eq!(calls::read_record(definition.table(), &record, &mut out, &mut list), Ok((10_004, 0)));
+    assert_eq!(out, [[0, 2, 9999, 0], [0, 2, 5, 9999]]);
+    assert_eq!(calls::read_record(definition.table(), &record, &mut out[..1], &mut list), Err(Refusal::ListRoom));
+    assert_eq!(calls::read_record(definition.table(), &record[1..], &mut out, &mut list), Err(Refusal::Short));
 }
 
 /// One definition shared by threads that judge at once, each on a stack of 128 KiB.
