@@ -3,7 +3,7 @@
 -- (cuts), FileJudged (files), DefinitionRead (definition); those of the exported functions (zarfolin) hold them, or are they.
 use mathlib.Core.Path.{_≡_}
 use mathlib.Core.Logic.{⊎-elim}
-use mathlib.Core.Bool.{true}
+use mathlib.Core.Bool.{Bool, true}
 use mathlib.Core.List.{List}
 use Prim.Native.Nat.{ℕ, _-_}
 use lib.Dec.{eqb}
@@ -16,7 +16,7 @@ use Rattle.layout.specs.declared.Kind.{Kind}
 use Rattle.layout.specs.declared.Row.{Row}
 use Rattle.fields.specs.rule.Field.{Value, holds, illegal, text, truth}
 use Rattle.fields.specs.rule.Row.{placesOf, fieldBy}
-use Rattle.sound.specs.rule.Sound.{wellFormed}
+use Rattle.sound.specs.rule.Sound.{wellFormed, TableTested}
 use Rattle.sound.specs.rule.Rows.{rowsOf}
 use Rattle.cuts.specs.declared.Next.{Next}
 use Rattle.cuts.specs.rule.Cut.{NextFound, terminatorOf}
@@ -55,6 +55,9 @@ use Rattle.zarfolin.specs.Settled as face
 
 -- ==== 1. EVERY CALL ENDS AND ANSWERS ON ALL INPUT (no public call has a `requires`; Rattle proves each ends), NO TWO OUTCOMES SATISFY ITS
 -- PROMISE TOGETHER, AND EVERY REFUSAL KEEPS WHAT WAS LENT
+pub one-test : {t : List ℤ} {r₁ r₂ : Bool} → TableTested t r₁ → TableTested t r₂ → r₁ ≡ r₂
+one-test = settled.table-settled
+
 module _ {t : List ℤ} {bytes : List ℕ} where
   pub one-verdict : {v₁ v₂ : Verdict} → RecordJudged t bytes v₁ → RecordJudged t bytes v₂ → v₁ ≡ v₂
   one-verdict = reads.verdict-one

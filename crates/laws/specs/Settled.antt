@@ -8,7 +8,7 @@ use native.Mathlib.Omega.{arith}
 use lib.Dec.{eqb}
 use lib.IntN.{ℤ}
 use lib.ListN.{length}
-use Rattle.sound.specs.rule.Sound.{wellFormed}
+use Rattle.sound.specs.rule.Sound.{wellFormed, TableTested}
 use Rattle.cuts.specs.rule.Cut.{NextFound}
 use Rattle.cuts.specs.declared.Next.{Next}
 use Rattle.records.specs.rule.Verdict.{Verdict, sound, refused, lowByte, badField, judgedAs}
@@ -21,8 +21,8 @@ use Rattle.files.specs.declared.Judgement.{Judgement}
 use Rattle.files.specs.declared.Judgement.the-variants as J
 use Rattle.files.specs.rule.File.{FileVerdict, soundWith, badTable, faultIn, fileSaid, FileJudged}
 
-pub table-settled : (t : List ℤ) (r₁ r₂ : Bool) → r₁ ≡ wellFormed t → r₂ ≡ wellFormed t → r₁ ≡ r₂
-table-settled t r₁ r₂ a b = a ∙ sym b
+pub table-settled : {t : List ℤ} {r₁ r₂ : Bool} → TableTested t r₁ → TableTested t r₂ → r₁ ≡ r₂
+table-settled a b = a .says ∙ sym (b .says)
 
 pub next-settled : {d : List ℕ} {from : ℕ} {r₁ r₂ : Next} → NextFound d from r₁ → NextFound d from r₂ → r₁ ≡ r₂
 next-settled a b = a .says ∙ sym (b .says)

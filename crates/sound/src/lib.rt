@@ -10,7 +10,7 @@ ghost use Rattle.below.specs.rule.Below.{_and_};
 ghost use Rattle.widths.specs.rule.Width.{need, sizeOf};
 ghost use Rattle.widths.specs.Width.{FewDecimals};
 ghost use Rattle.sound.specs.rule.Sound.{headCounts, headSums, textsGood, subfieldsGood, linePlain, linesPlain, rangeWidth};
-ghost use Rattle.sound.specs.rule.Sound.{holdsWidth, roomGood, rowGood, rowsGood, valueAt, identsDiffer, wellFormed};
+ghost use Rattle.sound.specs.rule.Sound.{holdsWidth, roomGood, rowGood, rowsGood, valueAt, identsDiffer, TableTested};
 ghost use Rattle.sound.specs.Types.{wholeIs, undividedIs, formatGood, unrangedIs, valuedIs, valuelessIs, typeGood, sharedGood, Sited};
 ghost use Rattle.strides.specs.Hull.{Blocked};
 ghost use Rattle.sound.specs.Block.{Standing, hullWidth, Placed};
@@ -501,7 +501,7 @@ fn idents_differ(t: &[i64], v: usize) -> bool
 
 // Is the table well formed?
 pub fn well_formed(t: &[i64]) -> bool
-    ensures { λ r. ⌜ r ≡ wellFormed (now (t .entry)) ⌝ }
+    ensures { λ r. ⌜ TableTested (now (t .entry)) r ⌝ }
 {
     let h = Header::read(t);
     if !head_counts(h) {

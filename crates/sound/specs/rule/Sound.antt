@@ -1,5 +1,6 @@
 -- "A table is well formed when ..": each clause of document 01 under a name of its own. A negative number counts as more than every
 -- limit (`countOf`), so that each limit below also says "no number of it is negative".
+use mathlib.Core.Path.{_≡_}
 use mathlib.Core.Bool.{Bool, cond, not, _&&_, _||_, Bool·beq}
 use mathlib.Core.List.{List}
 use Prim.Native.Nat.{ℕ, _+_, _*_, max}
@@ -194,3 +195,7 @@ unfoldable pub wellFormed : List ℤ → Bool
 wellFormed t =
     headCounts (headerOf t) and headSums (headerOf t) (length t) and rowsGood t (headerOf t)
     and identsDiffer t (headerOf t .rows)
+
+-- THE PROMISE of the call that tests a table
+pub record TableTested (t : List ℤ) (good : Bool) : Type 0 where
+  pub says : good ≡ wellFormed t

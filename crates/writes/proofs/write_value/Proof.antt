@@ -9,11 +9,11 @@ use Rattle.writes.proofs.write_value.Statement.{statement}
 use Rattle.writes.proofs.write_value.Tie as tie
 
 returns : tie.Need-returns
-returns c = not-formed _ _ _ _ (sym (c .before .well-formed .ensures) ∙ not-true _ (c .if1 .taken))
+returns c = not-formed _ _ _ _ (sym (c .before .well-formed .ensures .says) ∙ not-true _ (c .if1 .taken))
 
 -- the table is well formed
 good : (c : tie.After-read) → wellFormed (c .before .before .before .before .before .args .table .now) ≡ true
-good c = sym (c .before .before .well-formed .ensures) ∙ not-false _ (c .before .if1 .left)
+good c = sym (c .before .before .well-formed .ensures .says) ∙ not-false _ (c .before .if1 .left)
 
 returns-2 : tie.Need-returns-2
 returns-2 c = no-row _ _ _ _ (good (c .before)) (rw (c .before .read .ensures) at (c .if2 .taken))
