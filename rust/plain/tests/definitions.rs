@@ -64,7 +64,7 @@ fn variable(text: &str) -> String {
 /// The first row of a definition with one variable.
 #[track_caller]
 fn row(text: &str) -> Vec<i64> {
-    good(&variable(text))[6..24].to_vec()
+    good(&variable(text))[size(0, 0)..size(1, 0)].to_vec()
 }
 
 pub const SAMPLE: &str = "SSS VERSION 1.1 SURVEY RECORD R
@@ -81,14 +81,15 @@ END RECORD END SURVEY END SSS
 fn the_sample() {
     let t = good(SAMPLE);
     let at = |s: &str| SAMPLE.find(s).unwrap() as i64 + 1;
-    assert_eq!(t[..6], [11, 3, 3, 11, 6, 60]);
+    assert_eq!(t[..HEADER], [11, 3, 3, 11, HEADER as i64, size(3, 0) as i64]);
+    let row = |r: usize| &t[size(r, 0)..][..=column::LABEL_LENGTH];
     let (n, l) = (at("\"desk"), at("\"Desk"));
-    assert_eq!(t[6..24], [1, 1, 1, 2, 2, 0, 0, 0, 0, 1, 1, 12, 0, 0, n, 4, l, 4]);
+    assert_eq!(*row(0), [1, 1, 1, 2, 2, 0, 0, 0, 0, 1, 1, 12, 0, 0, n, 4, l, 4]);
     let (n, l) = (at("\"seen"), at("\"Seen"));
-    assert_eq!(t[24..42], [2, 2, 3, 6, 4, 0, 0, 0, 0, 0, 0, 0, 0, 3, n, 4, l, 4]);
+    assert_eq!(*row(1), [2, 2, 3, 6, 4, 0, 0, 0, 0, 0, 0, 0, 0, 3, n, 4, l, 4]);
     let (n, l) = (at("\"wait"), at("\"Wait"));
-    assert_eq!(t[42..60], [3, 3, 7, 11, 4, 1, 1, 0, 0, 1, -10, 995, 3, 0, n, 4, l, 4]);
-    assert_eq!(t[60..], [1, 0, at("\"a\""), 1, 2, 0, at("\"b\""), 1, 4, 0, at("\"d\""), 1]);
+    assert_eq!(*row(2), [3, 3, 7, 11, 4, 1, 1, 0, 0, 1, -10, 995, 3, 0, n, 4, l, 4]);
+    assert_eq!(t[size(3, 0)..], [1, 0, at("\"a\""), 1, 2, 0, at("\"b\""), 1, 4, 0, at("\"d\""), 1]);
 
     // Exactly enough room, and one number less.
     let mut table = vec![5; t.len()];
@@ -399,7 +400,7 @@ fn many_variables_and_lines() {
     };
     let t = good(&format!("{HEAD}{}{}{TAIL}", half(1, 1, 2048, ""), half(2, 1, 2048, "")));
     assert_eq!(t[1..3], [2, 4096]);
-    assert_eq!(t[24 + 12..24 + 14], [2048, 2048]);
+    assert_eq!(t[size(1, 0) + column::BEFORE..][..2], [2048, 2048]);
     refused_in_record(8, &format!("{}{}", half(1, 1, 2048, ""), half(2, 1, 2048, "^9999 \"x\"")));
     refused_in_record(6, &format!("{}{}", half(1, 1, 2048, ""), half(2, 1, 2048, "^17 \"x\"")));
     refused_in_record(6, &format!("{}{}", half(1, 1, 2048, ""), half(2, 1, 2048, "^1.7 \"x\"")));
