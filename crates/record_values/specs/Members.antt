@@ -64,7 +64,9 @@ passing-none f c (suc n) h = rw (h c (omega arith)) (passing-none f (suc c) n (�
 passing-either : (f g : ℤ → Bool) (c n : ℕ) → length (passing (λ x. f x || g x) c n) ≤ length (passing f c n) + length (passing g c n)
 unfolding passing
 passing-either f g c zero = omega arith
-passing-either f g c (suc n) = go (f (pos c)) (g (pos c)) (passing (λ x. f x || g x) (suc c) n) (passing f (suc c) n) (passing g (suc c) n) (passing-either f g (suc c) n)
+passing-either f g c (suc n) =
+    go (f (pos c)) (g (pos c)) (passing (λ x. f x || g x) (suc c) n) (passing f (suc c) n) (passing g (suc c) n)
+    (passing-either f g (suc c) n)
   where
     go : (x y : Bool) (p q r : List ℤ) → length p ≤ length q + length r
         → length (cond (x || y) (pos c ∷ p) p) ≤ length (cond x (pos c ∷ q) q) + length (cond y (pos c ∷ r) r)
@@ -182,7 +184,8 @@ truth-none : (s : List ℕ) → length (membersOf (truthField s)) ≤ 0
 unfolding truthField membersOf
 truth-none s = go (allSpaces s) (eqb (getD s 0 0) 49) (eqb (getD s 0 0) 48)
   where
-    go : (c d e : Bool) → length (membersOf (cond c (holds missing) (cond d (holds (truth true)) (cond e (holds (truth false)) illegal)))) ≤ 0
+    go : (c d e : Bool)
+        → length (membersOf (cond c (holds missing) (cond d (holds (truth true)) (cond e (holds (truth false)) illegal)))) ≤ 0
     go true d e = omega arith
     go false true e = omega arith
     go false false true = omega arith

@@ -43,10 +43,13 @@ module _ (t : List ℤ) (bytes : List ℕ) (o l : ℕ) where
   -- the answer is one of these, each with what holds then
   pub answer-says : Case t bytes o l (wholeOf t bytes o l)
   unfolding wholeOf roomFor
-  answer-says = go (wellFormed t) (leb (lengthOf t) (length bytes)) (leb (4 * rowsOf t) o) (leb (length (allMembers t bytes)) l) refl refl refl refl
+  answer-says =
+      go (wellFormed t) (leb (lengthOf t) (length bytes)) (leb (4 * rowsOf t) o) (leb (length (allMembers t bytes)) l) refl refl refl refl
     where
-      go : (a b c d : Bool) → wellFormed t ≡ a → leb (lengthOf t) (length bytes) ≡ b → leb (4 * rowsOf t) o ≡ c → leb (length (allMembers t bytes)) l ≡ d
-          → Case t bytes o l (cond a (cond b (cond (c && d) (whole.Read (length (allMembers t bytes)) (refusedBelow (rowReading t (rowsOf t) bytes) (rowsOf t))) whole.ShortRoom) whole.ShortRecord) whole.BadTable)
+      go : (a b c d : Bool) → wellFormed t ≡ a → leb (lengthOf t) (length bytes) ≡ b
+          → leb (4 * rowsOf t) o ≡ c → leb (length (allMembers t bytes)) l ≡ d
+          → Case t bytes o l (cond a (cond b (cond (c && d)
+          (whole.Read (length (allMembers t bytes)) (refusedBelow (rowReading t (rowsOf t) bytes) (rowsOf t))) whole.ShortRoom) whole.ShortRecord) whole.BadTable)
       go false b c d p q r s = bad-table p
       go true false c d p q r s = short-record p (leb-false _ _ q)
       go true true false d p q r s = short-out p (leb-true _ _ q) (leb-false _ _ r)
@@ -61,13 +64,15 @@ module _ (t : List ℤ) (bytes : List ℕ) (o l : ℕ) where
   says-answer (short-out p q r) = rw (p, le-leb _ _ q, lt-leb _ _ r)
   says-answer (short-list p q r) = rw (p, le-leb _ _ q, lt-leb _ _ r) (no-room (leb (4 * rowsOf t) o))
     where
-      no-room : (b : Bool) → cond (b && false) (whole.Read (length (allMembers t bytes)) (refusedBelow (rowReading t (rowsOf t) bytes) (rowsOf t))) whole.ShortRoom ≡ whole.ShortRoom
+      no-room : (b : Bool) → cond (b && false)
+          (whole.Read (length (allMembers t bytes)) (refusedBelow (rowReading t (rowsOf t) bytes) (rowsOf t))) whole.ShortRoom ≡ whole.ShortRoom
       no-room true = refl
       no-room false = refl
   says-answer (all-read p q r s) = rw (p, le-leb _ _ q, le-leb _ _ r, le-leb _ _ s)
 
 -- a record that was read has a good table, and is long enough
-read-of : {t : List ℤ} {bytes : List ℕ} {o l m k : ℕ} {w : Whole} → Case t bytes o l w → w ≡ whole.Read m k → (wellFormed t ≡ true) × (lengthOf t ≤ length bytes)
+read-of : {t : List ℤ} {bytes : List ℕ} {o l m k : ℕ} {w : Whole} → Case t bytes o l w
+    → w ≡ whole.Read m k → (wellFormed t ≡ true) × (lengthOf t ≤ length bytes)
 read-of (bad-table p) e = let z : _≡_ {A = ℕ} 0 1 = cc in absurd (omega arith)
 read-of (short-record p q) e = let z : _≡_ {A = ℕ} 0 1 = cc in absurd (omega arith)
 read-of (short-out p q r) e = let z : _≡_ {A = ℕ} 0 1 = cc in absurd (omega arith)
@@ -85,13 +90,16 @@ nothing-written whole.ShortRoom xs lent h = refl
 -- ---- the rows, one behind the other
 module _ (t : List ℤ) (v : ℕ) (bytes : List ℕ) where
   four-at : (n i : ℕ) (rest : List ℤ) → i < n
-      → take 4 (drop (4 * i) (cellsBelow t v bytes n ++ rest)) ≡ fourOf (length (membersBelow (rowReading t v bytes) i)) (rowOutcome t v bytes i)
+      → take 4 (drop (4 * i) (cellsBelow t v bytes n ++ rest))
+      ≡ fourOf (length (membersBelow (rowReading t v bytes) i)) (rowOutcome t v bytes i)
   unfolding cellsBelow
   four-at zero i rest h = absurd (omega arith)
   four-at (suc n) i rest h =
       let four = fourOf (length (membersBelow (rowReading t v bytes) n)) (rowOutcome t v bytes n) in
       rw (append-assoc (cellsBelow t v bytes n) four rest)
-      (⊎-elim (λ e. let q : i ≡ n = e in rw (q, drop-at (cellsBelow t v bytes n) (four ++ rest) (4 * n) (length-cells t v bytes n)) (take-at four rest 4 (length-four _ _)))
+      (⊎-elim
+      (λ e. let q : i ≡ n = e in rw (q, drop-at (cellsBelow t v bytes n) (four ++ rest) (4 * n) (length-cells t v bytes n))
+      (take-at four rest 4 (length-four _ _)))
       (λ l. four-at n i (four ++ rest) l)
       (eq-or-lt-of-le (below h)))
     where
@@ -99,12 +107,15 @@ module _ (t : List ℤ) (v : ℕ) (bytes : List ℕ) where
       below l = omega arith
 
 module _ (f : ℕ → Field) where
-  set-at : (n i : ℕ) (rest : List ℤ) → i < n → take (length (membersOf (f i))) (drop (length (membersBelow f i)) (membersBelow f n ++ rest)) ≡ membersOf (f i)
+  set-at : (n i : ℕ) (rest : List ℤ) → i < n
+      → take (length (membersOf (f i))) (drop (length (membersBelow f i)) (membersBelow f n ++ rest)) ≡ membersOf (f i)
   unfolding membersBelow
   set-at zero i rest h = absurd (omega arith)
   set-at (suc n) i rest h =
       rw (append-assoc (membersBelow f n) (membersOf (f n)) rest)
-      (⊎-elim (λ e. let q : i ≡ n = e in rw (q, drop-at (membersBelow f n) (membersOf (f n) ++ rest) (length (membersBelow f n)) refl) (take-at (membersOf (f n)) rest (length (membersOf (f n))) refl))
+      (⊎-elim
+      (λ e. let q : i ≡ n = e in rw (q, drop-at (membersBelow f n) (membersOf (f n) ++ rest) (length (membersBelow f n)) refl)
+      (take-at (membersOf (f n)) rest (length (membersOf (f n))) refl))
       (λ l. set-at n i (membersOf (f n) ++ rest) l)
       (eq-or-lt-of-le (below h)))
     where
@@ -124,13 +135,16 @@ module _ (t : List ℤ) (bytes : List ℕ) where
   start-next i = members-count (rowReading t (rowsOf t) bytes) i
 
   -- what one row's reading answers, with a list that has room for its set
-  pub read-row-as : (i n : ℕ) → wellFormed t ≡ true → lengthOf t ≤ length bytes → i < rowsOf t → length (membersOf (readingAt t i bytes)) ≤ n
+  pub read-row-as : (i n : ℕ) → wellFormed t ≡ true → lengthOf t ≤ length bytes → i < rowsOf t
+      → length (membersOf (readingAt t i bytes)) ≤ n
       → readAs t i bytes n ≡ rowOutcome t (rowsOf t) bytes i
   unfolding readAs
-  read-row-as i n good long low room = rw (good, lt-ltb _ _ low, le-leb _ _ long) (outcome-room (rowAt t i .start - 1) n (readingAt t i bytes) room)
+  read-row-as i n good long low room =
+      rw (good, lt-ltb _ _ low, le-leb _ _ long) (outcome-room (rowAt t i .start - 1) n (readingAt t i bytes) room)
 
 -- ---- a record that was read
-module _ {t : List ℤ} {bytes : List ℕ} {out out′ list list′ : List ℤ} {m k : ℕ} (p : RecordRead t bytes out out′ list list′ (whole.Read m k)) where
+module _ {t : List ℤ} {bytes : List ℕ} {out out′ list list′ : List ℤ} {m k : ℕ}
+    (p : RecordRead t bytes out out′ list list′ (whole.Read m k)) where
   wrote : out′ ≡ filledOf (allCells t bytes) out
   unfolding writtenBy
   wrote = rw (sym (p .says)) at (p .rows)
@@ -147,10 +161,12 @@ module _ {t : List ℤ} {bytes : List ℕ} {out out′ list list′ : List ℤ} 
       → take 4 (drop (4 * i) out′) ≡ fourOf (startOf t bytes i) (readAs t i bytes n)
   unfolding filledOf
   row-numbers i n low room =
-      rw (wrote, read-row-as t bytes i n (usable .0) (usable .1) low room) (four-at t (rowsOf t) bytes (rowsOf t) i (drop (length (allCells t bytes)) out) low)
+      rw (wrote, read-row-as t bytes i n (usable .0) (usable .1) low room)
+      (four-at t (rowsOf t) bytes (rowsOf t) i (drop (length (allCells t bytes)) out) low)
 
   -- THE MEMBERS of row i's set stand in the list from its start on
-  pub row-members : (i : ℕ) → i < rowsOf t → take (length (membersOf (readingAt t i bytes))) (drop (startOf t bytes i) list′) ≡ membersOf (readingAt t i bytes)
+  pub row-members : (i : ℕ) → i < rowsOf t
+      → take (length (membersOf (readingAt t i bytes))) (drop (startOf t bytes i) list′) ≡ membersOf (readingAt t i bytes)
   unfolding filledOf
   row-members i low = rw filled (set-at (rowReading t (rowsOf t) bytes) (rowsOf t) i (drop (length (allMembers t bytes)) list) low)
 

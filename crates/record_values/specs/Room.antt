@@ -57,7 +57,8 @@ list-room (holds (truth b)) list h = refl
 list-room illegal list h = refl
 
 -- what was read of a row with room for its set
-module _ {p : ℕ} {f : Field} {list list′ : List ℤ} {r : Answer} (q : RowRead p f list list′ r) (h : length (membersOf f) ≤ length list) where
+module _ {p : ℕ} {f : Field} {list list′ : List ℤ} {r : Answer} (q : RowRead p f list list′ r)
+    (h : length (membersOf f) ≤ length list) where
   pub read-outcome : said r ≡ outcomeOf p (length (membersOf f)) f
   read-outcome = ap said (q .answer) ∙ said-answer p (length list) f ∙ outcome-room p (length list) f h
 
@@ -107,7 +108,8 @@ length-four s (truthIs b) = refl
 length-four s (refused k) = refl
 
 module _ (t : List ℤ) (v : ℕ) (bytes : List ℕ) where
-  pub cells-next : (i : ℕ) → cellsBelow t v bytes (i + 1) ≡ cellsBelow t v bytes i ++ fourOf (length (membersBelow (rowReading t v bytes) i)) (rowOutcome t v bytes i)
+  pub cells-next : (i : ℕ) → cellsBelow t v bytes (i + 1)
+      ≡ cellsBelow t v bytes i ++ fourOf (length (membersBelow (rowReading t v bytes) i)) (rowOutcome t v bytes i)
   unfolding cellsBelow
   cells-next i = rw (add-one i)
 
@@ -116,4 +118,9 @@ module _ (t : List ℤ) (v : ℕ) (bytes : List ℕ) where
   length-cells zero = refl
   length-cells (suc n) =
       let four = fourOf (length (membersBelow (rowReading t v bytes) n)) (rowOutcome t v bytes n) in
-      omega (arith, length-append (cellsBelow t v bytes n) four, length-cells n, length-four (length (membersBelow (rowReading t v bytes) n)) (rowOutcome t v bytes n))
+      omega (
+        arith,
+        length-append (cellsBelow t v bytes n) four,
+        length-cells n,
+        length-four (length (membersBelow (rowReading t v bytes) n)) (rowOutcome t v bytes n),
+      )

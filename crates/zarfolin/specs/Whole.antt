@@ -15,7 +15,7 @@ use Rattle.sound.specs.rule.Sound.{wellFormed}
 use Rattle.sound.specs.rule.Rows.{rowsOf, lengthOf}
 use Rattle.record_values.specs.declared.Whole.{Whole}
 use Rattle.record_values.specs.declared.Whole.the-variants as whole
-use Rattle.record_values.specs.rule.Record as record
+use Rattle.record_values.specs.rule.Record as rows
 use Rattle.record_values.specs.rule.Record.{membersOf, fourOf, wholeOf, RecordRead}
 use Rattle.record_values.specs.Room.{list-room}
 use Rattle.record_values.specs.Record.{startOf, row-numbers, row-members, usable}
@@ -26,14 +26,15 @@ use Rattle.zarfolin.specs.rule.Whole.{wholeCells, RecordTold}
 -- "just those that read_value answers for it, but for a set: kind, count, and in the fourth where its members start in the list"
 pub data Same (start : ℕ) : List ℤ → List ℤ → Type 0 where
   alike : {a : List ℤ} → Same start a a
-  set : {n : ℕ} → Same start (pos 0 ∷ pos 2 ∷ cellOf n ∷ cellOf start ∷ []) (pos 0 ∷ pos 2 ∷ cellOf n ∷ pos 0 ∷ [])
+  set : (n : ℕ) → Same start (pos 0 ∷ pos 2 ∷ cellOf n ∷ cellOf start ∷ []) (pos 0 ∷ pos 2 ∷ cellOf n ∷ pos 0 ∷ [])
 
 -- the four numbers of an outcome, as the two calls tell them
-four-same : (start : ℕ) (o : Outcome) (c : Told) → c ≡ outcomeCells o → Same start (fourOf start o) (cellOf (c .number) ∷ c .first ∷ c .second ∷ c .third ∷ [])
-unfolding fourOf outcomeCells cellOf flagOf record.cellOf record.flagOf
+four-same : (start : ℕ) (o : Outcome) (c : Told) → c ≡ outcomeCells o
+    → Same start (fourOf start o) (cellOf (c .number) ∷ c .first ∷ c .second ∷ c .third ∷ [])
+unfolding fourOf outcomeCells cellOf flagOf rows.cellOf rows.flagOf
 four-same start nothing c e = rw e alike
 four-same start (numberIs z) c e = rw e alike
-four-same start (setOf n) c e = rw e set
+four-same start (setOf n) c e = rw e (set n)
 four-same start (textAt p n) c e = rw e alike
 four-same start (truthIs b) c e = rw e alike
 four-same start (refused k) c e = rw e alike
@@ -51,18 +52,22 @@ module _ {t : List ℤ} {bytes : List ℕ} {out out′ list list′ answer : Lis
     {i r : ℕ} {one one′ told : List ℤ} (q : ValueTold t i bytes one one′ told r) (low : i < rowsOf t)
     (room : length (membersOf (readingAt t i bytes)) ≤ length one) where
   whole-read : (P : Type 0) → ((m k : ℕ) → RecordRead t bytes out out′ list list′ (whole.Read m k) → P) → P
-  whole-read P f = read-whole (wholeOf t bytes (length out) (length list)) answer (p .tells) P (λ m k e. f m k (record { says = sym e; rows = p .rows; leaves = p .leaves }))
+  whole-read P f =
+      read-whole (wholeOf t bytes (length out) (length list)) answer (p .tells) P
+      (λ m k e. f m k (record { says = sym e; rows = p .rows; leaves = p .leaves }))
 
   -- ROW BY ROW: four numbers of out are the answer of read_value for the row, but for a set's start
   pub record-row : Same (startOf t bytes i) (take 4 (drop (4 * i) out′)) told
   record-row = whole-read (Same (startOf t bytes i) (take 4 (drop (4 * i) out′)) told) (λ m k w.
-    rw (row-numbers w i (length one) low room, q .tells .holds) (four-same (startOf t bytes i) (readAs t i bytes (length one)) (outcomeCells (readAs t i bytes (length one))) refl))
+      rw (row-numbers w i (length one) low room, q .tells .holds)
+      (four-same (startOf t bytes i) (readAs t i bytes (length one)) (outcomeCells (readAs t i bytes (length one))) refl))
 
   -- AND ITS MEMBERS: the list holds from that start on what read_value leaves at the start of its own
   pub record-members : let n = length (membersOf (readingAt t i bytes)) in take n (drop (startOf t bytes i) list′) ≡ take n one′
   unfolding listAs filledOf
   record-members = let n = length (membersOf (readingAt t i bytes)) in
-    whole-read (take n (drop (startOf t bytes i) list′) ≡ take n one′) (λ m k w.
-    row-members w i low
-    ∙ sym (ap (λ (l : List ℤ). take n l) (q .leaves ∙ rw (usable w .0, lt-ltb _ _ low, le-leb _ _ (usable w .1)) (list-room (readingAt t i bytes) one room))
-    ∙ take-append-seam (membersOf (readingAt t i bytes)) (drop n one)))
+      whole-read (take n (drop (startOf t bytes i) list′) ≡ take n one′) (λ m k w.
+      row-members w i low
+      ∙ sym (ap (λ (l : List ℤ). take n l)
+      (q .leaves ∙ rw (usable w .0, lt-ltb _ _ low, le-leb _ _ (usable w .1)) (list-room (readingAt t i bytes) one room))
+      ∙ take-append-seam (membersOf (readingAt t i bytes)) (drop n one)))
