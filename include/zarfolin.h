@@ -297,9 +297,10 @@ zarfolin_number zarfolin_next_record(const uint8_t *data, size_t data_len, uint6
 
 /* ---- stack --------------------------------------------------------------------------------------------------------- *
  *
- * The most bytes of stack that each call takes, its own return address included, memcpy and memset too. Measured on
- * painted stacks by tests/c/stack.c, which the merge gate holds to these figures. Deeper than that no call goes: none
- * calls itself but the one that skips comments, at most ZARFOLIN_MAX_LEVEL deep. */
+ * The most bytes of stack that a call took, rounded up, its own return address included, memcpy and memset too. Measured,
+ * not proved: on painted stacks, over the inputs of tests/c/stack.c, which the merge gate holds to these figures. Not
+ * counted is what the dynamic linker takes where it binds memcpy at a first call. No function of the archive calls itself
+ * but the one that skips comments, at most ZARFOLIN_MAX_LEVEL deep, so leave some room and no more. */
 #define ZARFOLIN_STACK_READ_DEFINITION 261000
 #define ZARFOLIN_STACK_READ_VALUE 38000
 #define ZARFOLIN_STACK_READ_RECORD 102000
