@@ -20,21 +20,6 @@ use Rattle.cuts.specs.rule.Cut.{beginsWith, wholeAt, beginsAt, endFrom, 
 use Rattle.cuts.specs.Cut.{end-here, end-on, end-none, end-unbroken, next-some, next-none, unbroken-plain}
 use Rattle.cuts.specs.rule.Records.{Records, over, unended, record-and, atEnd, cut, recordsFrom, recordsOf}
 
--- the bytes of a terminator, and records laid end to end with it
-unfoldable pub terminatorBytes : Terminator → List ℕ
-terminatorBytes w = cond (eqb (w .size) 2) (w .first ∷ w .second ∷ []) (w .first ∷ [])
-
-unfoldable pub laid : Terminator → Records → List ℕ
-laid w over = []
-laid w (unended r) = r
-laid w (record-and r rs) = r ++ terminatorBytes w ++ laid w rs
-
--- how many terminators were passed
-unfoldable pub countEnded : Records → ℕ
-countEnded over = 0
-countEnded (unended r) = 0
-countEnded (record-and r rs) = countEnded rs + 1
-
 -- ---- LAID END TO END: the records with their terminators are the file again
 laid-end : (w : Terminator) (r : List ℕ) → laid w (atEnd r) ≡ r
 unfolding laid atEnd

@@ -10,7 +10,7 @@ use lib.Dec.{eqb}
 use lib.IntN.{ℤ}
 use lib.ListN.{length, getD, take, drop}
 use Rattle.below.specs.Below.{lt-or-le}
-use Rattle.places.specs.Places.{Out, Apart}
+use Rattle.places.specs.rule.Places.{Out, Apart}
 use Rattle.layout.specs.rule.Row.{rowAt}
 use Rattle.layout.specs.declared.Kind.{Kind}
 use Rattle.layout.specs.declared.Row.{Row}
@@ -20,8 +20,8 @@ use Rattle.sound.specs.rule.Sound.{wellFormed, TableTested}
 use Rattle.sound.specs.rule.Rows.{rowsOf}
 use Rattle.cuts.specs.declared.Next.{Next}
 use Rattle.cuts.specs.rule.Cut.{NextFound, terminatorOf}
-use Rattle.cuts.specs.rule.Records.{Records, recordsOf}
-use Rattle.cuts.specs.Records.{laid, laid-again, countEnded}
+use Rattle.cuts.specs.rule.Records.{Records, recordsOf, laid, countEnded}
+use Rattle.cuts.specs.Records.{laid-again}
 use Rattle.records.specs.rule.Value.{Outcome, refused, outcomeOf, readingAt, ValueRead}
 use Rattle.sets.specs.rule.Sets.{listAfter}
 use Rattle.records.specs.rule.Verdict.{Verdict, RecordJudged}
@@ -31,23 +31,24 @@ use Rattle.definition.specs.declared.Answer.{Answer}
 use Rattle.definition.specs.declared.Answer.the-variants as definition
 use Rattle.definition.specs.rule.Definition.{DefinitionRead}
 use Rattle.definition.proofs.Goods as goods
-use Rattle.table_laws.specs.Signs.{TableSigns}
+use Rattle.table_laws.specs.rule.Signs.{TableSigns}
 use Rattle.table_laws.specs.Signs as signs
 use Rattle.read_laws.specs.Settled as reads
-use Rattle.read_laws.specs.Exactly.{Given, Illegal}
+use Rattle.read_laws.specs.rule.Exactly.{Given, Illegal}
 use Rattle.read_laws.specs.Exactly as exactly
-use Rattle.read_laws.specs.Reading.{ReadOutcome}
+use Rattle.read_laws.specs.rule.Reading.{ReadOutcome}
 use Rattle.read_laws.specs.Reading as reading
-use Rattle.read_laws.specs.Refused.{RecordOutcome}
+use Rattle.read_laws.specs.rule.Refused.{RecordOutcome}
 use Rattle.read_laws.specs.Refused as judging
-use Rattle.file_laws.specs.Files.{FileOutcome}
+use Rattle.file_laws.specs.rule.Files.{FileOutcome}
 use Rattle.file_laws.specs.Files as files
-use Rattle.file_laws.specs.Only.{Clean}
+use Rattle.file_laws.specs.rule.Only.{Clean}
 use Rattle.file_laws.specs.Only as cutting
 use Rattle.laws.specs.Settled as settled
+use Rattle.laws.specs.rule.Writing as rule
 use Rattle.laws.specs.Writing as writing
 use Rattle.laws.specs.ReadBack as back
-use Rattle.laws.specs.WriteBack.{Answered}
+use Rattle.laws.specs.rule.WriteBack.{Answered}
 use Rattle.laws.specs.WriteBack as again
 use Rattle.zarfolin.specs.rule.Face.{RecordTold, ValueTold, FileTold, DefinitionTold, NextTold}
 use Rattle.zarfolin.specs.rule.Truth.{TruthTold}
@@ -159,10 +160,10 @@ pub cut-one : (d : List ℕ) (rs : Records) → Clean (terminatorOf d) rs → la
 cut-one = cutting.cut-only
 
 -- a write is refused by its number exactly when what the number says is so
-pub write-so : (t : List ℤ) (i : ℕ) (x : Value) (n : ℕ) → writing.Outcome t i x n (refusalOf t i x n)
+pub write-so : (t : List ℤ) (i : ℕ) (x : Value) (n : ℕ) → rule.Outcome t i x n (refusalOf t i x n)
 write-so = writing.named
 
-pub so-write : (t : List ℤ) (i : ℕ) (x : Value) (n : ℕ) {k : ℕ} → writing.Outcome t i x n k → refusalOf t i x n ≡ k
+pub so-write : (t : List ℤ) (i : ℕ) (x : Value) (n : ℕ) {k : ℕ} → rule.Outcome t i x n k → refusalOf t i x n ≡ k
 so-write = writing.only
 
 -- of a well-formed table no number is negative but a quantity's from, to and line values

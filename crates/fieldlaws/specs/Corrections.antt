@@ -10,8 +10,8 @@ use lib.Dec.{eqb}
 use lib.IntN.{ℤ}
 use lib.ListN.{length, getD}
 use lib.Seq.{set-getD}
-use Rattle.places.specs.rule.Places.{pick, put}
-use Rattle.places.specs.Places.{Out, Apart, Below}
+use Rattle.places.specs.rule.Places.{pick, put, Out, Apart}
+use Rattle.places.specs.Places.{Below}
 use Rattle.places.specs.Laws.{length-put, keeps, last, commute, back, apart, length-run, length-pick}
 use Rattle.layout.specs.declared.Spread.the-variants.{Bits}
 use Rattle.layout.specs.declared.Kind.{Kind}

@@ -7,8 +7,8 @@ use native.Mathlib.Nat.{zero-mul, suc-mul}
 use native.Mathlib.Omega.{arith}
 use lib.IntN.{ℤ, pos}
 use lib.ListN.{length, length-append}
-use Rattle.places.specs.rule.Places.{run}
-use Rattle.places.specs.Places.{Out, Apart, Once, Below}
+use Rattle.places.specs.rule.Places.{run, Out, Apart}
+use Rattle.places.specs.Places.{Once, Below}
 use Rattle.places.specs.Laws.{out-run, once-run, below-run, length-run}
 use Rattle.layout.specs.declared.Row.{Row}
 use Rattle.layout.specs.declared.Kind.{Kind}

@@ -1,5 +1,4 @@
--- A data file is cut at each whole terminator, and only there: no record holds one, the records laid end to end with their terminators
--- are the file again (`laid-again` of crate `cuts`), and no other records have both.
+-- What follows from rule/Only.antt, and what the code keeps.
 use mathlib.Core.Path.{_≡_, refl, sym, ap, _∙_}
 use mathlib.Core.Logic.{⊎-elim}
 use mathlib.Core.Bool.{Bool, true, false, cond, _&&_}
@@ -14,19 +13,8 @@ use lib.Seq.{drop-append-le, drop-append-seam, drop-cons}
 use Rattle.below.specs.Below.{holds-not, lt-or-le}
 use Rattle.cuts.specs.declared.Terminator.{Terminator}
 use Rattle.cuts.specs.rule.Cut.{single, pair, none, beginsWith, terminatorAt, terminatorOf, wholeAt, beginsAt}
-use Rattle.cuts.specs.rule.Records.{Records, over, unended, record-and, atEnd, cut, recordsOf}
-use Rattle.cuts.specs.Records.{terminatorBytes, laid}
-
--- ---- the words
--- no place of s begins with the whole terminator
-pub record NoneInside (w : Terminator) (s : List ℕ) : Type 0 where
-  pub nowhere : (p : ℕ) → beginsAt w (drop p s) ≡ false
-
--- no record holds a whole terminator; only one that there is ends a record; and a last record without one is not empty
-pub data Clean (w : Terminator) : Records → Type 0 where
-  none-left : Clean w over
-  last : {b : ℕ} {r : List ℕ} → NoneInside w (b ∷ r) → Clean w (unended (b ∷ r))
-  next : {r : List ℕ} {rs : Records} → 1 ≤ w .size → NoneInside w r → Clean w rs → Clean w (record-and r rs)
+use Rattle.cuts.specs.rule.Records.{Records, unended, record-and, atEnd, cut, recordsOf, terminatorBytes, laid}
+use Rattle.file_laws.specs.rule.Only.{NoneInside, Clean, none-left, last, next}
 
 -- ---- a terminator is none, one byte, or two that differ
 pub data Known : Terminator → Type 0 where

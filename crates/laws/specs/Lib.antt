@@ -1,3 +1,4 @@
+pub mod rule
 pub mod Tops
 pub mod Writing
 pub mod ReadBack

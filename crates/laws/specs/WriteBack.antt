@@ -1,5 +1,4 @@
--- WRITE-BACK over the calls: what a read answered, handed to the write call as a caller can hand it, is written, and every later read
--- answers the same.
+-- What follows from rule/WriteBack.antt, and what the code keeps.
 use mathlib.Core.Path.{_≡_, refl, sym, ap, _∙_}
 use mathlib.Core.Bool.{Bool, true, false, cond}
 use mathlib.Core.List.{List}
@@ -31,17 +30,10 @@ use Rattle.sets.specs.rule.Sets.{filledOf, listAfter}
 use Rattle.records.specs.rule.Value.{Outcome, nothing, numberIs, setOf, textAt, truthIs, refused, outcomeOf, readingAt}
 use Rattle.records.specs.rule.Value.{readAs, listAs, ValueRead}
 use Rattle.writes.specs.rule.Public.{Written}
-use Rattle.laws.specs.Writing.{Sound, keeps-length, write-back-accepted, write-back}
+use Rattle.laws.specs.rule.Writing.{Sound}
+use Rattle.laws.specs.Writing.{keeps-length, write-back-accepted, write-back}
 use Rattle.laws.specs.ReadBack.{text-kind, text-room, text-first}
-
--- THE VALUE that an answer stands for, with the list after it and the record: missing; a number; the first n of the list; the n bytes of
--- the record at the place; a truth. A refusal stands for none.
-pub data Answered (list : List ℤ) (bytes : List ℕ) : Outcome → Value → Type 0 where
-  missing-answered : Answered list bytes nothing missing
-  number-answered : {z : ℤ} → Answered list bytes (numberIs z) (number z)
-  set-answered : {n : ℕ} → Answered list bytes (setOf n) (members (take n list))
-  text-answered : {p n : ℕ} → Answered list bytes (textAt p n) (text (take n (drop p bytes)))
-  truth-answered : {b : Bool} → Answered list bytes (truthIs b) (truth b)
+use Rattle.laws.specs.rule.WriteBack.{Answered, missing-answered, number-answered, set-answered, text-answered, truth-answered}
 
 -- ---- an answer by its case
 module _ {list : List ℤ} {bytes : List ℕ} where

@@ -1,16 +1,14 @@
--- The write of one row's value: exactly which number refuses it, and the laws of corrections, over THE READING `readingOf` and the
--- promise `Written`, which is that of the call and of the exported functions too, for every kind of row and every well-formed table.
+-- What follows from rule/Writing.antt, and what the code keeps.
 use mathlib.Core.Path.{_≡_, refl, sym, ap, _∙_}
 use mathlib.Core.Bool.{Bool, true, false, cond}
 use mathlib.Core.List.{List}
-use Prim.Native.Nat.{ℕ, _≤_, _<_}
+use Prim.Native.Nat.{ℕ, _<_}
 use native.Mathlib.Omega.{arith}
 use borrow.Author.Tests.{leb-true, leb-false, ltb-true, ltb-false, le-leb, lt-leb, lt-ltb, le-ltb, eqb-true, eqb-false}
 use lib.Dec.{eqb, leb, ltb}
 use lib.IntN.{ℤ}
 use lib.ListN.{length, getD}
-use Rattle.places.specs.rule.Places.{pick, put}
-use Rattle.places.specs.Places.{Out, Apart}
+use Rattle.places.specs.rule.Places.{pick, put, Out, Apart}
 use Rattle.layout.specs.rule.Row.{rowAt}
 use Rattle.fields.specs.rule.Field.{Value, missing, holds}
 use Rattle.fields.specs.rule.Number.{allSpaces}
@@ -25,21 +23,7 @@ use Rattle.writes.specs.declared.Wrote.{Wrote}
 use Rattle.writes.specs.declared.Wrote.the-variants.{Done, NotWellFormed, NoRow, TooShort, OtherType, NotLegal, TooMany}
 use Rattle.writes.specs.rule.Public.{numberOf, fitNumber, refusalOf, recordAfter, Written}
 use Rattle.laws.specs.Tops.{row-topped}
-
--- ---- EXACTLY WHEN: each number with what it says, in document 01's words; 0 is a write without fault
-pub record Sound (t : List ℤ) (i n : ℕ) : Type 0 where
-  pub formed : wellFormed t ≡ true
-  pub row : i < rowsOf t
-  pub long : lengthOf t ≤ n
-
-pub data Outcome (t : List ℤ) (i : ℕ) (x : Value) (n : ℕ) : ℕ → Type 0 where
-  not-formed : wellFormed t ≡ false → Outcome t i x n 20
-  no-row : wellFormed t ≡ true → rowsOf t ≤ i → Outcome t i x n 21
-  too-short : wellFormed t ≡ true → i < rowsOf t → n < lengthOf t → Outcome t i x n 22
-  other-type : Sound t i n → fitOf t (rowsOf t) (rowAt t i) x ≡ otherType → Outcome t i x n 26
-  not-legal : Sound t i n → fitOf t (rowsOf t) (rowAt t i) x ≡ notLegal → Outcome t i x n 27
-  too-many : Sound t i n → fitOf t (rowsOf t) (rowAt t i) x ≡ tooMany → Outcome t i x n 28
-  no-fault : Sound t i n → fitOf t (rowsOf t) (rowAt t i) x ≡ fits → Outcome t i x n 0
+use Rattle.laws.specs.rule.Writing.{Sound, Outcome, not-formed, no-row, too-short, other-type, not-legal, too-many, no-fault}
 
 module _ (t : List ℤ) (i : ℕ) (x : Value) (n : ℕ) where
   -- the number names what is so

@@ -23,8 +23,3 @@ digitsRead n s = cond (digitsOnly s) (digits.Value (decimalFrom n s)) digits.Wro
 -- the number that the whole part and the decimals say
 unfoldable pub decimalsRead : Bool → ℕ → List ℕ → Said
 decimalsRead minus whole s = cond (digitsOnly s) (says (numberOf minus (decimalFrom whole s))) wrong
-
--- a quantity's format: at most 9 decimals, and none without a point
-pub record FormatFacts (f : Format) : Type 0 where
-  pub few : f .decimals ≤ 9
-  pub plain : f .point ≡ 0 → f .decimals ≡ 0

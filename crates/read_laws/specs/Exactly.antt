@@ -1,9 +1,8 @@
--- EXACTLY WHEN, for a field of each kind, in the words of document 01's table: the bytes at a row's value places say this exactly when
--- they have this form. The forms stand in Forms, Kinds and Others; what the call answers, in Reading.
+-- What follows from rule/Exactly.antt, and what the code keeps.
 use mathlib.Core.Path.{_≡_, refl, ap, _∙_}
 use mathlib.Core.Bool.{Bool, true, false, cond}
 use mathlib.Core.List.{List, [], _∷_}
-use Prim.Native.Nat.{ℕ, zero, suc, _≤_, _<_}
+use Prim.Native.Nat.{ℕ, zero, suc}
 use native.Mathlib.Omega.{arith}
 use borrow.Author.Tests.{eqb-true, leb-true, le-leb}
 use lib.Dec.{eqb, leb}
@@ -23,55 +22,20 @@ use Rattle.fields.specs.rule.Field.{missing, number, members, text, truth, Fiel
 use Rattle.fields.specs.rule.Field.{allBits, setBits, bitsField, allEntries, spreadSet, spreadField, allPlain, unended, textField}
 use Rattle.fields.specs.rule.Field.{truthField}
 use Rattle.fields.specs.rule.Row.{categories, fieldBy}
-use Rattle.numbers.specs.Numeral.{FormatFacts}
-use Rattle.read_laws.specs.Forms.{Spaces, CodeForm, QuantityForm, code-exactly, code-blank-exactly, code-wrong-exactly}
+use Rattle.numbers.specs.rule.Format.{FormatFacts}
+use Rattle.read_laws.specs.rule.Forms.{Spaces, CodeForm, QuantityForm}
+use Rattle.read_laws.specs.Forms.{code-exactly, code-blank-exactly, code-wrong-exactly}
 use Rattle.read_laws.specs.Forms.{quantity-exactly, quantity-blank-exactly, quantity-wrong-exactly, spaces-all, all-spaces}
-use Rattle.read_laws.specs.Kinds.{BitForm, single-exactly, zero-not, not-zero, bits-exactly}
-use Rattle.read_laws.specs.Others.{TextForm, text-exactly, Entries, SpreadSet, spread-exactly, spread-set-of, spread-set-is}
+use Rattle.read_laws.specs.rule.Kinds.{BitForm}
+use Rattle.read_laws.specs.Kinds.{single-exactly, zero-not, not-zero, bits-exactly}
+use Rattle.read_laws.specs.rule.Others.{TextForm, Entries, SpreadSet}
+use Rattle.read_laws.specs.Others.{text-exactly, spread-exactly, spread-set-of, spread-set-is}
 use Rattle.read_laws.specs.Missing.{spaces-missing}
-
--- ---- the words. `s` are the bytes at the value places of a row r, in a table of v rows
--- bytes 32 to 255
-abbrev pub AllPlain : List ℕ → Type 0
-AllPlain s = (p : ℕ) → p < length s → 32 ≤ getD s p 0
+use Rattle.read_laws.specs.rule.Exactly.{AllPlain, Illegal, single, quantity, bitstring, spread, character, logical, Says, blank-field}
+use Rattle.read_laws.specs.rule.Exactly.{single-zero, single-number, quantity-number, bits-set, spread-set, character-text}
+use Rattle.read_laws.specs.rule.Exactly.{logical-true, logical-false, no-value, Given}
 
 module _ (t : List ℤ) (v : ℕ) (r : Row) (s : List ℕ) where
-  -- ILLEGAL: neither spaces nor the kind's form with a legal number
-  pub data Illegal : Kind → Type 0 where
-    single : (Spaces s → ⊥) → ((z : ℤ) → CodeForm s z → (z ≡ pos 0 → ⊥) × (legal t v r z ≡ false)) → Illegal Single
-    quantity : {f : Format} → (Spaces s → ⊥) → ((z : ℤ) → QuantityForm f s z → legal t v r z ≡ false) → Illegal (Quantity f)
-    bitstring : (Spaces s → ⊥) → ((ms : List ℤ) → BitForm (categories t v r) s ms → ⊥) → Illegal (Multiple Bits)
-    spread : {n b : ℕ} → (Spaces s → ⊥) → (Entries (legal t v r) (r .width) n s → ⊥) → Illegal (Multiple (Fields n b))
-    character : (Spaces s → ⊥) → (AllPlain s → ⊥) → Illegal Character
-    logical : (Spaces s → ⊥) → (s ≡ 49 ∷ [] → ⊥) → (s ≡ 48 ∷ [] → ⊥) → Illegal Logical
-
-  -- what the bytes say
-  pub data Says : Kind → Field → Type 0 where
-    -- "All value places spaces: missing, for every type"; SINGLE: "zero is missing"
-    blank-field : {k : Kind} → Spaces s → Says k (holds missing)
-    single-zero : CodeForm s (pos 0) → Says Single (holds missing)
-    -- "Otherwise a number must lie in the range or on a line"
-    single-number : {z : ℤ} → CodeForm s z → (z ≡ pos 0 → ⊥) → legal t v r z ≡ true → Says Single (holds (number z))
-    quantity-number : {f : Format} {z : ℤ} → QuantityForm f s z → legal t v r z ≡ true → Says (Quantity f) (holds (number z))
-    -- "Both multiple forms read as a set in rising order, repeats dropped"
-    bits-set : {ms : List ℤ} → (Spaces s → ⊥) → BitForm (categories t v r) s ms → Says (Multiple Bits) (holds (members ms))
-    spread-set : {n b : ℕ} {ms : List ℤ} → (Spaces s → ⊥) → Entries (legal t v r) (r .width) n s → SpreadSet (r .width) n s ms
-        → Says (Multiple (Fields n b)) (holds (members ms))
-    -- "trailing spaces cut; bytes 32 to 255"; "`0` or `1`"
-    character-text : {x : List ℕ} → TextForm s x → AllPlain s → Says Character (holds (text x))
-    logical-true : s ≡ 49 ∷ [] → Says Logical (holds (truth true))
-    logical-false : s ≡ 48 ∷ [] → Says Logical (holds (truth false))
-    no-value : {k : Kind} → Illegal k → Says k illegal
-
-  -- what a row of a well-formed table and the bytes at its value places give
-  abbrev pub Given : Kind → Type 0
-  Given Single = Unit
-  Given (Multiple Bits) = length (categories t v r) ≡ length s
-  Given (Multiple (Fields n b)) = Unit
-  Given (Quantity f) = FormatFacts f
-  Given Character = Unit
-  Given Logical = length s ≡ 1
-
   -- ---- spaces or not
   not-spaces : (Spaces s → ⊥) → allSpaces s ≡ false
   not-spaces n = go (allSpaces s) refl
@@ -84,12 +48,12 @@ module _ (t : List ℤ) (v : ℕ) (r : Row) (s : List ℕ) where
   spaces-not e a = holds-not (spaces-all a) e
 
   -- ---- SINGLE
-  single-named : Says Single (fieldBy Single t v r s)
+  single-named : Says t v r s Single (fieldBy Single t v r s)
   unfolding fieldBy singleSays numberField
   single-named = go (codeOf s) refl
     where
       by : (z : ℤ) → codeOf s ≡ says z → (a b : Bool) → eqZ z (pos 0) ≡ a → legal t v r z ≡ b
-          → Says Single (cond a (holds missing) (cond b (holds (number z)) illegal))
+          → Says t v r s Single (cond a (holds missing) (cond b (holds (number z)) illegal))
       by z u true b p q = single-zero (code-exactly s (pos 0) .0 (u ∙ ap says (same-true z (pos 0) p)))
       by z u false true p q = single-number (code-exactly s z .0 u) (not-zero z p) q
       by z u false false p q =
@@ -97,7 +61,7 @@ module _ (t : List ℤ) (v : ℕ) (r : Row) (s : List ℕ) where
           (single (λ a. let e = code-blank-exactly s .1 a in let k : _≡_ {A = ℕ} 0 1 = cc in omega arith)
           (λ y f. let e = code-exactly s y .1 f in let w : z ≡ y = cc in (not-zero y (rw w at p), rw w at q)))
 
-      go : (x : Said) → codeOf s ≡ x → Says Single (singleSays (legal t v r) x)
+      go : (x : Said) → codeOf s ≡ x → Says t v r s Single (singleSays (legal t v r) x)
       go blank u = blank-field (code-blank-exactly s .0 u)
       go wrong u = let e = code-wrong-exactly s .0 u in no-value (single (e .0) (λ z f. absurd (e .1 z f)))
       go (says z) u = by z u (eqZ z (pos 0)) (legal t v r z) refl refl
@@ -113,18 +77,18 @@ module _ (t : List ℤ) (v : ℕ) (r : Row) (s : List ℕ) where
 
   -- ---- QUANTITY
   module _ (f : Format) (facts : FormatFacts f) where
-    quantity-named : Says (Quantity f) (fieldBy (Quantity f) t v r s)
+    quantity-named : Says t v r s (Quantity f) (fieldBy (Quantity f) t v r s)
     unfolding fieldBy quantitySays numberField
     quantity-named = go (quantityOf f s) refl
       where
-        by : (z : ℤ) → quantityOf f s ≡ says z → (b : Bool) → legal t v r z ≡ b → Says (Quantity f) (cond b (holds (number z)) illegal)
+        by : (z : ℤ) → quantityOf f s ≡ says z → (b : Bool) → legal t v r z ≡ b → Says t v r s (Quantity f) (cond b (holds (number z)) illegal)
         by z u true q = quantity-number (quantity-exactly f facts s z .0 u) q
         by z u false q =
             no-value
             (quantity (λ a. let e = quantity-blank-exactly f facts s .1 a in let k : _≡_ {A = ℕ} 0 1 = cc in omega arith)
             (λ y g. let e = quantity-exactly f facts s y .1 g in let w : z ≡ y = cc in rw w at q))
 
-        go : (x : Said) → quantityOf f s ≡ x → Says (Quantity f) (quantitySays (legal t v r) x)
+        go : (x : Said) → quantityOf f s ≡ x → Says t v r s (Quantity f) (quantitySays (legal t v r) x)
         go blank u = blank-field (quantity-blank-exactly f facts s .0 u)
         go wrong u = let e = quantity-wrong-exactly f facts s .0 u in no-value (quantity (e .0) (λ z g. absurd (e .1 z g)))
         go (says z) u = by z u (legal t v r z) refl
@@ -147,12 +111,12 @@ module _ (t : List ℤ) (v : ℕ) (r : Row) (s : List ℕ) where
     cs : List ℕ
     cs = categories t v r
 
-    bits-named : Says (Multiple Bits) (fieldBy (Multiple Bits) t v r s)
+    bits-named : Says t v r s (Multiple Bits) (fieldBy (Multiple Bits) t v r s)
     unfolding fieldBy bitsField cs
     bits-named = go (allSpaces s) (allBits s) refl refl
       where
         go : (a b : Bool) → allSpaces s ≡ a → allBits s ≡ b
-            → Says (Multiple Bits) (cond a (holds missing) (cond b (holds (members (setBits cs s))) illegal))
+            → Says t v r s (Multiple Bits) (cond a (holds missing) (cond b (holds (members (setBits cs s))) illegal))
         go true b p q = blank-field (all-spaces s p)
         go false true p q = bits-set (spaces-not p) (bits-exactly cs s even (setBits cs s) .0 (rw (p, q)) .0)
         go false false p q =
@@ -174,12 +138,12 @@ module _ (t : List ℤ) (v : ℕ) (r : Row) (s : List ℕ) where
     ok : ℤ → Bool
     ok = legal t v r
 
-    spread-named : Says (Multiple (Fields n b)) (fieldBy (Multiple (Fields n b)) t v r s)
+    spread-named : Says t v r s (Multiple (Fields n b)) (fieldBy (Multiple (Fields n b)) t v r s)
     unfolding fieldBy spreadField ok
     spread-named = go (allSpaces s) (allEntries ok (r .width) n s) refl refl
       where
         go : (a c : Bool) → allSpaces s ≡ a → allEntries ok (r .width) n s ≡ c
-            → Says (Multiple (Fields n b)) (cond a (holds missing) (cond c (holds (members (spreadSet (r .width) n s))) illegal))
+            → Says t v r s (Multiple (Fields n b)) (cond a (holds missing) (cond c (holds (members (spreadSet (r .width) n s))) illegal))
         go true c p q = blank-field (all-spaces s p)
         go false true p q =
             spread-set (spaces-not p) (spread-exactly ok (r .width) n s (spreadSet (r .width) n s) .0 (rw (p, q)) .1)

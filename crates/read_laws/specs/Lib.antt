@@ -1,3 +1,4 @@
+pub mod rule
 pub mod Settled
 pub mod Alone
 pub mod Refused

@@ -8,10 +8,10 @@ use Rattle.layout.specs.declared.Kind.{Kind}
 use Rattle.layout.specs.declared.Kind.the-variants.{Single, Multiple, Quantity, Character, Logical}
 use Rattle.layout.specs.declared.Row.{Row}
 use Rattle.fields.specs.rule.Number.{codeOf, codeAfter, quantityOf, quantityAfter}
-use Rattle.fields.specs.rule.Field.{missing, holds, singleSays}
-use Rattle.fields.specs.rule.Field.{quantitySays, bitsField, spreadField, textField, truthField}
+use Rattle.fields.specs.rule.Field.{missing, holds, singleSays, quantitySays, bitsField, spreadField, textField, truthField}
 use Rattle.fields.specs.rule.Row.{fieldBy}
-use Rattle.read_laws.specs.Forms.{Spaces, spaces-all, all-gap}
+use Rattle.read_laws.specs.rule.Forms.{Spaces}
+use Rattle.read_laws.specs.Forms.{spaces-all, all-gap}
 
 -- ---- spaces read as missing, for every kind
 pub spaces-missing : (k : Kind) (t : List ℤ) (v : ℕ) (r : Row) (s : List ℕ) → Spaces s → fieldBy k t v r s ≡ holds missing

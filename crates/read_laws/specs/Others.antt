@@ -1,4 +1,4 @@
--- CHARACTER, LOGICAL and spreads in the paper's own words, both ways.
+-- What follows from rule/Others.antt, and what the code keeps.
 use mathlib.Core.Path.{_≡_, refl, sym, ap, _∙_}
 use mathlib.Core.Logic.{_⊎_, ⊎-elim}
 use mathlib.Core.Bool.{Bool, true, false, cond, _&&_, _||_}
@@ -19,18 +19,11 @@ use Rattle.fields.specs.rule.Field.{entryGood, entryIs, allEntries, someEntry, 
 use Rattle.fieldlaws.specs.TextLaws.{unended-blank}
 use Rattle.fieldlaws.specs.RisingLaws.{Rising, skip, keep, rising-empty, rises-here, rises-next, rises-both, members-back, passing-same}
 use Rattle.numbers.specs.Room.{decimal-room}
-use Rattle.read_laws.specs.Forms.{Spaces, CodeForm, code-exactly, code-blank-exactly, spaces-all, all-spaces, digits-only, digits-say}
-
--- ---- CHARACTER
--- a text's bytes: the text, which ends in no space, and spaces
-pub record TextForm (s x : List ℕ) : Type 0 where
-  pub front : List ℕ
-  pub last : ℕ
-  pub gap : List ℕ
-  pub ends : x ≡ front ++ (last ∷ [])
-  pub made : s ≡ x ++ gap
-  pub no-space : last ≡ 32 → ⊥
-  pub blank-gap : Spaces gap
+use Rattle.read_laws.specs.rule.Forms.{Spaces, CodeForm}
+use Rattle.read_laws.specs.Forms.{code-exactly, code-blank-exactly, spaces-all, all-spaces, digits-only}
+use Rattle.read_laws.specs.Forms.{digits-say}
+use Rattle.read_laws.specs.rule.Others.{TextForm, EntryForm, unused, zero-entry, entry, Entries, done, next, SomeSays, here, there}
+use Rattle.read_laws.specs.rule.Others.{SpreadSet}
 
 more-left : (b : ℕ) (s : List ℕ) → allSpaces (b ∷ s) ≡ false → unended (b ∷ s) ≡ b ∷ unended s
 unfolding unended
@@ -119,13 +112,6 @@ pub truth-exactly :
 unfolding truthField allSpaces
 truth-exactly = (refl, refl, refl, λ b p q r. rw (ne-eqb b 32 r, ne-eqb b 49 p, ne-eqb b 48 q))
 
--- ---- a spread
--- a subfield is spaces, or says zero, or says a legal number
-pub data EntryForm (ok : ℤ → Bool) (x : List ℕ) : Type 0 where
-  unused : Spaces x → EntryForm ok x
-  zero-entry : CodeForm x (pos 0) → EntryForm ok x
-  entry : (z : ℤ) → CodeForm x z → ok z ≡ true → EntryForm ok x
-
 module _ (ok : ℤ → Bool) (x : List ℕ) where
   entry-by : (y : Said) → codeOf x ≡ y → entryGood ok y ≡ true → EntryForm ok x
   unfolding entryGood
@@ -142,16 +128,6 @@ module _ (ok : ℤ → Bool) (x : List ℕ) where
   entry-of (unused r) = rw (code-blank-exactly x .1 r)
   entry-of (zero-entry f) = rw (code-exactly x (pos 0) .1 f, same-self (pos 0))
   entry-of (entry z f l) = rw (code-exactly x z .1 f, l) (or-true (eqZ z (pos 0)))
-
--- each of n subfields of w bytes
-pub data Entries (ok : ℤ → Bool) (w : ℕ) : ℕ → List ℕ → Type 0 where
-  done : {s : List ℕ} → Entries ok w 0 s
-  next : {n : ℕ} {s : List ℕ} → EntryForm ok (take w s) → Entries ok w n (drop w s) → Entries ok w (suc n) s
-
--- some of them says c
-pub data SomeSays (c : ℤ) (w : ℕ) : ℕ → List ℕ → Type 0 where
-  here : {n : ℕ} {s : List ℕ} → CodeForm (take w s) c → SomeSays c w (suc n) s
-  there : {n : ℕ} {s : List ℕ} → SomeSays c w n (drop w s) → SomeSays c w (suc n) s
 
 module _ (ok : ℤ → Bool) (w : ℕ) where
   entries-from : (n : ℕ) (s : List ℕ) → allEntries ok w n s ≡ true → Entries ok w n s
@@ -252,12 +228,6 @@ some-few k w (here {s} f) =
     let l : 10 ^ length (take w s) ≤ 10 ^ w = pow-le-pow-right (lit< tt) (rw length-take (omega arith)) in
     omega (arith, code-few (take w s) k f)
 some-few k w (there r) = some-few k w r
-
--- A SPREAD'S SET: it rises, and a number is a member exactly when it is above 0 and some subfield says it
-pub record SpreadSet (w n : ℕ) (s : List ℕ) (ms : List ℤ) : Type 0 where
-  pub rises : risingFrom (pos 0) ms ≡ true
-  pub has : (k : ℕ) → isMember ms (pos k) ≡ true → (1 ≤ k) × SomeSays (pos k) w n s
-  pub all : (k : ℕ) → 1 ≤ k → SomeSays (pos k) w n s → isMember ms (pos k) ≡ true
 
 module _ (w n : ℕ) (s : List ℕ) where
   pub spread-has : (k : ℕ) → isMember (spreadSet w n s) (pos k) ≡ true → (1 ≤ k) × SomeSays (pos k) w n s

@@ -1,5 +1,4 @@
--- A record is refused exactly when it is shorter than L, holds a byte below 32, or has an illegal field, given a well-formed table; and
--- the places are the first ones.
+-- What follows from rule/Refused.antt, and what the code keeps.
 use mathlib.Core.Path.{_≡_, refl, sym, ap, _∙_}
 use mathlib.Core.Logic.{⊎-elim}
 use mathlib.Core.Bool.{Bool, true, false, cond}
@@ -21,14 +20,8 @@ use Rattle.records.specs.rule.Verdict.{Verdict, sound, refused, lowByte, badFie
 use Rattle.records.specs.rule.Verdict.{verdictOf, RecordJudged}
 use Rattle.records.specs.declared.Found.{Found}
 use Rattle.records.specs.declared.Found.the-variants.{At, Nothing}
-
--- ---- the first of the n numbers from i on
--- k is the first: it passes, and none before it does
-pub record IsFirst (f : ℕ → Bool) (i n k : ℕ) : Type 0 where
-  pub from : i ≤ k
-  pub below : k < i + n
-  pub passes : f k ≡ true
-  pub none : (j : ℕ) → i ≤ j → j < k → f j ≡ false
+use Rattle.read_laws.specs.rule.Refused.{IsFirst, NoLow, RecordOutcome, not-formed, too-short, low-byte, bad-field, no-fault}
+use Rattle.read_laws.specs.Refused.{Passes}
 
 module _ (f : ℕ → Bool) where
   pub none-found : (n i : ℕ) → firstFrom f i n ≡ Nothing → (j : ℕ) → i ≤ j → j < i + n → f j ≡ false
@@ -147,20 +140,6 @@ first-found f (suc n) i k h =
     (first-found f n (suc i) k
     (record { from = l; below = omega (arith, h .below); passes = h .passes; none = λ j a b. h .none j (omega arith) b })))
     (eq-or-lt-of-le (h .from))
-
--- no byte is below 32
-abbrev pub NoLow : List ℕ → Type 0
-NoLow bytes = (p : ℕ) → p < length bytes → lowAt bytes p ≡ false
-
-pub data RecordOutcome (t : List ℤ) (bytes : List ℕ) : Verdict → Type 0 where
-  not-formed : wellFormed t ≡ false → RecordOutcome t bytes (refused 20)
-  too-short : wellFormed t ≡ true → length bytes < lengthOf t → RecordOutcome t bytes (refused 22)
-  -- "23 comes with the byte's place, 24 with the lowest row"
-  low-byte : {p : ℕ} → wellFormed t ≡ true → lengthOf t ≤ length bytes → IsFirst (lowAt bytes) 0 (length bytes) p
-      → RecordOutcome t bytes (lowByte p)
-  bad-field : {i : ℕ} → wellFormed t ≡ true → lengthOf t ≤ length bytes → NoLow bytes
-      → IsFirst (badRow t (rowsOf t) bytes) 0 (rowsOf t) i → RecordOutcome t bytes (badField i)
-  no-fault : (good : wellFormed t ≡ true) → Passes t good bytes → RecordOutcome t bytes sound
 
 module _ (t : List ℤ) (bytes : List ℕ) where
   none-low : NoLow bytes → firstFrom (lowAt bytes) 0 (length bytes) ≡ Nothing

@@ -8,8 +8,7 @@ use native.Mathlib.Numerals.{add-one}
 use lib.IntN.{ℤ, pos}
 use lib.ListN.{length, getD, set, drop, drop-of-length-le}
 use lib.Seq.{drop-cons, set-set}
-use Rattle.places.specs.rule.Places.{put, run}
-use Rattle.places.specs.Places.{Apart}
+use Rattle.places.specs.rule.Places.{put, run, Apart}
 use Rattle.places.specs.Laws.{length-run, out-run, commute}
 use Rattle.fields.specs.rule.Legal.{legal}
 use Rattle.fields.specs.rule.Field.{spaces, isMember, bitBytes}

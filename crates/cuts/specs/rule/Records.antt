@@ -2,7 +2,8 @@
 -- record with no terminator. An empty file has no records.
 use mathlib.Core.Bool.{cond}
 use mathlib.Core.List.{List, [], _∷_, _++_}
-use Prim.Native.Nat.{ℕ, zero, suc, _-_}
+use Prim.Native.Nat.{ℕ, zero, suc, _+_, _-_}
+use lib.Dec.{eqb}
 use Rattle.cuts.specs.declared.Terminator.{Terminator}
 use Rattle.cuts.specs.rule.Cut.{beginsAt, terminatorOf}
 
@@ -29,3 +30,18 @@ recordsFrom w s = cut w 0 [] s
 -- THE RECORDS of a file
 unfoldable pub recordsOf : List ℕ → Records
 recordsOf d = recordsFrom (terminatorOf d) d
+
+-- the bytes of a terminator, and records laid end to end with it
+unfoldable pub terminatorBytes : Terminator → List ℕ
+terminatorBytes w = cond (eqb (w .size) 2) (w .first ∷ w .second ∷ []) (w .first ∷ [])
+
+unfoldable pub laid : Terminator → Records → List ℕ
+laid w over = []
+laid w (unended r) = r
+laid w (record-and r rs) = r ++ terminatorBytes w ++ laid w rs
+
+-- how many terminators were passed
+unfoldable pub countEnded : Records → ℕ
+countEnded over = 0
+countEnded (unended r) = 0
+countEnded (record-and r rs) = countEnded rs + 1

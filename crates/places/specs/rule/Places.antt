@@ -1,7 +1,8 @@
--- Value places: reading bytes at a list of places, writing bytes at a list of places.
+-- Value places: reading bytes at a list of places, writing bytes at a list of places; places apart.
 -- Assumes nothing.
 use Prim.Native.Nat.{ℕ, zero, suc}
 use mathlib.Core.List.{List, [], _∷_}
+use mathlib.Core.Path.{_≡_}
 use lib.ListN.{getD, set}
 
 -- the bytes of r at the places ps, in their order
@@ -19,3 +20,13 @@ put r (p ∷ ps) (v ∷ vs) = put (set r p v) ps vs
 abbrev pub run : ℕ → ℕ → List ℕ
 run a zero = []
 run a (suc n) = a ∷ run (suc a) n
+
+-- q is none of ps
+abbrev pub Out : ℕ → List ℕ → Type 0
+Out q [] = Unit
+Out q (p ∷ ps) = (q ≡ p → ⊥) × Out q ps
+
+-- no place of ps is one of qs
+abbrev pub Apart : List ℕ → List ℕ → Type 0
+Apart [] qs = Unit
+Apart (p ∷ ps) qs = Out p qs × Apart ps qs
