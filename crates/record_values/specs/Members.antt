@@ -16,7 +16,7 @@ use Rattle.layout.specs.declared.Row.{Row}
 use Rattle.places.specs.rule.Places.{pick}
 use Rattle.fields.specs.rule.Legal.{legal}
 use Rattle.fields.specs.rule.Number.{Said, blank, says, wrong, allSpaces, codeOf, quantityOf}
-use Rattle.fields.specs.rule.Field.{missing, number, members, text, truth, Field, holds, illegal, numberField, singleSays, quantitySays}
+use Rattle.fields.specs.rule.Field.{missing, number, members, text, truth, holds, illegal, numberField, singleSays, quantitySays}
 use Rattle.fields.specs.rule.Field.{allBits, setBits, bitsField, entryIs, allEntries, someEntry, passing, spreadSet, spreadField}
 use Rattle.fields.specs.rule.Field.{allPlain, unended, textField, truthField}
 use Rattle.fields.specs.rule.Row.{defined, categories, fieldBy, placesOf, readingOf}

@@ -1,9 +1,9 @@
 -- What follows from rule/Record.antt, in the paper's words: one outcome; each refusal exactly when; row by row what read_value answers,
 -- but for a set's start; its members in the list from there on; what lies beyond is kept.
-use mathlib.Core.Path.{_≡_, refl, sym, ap, _∙_}
+use mathlib.Core.Path.{_≡_, refl, sym, _∙_}
 use mathlib.Core.Bool.{Bool, true, false, cond, _&&_}
-use mathlib.Core.List.{List, [], _∷_, _++_, append-assoc}
-use mathlib.Core.Logic.{_⊎_, inl, inr, ⊎-elim}
+use mathlib.Core.List.{List, _++_, append-assoc}
+use mathlib.Core.Logic.{⊎-elim}
 use Prim.Native.Nat.{ℕ, zero, suc, _+_, _-_, _*_, _≤_, _<_}
 use native.Mathlib.Nat.{eq-or-lt-of-le}
 use native.Mathlib.Omega.{arith}
@@ -15,7 +15,7 @@ use lib.Seq.{take-at, drop-at, drop-append-seam}
 use Rattle.layout.specs.rule.Row.{rowAt}
 use Rattle.fields.specs.rule.Field.{Field}
 use Rattle.sets.specs.rule.Sets.{filledOf}
-use Rattle.records.specs.rule.Value.{Outcome, outcomeOf, readingAt, readAs}
+use Rattle.records.specs.rule.Value.{readingAt, readAs}
 use Rattle.sound.specs.rule.Sound.{wellFormed}
 use Rattle.sound.specs.rule.Rows.{rowsOf, lengthOf}
 use Rattle.record_values.specs.declared.Whole.{Whole}

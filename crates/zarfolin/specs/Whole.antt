@@ -1,18 +1,16 @@
 -- What follows from rule/Whole.antt: reading a whole record is reading its rows one by one, in the promises of the two calls.
 use mathlib.Core.Path.{_≡_, refl, sym, ap, _∙_}
-use mathlib.Core.Bool.{Bool, true, false, cond}
 use mathlib.Core.List.{List, [], _∷_}
-use Prim.Native.Nat.{ℕ, _+_, _*_, _≤_, _<_}
+use Prim.Native.Nat.{ℕ, _*_, _≤_, _<_}
 use native.Mathlib.Omega.{arith}
 use borrow.Author.Tests.{lt-ltb, le-leb}
 use lib.IntN.{ℤ, pos}
 use lib.ListN.{length, take, drop}
 use lib.Seq.{take-append-seam}
-use Rattle.fields.specs.rule.Field.{missing, number, members, text, truth, Field, holds, illegal}
+use Rattle.fields.specs.rule.Field.{number, members, holds}
 use Rattle.records.specs.rule.Value.{Outcome, nothing, numberIs, setOf, textAt, truthIs, refused, readingAt, listAs}
-use Rattle.sets.specs.rule.Sets.{filledOf, listAfter}
-use Rattle.sound.specs.rule.Sound.{wellFormed}
-use Rattle.sound.specs.rule.Rows.{rowsOf, lengthOf}
+use Rattle.sets.specs.rule.Sets.{filledOf}
+use Rattle.sound.specs.rule.Rows.{rowsOf}
 use Rattle.record_values.specs.declared.Whole.{Whole}
 use Rattle.record_values.specs.declared.Whole.the-variants as whole
 use Rattle.record_values.specs.rule.Record as rows

@@ -1,8 +1,7 @@
 -- `record_values::counted_fits` meets its contract. The invariant: the members of the rows passed, and what is left, are the room.
 use mathlib.Core.Path.{_≡_, sym, _∙_, ap}
-use Prim.Native.Nat.{ℕ, _+_, _-_, _≤_}
+use Prim.Native.Nat.{_+_, _-_, _≤_}
 use native.Mathlib.Omega.{arith}
-use borrow.Author.Needs.{needs}
 use borrow.Author.Tests.{le-leb, lt-leb}
 use lib.ListN.{length}
 use Rattle.layout.specs.declared.Row.{Row}

@@ -1,7 +1,7 @@
 -- `record_values::read_rows` meets its contract. The invariant: the numbers and the members of the rows passed stand at the start of what
 -- is lent, the rest of which is kept.
 use mathlib.Core.Path.{_≡_, refl, sym, ap, _∙_}
-use Prim.Native.Nat.{ℕ, _+_, _-_, _*_, _≤_}
+use Prim.Native.Nat.{_+_, _-_, _≤_}
 use native.Mathlib.Omega.{arith}
 use borrow.Author.Needs.{needs}
 use borrow.Rule.Slice.PartMut.{same-len-mid}
