@@ -7,7 +7,6 @@ use borrow.Author.Tests.{lt-ltb, le-leb}
 use lib.IntN.{ℤ, pos}
 use lib.ListN.{length, take, drop}
 use lib.Seq.{take-append-seam}
-use Rattle.fields.specs.rule.Field.{number, members, holds}
 use Rattle.records.specs.rule.Value.{Outcome, nothing, numberIs, setOf, textAt, truthIs, refused, readingAt, listAs}
 use Rattle.sets.specs.rule.Sets.{filledOf}
 use Rattle.sound.specs.rule.Rows.{rowsOf}
