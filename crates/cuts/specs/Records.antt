@@ -18,7 +18,7 @@ use Rattle.cuts.specs.declared.Next.{Next}
 use Rattle.cuts.specs.declared.Next.the-variants.{Ended, Unended, Nothing}
 use Rattle.cuts.specs.rule.Cut.{beginsWith, wholeAt, beginsAt, endFrom, nextFrom, terminatorOf}
 use Rattle.cuts.specs.Cut.{end-here, end-on, end-none, end-unbroken, next-some, next-none, unbroken-plain}
-use Rattle.cuts.specs.rule.Records.{Records, over, unended, record-and, atEnd, cut, recordsFrom, recordsOf}
+use Rattle.cuts.specs.rule.Records.{Records, over, unended, record-and, atEnd, cut, recordsFrom, recordsOf, terminatorBytes, laid}
 
 -- ---- LAID END TO END: the records with their terminators are the file again
 laid-end : (w : Terminator) (r : List ℕ) → laid w (atEnd r) ≡ r
