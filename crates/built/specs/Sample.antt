@@ -18,12 +18,12 @@ use Rattle.values.specs.declared.Said.{Said}
 use Rattle.values.specs.rule.Line.{numberAt, numbers, cellsOf, lineCells}
 use Rattle.values.specs.rule.Value.{scaledOf}
 use Rattle.variables.specs.declared.Head.{Head}
-use Rattle.survey.specs.rule.Width.{flagOf, plainColumns, widened, fullColumns, linesWidth, widestOf, widthOf}
-use Rattle.survey.specs.rule.Survey.{Variable, countedIn, columnsIn, holdsIn, linesAll, identMet, rowsFrom, allLines, headerFor, tableOf}
-use Rattle.survey.specs.rule.Survey.{highestIn}
+use Rattle.measures.specs.rule.Width.{flagOf, plainColumns, widened, fullColumns, linesWidth, widestOf, widthOf}
+use Rattle.measures.specs.rule.Survey.{Variable, countedIn, columnsIn, holdsIn, linesAll, identMet, rowsFrom, allLines, headerFor, tableOf}
+use Rattle.measures.specs.rule.Survey.{highestIn}
 use Rattle.rows.specs.rule.Cells.{rowCells, headerCells}
-use Rattle.survey.specs.Good.{GoodVariable, Good}
-use Rattle.survey.specs.Good.{none, more}
+use Rattle.measures.specs.Good.{GoodVariable, Good}
+use Rattle.measures.specs.Good.{none, more}
 
 abbrev text : ℕ → Quoted
 text n = record { place = n; length = 3; next = n }

@@ -21,10 +21,10 @@ use Rattle.statements.specs.rule.Note.{notesOn}
 use Rattle.heading.specs.declared.Front.{Front}
 use Rattle.heading.specs.rule.Heading.{frontOn}
 use Rattle.sound.specs.rule.Sound.{wellFormed}
-use Rattle.survey.specs.rule.Survey.{Variable, linesAll, identMet, tableOf}
-use Rattle.survey.specs.Good.{Good}
-use Rattle.survey.specs.Good as good
-use Rattle.survey.proofs.Snoc.{added, length-with}
+use Rattle.measures.specs.rule.Survey.{Variable, linesAll, identMet, tableOf}
+use Rattle.measures.specs.Good.{Good}
+use Rattle.measures.specs.Good as good
+use Rattle.measures.proofs.Snoc.{added, length-with}
 use Rattle.entries.specs.rule.Entry.{Entry}
 use Rattle.entries.specs.rule.Entry as entry
 use Rattle.entries.proofs.Goods.{entry-good}

@@ -13,7 +13,7 @@ use Rattle.rows.specs.rule.Cells.{rowCells}
 use Rattle.rows.specs.Cells.{SmallRow}
 use Rattle.tokens.specs.declared.Fault.{Fault}
 use Rattle.tokens.specs.declared.Reading.{Reading}
-use Rattle.survey.specs.rule.Survey.{Variable, linesIn, columnsIn}
+use Rattle.measures.specs.rule.Survey.{Variable, linesIn, columnsIn}
 use Rattle.entries.specs.declared.Stood.{Stood}
 use Rattle.entries.specs.declared.Stood.the-variants as stood
 use Rattle.entries.specs.rule.Entry.{Entry, entryOf}

@@ -15,9 +15,9 @@ use Rattle.tokens.specs.declared.Reading.{Reading}
 use Rattle.tokens.specs.declared.Reading.the-variants.{At, Refused}
 use Rattle.heading.specs.declared.Front.{Front}
 use Rattle.heading.specs.rule.Heading.{frontOn}
-use Rattle.survey.specs.rule.Survey.{Variable, linesAll, highestIn, rowsFrom, allLines}
-use Rattle.survey.specs.Good.{Good}
-use Rattle.survey.proofs.Snoc.{rows-length, lines-length}
+use Rattle.measures.specs.rule.Survey.{Variable, linesAll, highestIn, rowsFrom, allLines}
+use Rattle.measures.specs.Good.{Good}
+use Rattle.measures.proofs.Snoc.{rows-length, lines-length}
 use Rattle.built.specs.Nth.{few-rows, few-lines}
 use Rattle.definition.specs.declared.Tally.{Tally}
 use Rattle.definition.specs.declared.Run.{Run}

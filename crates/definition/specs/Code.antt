@@ -24,8 +24,8 @@ use Rattle.tokens.specs.rule.Token.{choiceOf}
 use Rattle.statements.specs.rule.Words.{END}
 use Rattle.statements.specs.rule.Note.{notesOn}
 use Rattle.names.specs.rule.Standard.{nameAt, nameFault}
-use Rattle.survey.specs.rule.Survey.{Variable, linesIn, columnsIn, linesAll, highestIn, rowsFrom, allLines}
-use Rattle.survey.specs.Good.{Good}
+use Rattle.measures.specs.rule.Survey.{Variable, linesIn, columnsIn, linesAll, highestIn, rowsFrom, allLines}
+use Rattle.measures.specs.Good.{Good}
 use Rattle.entries.specs.rule.Entry.{Entry}
 use Rattle.entries.specs.rule.Entry as entry
 use Rattle.definition.specs.rule.Definition.{Variables, Outcome, Refusal, named, answerOf, tableAfter}

@@ -28,9 +28,9 @@ use Rattle.values.specs.Good.{Limited}
 use Rattle.values.proofs.Rooms.{room-number, length-pasted, cells-length}
 use Rattle.variables.specs.declared.Head.{Head}
 use Rattle.variables.specs.rule.Rest.{Telling}
-use Rattle.survey.specs.rule.Width.{flagOf, plainColumns}
-use Rattle.survey.specs.Width.{numberIn, Ready, Measurable}
-use Rattle.survey.specs.rule.Survey.{countedIn}
+use Rattle.measures.specs.rule.Width.{flagOf, plainColumns}
+use Rattle.measures.specs.Width.{numberIn, Ready, Measurable}
+use Rattle.measures.specs.rule.Survey.{countedIn}
 use Rattle.entries.specs.Entry.{GoodHead}
 use Rattle.entries.specs.Good.{GoodTelling}
 

@@ -35,10 +35,10 @@ use Rattle.variables.specs.rule.Ident.{identOn}
 use Rattle.variables.specs.rule.Head.{headOn}
 use Rattle.entries.proofs.Heads.{none, head-good}
 use Rattle.entries.proofs.Tellings.{rest-good}
-use Rattle.survey.specs.declared.Measured.the-variants as measure
-use Rattle.survey.specs.rule.Width.{plainColumns, linesWidth, widestOf, widthOf, widened, fullColumns}
-use Rattle.survey.specs.Width.{numberIn, Measurable, measured}
-use Rattle.survey.specs.rule.Survey.{Variable, countedIn, columnsIn, holdsIn, linesIn}
+use Rattle.measures.specs.declared.Measured.the-variants as measure
+use Rattle.measures.specs.rule.Width.{plainColumns, linesWidth, widestOf, widthOf, widened, fullColumns}
+use Rattle.measures.specs.Width.{numberIn, Measurable, measured}
+use Rattle.measures.specs.rule.Survey.{Variable, countedIn, columnsIn, holdsIn, linesIn}
 use Rattle.entries.specs.declared.Stood.{Stood}
 use Rattle.entries.specs.declared.Stood.the-variants as stood
 use Rattle.entries.specs.rule.Entry.{Entry, variable, endVariable, toldThen, ended, heldBy, restThen, entryOf}

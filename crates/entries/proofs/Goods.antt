@@ -38,9 +38,9 @@ use Rattle.variables.specs.rule.Ident.{wrongIdent, judgeIdent, identOn}
 use Rattle.variables.specs.rule.Head.{headOn}
 use Rattle.variables.specs.rule.Rest.{Telling, Told, restOf}
 use Rattle.variables.specs.rule.Rest as told
-use Rattle.survey.specs.rule.Width.{flagOf, plainColumns, widestOf, widthOf, widened, fullColumns}
-use Rattle.survey.specs.rule.Survey.{Variable, countedIn, columnsIn, holdsIn}
-use Rattle.survey.specs.Good.{GoodVariable}
+use Rattle.measures.specs.rule.Width.{flagOf, plainColumns, widestOf, widthOf, widened, fullColumns}
+use Rattle.measures.specs.rule.Survey.{Variable, countedIn, columnsIn, holdsIn}
+use Rattle.measures.specs.Good.{GoodVariable}
 use Rattle.entries.specs.Entry.{GoodHead}
 use Rattle.entries.specs.rule.Entry.{variable, endVariable, toldThen, ended, heldBy, restThen, headThen, entryOf}
 use Rattle.entries.specs.rule.Entry as entry

@@ -12,10 +12,10 @@ use Rattle.tokens.specs.declared.Reading.the-variants.{At, Refused}
 use Rattle.values.specs.rule.Line.{cellsOf}
 use Rattle.variables.specs.declared.Head.{Head}
 use Rattle.variables.specs.declared.Rest.{Rest}
-use Rattle.survey.specs.declared.Measured.{Measured}
-use Rattle.survey.specs.declared.Measured.the-variants as measure
-use Rattle.survey.specs.Width.{measured}
-use Rattle.survey.specs.rule.Survey.{Variable, linesIn, columnsIn}
+use Rattle.measures.specs.declared.Measured.{Measured}
+use Rattle.measures.specs.declared.Measured.the-variants as measure
+use Rattle.measures.specs.Width.{measured}
+use Rattle.measures.specs.rule.Survey.{Variable, linesIn, columnsIn}
 use Rattle.entries.specs.declared.Stood.{Stood}
 use Rattle.entries.specs.declared.Stood.the-variants as stood
 use Rattle.entries.specs.rule.Entry.{Entry, Is, Not}

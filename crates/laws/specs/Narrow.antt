@@ -21,8 +21,8 @@ use Rattle.variables.specs.rule.Ident.{identOn}
 use Rattle.variables.specs.rule.Head.{headOn}
 use Rattle.variables.specs.rule.Rest.{Telling, restOf}
 use Rattle.variables.specs.rule.Rest as told
-use Rattle.survey.specs.rule.Width.{flagOf, plainColumns, widened, fullColumns, linesWidth, widestOf, widthOf}
-use Rattle.survey.specs.rule.Survey.{countedIn, columnsIn, holdsIn}
+use Rattle.measures.specs.rule.Width.{flagOf, plainColumns, widened, fullColumns, linesWidth, widestOf, widthOf}
+use Rattle.measures.specs.rule.Survey.{countedIn, columnsIn, holdsIn}
 use Rattle.entries.specs.rule.Entry.{variable, endVariable, entryOf}
 use Rattle.entries.specs.rule.Entry as entry
 use Rattle.entries.proofs.Goods.{narrow-is-7}

@@ -40,7 +40,7 @@ use Rattle.variables.specs.rule.Head.{pastType, joinTitles, joinHead, headOn}
 use Rattle.variables.specs.rule.Rest.{Telling, Told, joinValues, valuesRest, joinSize, joinNothing, spreadOr, optional, spreadThen}
 use Rattle.variables.specs.rule.Rest.{restOf}
 use Rattle.variables.specs.rule.Rest as told
-use Rattle.survey.specs.rule.Survey.{Variable, holdsIn}
+use Rattle.measures.specs.rule.Survey.{Variable, holdsIn}
 use Rattle.entries.specs.rule.Entry.{Entry, variable, endVariable, ended, toldThen, heldBy, restThen, headThen, entryOf}
 use Rattle.entries.specs.rule.Entry as entry
 use Rattle.refusals.specs.Scanned.{either}

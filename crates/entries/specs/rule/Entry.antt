@@ -16,7 +16,7 @@ use Rattle.variables.specs.rule.Ident.{identOn}
 use Rattle.variables.specs.rule.Head.{headOn}
 use Rattle.variables.specs.rule.Rest.{Telling, Told, restOf}
 use Rattle.variables.specs.rule.Rest as told
-use Rattle.survey.specs.rule.Survey.{Variable, holdsIn}
+use Rattle.measures.specs.rule.Survey.{Variable, holdsIn}
 
 -- a variable, and the place after its END VARIABLE; or a refusal
 pub data Entry : Type 0 where

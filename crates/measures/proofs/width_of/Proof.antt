@@ -1,9 +1,9 @@
 use mathlib.Core.Path.{_∙_}
-use Rattle.survey.specs.rule.Width.{widthOf}
+use Rattle.measures.specs.rule.Width.{widthOf}
 use borrow.Author.Needs.{needs}
-use Rattle.survey.proofs.Measures.{width-valued}
-use Rattle.survey.proofs.width_of.Statement.{statement}
-use Rattle.survey.proofs.width_of.Tie as tie
+use Rattle.measures.proofs.Measures.{width-valued}
+use Rattle.measures.proofs.width_of.Statement.{statement}
+use Rattle.measures.proofs.width_of.Tie as tie
 
 returns : tie.Need-returns
 returns c = c .widest .ensures ∙ width-valued _ _ _ _ (rw (c .before .enum-told .given .1) tt)

@@ -18,10 +18,10 @@ use Rattle.sound.specs.Block.{Placed, Subfielded, need-few, range-few}
 use Rattle.tokens.specs.rule.Gap.{fault}
 use Rattle.variables.specs.declared.Head.{Head}
 use Rattle.variables.specs.declared.Rest.{Rest}
-use Rattle.survey.specs.declared.Measured.{Measured}
-use Rattle.survey.specs.declared.Measured.the-variants.{Is, Not}
-use Rattle.survey.specs.rule.Width.{plainColumns, widened, linesWidth, widestOf, widthOf, fullColumns}
-use Rattle.survey.specs.Width.{numberIn, Ready, Measurable, measured}
+use Rattle.measures.specs.declared.Measured.{Measured}
+use Rattle.measures.specs.declared.Measured.the-variants.{Is, Not}
+use Rattle.measures.specs.rule.Width.{plainColumns, widened, linesWidth, widestOf, widthOf, fullColumns}
+use Rattle.measures.specs.Width.{numberIn, Ready, Measurable, measured}
 
 -- ---- the width
 lines-few : (k : Kind) (f : ℕ → ℤ) (n : ℕ) → FewDecimals k → valuesFit k f n ≡ true → linesWidth k f n ≤ 9999

@@ -15,9 +15,9 @@ use Rattle.sound.specs.Block.{Subfielded}
 use Rattle.tokens.specs.rule.Gap.{fault}
 use Rattle.variables.specs.declared.Head.{Head}
 use Rattle.variables.specs.declared.Rest.{Rest}
-use Rattle.survey.specs.declared.Measured.{Measured}
-use Rattle.survey.specs.declared.Measured.the-variants.{Is, Not}
-use Rattle.survey.specs.rule.Width.{plainColumns, fullColumns}
+use Rattle.measures.specs.declared.Measured.{Measured}
+use Rattle.measures.specs.declared.Measured.the-variants.{Is, Not}
+use Rattle.measures.specs.rule.Width.{plainColumns, fullColumns}
 
 -- "POSITION must hold w (for a spread, n times the declared subfield width, itself at least w), else it is too narrow"
 unfoldable pub measured : (ℕ → ℤ) → Head → Rest → ℕ → Measured

@@ -1,13 +1,13 @@
--- `survey::lines_width` meets its contract: none is wider than the wider of the least and the most.
+-- `measures::lines_width` meets its contract: none is wider than the wider of the least and the most.
 use mathlib.Core.Path.{_≡_, sym, _∙_}
 use native.Mathlib.Omega.{arith}
 use borrow.Author.Needs.{needs}
 use Rattle.below.specs.Below.{max-none}
 use Rattle.sound.specs.Block.{hull-fits, hull-width}
-use Rattle.survey.specs.rule.Width.{linesWidth}
-use Rattle.survey.specs.Width.{numberIn}
-use Rattle.survey.proofs.lines_width.Statement.{statement}
-use Rattle.survey.proofs.lines_width.Tie as tie
+use Rattle.measures.specs.rule.Width.{linesWidth}
+use Rattle.measures.specs.Width.{numberIn}
+use Rattle.measures.proofs.lines_width.Statement.{statement}
+use Rattle.measures.proofs.lines_width.Tie as tie
 
 returns : tie.Need-returns
 unfolding linesWidth

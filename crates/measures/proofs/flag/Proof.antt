@@ -1,6 +1,6 @@
-use Rattle.survey.specs.rule.Width.{flagOf}
-use Rattle.survey.proofs.flag.Statement.{statement}
-use Rattle.survey.proofs.flag.Tie as tie
+use Rattle.measures.specs.rule.Width.{flagOf}
+use Rattle.measures.proofs.flag.Statement.{statement}
+use Rattle.measures.proofs.flag.Tie as tie
 
 returns : tie.Need-returns
 unfolding flagOf

@@ -1,9 +1,9 @@
 use mathlib.Core.Path.{_≡_, sym, _∙_}
 use borrow.Author.Needs.{needs}
-use Rattle.survey.specs.Width.{numberIn}
-use Rattle.survey.proofs.Measures.{plainWidth, width-plain, wide-few, placed-wide, measured-yes, measured-not}
-use Rattle.survey.proofs.measure.Statement.{statement}
-use Rattle.survey.proofs.measure.Tie as tie
+use Rattle.measures.specs.Width.{numberIn}
+use Rattle.measures.proofs.Measures.{plainWidth, width-plain, wide-few, placed-wide, measured-yes, measured-not}
+use Rattle.measures.proofs.measure.Statement.{statement}
+use Rattle.measures.proofs.measure.Tie as tie
 
 width-of-requires : tie.Need-width-of-requires
 width-of-requires c κs =

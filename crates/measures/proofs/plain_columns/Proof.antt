@@ -2,9 +2,9 @@ use mathlib.Core.Path.{_≡_}
 use mir.Syntax.{w64}
 use mir.Val.{toZ, ofZ}
 use borrow.Author.Needs.{needs}
-use Rattle.survey.specs.rule.Width.{plainColumns}
-use Rattle.survey.proofs.plain_columns.Statement.{statement}
-use Rattle.survey.proofs.plain_columns.Tie as tie
+use Rattle.measures.specs.rule.Width.{plainColumns}
+use Rattle.measures.proofs.plain_columns.Statement.{statement}
+use Rattle.measures.proofs.plain_columns.Tie as tie
 
 -- the two signed columns, where the struct is first looked into
 from-back : (c : tie.After-struct-told2) → toZ w64 (ofZ w64 (c .before .before .before .args .r .block .from)) ≡ c .before .before .before .args .r .block .from

@@ -1,8 +1,8 @@
 use mathlib.Core.Path.{_∙_, sym}
-use Rattle.survey.specs.rule.Width.{widestOf}
+use Rattle.measures.specs.rule.Width.{widestOf}
 use borrow.Author.Needs.{needs}
-use Rattle.survey.proofs.widest.Statement.{statement}
-use Rattle.survey.proofs.widest.Tie as tie
+use Rattle.measures.proofs.widest.Statement.{statement}
+use Rattle.measures.proofs.widest.Tie as tie
 
 returns : tie.Need-returns
 unfolding widestOf

@@ -1,0 +1,3 @@
+pub mod rule
+pub mod Width
+pub mod Good
