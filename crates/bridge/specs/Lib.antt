@@ -1,0 +1,6 @@
+pub mod Lowest
+pub mod Facts
+pub mod Tokens
+pub mod Notes
+pub mod Statements
+pub mod Amounts
