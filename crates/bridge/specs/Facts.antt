@@ -145,17 +145,24 @@ module _ (d : List ℕ) where
     by (Refused f) e = untold
 
   -- ---- a word that may stand behind a gap, in the code's books and in the rule
+  pub choose : {A B R : Type 0} (T : R → Result B → Type 0) (m : ℕ) (w : List ℕ) (P Q : Reader A) (old : Reading → Choice → R) (K : A → Reader B)
+      → ((f : Fault) → gapAt d m ≡ Refused f → T (old (Refused f) Left) (Not f))
+      → ((k j : ℕ) → gapAt d m ≡ At k → wordAt d k w ≡ spelled.Matched j → T (old (At k) (Taken j)) (bind (P j) K))
+      → ((k : ℕ) → gapAt d m ≡ At k → T (old (At k) Left) (bind (Q k) K))
+      → T (old (gapAt d m) (choiceOf d (gapAt d m) w)) (bind (bind (gap d m) λ a. either d w P Q) K)
+  unfolding choiceOf
+  choose T m w P Q old K refused taken left = by (gapAt d m) refl where
+    at : (k : ℕ) → gapAt d m ≡ At k → (x : Word) → wordAt d k w ≡ x → T (old (At k) (ofChoice x)) (bind (onWord P Q k x) K)
+    at k e (spelled.Matched j) i = taken k j e i
+    at k e spelled.Not i = left k e
+
+    by : (t : Reading) → gapAt d m ≡ t → T (old t (choiceOf d t w)) (bind (bind (passed t) λ a. either d w P Q) K)
+    by (At k) e = at k e (wordAt d k w) refl
+    by (Refused f) e = refused f e
+
   pub choose-on : {A B R : Type 0} (m : ℕ) (w : List ℕ) (P Q : Reader A) (old : Reading → Choice → R) (to : Result B → R) (K : A → Reader B)
       → ((f : Fault) → old (Refused f) Left ≡ to (Not f))
       → ((k j : ℕ) → gapAt d m ≡ At k → wordAt d k w ≡ spelled.Matched j → old (At k) (Taken j) ≡ to (bind (P j) K))
       → ((k : ℕ) → gapAt d m ≡ At k → old (At k) Left ≡ to (bind (Q k) K))
       → old (gapAt d m) (choiceOf d (gapAt d m) w) ≡ to (bind (bind (gap d m) λ a. either d w P Q) K)
-  unfolding choiceOf
-  choose-on m w P Q old to K refused taken left = by (gapAt d m) refl where
-    at : (k : ℕ) → gapAt d m ≡ At k → (x : Word) → wordAt d k w ≡ x → old (At k) (ofChoice x) ≡ to (bind (onWord P Q k x) K)
-    at k e (spelled.Matched j) i = taken k j e i
-    at k e spelled.Not i = left k e
-
-    by : (t : Reading) → gapAt d m ≡ t → old t (choiceOf d t w) ≡ to (bind (bind (passed t) λ a. either d w P Q) K)
-    by (At k) e = at k e (wordAt d k w) refl
-    by (Refused f) e = refused f
+  choose-on m w P Q old to K refused taken left = choose (λ x r. x ≡ to r) m w P Q old K (λ f e. refused f) taken left

@@ -4,3 +4,5 @@ pub mod Tokens
 pub mod Notes
 pub mod Statements
 pub mod Amounts
+pub mod Blocks
+pub mod Lines
