@@ -148,13 +148,13 @@ module _ (d : List ℕ) where
   pub choose : {A B R : Type 0} (T : R → Result B → Type 0) (m : ℕ) (w : List ℕ) (P Q : Reader A) (old : Reading → Choice → R) (K : A → Reader B)
       → ((f : Fault) → gapAt d m ≡ Refused f → T (old (Refused f) Left) (Not f))
       → ((k j : ℕ) → gapAt d m ≡ At k → wordAt d k w ≡ spelled.Matched j → T (old (At k) (Taken j)) (bind (P j) K))
-      → ((k : ℕ) → gapAt d m ≡ At k → T (old (At k) Left) (bind (Q k) K))
+      → ((k : ℕ) → gapAt d m ≡ At k → wordAt d k w ≡ spelled.Not → T (old (At k) Left) (bind (Q k) K))
       → T (old (gapAt d m) (choiceOf d (gapAt d m) w)) (bind (bind (gap d m) λ a. either d w P Q) K)
   unfolding choiceOf
   choose T m w P Q old K refused taken left = by (gapAt d m) refl where
     at : (k : ℕ) → gapAt d m ≡ At k → (x : Word) → wordAt d k w ≡ x → T (old (At k) (ofChoice x)) (bind (onWord P Q k x) K)
     at k e (spelled.Matched j) i = taken k j e i
-    at k e spelled.Not i = left k e
+    at k e spelled.Not i = left k e i
 
     by : (t : Reading) → gapAt d m ≡ t → T (old t (choiceOf d t w)) (bind (bind (passed t) λ a. either d w P Q) K)
     by (At k) e = at k e (wordAt d k w) refl
@@ -165,4 +165,4 @@ module _ (d : List ℕ) where
       → ((k j : ℕ) → gapAt d m ≡ At k → wordAt d k w ≡ spelled.Matched j → old (At k) (Taken j) ≡ to (bind (P j) K))
       → ((k : ℕ) → gapAt d m ≡ At k → old (At k) Left ≡ to (bind (Q k) K))
       → old (gapAt d m) (choiceOf d (gapAt d m) w) ≡ to (bind (bind (gap d m) λ a. either d w P Q) K)
-  choose-on m w P Q old to K refused taken left = choose (λ x r. x ≡ to r) m w P Q old K (λ f e. refused f) taken left
+  choose-on m w P Q old to K refused taken left = choose (λ x r. x ≡ to r) m w P Q old K (λ f e. refused f) taken (λ k e i. left k e)

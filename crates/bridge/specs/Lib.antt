@@ -4,5 +4,7 @@ pub mod Tokens
 pub mod Notes
 pub mod Statements
 pub mod Amounts
+pub mod Gaps
 pub mod Blocks
 pub mod Lines
+pub mod Values

@@ -82,7 +82,7 @@ module _ (d : List ℕ) (quantity : Bool) (first : ℕ) where
     stuck : {b : books.Block} {l : List Said} {f : Fault} → k + 1 ≡ length l → first + k < 4096 → Step k (Again (stateOf (amounted.Not f) b l)) (Not f)
     halt : {f : Fault} → Step k (Done (given.Not f)) (Not f)
 
-  value-refused : (f : Fault) → valueHere d (Refused f) ≡ amounted.Not f
+  pub value-refused : (f : Fault) → valueHere d (Refused f) ≡ amounted.Not f
   unfolding valueHere
   value-refused f = refl
 
@@ -166,14 +166,14 @@ module _ (d : List ℕ) (quantity : Bool) (first : ℕ) where
           rw (bind-bind (whether d SPECIAL i) (λ s. judged (lineCharges quantity first c a) (lineOf a t s)) then)
           (choose d (Step (length l)) i SPECIAL (λ j. Is true j) (λ j. Is false j) (λ g w. paperRead d quantity first S (specialOr (amounted.Is v) (toPhrase (Is t i)) g w))
           (λ s n. bind (judged (lineCharges quantity first c a) (lineOf a t s) n) then)
-          (λ f e. halt) (λ k j e w. line-judged t i true j) (λ k e. line-judged t i false k))
+          (λ f e. halt) (λ k j e w. line-judged t i true j) (λ k e w. line-judged t i false k))
       by (Not f) = halt
 
   -- ---- all lines: as many turns as lines may still come are enough
-  abbrev out : Given
+  abbrev pub out : Given
   out = given.Not (fault 0 0)
 
-  no-value : (f : ℕ) (e : Fault) (b : books.Block) (l : List Said) → 0 < f → loopOf (paperStep d quantity first) out f (stateOf (amounted.Not e) b l) ≡ given.Not e
+  pub no-value : (f : ℕ) (e : Fault) (b : books.Block) (l : List Said) → 0 < f → loopOf (paperStep d quantity first) out f (stateOf (amounted.Not e) b l) ≡ given.Not e
   unfolding loopOf paperStep lineRest pastValue stringOn gapOn pastString choiceOf saidOf
   no-value zero e b l h = absurd (omega arith)
   no-value (suc f) e b l h = refl
