@@ -54,6 +54,12 @@ capped-mod w v h = by (ltb 1000000000000000 v) refl where
   by true e = let g = ltb-true 1000000000000000 v e in let i : w < v = omega arith in mod-eq-of-lt h ∙ sym (mod-eq-of-lt i)
   by false e = refl
 
+pub capped-small : (v : ℕ) → capped v < 1000000000000000 → capped v ≡ v
+capped-small v = by (ltb 1000000000000000 v) where
+  by : (q : Bool) → cond q 1000000000000000 v < 1000000000000000 → cond q 1000000000000000 v ≡ v
+  by true h = absurd (omega arith)
+  by false h = refl
+
 -- ---- up to four digits say a number below 10,000
 tens : ℕ → ℕ → ℕ
 tens p zero = p

@@ -8,3 +8,5 @@ pub mod Gaps
 pub mod Blocks
 pub mod Lines
 pub mod Values
+pub mod Variables
+pub mod Contents

@@ -101,3 +101,35 @@ chain-least to a n (f when q ∷ l) e = by q (rising-leads f q l e) (chain-least
       → cond q (to (Not f)) (chain (λ f. to (Not f)) (to (Is a n)) l) ≡ to (found a n (least (cond q (f ∷ named l) (named l))))
   by true i ih = rw (lower-first i)
   by false i ih = ih
+
+-- ---- what is judged with nothing at fault has no charge that is named
+pub data Clear : List Charge → Type 0 where
+  none : Clear []
+  clear : {f : Fault} {q : Bool} {l : List Charge} → q ≡ false → Clear l → Clear (f when q ∷ l)
+
+pub data Judged {A : Type 0} (l : List Charge) (a : A) (n : ℕ) : Result A → Type 0 where
+  fine : Clear l → Judged l a n (Is a n)
+  faulty : {f : Fault} → Judged l a n (Not f)
+
+never-clean : {A : Type 0} (f : Fault) (x : Finding) → lower f x ≡ clean → A
+unfolding lower
+never-clean f clean e = never cc
+never-clean f (first g) e = by (before f g) e where
+  by : {A : Type 0} (q : Bool) → cond q (first f) (first g) ≡ clean → A
+  by true e = never cc
+  by false e = never cc
+
+clears : (l : List Charge) → least (named l) ≡ clean → Clear l
+unfolding named least
+clears [] e = none
+clears (f when q ∷ l) e = by q e (clears l) where
+  by : (q : Bool) → least (cond q (f ∷ named l) (named l)) ≡ clean → (least (named l) ≡ clean → Clear l) → Clear (f when q ∷ l)
+  by true e ih = never-clean f (least (named l)) e
+  by false e ih = clear refl (ih e)
+
+pub judged-view : {A : Type 0} (l : List Charge) (a : A) (n : ℕ) → Judged l a n (judged l a n)
+unfolding judged
+judged-view l a n = by (least (named l)) refl where
+  by : (x : Finding) → least (named l) ≡ x → Judged l a n (found a n x)
+  by clean e = fine (clears l e)
+  by (first f) e = faulty

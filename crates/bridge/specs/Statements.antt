@@ -53,11 +53,12 @@ toStated (Is p n) = stated.Is (record {
 toStated (Not f) = stated.Not f
 
 -- for a position of `room` bytes
+abbrev pub evenOr : ℕ → ℕ → Option Figure → ℕ
+evenOr room n none = room / n
+evenOr room n (some w) = capped (w .value)
+
 abbrev pub toSpreading : ℕ → Result Spread → Spreading
-toSpreading room (Is s n) = spreading.Is (record { count = capped (s .count .value); width = evenOr (s .width); next = n }) where
-  evenOr : Option Figure → ℕ
-  evenOr none = room / capped (s .count .value)
-  evenOr (some w) = capped (w .value)
+toSpreading room (Is s n) = spreading.Is (record { count = capped (s .count .value); width = evenOr room (capped (s .count .value)) (s .width); next = n })
 toSpreading room (Not f) = spreading.Not f
 
 swap : {A : Type 0} (q : Bool) (x y : A) → cond q x y ≡ cond (not q) y x

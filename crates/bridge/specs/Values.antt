@@ -57,7 +57,7 @@ use Rattle.bridge.specs.Blocks.{form-same, large-same, true-same, small,
 use Rattle.bridge.specs.Lines.{bind-bind, SameGiven, gives, refuses, Standing, value-refused, out, no-value, lines-turns}
 
 -- ---- nothing said yet
-empty-kept : Kept emptyBlock (unlisted none)
+pub empty-kept : Kept emptyBlock (unlisted none)
 unfolding amounts someOf
 empty-kept = record { decimals = refl; point = refl; unlike-some = λ a. refl; ranged = refl; from = refl; to = refl }
 
