@@ -10,3 +10,5 @@ pub mod Lines
 pub mod Values
 pub mod Variables
 pub mod Contents
+pub mod Columns
+pub mod Rooms
