@@ -12,3 +12,4 @@ pub mod Variables
 pub mod Contents
 pub mod Columns
 pub mod Rooms
+pub mod Entries

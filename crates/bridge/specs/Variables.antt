@@ -122,3 +122,22 @@ module _ (d : List ℕ) where
       by (Is a k) = rw (number-on d (Is a k)) (ident-least (number d k) (number-told d k))
       by (Not f) = rw (number-on d {A = ℕ} (Not f)) (ident-least {k = 0} (Not f) untold)
     ident-on (Not f) = rw (statement-on d {A = ℕ} (Not f) VARIABLE) (rw (number-on d {A = ℕ} (Not f)) (ident-least {k = 0} (Not f) untold))
+
+-- ---- an ident that was read is below the cap
+pub data Small : Result Figure → Type 0 where
+  small : {x : Figure} {m : ℕ} → capped (x .value) ≡ x .value → Small (Is x m)
+  unread : {f : Fault} → Small (Not f)
+
+pub ident-small : (d : List ℕ) (earlier : List Variable) (n : ℕ) → Small (ident d earlier n)
+unfolding ident identCharges
+ident-small d earlier n = by (statement d VARIABLE n) where
+  judge : {k : ℕ} (r : Result Figure) → Told d k r → Small (bind r λ n. judged (identCharges earlier n) n)
+  judge (Is x m) (told k) = on (judged-view (identCharges earlier x) x m) where
+    on : {q : Result Figure} → Judged (identCharges earlier x) x m q → Small q
+    on (fine (clear a (clear b c))) = let h = k .few (ltb-false 4 (x .digits) b) in small {x = x} {m = m} (rw (le-ltb 1000000000000000 (x .value) (omega arith)))
+    on faulty = unread
+  judge (Not f) untold = unread
+
+  by : (s : Result Unit) → Small (bind s λ a n. bind (number d n) λ n. judged (identCharges earlier n) n)
+  by (Is a k) = judge (number d k) (number-told d k)
+  by (Not f) = unread
