@@ -127,7 +127,7 @@ module _ (d : List ℕ) where
       other false = refl
 
   -- a run that ends where it starts has no byte
-  run-empty : (n : ℕ) {t : Text} → From d n t → eqb (runOf isValue n t) n ≡ eqb (length (bytesOf isValue t)) 0
+  pub run-empty : (n : ℕ) {t : Text} → From d n t → eqb (runOf isValue n t) n ≡ eqb (length (bytesOf isValue t)) 0
   unfolding runOf bytesOf
   run-empty n at-stop = rw (eq-eqb n n refl)
   run-empty n (at-sign {p = p} {b = b} {u = u} h w e r) = by (isValue b) (run-ahead d isValue r) where

@@ -13,3 +13,5 @@ pub mod Contents
 pub mod Columns
 pub mod Rooms
 pub mod Entries
+pub mod Openings
+pub mod Headings

@@ -29,7 +29,7 @@ module _ (d : List ℕ) where
   unfolding pastNote
   past-on m = rw (string-on d (Is m m), past-string (string d m)) (gap-on d (string d m))
 
-  notes-refused : (f : Rattle.tokens.specs.declared.Fault.Fault) → notesHere d (Refused f) ≡ Refused f
+  pub notes-refused : (f : Rattle.tokens.specs.declared.Fault.Fault) → notesHere d (Refused f) ≡ Refused f
   unfolding choiceOf
   notes-refused f = notes-done d (Refused f) refl refl
 
