@@ -46,10 +46,10 @@ use Rattle.bridge.specs.Tokens.{toReading, toPhrase, past-string, here-o
 use Rattle.bridge.specs.Notes.{notes-on, notes-refused, statement-on}
 use Rattle.bridge.specs.Openings.{opening-on}
 
-abbrev items : List Entry → List ℕ
+abbrev pub items : List Entry → List ℕ
 items l = map (λ e. e .item) l
 
-given-same : (k : ℕ) (l : List Entry) → was.given k (items l) ≡ given k l
+pub given-same : (k : ℕ) (l : List Entry) → was.given k (items l) ≡ given k l
 unfolding was.given given someOf
 given-same k [] = refl
 given-same k (e ∷ l) = rw (given-same k l)
@@ -59,14 +59,14 @@ pub data SameEntered (d : List ℕ) : Entered → Result (List Entry) → Type 0
   stops : {h : books.Heading} {f : Fault} → SameEntered d (entered h (Refused f)) (Not f)
 
 module _ (d : List ℕ) where
-  abbrev turns : ℕ → List Entry → Reader (List Entry)
+  abbrev pub turns : ℕ → List Entry → Reader (List Entry)
   turns f = repeat f (reading.entered d)
 
   none-refused : (f : Fault) → entryOf d (Refused f) ≡ kind.Other
   unfolding entryOf choiceOf
   none-refused f = refl
 
-  refused : (h : books.Heading) (f : Fault) → SameEntered d (entriesFrom d (entered h (Refused f))) (Not f)
+  pub refused : (h : books.Heading) (f : Fault) → SameEntered d (entriesFrom d (entered h (Refused f))) (Not f)
   refused h f = rw (entries-other d h (Refused f) refl (none-refused f)) stops
 
   module _ (f : ℕ) (n : ℕ) (h : books.Heading) (l : List Entry) (reached : Reached d (items l) h) (enough : length d - n < suc f)
@@ -141,7 +141,7 @@ module _ (d : List ℕ) where
         λ e. or-step 3 (wordAt d n USER) _ _ (omega arith) e
         λ e. last-step (wordAt d n STANDARD) e
 
-  entries-turns : (f n : ℕ) (h : books.Heading) (l : List Entry) → Reached d (items l) h → length d - n < f → SameEntered d (entriesFrom d (entered h (At n))) (turns f l n)
+  pub entries-turns : (f n : ℕ) (h : books.Heading) (l : List Entry) → Reached d (items l) h → length d - n < f → SameEntered d (entriesFrom d (entered h (At n))) (turns f l n)
   unfolding repeat
   entries-turns zero n h l r e = absurd (omega arith)
   entries-turns (suc f) n h l r e = step f n h l r e (entries-turns f)

@@ -15,3 +15,4 @@ pub mod Rooms
 pub mod Entries
 pub mod Openings
 pub mod Headings
+pub mod Fronts
