@@ -31,11 +31,11 @@ use Rattle.entries.proofs.Goods.{entry-good}
 use Rattle.built.specs.Nth.{few-lines}
 use Rattle.built.specs.Built.{table-well-formed}
 use Rattle.names.specs.rule.Standard.{nameFault}
-use Rattle.definition.specs.rule.Definition.{Variables, Course, course, endOr, entered, variableStep, variablesFrom, endsOn, Survey}
-use Rattle.definition.specs.rule.Definition.{Read, Whole, Faulty, ended, closed, surveyOf, namesOf, quoteAt, Outcome, Built}
-use Rattle.definition.specs.rule.Definition.{Refusal, fitting, named, judged, outcomeOf, answerOf, tableAfter}
+use Rattle.definition.specs.Books.{Variables, Course, course, endOr, entered, variableStep, variablesFrom, endsOn, Survey}
+use Rattle.definition.specs.Books.{Read, Whole, Faulty, ended, closed, surveyOf, namesOf, quoteAt, Outcome, Built}
+use Rattle.definition.specs.Books.{Refusal, fitting, named, judged, outcomeIn, answerIn, tableIn}
 use Rattle.definition.specs.declared.Answer.{Answer}
-use Rattle.definition.specs.rule.Definition as variables
+use Rattle.definition.specs.Books as variables
 use Rattle.definition.proofs.Courses.{next-entry}
 
 none : {A : Type 0} → _≡_ {A = ℕ} 0 1 → A
@@ -117,8 +117,8 @@ module _ (d : List ℕ) (n : ℕ) (l : List Variable) where
     by true i = none cc
     by false i = fitting-built v i
 
-  pub built-good : outcomeOf d n ≡ Built l → Good l × (1 ≤ length l) × (length (tableOf l) ≤ n)
-  unfolding outcomeOf
+  pub built-good : outcomeIn d n ≡ Built l → Good l × (1 ≤ length l) × (length (tableOf l) ≤ n)
+  unfolding outcomeIn
   built-good = by (ltb 1048576 (length d)) refl where
     whole : length d ≤ 1048576 → (r : Read) → surveyOf d ≡ r → judged d n r ≡ Built l → Good l × (1 ≤ length l) × (length (tableOf l) ≤ n)
     whole long (Whole s) i e =
@@ -131,12 +131,12 @@ module _ (d : List ℕ) (n : ℕ) (l : List Variable) where
     by true i e = none cc
     by false i e = whole (ltb-false 1048576 (length d) i) (surveyOf d) refl e
 
-pub read-well-formed : (d : List ℕ) (t : List ℤ) (l : List Variable) → outcomeOf d (length t) ≡ Built l → wellFormed (tableAfter (outcomeOf d (length t)) t) ≡ true
-unfolding tableAfter
+pub read-well-formed : (d : List ℕ) (t : List ℤ) (l : List Variable) → outcomeIn d (length t) ≡ Built l → wellFormed (tableIn (outcomeIn d (length t)) t) ≡ true
+unfolding tableIn
 read-well-formed d t l e =
     let g = built-good d (length t) l e in
     rw e (table-well-formed l t (g .0) (g .1) (g .2))
 
 -- ---- NO TWO OUTCOMES: the contract settles the answer and the table
-pub definition-settled : (d : List ℕ) (t t₁ t₂ : List ℤ) (r₁ r₂ : Answer) → r₁ ≡ answerOf (outcomeOf d (length t)) → t₁ ≡ tableAfter (outcomeOf d (length t)) t → r₂ ≡ answerOf (outcomeOf d (length t)) → t₂ ≡ tableAfter (outcomeOf d (length t)) t → (r₁ ≡ r₂) × (t₁ ≡ t₂)
+pub definition-settled : (d : List ℕ) (t t₁ t₂ : List ℤ) (r₁ r₂ : Answer) → r₁ ≡ answerIn (outcomeIn d (length t)) → t₁ ≡ tableIn (outcomeIn d (length t)) t → r₂ ≡ answerIn (outcomeIn d (length t)) → t₂ ≡ tableIn (outcomeIn d (length t)) t → (r₁ ≡ r₂) × (t₁ ≡ t₂)
 definition-settled d t t₁ t₂ r₁ r₂ a b c e = (a ∙ sym c, b ∙ sym e)

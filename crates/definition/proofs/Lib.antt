@@ -7,3 +7,4 @@ pub mod Settles
 pub mod Goods
 pub mod Lows
 pub mod Wholes
+pub mod Bridge

@@ -39,8 +39,8 @@ use Rattle.definition.specs.declared.Turn.{Turn}
 use Rattle.definition.specs.declared.Turn.the-variants as turn
 use Rattle.definition.specs.declared.Run.{Run}
 use Rattle.definition.specs.declared.Run.the-variants as run
-use Rattle.definition.specs.rule.Definition.{Variables, Course, course, endOr, entered, variableStep, variablesFrom}
-use Rattle.definition.specs.rule.Definition as variables
+use Rattle.definition.specs.Books.{Variables, Course, course, endOr, entered, variableStep, variablesFrom}
+use Rattle.definition.specs.Books as variables
 use Rattle.definition.specs.Code.{zeros, tallyOf, tallyWith, turnOr, followed, turnAfter, RowStored, runOf, Laid}
 use Rattle.definition.proofs.Small.{row-ident, row-finish, ident-few}
 use Rattle.definition.proofs.Courses.{next-entry, entry-same, from-again, from-done}

@@ -18,10 +18,10 @@ use Rattle.names.specs.rule.Standard.{nameFault}
 use Rattle.measures.specs.rule.Survey.{Variable, linesAll, identMet, tableOf}
 use Rattle.entries.specs.rule.Entry.{Entry, entryOf}
 use Rattle.entries.specs.rule.Entry as entry
-use Rattle.definition.specs.rule.Definition.{Variables, Course, course, endOr, entered, variableStep, variablesFrom, endsOn}
-use Rattle.definition.specs.rule.Definition.{Read, Whole, Faulty, ended, closed, surveyOf, namesOf, quoteAt}
-use Rattle.definition.specs.rule.Definition.{Outcome, Built, Refusal, fitting, named, judged, outcomeOf, answerOf}
-use Rattle.definition.specs.rule.Definition as variables
+use Rattle.definition.specs.Books.{Variables, Course, course, endOr, entered, variableStep, variablesFrom, endsOn}
+use Rattle.definition.specs.Books.{Read, Whole, Faulty, ended, closed, surveyOf, namesOf, quoteAt}
+use Rattle.definition.specs.Books.{Outcome, Built, Refusal, fitting, named, judged, outcomeIn, answerIn}
+use Rattle.definition.specs.Books as variables
 use Rattle.definition.specs.declared.Answer.the-variants as answer
 use Rattle.refusals.specs.Loops.{Onward, loop-keeps}
 use Rattle.refusals.specs.Scanned.{either}
@@ -135,11 +135,11 @@ module _ (d : List ℕ) where
         (either RefusalStands (ltb i (length l)) (omega arith) (fitting-stands l)) (fitting-stands l)
     judged-stands (Faulty f) h = omega arith
 
-    outcome-stands : RefusalStands (outcomeOf d n)
-    unfolding outcomeOf
+    outcome-stands : RefusalStands (outcomeIn d n)
+    unfolding outcomeIn
     outcome-stands = either RefusalStands (ltb 1048576 (length d)) (omega arith) (judged-stands (surveyOf d) survey-of)
 
-    module _ (k p : ℕ) (refused : outcomeOf d n ≡ Refusal k p) where
+    module _ (k p : ℕ) (refused : outcomeIn d n ≡ Refusal k p) where
       stands : RefusalStands (Refusal k p)
       stands = rw refused at outcome-stands
 
@@ -150,9 +150,9 @@ module _ (d : List ℕ) where
       refusal-placed = stands .2
 
 -- what the call answers as refused is such a refusal
-pub answered : (d : List ℕ) (n k p : ℕ) → answerOf (outcomeOf d n) ≡ answer.Refused k p → outcomeOf d n ≡ Refusal k p
-unfolding answerOf
-answered d n k p = by (outcomeOf d n) where
-  by : (o : Outcome) → answerOf o ≡ answer.Refused k p → o ≡ Refusal k p
+pub answered : (d : List ℕ) (n k p : ℕ) → answerIn (outcomeIn d n) ≡ answer.Refused k p → outcomeIn d n ≡ Refusal k p
+unfolding answerIn
+answered d n k p = by (outcomeIn d n) where
+  by : (o : Outcome) → answerIn o ≡ answer.Refused k p → o ≡ Refusal k p
   by (Built l) e = let z : _≡_ {A = ℕ} 0 1 = cc in absurd (omega arith)
   by (Refusal number place) e = cc
