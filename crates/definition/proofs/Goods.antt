@@ -29,11 +29,15 @@ use Rattle.entries.specs.rule.Entry.{Entry}
 use Rattle.entries.specs.rule.Entry as entry
 use Rattle.entries.proofs.Goods.{entry-good}
 use Rattle.built.specs.Nth.{few-lines}
+use Rattle.survey.specs.rule.Survey as survey
 use Rattle.built.specs.Built.{table-well-formed}
 use Rattle.names.specs.rule.Standard.{nameFault}
 use Rattle.definition.specs.Books.{Variables, Course, course, endOr, entered, variableStep, variablesFrom, endsOn, Survey}
 use Rattle.definition.specs.Books.{Read, Whole, Faulty, ended, closed, surveyOf, namesOf, quoteAt, Outcome, Built}
-use Rattle.definition.specs.Books.{Refusal, fitting, named, judged, outcomeIn, answerIn, tableIn}
+use Rattle.definition.specs.Books.{Refusal, fitting, named, judged, outcomeIn, tableIn}
+use Rattle.definition.specs.rule.Definition as rule
+use Rattle.definition.proofs.Bridge.{SameOutcome, outcome-same, table-same}
+use Rattle.definition.proofs.Bridge as bridge
 use Rattle.definition.specs.declared.Answer.{Answer}
 use Rattle.definition.specs.Books as variables
 use Rattle.definition.proofs.Courses.{next-entry}
@@ -131,12 +135,20 @@ module _ (d : List ℕ) (n : ℕ) (l : List Variable) where
     by true i e = none cc
     by false i e = whole (ltb-false 1048576 (length d) i) (surveyOf d) refl e
 
-pub read-well-formed : (d : List ℕ) (t : List ℤ) (l : List Variable) → outcomeIn d (length t) ≡ Built l → wellFormed (tableIn (outcomeIn d (length t)) t) ≡ true
+in-well-formed : (d : List ℕ) (t : List ℤ) (l : List Variable) → outcomeIn d (length t) ≡ Built l → wellFormed (tableIn (outcomeIn d (length t)) t) ≡ true
 unfolding tableIn
-read-well-formed d t l e =
+in-well-formed d t l e =
     let g = built-good d (length t) l e in
     rw e (table-well-formed l t (g .0) (g .1) (g .2))
 
+-- so is the table of every survey that the rule reads
+pub read-well-formed : (d : List ℕ) (t : List ℤ) (l : List survey.Variable) → rule.outcomeOf d (length t) ≡ rule.Built l → wellFormed (rule.tableAfter (rule.outcomeOf d (length t)) t) ≡ true
+read-well-formed d t l e = rw (← table-same d (length t) t) (by refl e (outcome-same d (length t))) where
+  by : {o : Outcome} {q : rule.Outcome} → outcomeIn d (length t) ≡ o → q ≡ rule.Built l → SameOutcome d o q → wellFormed (tableIn (outcomeIn d (length t)) t) ≡ true
+  by i j (bridge.built {l = m} s) = in-well-formed d t m i
+  by i j bridge.refused = none cc
+
 -- ---- NO TWO OUTCOMES: the contract settles the answer and the table
-pub definition-settled : (d : List ℕ) (t t₁ t₂ : List ℤ) (r₁ r₂ : Answer) → r₁ ≡ answerIn (outcomeIn d (length t)) → t₁ ≡ tableIn (outcomeIn d (length t)) t → r₂ ≡ answerIn (outcomeIn d (length t)) → t₂ ≡ tableIn (outcomeIn d (length t)) t → (r₁ ≡ r₂) × (t₁ ≡ t₂)
+pub definition-settled : (d : List ℕ) (t t₁ t₂ : List ℤ) (r₁ r₂ : Answer) → r₁ ≡ rule.answerOf (rule.outcomeOf d (length t)) → t₁ ≡ rule.tableAfter (rule.outcomeOf d (length t)) t
+    → r₂ ≡ rule.answerOf (rule.outcomeOf d (length t)) → t₂ ≡ rule.tableAfter (rule.outcomeOf d (length t)) t → (r₁ ≡ r₂) × (t₁ ≡ t₂)
 definition-settled d t t₁ t₂ r₁ r₂ a b c e = (a ∙ sym c, b ∙ sym e)

@@ -20,7 +20,10 @@ use Rattle.entries.specs.rule.Entry.{Entry, entryOf}
 use Rattle.entries.specs.rule.Entry as entry
 use Rattle.definition.specs.Books.{Variables, Course, course, endOr, entered, variableStep, variablesFrom, endsOn}
 use Rattle.definition.specs.Books.{Read, Whole, Faulty, ended, closed, surveyOf, namesOf, quoteAt}
-use Rattle.definition.specs.Books.{Outcome, Built, Refusal, fitting, named, judged, outcomeIn, answerIn}
+use Rattle.definition.specs.Books.{Outcome, Built, Refusal, fitting, named, judged, outcomeIn}
+use Rattle.definition.specs.rule.Definition as rule
+use Rattle.definition.proofs.Bridge.{SameOutcome, outcome-same}
+use Rattle.definition.proofs.Bridge as bridge
 use Rattle.definition.specs.Books as variables
 use Rattle.definition.specs.declared.Answer.the-variants as answer
 use Rattle.refusals.specs.Loops.{Onward, loop-keeps}
@@ -139,9 +142,17 @@ module _ (d : List ℕ) where
     unfolding outcomeIn
     outcome-stands = either RefusalStands (ltb 1048576 (length d)) (omega arith) (judged-stands (surveyOf d) survey-of)
 
-    module _ (k p : ℕ) (refused : outcomeIn d n ≡ Refusal k p) where
+    -- a refusal of the rule is one of the code's books
+    module _ (k p : ℕ) (refused : rule.outcomeOf d n ≡ rule.Refusal k p) where
       stands : RefusalStands (Refusal k p)
-      stands = rw refused at outcome-stands
+      stands = by refl refused (outcome-same d n) where
+        by : {o : Outcome} {q : rule.Outcome} → outcomeIn d n ≡ o → q ≡ rule.Refusal k p → SameOutcome d o q → RefusalStands (Refusal k p)
+        by i j (bridge.built s) = let z : _≡_ {A = ℕ} 0 1 = cc in absurd (omega arith)
+        by i j (bridge.refused {k = a} {p = b}) =
+            let u : a ≡ k = cc in
+            let v : b ≡ p = cc in
+            let h : RefusalStands (Refusal a b) = rw i at outcome-stands in
+            rw (u, v) at h
 
       pub refusal-named : (1 ≤ k) × (k ≤ 10)
       refusal-named = (stands .0, stands .1)
@@ -150,9 +161,9 @@ module _ (d : List ℕ) where
       refusal-placed = stands .2
 
 -- what the call answers as refused is such a refusal
-pub answered : (d : List ℕ) (n k p : ℕ) → answerIn (outcomeIn d n) ≡ answer.Refused k p → outcomeIn d n ≡ Refusal k p
-unfolding answerIn
-answered d n k p = by (outcomeIn d n) where
-  by : (o : Outcome) → answerIn o ≡ answer.Refused k p → o ≡ Refusal k p
-  by (Built l) e = let z : _≡_ {A = ℕ} 0 1 = cc in absurd (omega arith)
-  by (Refusal number place) e = cc
+pub answered : (d : List ℕ) (n k p : ℕ) → rule.answerOf (rule.outcomeOf d n) ≡ answer.Refused k p → rule.outcomeOf d n ≡ rule.Refusal k p
+unfolding rule.answerOf
+answered d n k p = by (rule.outcomeOf d n) where
+  by : (o : rule.Outcome) → rule.answerOf o ≡ answer.Refused k p → o ≡ rule.Refusal k p
+  by (rule.Built l) e = let z : _≡_ {A = ℕ} 0 1 = cc in absurd (omega arith)
+  by (rule.Refusal number place) e = cc
