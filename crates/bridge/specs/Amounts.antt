@@ -1,36 +1,33 @@
 -- A value, right here: what the code's books gather mark by mark and run by run is what the bytes of its run say.
-use mathlib.Core.Logic.{_↔_}
 use mathlib.Core.Path.{_≡_, refl, _∙_, sym, ap}
 use mathlib.Core.Bool.{Bool, true, false, cond, _&&_, _||_}
 use mathlib.Core.List.{List, [], _∷_, _++_, append-nil}
-use Prim.Native.Nat.{ℕ, zero, suc, _+_, _-_, _*_, _≤_, _<_}
+use Prim.Native.Nat.{ℕ, suc, _+_, _-_, _*_, _≤_}
 use native.Mathlib.Nat.{zero-add}
 use native.Mathlib.Omega.{arith}
 use lib.Dec.{eqb, ltb, leb}
-use lib.ListN.{length, length-append}
-use borrow.Author.Tests.{eq-eqb, ne-eqb, eqb-true, eqb-false, ltb-true, ltb-false, lt-ltb, le-ltb, lt-leb, le-leb}
+use lib.ListN.{length}
+use borrow.Author.Tests.{eq-eqb, ne-eqb, eqb-true, lt-ltb, lt-leb, le-leb}
 use Rattle.ascii.specs.rule.Class.{classOf}
 use Rattle.scan.specs.rule.Text.{Text, stop, sign, text}
-use Rattle.scan.specs.rule.Number.{isDigit, isValue, runOf, bytesOf, decimalOf, capped, digitsFrom}
-use Rattle.scan.specs.rule.Order.{digitsTo, valueOf}
+use Rattle.scan.specs.rule.Number.{isDigit, isValue, runOf, bytesOf, decimalOf}
+use Rattle.scan.specs.Number.{capped, digitsFrom}
+use Rattle.scan.specs.Order.{digitsTo, valueOf}
 use Rattle.scan.proofs.Texts.{From, at-stop, at-sign, from-text}
 use Rattle.scan.proofs.Orders.{run-ahead}
 use Rattle.scan.proofs.Runs.{held}
 use Rattle.tokens.specs.declared.Fault.{Fault}
-use Rattle.tokens.specs.declared.Reading.{Reading}
-use Rattle.tokens.specs.declared.Reading.the-variants.{At, Refused}
+use Rattle.tokens.specs.declared.Reading.the-variants.{At}
 use Rattle.tokens.specs.declared.Mark.{Mark}
 use Rattle.tokens.specs.declared.Value.{Value}
 use Rattle.tokens.specs.declared.Amount as books
 use Rattle.tokens.specs.declared.Amount.the-variants as amounted
 use Rattle.tokens.specs.rule.Gap.{fault}
-use Rattle.tokens.specs.rule.Token.{markOf, valueAt, ofValue, valueHere}
-use Rattle.tokens.proofs.Values.{value-true}
+use Rattle.tokens.specs.Token.{markOf, valueAt, ofValue, valueHere}
 use Rattle.survey.specs.rule.Survey.{Amount}
-use Rattle.reading.specs.rule.Result.{Result, Is, Not, bind}
+use Rattle.reading.specs.rule.Result.{Result, Is, Not}
 use Rattle.reading.specs.rule.Token.{leading, behind, begins, without, amountOf, amount}
 use Rattle.bridge.specs.Lowest.{never}
-use Rattle.bridge.specs.Tokens.{toReading}
 
 -- ---- a value as the code's books have it: x is the place behind its minus, y that behind its last digit
 abbrev pub written : Amount → ℕ → ℕ → ℕ → Value
@@ -48,7 +45,8 @@ written a x y m = record {
 }
 
 pub data Valued (d : List ℕ) (n : ℕ) : books.Amount → Result Amount → Type 0 where
-  valued : {a : Amount} {x y m : ℕ} → valueOf d x y ≡ a .size → n ≤ a .place → a .place ≤ m → Valued d n (amounted.Is (written a x y m)) (Is a m)
+  valued : {a : Amount} {x y m : ℕ} → valueOf d x y ≡ a .size → n ≤ a .place → a .place ≤ m
+      → Valued d n (amounted.Is (written a x y m)) (Is a m)
   unvalued : {f : Fault} → Valued d n (amounted.Not f) (Not f)
 
 dot : isDigit 46 ≡ false
@@ -83,17 +81,22 @@ module _ (d : List ℕ) where
   unfolding bytesOf markOf begins
   mark-there c k at-stop = refl
   mark-there c k {n} (at-sign {p = p} {b = b} {u = u} h w e r) = by (eqb b c) (isValue b) refl refl where
-    by : (x y : Bool) → eqb b c ≡ x → isValue b ≡ y → cond {A = Mark} x (record { there = true; next = p + 1 }) (record { there = false; next = n }) .there ≡ begins c (cond y (b ∷ bytesOf isValue u) [])
+    by : (x y : Bool) → eqb b c ≡ x → isValue b ≡ y
+        → cond {A = Mark} x (record { there = true; next = p + 1 }) (record { there = false; next = n }) .there
+        ≡ begins c (cond y (b ∷ bytesOf isValue u) [])
     by true true i j = sym i
     by true false i j = let z = eqb-true b c i in never cc
     by false true i j = sym i
     by false false i j = refl
 
-  mark-joins : (c : ℕ) → isValue c ≡ true → {n : ℕ} {t : Text} → From d n t → t ≡ text d n → Joins d n t (without c (bytesOf isValue t)) (markOf n c t .next)
+  mark-joins : (c : ℕ) → isValue c ≡ true → {n : ℕ} {t : Text} → From d n t → t ≡ text d n
+      → Joins d n t (without c (bytesOf isValue t)) (markOf n c t .next)
   unfolding runOf bytesOf markOf without
   mark-joins c k {n} at-stop q = record { run = ap (runOf isValue n) q; rest = ap (bytesOf isValue) q }
   mark-joins c k {n} (at-sign {p = p} {b = b} {u = u} h w e r) q = by (eqb b c) refl where
-    by : (x : Bool) → eqb b c ≡ x → Joins d n (sign p b u) (without c (bytesOf isValue (sign p b u))) (cond {A = Mark} x (record { there = true; next = p + 1 }) (record { there = false; next = n }) .next)
+    by : (x : Bool) → eqb b c ≡ x
+        → Joins d n (sign p b u) (without c (bytesOf isValue (sign p b u)))
+        (cond {A = Mark} x (record { there = true; next = p + 1 }) (record { there = false; next = n }) .next)
     by true y =
         let v : isValue b ≡ true = rw (eqb-true b c y) k in
         record { run = rw v (ap (runOf isValue (p + 1)) e); rest = rw (v, y) (ap (bytesOf isValue) e) }
@@ -107,7 +110,8 @@ module _ (d : List ℕ) where
   unfolding bytesOf leading
   digits-there (stop p) = refl
   digits-there (sign p b u) = by (isDigit b) refl (digits-there u) where
-    by : (x : Bool) → isDigit b ≡ x → bytesOf isDigit u ≡ leading (bytesOf isValue u) → cond x (b ∷ bytesOf isDigit u) [] ≡ leading (cond (isValue b) (b ∷ bytesOf isValue u) [])
+    by : (x : Bool) → isDigit b ≡ x → bytesOf isDigit u ≡ leading (bytesOf isValue u)
+        → cond x (b ∷ bytesOf isDigit u) [] ≡ leading (cond (isValue b) (b ∷ bytesOf isValue u) [])
     by true e ih = rw (digit-value b e) (rw e (ap (λ (l : List ℕ). b ∷ l) ih))
     by false e ih = other (isValue b) where
       other : (y : Bool) → [] ≡ leading (cond y (b ∷ bytesOf isValue u) [])
@@ -131,23 +135,27 @@ module _ (d : List ℕ) where
   unfolding runOf bytesOf
   run-empty n at-stop = rw (eq-eqb n n refl)
   run-empty n (at-sign {p = p} {b = b} {u = u} h w e r) = by (isValue b) (run-ahead d isValue r) where
-    by : (q : Bool) → p + 1 ≤ runOf isValue (p + 1) u → eqb (cond q (runOf isValue (p + 1) u) n) n ≡ eqb (length (cond q (b ∷ bytesOf isValue u) [])) 0
+    by : (q : Bool) → p + 1 ≤ runOf isValue (p + 1) u
+        → eqb (cond q (runOf isValue (p + 1) u) n) n ≡ eqb (length (cond q (b ∷ bytesOf isValue u) [])) 0
     by true i = rw (ne-eqb (runOf isValue (p + 1) u) n (λ z. omega arith), ne-eqb (suc (length (bytesOf isValue u))) 0 (λ z. omega arith))
     by false i = rw (eq-eqb n n refl)
 
   -- ---- the number between the places of the digits
   module _ (e : ℕ) where
     -- digits up to e: a run of them, and then those from its end on
-    digits-split : {n : ℕ} {t : Text} → From d n t → t ≡ text d n → runOf isDigit n t ≤ e → digitsTo e t ≡ bytesOf isDigit t ++ digitsTo e (text d (runOf isDigit n t))
+    digits-split : {n : ℕ} {t : Text} → From d n t → t ≡ text d n → runOf isDigit n t ≤ e
+        → digitsTo e t ≡ bytesOf isDigit t ++ digitsTo e (text d (runOf isDigit n t))
     unfolding digitsTo bytesOf runOf
     digits-split at-stop q h = ap (digitsTo e) q
-    digits-split {n} (at-sign {p = p} {b = b} {u = u} g w i r) q h = by (isDigit b) refl (run-ahead d isDigit r) (digits-split r i) q h where
-      by : (x : Bool) → isDigit b ≡ x → p + 1 ≤ runOf isDigit (p + 1) u
-          → (runOf isDigit (p + 1) u ≤ e → digitsTo e u ≡ bytesOf isDigit u ++ digitsTo e (text d (runOf isDigit (p + 1) u)))
-          → sign p b u ≡ text d n → cond x (runOf isDigit (p + 1) u) n ≤ e
-          → cond (leb e p) [] (cond (isDigit b) (b ∷ digitsTo e u) (digitsTo e u)) ≡ cond x (b ∷ bytesOf isDigit u) [] ++ digitsTo e (text d (cond x (runOf isDigit (p + 1) u) n))
-      by true f k ih q h = rw (lt-leb e p (omega arith), f, ih h)
-      by false f k ih q h = ap (digitsTo e) q
+    digits-split {n} (at-sign {p = p} {b = b} {u = u} g w i r) q h =
+        by (isDigit b) refl (run-ahead d isDigit r) (digits-split r i) q h where
+          by : (x : Bool) → isDigit b ≡ x → p + 1 ≤ runOf isDigit (p + 1) u
+              → (runOf isDigit (p + 1) u ≤ e → digitsTo e u ≡ bytesOf isDigit u ++ digitsTo e (text d (runOf isDigit (p + 1) u)))
+              → sign p b u ≡ text d n → cond x (runOf isDigit (p + 1) u) n ≤ e
+              → cond (leb e p) [] (cond (isDigit b) (b ∷ digitsTo e u) (digitsTo e u))
+              ≡ cond x (b ∷ bytesOf isDigit u) [] ++ digitsTo e (text d (cond x (runOf isDigit (p + 1) u) n))
+          by true f k ih q h = rw (lt-leb e p (omega arith), f, ih h)
+          by false f k ih q h = ap (digitsTo e) q
 
     -- no digit stands before e from e on
     none-left : {t : Text} → From d e t → digitsTo e t ≡ []
@@ -156,12 +164,15 @@ module _ (d : List ℕ) where
     none-left (at-sign {p = p} g w i r) = rw (le-leb e p g)
 
     -- a point is no digit
-    past-point : (n : ℕ) {t : Text} → From d n t → t ≡ text d n → markOf n 46 t .next ≤ e → digitsTo e t ≡ digitsTo e (text d (markOf n 46 t .next))
+    past-point : (n : ℕ) {t : Text} → From d n t → t ≡ text d n → markOf n 46 t .next ≤ e
+        → digitsTo e t ≡ digitsTo e (text d (markOf n 46 t .next))
     unfolding markOf digitsTo
     past-point n at-stop q h = ap (digitsTo e) q
     past-point n (at-sign {p = p} {b = b} {u = u} g w i r) q h = by (eqb b 46) refl h where
-      by : (x : Bool) → eqb b 46 ≡ x → cond {A = Mark} x (record { there = true; next = p + 1 }) (record { there = false; next = n }) .next ≤ e
-          → digitsTo e (sign p b u) ≡ digitsTo e (text d (cond {A = Mark} x (record { there = true; next = p + 1 }) (record { there = false; next = n }) .next))
+      by : (x : Bool) → eqb b 46 ≡ x
+          → cond {A = Mark} x (record { there = true; next = p + 1 }) (record { there = false; next = n }) .next ≤ e
+          → digitsTo e (sign p b u)
+          ≡ digitsTo e (text d (cond {A = Mark} x (record { there = true; next = p + 1 }) (record { there = false; next = n }) .next))
       by true f h = rw (eqb-true b 46 f, lt-leb e p (omega arith), dot, i)
       by false f h = ap (digitsTo e) q
 
@@ -222,7 +233,8 @@ module _ (d : List ℕ) where
         let run : end ≡ runOf isValue e (text d e) = j1 .run ∙ j2 .run ∙ j3 .run ∙ j4 .run in
         let size : capped (decimalOf (capped (decimalOf 0 W)) F) ≡ capped (decimalOf 0 (W ++ F)) =
         held (decimalOf 0 W) F ∙ ap capped (sym (decimal-append W F 0)) in
-        let formed : (eqb (runOf isValue e (text d e)) e && (ltb 0 (length W) || ltb 0 (length F))) ≡ (eqb (length (bytesOf isValue (text d e))) 0 && ltb 0 (length (W ++ F))) =
+        let formed : (eqb (runOf isValue e (text d e)) e && (ltb 0 (length W) || ltb 0 (length F)))
+        ≡ (eqb (length (bytesOf isValue (text d e))) 0 && ltb 0 (length (W ++ F))) =
         rw (run-empty e (from-text d e), some-digit W F) in
         rw (j1 .rest) (rw (← digits-there (text d m), j2 .rest) (rw (j3 .rest) (rw (← digits-there (text d o), j4 .rest)
         (rw (← a1, ← a2, run, zero-add (length W), zero-add (length F)) (rw (size, formed))))))
@@ -246,7 +258,8 @@ module _ (d : List ℕ) where
     pub value-on : Valued d n (valueHere d (At n)) (amount d n)
     unfolding valueHere ofValue amount
     value-on = rw (value-is) (rw (run-empty n (from-text d n)) (by (eqb (length (bytesOf isValue (text d n))) 0))) where
-      by : (q : Bool) → Valued d n (cond q (amounted.Not (fault 2 n)) (amounted.Is (written (amountOf n end (bytesOf isValue (text d n))) m e end)))
+      by : (q : Bool) → Valued d n
+          (cond q (amounted.Not (fault 2 n)) (amounted.Is (written (amountOf n end (bytesOf isValue (text d n))) m e end)))
           (cond q (Not (fault 2 n)) (Is (amountOf n end (bytesOf isValue (text d n))) end))
       by true = unvalued
       by false = valued size-says starts ends

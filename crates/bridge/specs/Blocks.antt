@@ -1,28 +1,26 @@
 -- What a block has said so far, in the code's books and as plain data: the books keep a few numbers of it and add each value to them.
 use mathlib.Core.Path.{_≡_, refl, _∙_, sym, ap}
-use mathlib.Core.Bool.{Bool, true, false, cond, not, _&&_, _||_}
+use mathlib.Core.Bool.{Bool, true, false, not, _&&_, _||_}
 use mathlib.Core.List.{List, [], _∷_, _++_, map, append-assoc}
-use mathlib.Core.Option.{Option, none, some}
-use Prim.Native.Nat.{ℕ, zero, suc, _+_, _≤_, _<_}
+use Prim.Native.Nat.{ℕ, zero, suc}
 use native.Mathlib.Omega.{arith}
-use lib.Dec.{eqb, ltb, leb}
-use lib.IntN.{ℤ, pos}
+use lib.Dec.{eqb, ltb}
+use lib.IntN.{ℤ}
 use lib.ListN.{length}
 use borrow.Author.Tests.{eqb-true, not-false, le-ltb, ltb-false}
 use Rattle.below.specs.rule.Below.{anyBelow}
-use Rattle.cells.specs.rule.Cell.{cell, numberOf, eqZ}
-use Rattle.scan.specs.rule.Number.{capped}
-use Rattle.scan.specs.rule.Order.{valueOf}
-use Rattle.tokens.specs.declared.Value.{Value}
+use Rattle.cells.specs.rule.Cell.{eqZ}
+use Rattle.scan.specs.Number.{capped}
+use Rattle.scan.specs.Order.{valueOf}
 use Rattle.tokens.specs.declared.Quoted.{Quoted}
 use Rattle.values.specs.declared.Block as books
 use Rattle.values.specs.declared.Said.{Said}
-use Rattle.values.specs.rule.Value.{formOf, largeOf, trueOf, scaledOf, pointOf}
-use Rattle.values.specs.rule.Line as lines
+use Rattle.values.specs.Value.{formOf, largeOf, trueOf, scaledOf, pointOf}
+use Rattle.values.specs.Line as lines
 use Rattle.values.specs.Order.{trues, trueAt}
 use Rattle.values.proofs.Facts.{or-none, or-neither}
 use Rattle.survey.specs.rule.Survey.{Amount, Text, Line, Block}
-use Rattle.survey.specs.rule.Width.{flag, someOf, ends, amounts, scaled, decimalsIn, pointIn}
+use Rattle.survey.specs.rule.Width.{flag, someOf, rangeEnds, amounts, scaled, decimalsIn, pointIn}
 use Rattle.survey.specs.rule.Table.{ranged, fromOf, toOf, lineCells, cellsOf}
 use Rattle.reading.specs.rule.Values.{formIs, large, unlike, withLine}
 use Rattle.bridge.specs.Facts.{capped-limit}
@@ -44,7 +42,8 @@ true-same d a x y m e = rw e
 -- a value that is not too large is below the cap
 pub small : (quantity : Bool) (a : Amount) → large quantity a ≡ false → capped (a .size) ≡ a .size
 unfolding large
-small true a e = let h = ltb-false 999999999999999 (a .size) (or-none (ltb 999999999999999 (a .size)) (ltb 9 (a .decimals)) e) in rw (le-ltb 1000000000000000 (a .size) (omega arith))
+small true a e = let h = ltb-false 999999999999999 (a .size) (or-none (ltb 999999999999999 (a .size)) (ltb 9 (a .decimals)) e) in rw
+    (le-ltb 1000000000000000 (a .size) (omega arith))
 small false a e = let h = ltb-false 9999 (a .size) e in rw (le-ltb 1000000000000000 (a .size) (omega arith))
 
 -- ---- lines
@@ -58,7 +57,8 @@ abbrev pub lineOf : Amount → Text → Bool → Line
 lineOf a t s = record { value = a; text = t; special = s }
 
 pub data Same (d : List ℕ) : Said → Line → Type 0 where
-  same : {a : Amount} {t : Text} {s : Bool} {x y m k n : ℕ} → valueOf d x y ≡ a .size → capped (a .size) ≡ a .size → Same d (saidAs a x y m t k s n) (lineOf a t s)
+  same : {a : Amount} {t : Text} {s : Bool} {x y m k n : ℕ} → valueOf d x y ≡ a .size → capped (a .size) ≡ a .size
+      → Same d (saidAs a x y m t k s n) (lineOf a t s)
 
 pub data SameLines (d : List ℕ) : List Said → List Line → Type 0 where
   nothing : SameLines d [] []
@@ -76,7 +76,8 @@ any-first (suc n) f = rw (any-first n f) (by (f 0)) where
   by false = refl
 
 module _ {d : List ℕ} where
-  pub lines-more : {s : Said} {x : Line} {l : List Said} {m : List Line} → SameLines d l m → Same d s x → SameLines d (l ++ s ∷ []) (m ++ x ∷ [])
+  pub lines-more : {s : Said} {x : Line} {l : List Said} {m : List Line} → SameLines d l m → Same d s x
+      → SameLines d (l ++ s ∷ []) (m ++ x ∷ [])
   lines-more nothing h = more h nothing
   lines-more (more g r) h = more g (lines-more r h)
 
@@ -90,13 +91,15 @@ module _ {d : List ℕ} where
   lines-cells (more (same e c) r) = rw (c, lines-cells r)
 
   -- an earlier line says the number z
-  repeats : {l : List Said} {m : List Line} → SameLines d l m → (z : ℤ) → anyBelow (length l) (λ i. eqZ (trueAt d l i) z) ≡ someOf (λ x. eqZ (scaled (x .value)) z) m
+  repeats : {l : List Said} {m : List Line} → SameLines d l m → (z : ℤ)
+      → anyBelow (length l) (λ i. eqZ (trueAt d l i) z) ≡ someOf (λ x. eqZ (scaled (x .value)) z) m
   unfolding trueAt trues someOf anyBelow
   repeats nothing z = refl
   repeats (more {l = l} (same {a = a} {t = t} {s = s} {x = x} {y = y} {m = m} {k = k} {n = n} e c) r) z =
       any-first (length l) (λ i. eqZ (trueAt d (saidAs a x y m t k s n ∷ l) i) z) ∙ rw (true-same d a x y m e) (rw (repeats r z))
 
-  pub repeated : {l : List Said} {m : List Line} → SameLines d l m → (z : ℤ) → lines.repeatedIn (trueAt d l) (length l) z ≡ someOf (λ x. eqZ (scaled (x .value)) z) m
+  pub repeated : {l : List Said} {m : List Line} → SameLines d l m → (z : ℤ)
+      → lines.repeatedIn (trueAt d l) (length l) z ≡ someOf (λ x. eqZ (scaled (x .value)) z) m
   unfolding lines.repeatedIn
   repeated h z = repeats h z
 
@@ -148,16 +151,18 @@ map-more (y ∷ l) x = rw (map-more l x)
 
 amounts-more : (c : Block) (x : Line) → amounts (withLine c x) ≡ amounts c ++ x .value ∷ []
 unfolding amounts
-amounts-more c x = rw (map-more (c .lines) x) (sym (append-assoc (ends (c .range)) (map (λ l. l .value) (c .lines)) (x .value ∷ [])))
+amounts-more c x = rw (map-more (c .lines) x) (sym (append-assoc (rangeEnds (c .range)) (map (λ l. l .value) (c .lines)) (x .value ∷ [])))
 
-pub kept-more : {b : books.Block} {c : Block} (a : Amount) (t : Text) (s : Bool) (x y m : ℕ) → Kept b c → someOf (unlike a) (amounts c) ≡ false
+pub kept-more : {b : books.Block} {c : Block} (a : Amount) (t : Text) (s : Bool) (x y m : ℕ) → Kept b c
+    → someOf (unlike a) (amounts c) ≡ false
     → Kept (lines.grownBy b (written a x y m)) (withLine c (lineOf a t s))
 unfolding lines.grownBy
 kept-more {b} {c} a t s x y m k e =
     let more = amounts-more c (lineOf a t s) in
     record {
       decimals = decimals-more (amounts c) a e ∙ sym (ap decimalsIn more);
-      point = rw (k .point, more, some-more (λ (a : Amount). a .point) (amounts c) a) (by (someOf (λ (a : Amount). a .point) (amounts c)) (a .point));
+      point = rw (k .point, more, some-more (λ (a : Amount). a .point) (amounts c) a)
+          (by (someOf (λ (a : Amount). a .point) (amounts c)) (a .point));
       unlike-some = λ z. unlike-more (amounts c) a z e ∙ sym (ap (someOf (unlike z)) more);
       ranged = k .ranged;
       from = k .from;

@@ -1,5 +1,5 @@
 -- Places rise from token to token; a number's size is its true value, held at 10 ^ 15, and limits below that see the true value.
-use mathlib.Core.Path.{_≡_, refl, _∙_, sym, ap}
+use mathlib.Core.Path.{_≡_, refl, _∙_, sym}
 use mathlib.Core.Bool.{Bool, true, false, cond}
 use mathlib.Core.List.{List, [], _∷_}
 use Prim.Native.Nat.{ℕ, zero, suc, _+_, _*_, _-_, _≤_, _<_, _%_}
@@ -7,11 +7,12 @@ use native.Mathlib.Nat.{mod-eq-of-lt}
 use native.Mathlib.Omega.{arith}
 use lib.Dec.{eqb, ltb}
 use lib.ListN.{length}
-use borrow.Author.Tests.{eqb-true, ne-eqb, lt-ltb, ltb-true}
+use borrow.Author.Tests.{ne-eqb, lt-ltb, ltb-true}
 use Rattle.scan.specs.rule.Text.{Text, stop, sign, text, placeOf}
 use Rattle.scan.specs.rule.Loop.{Next, Again, Done}
-use Rattle.scan.specs.rule.Number.{isDigit, isSpace, runOf, bytesOf, decimalOf, capped}
-use Rattle.scan.specs.rule.Order.{valueOf}
+use Rattle.scan.specs.rule.Number.{isDigit, isSpace, runOf, bytesOf, decimalOf}
+use Rattle.scan.specs.Number.{capped}
+use Rattle.scan.specs.Order.{valueOf}
 use Rattle.scan.specs.rule.Word.{wordAt}
 use Rattle.scan.specs.declared.Word.{Word}
 use Rattle.scan.specs.declared.Word.the-variants as spelled
@@ -25,8 +26,9 @@ use Rattle.tokens.specs.declared.Reading.{Reading}
 use Rattle.tokens.specs.declared.Reading.the-variants.{At, Refused}
 use Rattle.tokens.specs.declared.Choice.{Choice}
 use Rattle.tokens.specs.declared.Choice.the-variants.{Taken, Left}
-use Rattle.tokens.specs.rule.Gap.{fault, gapSkip, gapStep, gapAt, left}
-use Rattle.tokens.specs.rule.Token.{ofChoice, choiceOf}
+use Rattle.tokens.specs.rule.Gap.{fault, gapSkip, gapStep, gapAt}
+use Rattle.tokens.specs.Gap.{left}
+use Rattle.tokens.specs.Token.{ofChoice, choiceOf}
 use Rattle.tokens.proofs.Gaps.{gap-less, gap-again, gap-done}
 use Rattle.tokens.proofs.Aheads.{taken-less}
 use Rattle.survey.specs.rule.Survey.{Figure}
@@ -75,7 +77,8 @@ unfolding bytesOf decimalOf tens
 below (stop o) j v p h l = let g = tens-grow j p in omega arith
 below (sign o b u) j v p h l = by (isDigit b) refl j (λ j. below u j (v * 10 + (b - 48)) (p * 10)) l where
   by : (q : Bool) → isDigit b ≡ q → (j : ℕ)
-      → ((j : ℕ) → v * 10 + (b - 48) < p * 10 → length (bytesOf isDigit u) ≤ j → decimalOf (v * 10 + (b - 48)) (bytesOf isDigit u) < tens (p * 10) j)
+      → ((j : ℕ) → v * 10 + (b - 48) < p * 10 → length (bytesOf isDigit u) ≤ j
+      → decimalOf (v * 10 + (b - 48)) (bytesOf isDigit u) < tens (p * 10) j)
       → length (cond q (b ∷ bytesOf isDigit u) []) ≤ j → decimalOf v (cond q (b ∷ bytesOf isDigit u) []) < tens p j
   by true e zero ih l = absurd (omega arith)
   by true e (suc j) ih l = let g = digit-bounds b e in ih j (omega (arith, g .1)) (omega arith)
@@ -151,7 +154,8 @@ module _ (d : List ℕ) where
     by (Refused f) e = untold
 
   -- ---- a word that may stand behind a gap, in the code's books and in the rule
-  pub choose : {A B R : Type 0} (T : R → Result B → Type 0) (m : ℕ) (w : List ℕ) (P Q : Reader A) (old : Reading → Choice → R) (K : A → Reader B)
+  pub choose : {A B R : Type 0} (T : R → Result B → Type 0) (m : ℕ) (w : List ℕ) (P Q : Reader A) (old : Reading → Choice → R)
+      (K : A → Reader B)
       → ((f : Fault) → gapAt d m ≡ Refused f → T (old (Refused f) Left) (Not f))
       → ((k j : ℕ) → gapAt d m ≡ At k → wordAt d k w ≡ spelled.Matched j → T (old (At k) (Taken j)) (bind (P j) K))
       → ((k : ℕ) → gapAt d m ≡ At k → wordAt d k w ≡ spelled.Not → T (old (At k) Left) (bind (Q k) K))

@@ -1,8 +1,8 @@
 -- A gap behind a gap is empty: a token is found from where its gap starts and from where it ends alike.
-use mathlib.Core.Path.{_≡_, refl, _∙_, sym, ap}
+use mathlib.Core.Path.{_≡_, refl, _∙_, sym}
 use mathlib.Core.Bool.{Bool, true, false, cond}
 use mathlib.Core.List.{List, [], _∷_}
-use Prim.Native.Nat.{ℕ, zero, suc, _+_, _-_, _≤_, _<_}
+use Prim.Native.Nat.{ℕ, zero, suc, _+_, _-_, _<_}
 use native.Mathlib.Numerals.{add-one}
 use native.Mathlib.Omega.{arith}
 use lib.Dec.{eqb}
@@ -17,11 +17,10 @@ use Rattle.marks.specs.declared.Skip.{Skip}
 use Rattle.marks.specs.declared.Skip.the-variants.{Past, Unclosed, Bad}
 use Rattle.marks.specs.rule.Marks.{commentOf}
 use Rattle.tokens.specs.declared.Reading.{Reading}
-use Rattle.tokens.specs.declared.Reading.the-variants.{At, Refused}
+use Rattle.tokens.specs.declared.Reading.the-variants.{At}
 use Rattle.tokens.specs.rule.Gap.{gapSkip, gapStep, gapAt}
 use Rattle.tokens.proofs.Gaps.{gap-less, gap-again, gap-done}
-use Rattle.reading.specs.rule.Result.{bind}
-use Rattle.reading.specs.rule.Token.{passed, gap, string}
+use Rattle.reading.specs.rule.Token.{string}
 use Rattle.bridge.specs.Lowest.{never}
 
 tail-of : (d : List ℕ) (at x : ℕ) (s : List ℕ) → drop at d ≡ x ∷ s → drop (at + 1) d ≡ s
@@ -57,7 +56,8 @@ module _ (d : List ℕ) where
   twice : (f n : ℕ) → length d - n < f → {m : ℕ} → gapAt d n ≡ At m → gapAt d m ≡ At m
   twice zero n h e = absurd (omega arith)
   twice (suc f) n h {m} e = by (gapStep (text d n)) refl (λ k l. twice f k l) where
-    by : (s : Next ℕ Reading) → gapStep (text d n) ≡ s → ((k : ℕ) → length d - k < f → gapAt d k ≡ At m → gapAt d m ≡ At m) → gapAt d m ≡ At m
+    by : (s : Next ℕ Reading) → gapStep (text d n) ≡ s → ((k : ℕ) → length d - k < f → gapAt d k ≡ At m → gapAt d m ≡ At m)
+        → gapAt d m ≡ At m
     by (Again k) i ih = let l = gap-less d (from-text d n) i in ih k (omega arith) (sym (gap-again d n i) ∙ e)
     by (Done r) i ih =
         let q : gapStep (text d n) ≡ Done (At m) = rw (sym (gap-done d n i) ∙ e) at i in

@@ -16,3 +16,4 @@ pub mod Entries
 pub mod Openings
 pub mod Headings
 pub mod Fronts
+pub mod Turns

@@ -1,11 +1,11 @@
 -- "4 to 8 by lowest number, equal numbers by earlier place": a chain of tests whose charges rise answers the least of those that are named.
-use mathlib.Core.Path.{_≡_, refl, _∙_, sym, ap}
+use mathlib.Core.Path.{_≡_, refl, sym}
 use mathlib.Core.Bool.{Bool, true, false, cond}
 use mathlib.Core.List.{List, [], _∷_}
-use Prim.Native.Nat.{ℕ, _+_, _≤_, _<_}
+use Prim.Native.Nat.{ℕ, _≤_}
 use native.Mathlib.Omega.{arith}
 use lib.Dec.{eqb, ltb, leb}
-use borrow.Author.Tests.{eq-eqb, eqb-true, eqb-false, ltb-true, ltb-false, le-leb, leb-true}
+use borrow.Author.Tests.{eq-eqb, eqb-true, eqb-false, ltb-true, ltb-false, le-leb, leb-true, leb-false}
 use Rattle.tokens.specs.declared.Fault.{Fault}
 use Rattle.reading.specs.rule.Result.{Result, Is, Not}
 use Rattle.reading.specs.rule.Least.{Charge, _when_, named, before, Finding, clean, first, lower, least, found, judged}
@@ -31,7 +31,8 @@ pub record Sooner (f g : Fault) : Type 0 where
 sooner : (f g : Fault) → before f g ≡ true → Sooner f g
 unfolding before
 sooner f g = by (ltb (f .number) (g .number)) (eqb (f .number) (g .number)) (leb (f .place) (g .place)) refl refl refl where
-  by : (x y z : Bool) → ltb (f .number) (g .number) ≡ x → eqb (f .number) (g .number) ≡ y → leb (f .place) (g .place) ≡ z → cond x true (cond y z false) ≡ true → Sooner f g
+  by : (x y z : Bool) → ltb (f .number) (g .number) ≡ x → eqb (f .number) (g .number) ≡ y → leb (f .place) (g .place) ≡ z
+      → cond x true (cond y z false) ≡ true → Sooner f g
   by true y z i j k e = let h = ltb-true (f .number) (g .number) i in record { number = omega arith; place = λ e. absurd (omega arith) }
   by false true true i j k e =
       let h = eqb-true (f .number) (g .number) j in
@@ -43,7 +44,8 @@ sooner f g = by (ltb (f .number) (g .number)) (eqb (f .number) (g .number)) (leb
 sooner-before : {f g : Fault} → Sooner f g → before f g ≡ true
 unfolding before
 sooner-before {f} {g} s = by (ltb (f .number) (g .number)) refl where
-  by : (x : Bool) → ltb (f .number) (g .number) ≡ x → cond x true (cond (eqb (f .number) (g .number)) (leb (f .place) (g .place)) false) ≡ true
+  by : (x : Bool) → ltb (f .number) (g .number) ≡ x
+      → cond x true (cond (eqb (f .number) (g .number)) (leb (f .place) (g .place)) false) ≡ true
   by true i = refl
   by false i =
       let h = ltb-false (f .number) (g .number) i in
@@ -55,7 +57,11 @@ sooner-trans : {f g h : Fault} → Sooner f g → Sooner g h → Sooner f h
 sooner-trans {f} {g} {h} a b =
     let m = a .number in
     let n = b .number in
-    record { number = omega arith; place = λ e. let i : f .number ≡ g .number = omega arith in let j : g .number ≡ h .number = omega arith in omega (arith, a .place i, b .place j) }
+    record {
+      number = omega arith;
+      place = λ e. let i : f .number ≡ g .number = omega arith in let j : g .number ≡ h .number =
+          omega arith in omega (arith, a .place i, b .place j);
+    }
 
 -- f stands before what was found
 pub data Leads (f : Fault) : Finding → Type 0 where
@@ -87,7 +93,8 @@ rising-leads f q (g when r ∷ l) e = by (before f g) refl e (λ k. rising-leads
   on true s i = rw (lower-first i) (leads s)
   on false s i = leads-on s i
 
-  by : (x : Bool) → before f g ≡ x → cond x (rising (g when r ∷ l)) false ≡ true → (rising (g when r ∷ l) ≡ true → Leads g (least (named l))) → Leads f (least (cond r (g ∷ named l) (named l)))
+  by : (x : Bool) → before f g ≡ x → cond x (rising (g when r ∷ l)) false ≡ true
+      → (rising (g when r ∷ l) ≡ true → Leads g (least (named l))) → Leads f (least (cond r (g ∷ named l) (named l)))
   by true b e ih = on r (sooner f g b) (ih e)
   by false b e ih = never cc
 
@@ -133,3 +140,59 @@ judged-view l a n = by (least (named l)) refl where
   by : (x : Finding) → least (named l) ≡ x → Judged l a n (found a n x)
   by clean e = fine (clears l e)
   by (first f) e = faulty
+
+-- ---- THE LEAST: it is one of the faults, and none of them goes before it
+pub data In (f : Fault) : List Fault → Type 0 where
+  here : {l : List Fault} → In f (f ∷ l)
+  there : {g : Fault} {l : List Fault} → In f l → In f (g ∷ l)
+
+turned : (f g : Fault) → before f g ≡ false → Sooner g f
+unfolding before
+turned f g = by (ltb (f .number) (g .number)) (eqb (f .number) (g .number)) (leb (f .place) (g .place)) refl refl refl where
+  by : (x y z : Bool) → ltb (f .number) (g .number) ≡ x → eqb (f .number) (g .number) ≡ y → leb (f .place) (g .place) ≡ z
+      → cond x true (cond y z false) ≡ false → Sooner g f
+  by true y z i j k e = never cc
+  by false true true i j k e = never cc
+  by false true false i j k e =
+      let h = eqb-true (f .number) (g .number) j in
+      let l = leb-false (f .place) (g .place) k in
+      record { number = omega arith; place = λ e. omega arith }
+  by false false z i j k e =
+      let h = ltb-false (f .number) (g .number) i in
+      let l = eqb-false (f .number) (g .number) j in
+      record { number = h; place = λ e. absurd (l (sym e)) }
+
+pub data Lowest (l : List Fault) : Finding → Type 0 where
+  nothing : l ≡ [] → Lowest l clean
+  lowest : {f : Fault} → In f l → ((g : Fault) → In g l → Sooner f g) → Lowest l (first f)
+
+pub least-lowest : (l : List Fault) → Lowest l (least l)
+unfolding least lower
+least-lowest [] = nothing refl
+least-lowest (f ∷ l) = by (least-lowest l) where
+  self : (f : Fault) → Sooner f f
+  self f = record { number = omega arith; place = λ e. omega arith }
+
+  only : l ≡ [] → (g : Fault) → In g (f ∷ l) → Sooner f g
+  only e g i = on e i where
+    on : {m : List Fault} {g : Fault} → m ≡ [] → In g (f ∷ m) → Sooner f g
+    on e here = self f
+    on e (there i) = empty e i where
+      empty : {m : List Fault} {g : Fault} → m ≡ [] → In g m → Sooner f g
+      empty e here = never cc
+      empty e (there i) = never cc
+
+  choose : (g : Fault) (q : Bool) → before f g ≡ q → In g l → ((h : Fault) → In h l → Sooner g h)
+      → Lowest (f ∷ l) (cond q (first f) (first g))
+  choose g true b i s = lowest here (λ h j. on j) where
+    on : {h : Fault} → In h (f ∷ l) → Sooner f h
+    on here = self f
+    on {h} (there j) = sooner-trans (sooner f g b) (s h j)
+  choose g false b i s = lowest (there i) (λ h j. on j) where
+    on : {h : Fault} → In h (f ∷ l) → Sooner g h
+    on here = turned f g b
+    on {h} (there j) = s h j
+
+  by : {x : Finding} → Lowest l x → Lowest (f ∷ l) (lower f x)
+  by (nothing e) = lowest here (only e)
+  by (lowest {f = g} i s) = choose g (before f g) refl i s

@@ -1,31 +1,30 @@
 -- Notes and what stands behind them: the turns that both have are enough, since each note leaves less to read.
-use mathlib.Core.Path.{_≡_, refl, _∙_, sym, ap}
-use mathlib.Core.List.{List, [], _∷_}
-use Prim.Native.Nat.{ℕ, zero, suc, _+_, _-_, _≤_, _<_}
+use mathlib.Core.Path.{_≡_, refl, _∙_}
+use mathlib.Core.List.{List}
+use Prim.Native.Nat.{ℕ, zero, suc, _-_, _<_}
 use native.Mathlib.Omega.{arith}
 use lib.ListN.{length}
-use Rattle.scan.specs.rule.Loop.{Next, Again, Done}
+use Rattle.scan.specs.rule.Loop.{Again, Done}
 use Rattle.scan.specs.rule.Word.{wordAt}
 use Rattle.scan.specs.declared.Word.{Word}
 use Rattle.scan.specs.declared.Word.the-variants as spelled
 use Rattle.tokens.specs.declared.Reading.{Reading}
 use Rattle.tokens.specs.declared.Reading.the-variants.{At, Refused}
-use Rattle.tokens.specs.declared.Choice.{Choice}
-use Rattle.tokens.specs.declared.Choice.the-variants.{Taken, Left}
-use Rattle.tokens.specs.rule.Gap.{gapAt, gapOn, left}
-use Rattle.tokens.specs.rule.Token.{ofChoice, choiceOf, stringOn, pastString}
+use Rattle.tokens.specs.rule.Gap.{gapAt}
+use Rattle.tokens.specs.Gap.{gapOn, left}
+use Rattle.tokens.specs.Token.{choiceOf}
 use Rattle.statements.specs.rule.Words.{NOTE}
-use Rattle.statements.specs.rule.Note.{pastNote, notesHere, notesOn, statementOn, textOn}
+use Rattle.statements.specs.Note.{pastNote, notesHere, notesOn, statementOn, textOn}
 use Rattle.statements.proofs.Notes.{note-left, notes-again, notes-done}
 use Rattle.reading.specs.rule.Result.{Result, Is, Not, bind, turn, repeat}
 use Rattle.survey.specs.rule.Survey.{Text}
 use Rattle.reading.specs.rule.Token.{passed, onWord, gap, string}
 use Rattle.reading.specs.rule.Statement.{note, notes, statement, phrase}
-use Rattle.bridge.specs.Tokens.{toReading, toPhrase, passed-on, past-string, gap-on, here-on, string-on}
+use Rattle.bridge.specs.Tokens.{toReading, toPhrase, past-string, gap-on, here-on, string-on}
 
 module _ (d : List ℕ) where
   -- a note behind its word, and the gap after it
-  past-on : (m : ℕ) → pastNote d m ≡ toReading (bind (string d m) λ t. gap d)
+  pub past-on : (m : ℕ) → pastNote d m ≡ toReading (bind (string d m) λ t. gap d)
   unfolding pastNote
   past-on m = rw (string-on d (Is m m), past-string (string d m)) (gap-on d (string d m))
 
@@ -50,7 +49,9 @@ module _ (d : List ℕ) where
     behind m (Not g) e l ih = rw e (notes-refused g)
 
     by : (x : Word) → wordAt d n NOTE ≡ x → ((k : ℕ) → length d - k < f → notesHere d (At k) ≡ toReading (repeat f (note d) tt k))
-        → notesHere d (At n) ≡ toReading (bind (onWord (λ m. bind (string d m) λ t k. bind (gap d k) λ a k. Is (Again tt) k) (λ k. Is (Done tt) k) n x) (turn (repeat f (note d))))
+        → notesHere d (At n) ≡ toReading
+        (bind (onWord (λ m. bind (string d m) λ t k. bind (gap d k) λ a k. Is (Again tt) k) (λ k. Is (Done tt) k) n x)
+        (turn (repeat f (note d))))
     by (spelled.Matched m) e ih =
         notes-again d (At n) refl (rw e) ∙ behind m (string d m) (past-on m) (note-left d (At n) refl (rw e)) ih
     by spelled.Not e ih = notes-done d (At n) refl (rw e)

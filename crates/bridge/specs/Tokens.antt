@@ -1,16 +1,16 @@
 -- Tokens: the code's books pass a refusal on from token to token, and so does `bind`.
-use mathlib.Core.Path.{_≡_, refl, _∙_, sym, ap}
+use mathlib.Core.Path.{_≡_, refl}
 use mathlib.Core.Bool.{Bool, true, false, cond}
-use mathlib.Core.List.{List, [], _∷_}
-use mathlib.Core.Option.{Option, none, some}
-use Prim.Native.Nat.{ℕ, _+_, _-_}
+use mathlib.Core.List.{List}
+use Prim.Native.Nat.{ℕ, _+_}
 use native.Mathlib.Nat.{zero-add}
 use lib.Dec.{eqb}
 use lib.ListN.{length}
 use Rattle.ascii.specs.rule.Class.{classOf}
-use Rattle.scan.specs.rule.Text.{text, stop, sign, placeOf}
+use Rattle.scan.specs.rule.Text.{text, stop, sign}
 use Rattle.scan.specs.rule.Text as scan
-use Rattle.scan.specs.rule.Number.{isDigit, isSpace, runOf, bytesOf, decimalOf, capped, digitsFrom}
+use Rattle.scan.specs.rule.Number.{isDigit, runOf, bytesOf, decimalOf}
+use Rattle.scan.specs.Number.{capped, digitsFrom}
 use Rattle.scan.specs.rule.Word.{wordAt}
 use Rattle.scan.specs.declared.Word.{Word}
 use Rattle.scan.specs.declared.Word.the-variants as spelled
@@ -24,8 +24,10 @@ use Rattle.tokens.specs.declared.Number.{Number}
 use Rattle.tokens.specs.declared.Number.the-variants as numbered
 use Rattle.tokens.specs.declared.Phrase.{Phrase}
 use Rattle.tokens.specs.declared.Phrase.the-variants as phrased
-use Rattle.tokens.specs.rule.Gap.{fault, then, gapAt, gapOn, spacesOn}
-use Rattle.tokens.specs.rule.Token.{ofWord, wordHere, wordOn, ofDigits, numberHere, numberOn, pastNumber, ofSkip, stringIn, phraseOn, stringOn, pastString, letterIn, letterOn}
+use Rattle.tokens.specs.rule.Gap.{fault, gapAt}
+use Rattle.tokens.specs.Gap.{then, gapOn, spacesOn}
+use Rattle.tokens.specs.Token.{ofWord, wordHere, wordOn, ofDigits, numberHere, numberOn, pastNumber, ofSkip, stringIn, phraseOn, stringOn}
+use Rattle.tokens.specs.Token.{pastString, letterIn, letterOn}
 use Rattle.survey.specs.rule.Survey.{Figure, Text}
 use Rattle.reading.specs.rule.Result.{Result, Is, Not, bind}
 use Rattle.reading.specs.rule.Token.{closed, quoted, passed, onWord, gap, here, word, figure, number, string, letter}
@@ -94,7 +96,9 @@ module _ (d : List ℕ) where
       let s = bytesOf isDigit (text d n) in
       rw (zero-add (length s)) (by (eqb (length s) 0) s (runOf isDigit n (text d n)))
     where
-      by : (q : Bool) (s : List ℕ) (end : ℕ) → cond q (numbered.Not (fault 2 n)) (numbered.Is (record { size = capped (decimalOf 0 s); count = length s; place = n; next = end }))
+      by : (q : Bool) (s : List ℕ) (end : ℕ)
+          → cond q (numbered.Not (fault 2 n))
+          (numbered.Is (record { size = capped (decimalOf 0 s); count = length s; place = n; next = end }))
           ≡ toNumber (cond q (Not (fault 2 n)) (Is (record { place = n; end = end; digits = length s; value = decimalOf 0 s }) end))
       by true s end = refl
       by false s end = refl

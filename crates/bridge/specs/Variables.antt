@@ -1,45 +1,39 @@
 -- VARIABLE id and TYPE; and what stands behind the position, by type.
-use mathlib.Core.Path.{_≡_, refl, _∙_, sym, ap}
-use mathlib.Core.Bool.{Bool, true, false, cond, not, _||_}
-use mathlib.Core.List.{List, [], _∷_, _++_}
-use mathlib.Core.Option.{Option, none, some, Option·getD}
-use Prim.Native.Nat.{ℕ, zero, suc, _+_, _-_, _≤_, _<_}
+use mathlib.Core.Path.{_≡_, refl, _∙_}
+use mathlib.Core.Bool.{Bool, true, false, cond, _||_}
+use mathlib.Core.List.{List}
+use Prim.Native.Nat.{ℕ, _<_}
 use native.Mathlib.Omega.{arith}
 use lib.Dec.{eqb, ltb, leb}
 use lib.ListN.{length}
 use borrow.Author.Tests.{le-leb, lt-ltb, le-ltb, ltb-false}
-use Rattle.layout.specs.rule.Layout.{mostRows}
-use Rattle.scan.specs.rule.Number.{capped}
+use Rattle.scan.specs.Number.{capped}
 use Rattle.scan.specs.rule.Word.{wordAt}
 use Rattle.scan.specs.declared.Word.{Word}
 use Rattle.scan.specs.declared.Word.the-variants as spelled
 use Rattle.tokens.specs.declared.Fault.{Fault}
 use Rattle.tokens.specs.declared.Reading.{Reading}
 use Rattle.tokens.specs.declared.Reading.the-variants.{At, Refused}
-use Rattle.tokens.specs.declared.Choice.{Choice}
-use Rattle.tokens.specs.declared.Choice.the-variants.{Taken, Left}
-use Rattle.tokens.specs.declared.Number.{Number}
 use Rattle.tokens.specs.declared.Number.the-variants as numbered
-use Rattle.tokens.specs.rule.Gap.{fault, gapAt, gapOn}
-use Rattle.tokens.specs.rule.Token.{ofWord, wordHere, ofChoice, choiceOf, numberOn}
-use Rattle.statements.specs.rule.Words.{VARIABLE, TYPE, SINGLE, MULTIPLE, QUANTITY, CHARACTER, LOGICAL, SPREAD}
-use Rattle.statements.specs.rule.Note.{statementOn}
-use Rattle.statements.specs.rule.Kinds.{or, last, typeHere, typeOn}
+use Rattle.tokens.specs.rule.Gap.{fault, gapAt}
+use Rattle.tokens.specs.Gap.{gapOn}
+use Rattle.tokens.specs.Token.{ofWord, wordHere, ofChoice, choiceOf, numberOn}
+use Rattle.statements.specs.rule.Words.{VARIABLE, TYPE, SINGLE, MULTIPLE, QUANTITY, CHARACTER, LOGICAL}
+use Rattle.statements.specs.Kinds.{or, last, typeHere, typeOn}
 use Rattle.statements.specs.declared.Typed.{Typed}
 use Rattle.statements.specs.declared.Typed.the-variants as typed
-use Rattle.variables.specs.rule.Ident.{wrongIdent, judgeIdent, identOn}
+use Rattle.variables.specs.Ident.{wrongIdent, judgeIdent, identOn}
 use Rattle.survey.specs.rule.Survey.{Figure, Variable}
 use Rattle.survey.specs.rule.Width.{someOf}
 use Rattle.reading.specs.rule.Result.{Result, Is, Not, Reader, bind, give, due}
-use Rattle.reading.specs.rule.Least.{_when_, before, judged}
+use Rattle.reading.specs.rule.Least.{before, judged}
 use Rattle.reading.specs.rule.Token.{passed, onWord, gap, either, number}
 use Rattle.reading.specs.rule.Statement.{statement}
 use Rattle.reading.specs.rule.Variable.{identCharges, Sort, Single, Multiple, Quantity, Character, Logical, ident, type}
-use Rattle.bridge.specs.Lowest.{chain, rising, chain-least, Clear, clear, Judged, fine, faulty, judged-view}
-use Rattle.bridge.specs.Facts.{Known, Told, told, untold, number-told}
-use Rattle.bridge.specs.Tokens.{toReading, toNumber, gap-on, number-on}
+use Rattle.bridge.specs.Lowest.{chain, rising, chain-least, clear, Judged, fine, faulty, judged-view}
+use Rattle.bridge.specs.Facts.{Told, told, untold, number-told}
+use Rattle.bridge.specs.Tokens.{toReading, toNumber, number-on}
 use Rattle.bridge.specs.Notes.{statement-on}
-use Rattle.bridge.specs.Statements.{figures}
 
 -- ---- TYPE
 abbrev pub kindOf : Sort → ℕ
@@ -56,9 +50,12 @@ toTyped (Not f) = typed.Not f
 module _ (d : List ℕ) where
   -- the five words, right here
   abbrev five : Reader Sort
-  five = either d SINGLE (give Single) (either d MULTIPLE (give Multiple) (either d QUANTITY (give Quantity) (either d CHARACTER (give Character) (either d LOGICAL (give Logical) due))))
+  five = either d SINGLE (give Single)
+      (either d MULTIPLE (give Multiple)
+      (either d QUANTITY (give Quantity) (either d CHARACTER (give Character) (either d LOGICAL (give Logical) due))))
 
-  or-word : (n : ℕ) (x : Word) (s : Sort) (z : Typed) (q : Reader Sort) → z ≡ toTyped (q n) → or (ofChoice x) (kindOf s) z ≡ toTyped (onWord (λ m. Is s m) q n x)
+  or-word : (n : ℕ) (x : Word) (s : Sort) (z : Typed) (q : Reader Sort) → z ≡ toTyped (q n)
+      → or (ofChoice x) (kindOf s) z ≡ toTyped (onWord (λ m. Is s m) q n x)
   or-word n (spelled.Matched m) s z q e = refl
   or-word n spelled.Not s z q e = e
 
@@ -69,8 +66,11 @@ module _ (d : List ℕ) where
   type-here : (n : ℕ) → typeHere d (At n) ≡ toTyped (five n)
   unfolding typeHere choiceOf wordHere
   type-here n =
-      or-word n (wordAt d n SINGLE) Single _ (either d MULTIPLE (give Multiple) (either d QUANTITY (give Quantity) (either d CHARACTER (give Character) (either d LOGICAL (give Logical) due))))
-      (or-word n (wordAt d n MULTIPLE) Multiple _ (either d QUANTITY (give Quantity) (either d CHARACTER (give Character) (either d LOGICAL (give Logical) due)))
+      or-word n (wordAt d n SINGLE) Single _
+      (either d MULTIPLE (give Multiple)
+      (either d QUANTITY (give Quantity) (either d CHARACTER (give Character) (either d LOGICAL (give Logical) due))))
+      (or-word n (wordAt d n MULTIPLE) Multiple _
+      (either d QUANTITY (give Quantity) (either d CHARACTER (give Character) (either d LOGICAL (give Logical) due)))
       (or-word n (wordAt d n QUANTITY) Quantity _ (either d CHARACTER (give Character) (either d LOGICAL (give Logical) due))
       (or-word n (wordAt d n CHARACTER) Character _ (either d LOGICAL (give Logical) due)
       (last-word n (wordAt d n LOGICAL)))))
@@ -101,24 +101,33 @@ module _ (d : List ℕ) where
     one-of false true a b = refl
     one-of false false a b = refl
 
-    ident-least : {k : ℕ} (r : Result Figure) → Told d k r → judgeIdent met (length earlier) (toNumber r) ≡ toNumber (bind r λ n. judged (identCharges earlier n) n)
+    ident-least : {k : ℕ} (r : Result Figure) → Told d k r
+        → judgeIdent met (length earlier) (toNumber r) ≡ toNumber (bind r λ n. judged (identCharges earlier n) n)
     unfolding judgeIdent wrongIdent chain identCharges rising before
-    ident-least (Is x m) (told k) = by (ltb 4 (x .digits)) refl ∙ chain-least toNumber x m (identCharges earlier x) (rw (le-leb (x .place) (x .place) (omega arith))) where
-      by : (q : Bool) → ltb 4 (x .digits) ≡ q → judgeIdent met (length earlier) (toNumber (Is x m)) ≡ chain numbered.Not (toNumber (Is x m)) (identCharges earlier x)
-      by true e = rw e (over (eqb (x .value) 0)) where
-        over : (z : Bool) → numbered.Not (fault 5 (x .place)) ≡ cond z (numbered.Not (fault 5 (x .place))) (numbered.Not (fault 5 (x .place)))
-        over true = refl
-        over false = refl
-      by false e =
-          let s = k .few (ltb-false 4 (x .digits) e) in
-          rw (e, small-value (x .value) s) (rw (lt-ltb (x .value) 10000 s, knows (x .value)) (one-of (eqb (x .value) 0) (someOf (λ v. eqb (v .ident .value) (x .value)) earlier) (numbered.Not (fault 5 (x .place)))
-          (cond (leb 512 (length earlier)) (numbered.Not (fault 8 (x .place))) (numbered.Is (record { size = x .value; count = x .digits; place = x .place; next = m })))))
+    ident-least (Is x m) (told k) =
+        by (ltb 4 (x .digits)) refl
+        ∙ chain-least toNumber x m (identCharges earlier x) (rw (le-leb (x .place) (x .place) (omega arith))) where
+          by : (q : Bool) → ltb 4 (x .digits) ≡ q
+              → judgeIdent met (length earlier) (toNumber (Is x m)) ≡ chain numbered.Not (toNumber (Is x m)) (identCharges earlier x)
+          by true e = rw e (over (eqb (x .value) 0)) where
+            over : (z : Bool) → numbered.Not (fault 5 (x .place))
+                ≡ cond z (numbered.Not (fault 5 (x .place))) (numbered.Not (fault 5 (x .place)))
+            over true = refl
+            over false = refl
+          by false e =
+              let s = k .few (ltb-false 4 (x .digits) e) in
+              rw (e, small-value (x .value) s)
+              (rw (lt-ltb (x .value) 10000 s, knows (x .value))
+              (one-of (eqb (x .value) 0) (someOf (λ v. eqb (v .ident .value) (x .value)) earlier) (numbered.Not (fault 5 (x .place)))
+              (cond (leb 512 (length earlier)) (numbered.Not (fault 8 (x .place)))
+              (numbered.Is (record { size = x .value; count = x .digits; place = x .place; next = m })))))
     ident-least (Not f) untold = refl
 
     pub ident-on : {A : Type 0} (r : Result A) → identOn d (toReading r) met (length earlier) ≡ toNumber (bind r λ a. ident d earlier)
     unfolding identOn ident
     ident-on (Is a n) = rw (statement-on d (Is a n) VARIABLE) (by (statement d VARIABLE n)) where
-      by : (s : Result Unit) → judgeIdent met (length earlier) (numberOn d (toReading s)) ≡ toNumber (bind s λ a n. bind (number d n) λ n. judged (identCharges earlier n) n)
+      by : (s : Result Unit) → judgeIdent met (length earlier) (numberOn d (toReading s)) ≡ toNumber
+          (bind s λ a n. bind (number d n) λ n. judged (identCharges earlier n) n)
       by (Is a k) = rw (number-on d (Is a k)) (ident-least (number d k) (number-told d k))
       by (Not f) = rw (number-on d {A = ℕ} (Not f)) (ident-least {k = 0} (Not f) untold)
     ident-on (Not f) = rw (statement-on d {A = ℕ} (Not f) VARIABLE) (rw (number-on d {A = ℕ} (Not f)) (ident-least {k = 0} (Not f) untold))
@@ -134,7 +143,8 @@ ident-small d earlier n = by (statement d VARIABLE n) where
   judge : {k : ℕ} (r : Result Figure) → Told d k r → Small (bind r λ n. judged (identCharges earlier n) n)
   judge (Is x m) (told k) = on (judged-view (identCharges earlier x) x m) where
     on : {q : Result Figure} → Judged (identCharges earlier x) x m q → Small q
-    on (fine (clear a (clear b c))) = let h = k .few (ltb-false 4 (x .digits) b) in small {x = x} {m = m} (rw (le-ltb 1000000000000000 (x .value) (omega arith)))
+    on (fine (clear a (clear b c))) = let h =
+        k .few (ltb-false 4 (x .digits) b) in small {x = x} {m = m} (rw (le-ltb 1000000000000000 (x .value) (omega arith)))
     on faulty = unread
   judge (Not f) untold = unread
 

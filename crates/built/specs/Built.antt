@@ -18,8 +18,8 @@ use Rattle.layout.specs.declared.Header.{Header}
 use Rattle.sound.specs.rule.Sound.{valueAt, columnsOf, linesAt, finishAt, linesBefore, highestFinish, goodAt, headCounts, headSums}
 use Rattle.sound.specs.rule.Sound.{rowsGood, wellFormed}
 use Rattle.values.proofs.Rooms.{length-pasted}
-use Rattle.measures.specs.rule.Width.{widthOf}
-use Rattle.measures.specs.rule.Survey.{Variable, linesAll, highestIn, headerFor, tableOf}
+use Rattle.measures.specs.Width.{widthOf}
+use Rattle.measures.specs.Survey.{Variable, linesAll, highestIn, headerFor, tableOf}
 use Rattle.measures.specs.Good.{Good}
 use Rattle.measures.proofs.Snoc.{table-length}
 use Rattle.built.specs.Nth.{Nth, nth, few-rows, few-lines, sum-all, highest-all}

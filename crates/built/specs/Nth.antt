@@ -12,7 +12,7 @@ use lib.ListN.{length}
 use Rattle.below.specs.rule.Below.{sumBelow, maxBelow}
 use Rattle.below.specs.Below.{sum-none, sum-more, max-none, max-more, holds-not}
 use Rattle.layout.specs.rule.Layout.{mostRows, mostLines}
-use Rattle.measures.specs.rule.Survey.{Variable, linesIn, linesAll, highestIn, identMet}
+use Rattle.measures.specs.Survey.{Variable, linesIn, linesAll, highestIn, identMet}
 use Rattle.measures.specs.Good.{GoodVariable, Good}
 use Rattle.measures.specs.Good.{none, more}
 use Rattle.measures.proofs.Snoc.{added, length-with, lines-with, highest-with}

@@ -1,14 +1,13 @@
 -- THE BRIDGE: the code's books of a definition as a whole say what rule/Definition says. The readers below are `bridge`'s; here stand the
 -- variables one after the other, the ENDs, the table and the outcome.
-use mathlib.Core.Path.{_≡_, refl, _∙_, sym, ap}
-use mathlib.Core.Bool.{Bool, true, false, cond, _||_}
-use mathlib.Core.List.{List, [], _∷_, _++_, map}
-use Prim.Native.Nat.{ℕ, zero, suc, _+_, _-_, _≤_, _<_, max}
+use mathlib.Core.Path.{_≡_, refl, sym}
+use mathlib.Core.Bool.{Bool, true, false, cond}
+use mathlib.Core.List.{List, [], _∷_, _++_}
+use Prim.Native.Nat.{ℕ, zero, suc, _+_, _-_, _<_}
 use native.Mathlib.Omega.{arith}
 use lib.Dec.{eqb, ltb}
 use lib.IntN.{ℤ}
 use lib.ListN.{length, length-append}
-use Rattle.scan.specs.rule.Text.{text, placeOf}
 use Rattle.scan.specs.rule.Loop.{Next, Again, Done, onNext, loopOf}
 use Rattle.scan.specs.rule.Word.{wordAt}
 use Rattle.scan.specs.declared.Word.{Word}
@@ -16,25 +15,20 @@ use Rattle.scan.specs.declared.Word.the-variants as spelled
 use Rattle.tokens.specs.declared.Fault.{Fault}
 use Rattle.tokens.specs.declared.Reading.{Reading}
 use Rattle.tokens.specs.declared.Reading.the-variants.{At, Refused}
-use Rattle.tokens.specs.declared.Choice.{Choice}
-use Rattle.tokens.specs.declared.Choice.the-variants.{Taken, Left}
 use Rattle.tokens.specs.rule.Gap.{fault}
-use Rattle.tokens.specs.rule.Token.{ofChoice, choiceOf, wordOn}
+use Rattle.tokens.specs.Token.{ofChoice, choiceOf, wordOn}
 use Rattle.statements.specs.rule.Words.{END, RECORD, SURVEY, SSS}
-use Rattle.statements.specs.rule.Note.{notesOn, statementOn}
+use Rattle.statements.specs.Note.{notesOn, statementOn}
 use Rattle.heading.specs.declared.Front.{Front}
-use Rattle.heading.specs.rule.Heading.{frontOn}
 use Rattle.names.specs.rule.Standard.{nameFault}
-use Rattle.layout.specs.rule.Layout.{mark, headerSize, linesBase}
-use Rattle.rows.specs.rule.Cells.{rowCells, headerCells}
-use Rattle.measures.specs.rule.Survey as kept
-use Rattle.entries.specs.rule.Entry.{Entry, entryOf}
-use Rattle.entries.specs.rule.Entry as entry
+use Rattle.measures.specs.Survey as kept
+use Rattle.entries.specs.Entry.{Entry, entryOf}
+use Rattle.entries.specs.Entry as entry
 use Rattle.entries.proofs.Goods.{entry-left}
 use Rattle.survey.specs.rule.Survey.{Variable, Heading, Survey}
-use Rattle.survey.specs.rule.Width.{someOf, finishIn}
-use Rattle.survey.specs.rule.Table.{columnsOf, linesOf, linesAll, highestIn, headerFor, rowsFrom, cellsOf, allLines, tableOf}
-use Rattle.reading.specs.rule.Result.{Result, Is, Not, Reader, bind, repeat}
+use Rattle.survey.specs.rule.Width.{someOf}
+use Rattle.survey.specs.rule.Table.{linesOf, linesAll, highestIn, headerFor, rowsFrom, allLines, tableOf}
+use Rattle.reading.specs.rule.Result.{Result, Is, Not, bind, repeat}
 use Rattle.reading.specs.rule.Result as reading
 use Rattle.reading.specs.rule.Token.{onWord, word, either}
 use Rattle.reading.specs.rule.Statement.{notes, statement}
@@ -42,21 +36,24 @@ use Rattle.reading.specs.rule.Variable.{variable}
 use Rattle.reading.specs.rule.Whole.{another, front, ends, survey, surveyOf}
 use Rattle.bridge.specs.Tokens.{toReading, word-on}
 use Rattle.bridge.specs.Notes.{notes-on, statement-on}
-use Rattle.bridge.specs.Blocks.{SameLines, lines-count, lines-cells}
+use Rattle.bridge.specs.Blocks.{lines-count, lines-cells}
 use Rattle.bridge.specs.Entries.{SameVariable, SameEntry, reads, stops, entry-on}
 use Rattle.bridge.specs.Fronts.{SameFront, fronts, stopped, front-on}
-use Rattle.definition.specs.Books.{Variables, Course, course, endOr, entered, variableStep, variablesFrom, endsOn, Read, Whole, Faulty, closed, judged}
+use Rattle.definition.specs.Books.{Variables, Course, course, endOr, entered, variableStep, variablesFrom, endsOn, Read, Whole}
+use Rattle.definition.specs.Books.{Faulty, closed, judged}
 use Rattle.definition.specs.Books as books
-use Rattle.definition.specs.rule.Definition.{Outcome, Built, Refusal, fitting, namesOf, quoteAt, named, settled, outcomeOf, answerOf, tableAfter}
-use Rattle.definition.specs.declared.Answer.{Answer}
+use Rattle.definition.specs.rule.Definition.{Outcome, Built, Refusal, fitting, namesOf, quoteAt, judgeNames, settled, outcomeOf}
+use Rattle.definition.specs.rule.Definition.{answerOf, tableAfter}
 
 -- ---- variables one after the other
 pub data Sames (d : List ℕ) : List kept.Variable → List Variable → Type 0 where
   none : Sames d [] []
-  more : {v : kept.Variable} {w : Variable} {l : List kept.Variable} {m : List Variable} → SameVariable d v w → Sames d l m → Sames d (v ∷ l) (w ∷ m)
+  more : {v : kept.Variable} {w : Variable} {l : List kept.Variable} {m : List Variable} → SameVariable d v w → Sames d l m
+      → Sames d (v ∷ l) (w ∷ m)
 
 module _ {d : List ℕ} where
-  sames-more : {v : kept.Variable} {w : Variable} {l : List kept.Variable} {m : List Variable} → Sames d l m → SameVariable d v w → Sames d (l ++ v ∷ []) (m ++ w ∷ [])
+  sames-more : {v : kept.Variable} {w : Variable} {l : List kept.Variable} {m : List Variable} → Sames d l m → SameVariable d v w
+      → Sames d (l ++ v ∷ []) (m ++ w ∷ [])
   sames-more none h = more h none
   sames-more (more g r) h = more g (sames-more r h)
 
@@ -69,7 +66,8 @@ module _ {d : List ℕ} where
   sames-lines none = refl
   sames-lines (more h r) = rw (lines-count (h .lines), sames-lines r)
 
-  sames-met : {l : List kept.Variable} {m : List Variable} → Sames d l m → (n : ℕ) → kept.identMet l n ≡ someOf (λ v. eqb (v .ident .value) n) m
+  sames-met : {l : List kept.Variable} {m : List Variable} → Sames d l m → (n : ℕ)
+      → kept.identMet l n ≡ someOf (λ v. eqb (v .ident .value) n) m
   unfolding kept.identMet someOf
   sames-met none n = refl
   sames-met (more h r) n = rw (h .ident, sames-met r n)
@@ -111,21 +109,25 @@ pub data SameVariables (d : List ℕ) : Variables → Result (List Variable) →
 
 module _ (d : List ℕ) where
   data Step (k : ℕ) : Next Course Variables → Result (Next (List Variable) (List Variable)) → Type 0 where
-    on : {l : List kept.Variable} {m : List Variable} {n : ℕ} → Sames d l m → k + 1 ≡ length l → k < 512 → Step k (Again (course (At n) l)) (Is (Again m) n)
+    on : {l : List kept.Variable} {m : List Variable} {n : ℕ} → Sames d l m → k + 1 ≡ length l → k < 512
+        → Step k (Again (course (At n) l)) (Is (Again m) n)
     over : {l : List kept.Variable} {m : List Variable} {n : ℕ} → Sames d l m → Step k (Done (books.Is l n)) (Is (Done m) n)
-    stuck : {l : List kept.Variable} {m : List Variable} {f : Fault} → Sames d l m → k + 1 ≡ length l → k < 512 → Step k (Again (course (Refused f) l)) (Not f)
+    stuck : {l : List kept.Variable} {m : List Variable} {f : Fault} → Sames d l m → k + 1 ≡ length l → k < 512
+        → Step k (Again (course (Refused f) l)) (Not f)
     halt : {f : Fault} → Step k (Done (books.Not f)) (Not f)
 
   -- behind a variable: another one, or END
   follows : (k : ℕ) (l : List kept.Variable) (m : List Variable) → Sames d l m → k + 1 ≡ length l → k < 512 → (n : ℕ)
-      → Step k (endOr l (notesOn d (At n)) (choiceOf d (notesOn d (At n)) END)) (bind (notes d n) λ a. either d END (λ e. Is (Done m) e) (λ i. Is (Again m) i))
+      → Step k (endOr l (notesOn d (At n)) (choiceOf d (notesOn d (At n)) END))
+      (bind (notes d n) λ a. either d END (λ e. Is (Done m) e) (λ i. Is (Again m) i))
   unfolding choiceOf
   follows k l m s count few n = rw (notes-on d (Is n n)) (by (notes d n)) where
     at : (i : ℕ) (w : Word) → Step k (endOr l (At i) (ofChoice w)) (onWord (λ e. Is (Done m) e) (λ i. Is (Again m) i) i w)
     at i (spelled.Matched e) = over s
     at i spelled.Not = on s count few
 
-    by : (r : Result Unit) → Step k (endOr l (toReading r) (choiceOf d (toReading r) END)) (bind r λ a. either d END (λ e. Is (Done m) e) (λ i. Is (Again m) i))
+    by : (r : Result Unit) → Step k (endOr l (toReading r) (choiceOf d (toReading r) END))
+        (bind r λ a. either d END (λ e. Is (Done m) e) (λ i. Is (Again m) i))
     by (Is a i) = at i (wordAt d i END)
     by (Not f) = stuck s count few
 
@@ -133,14 +135,17 @@ module _ (d : List ℕ) where
   abbrev entry-in : List kept.Variable → Reading → Entry
   entry-in l t = entryOf d t (kept.identMet l) (length l) (kept.linesAll l)
 
-  entry-same : {A : Type 0} (l : List kept.Variable) (m : List Variable) → Sames d l m → (r : Result A) → SameEntry d (entry-in l (toReading r)) (bind r λ a. variable d m)
+  entry-same : {A : Type 0} (l : List kept.Variable) (m : List Variable) → Sames d l m → (r : Result A)
+      → SameEntry d (entry-in l (toReading r)) (bind r λ a. variable d m)
   entry-same l m s r = rw (sames-count s, sames-lines s) (entry-on d (kept.identMet l) m (sames-met s) r)
 
-  variable-step : (l : List kept.Variable) (m : List Variable) → Sames d l m → (n : ℕ) → Step (length l) (variableStep d (course (At n) l)) (another d m n)
+  variable-step : (l : List kept.Variable) (m : List Variable) → Sames d l m → (n : ℕ)
+      → Step (length l) (variableStep d (course (At n) l)) (another d m n)
   unfolding variableStep another
   variable-step l m s n = by refl (entry-same l m s (Is n n)) where
     by : {e : Entry} {q : Result Variable} → entry-in l (At n) ≡ e → SameEntry d e q
-        → Step (length l) (entered d l e) (bind q λ v n. bind (notes d n) λ a. either d END (λ i. Is (Done (m ++ v ∷ [])) i) (λ i. Is (Again (m ++ v ∷ [])) i))
+        → Step (length l) (entered d l e)
+        (bind q λ v n. bind (notes d n) λ a. either d END (λ i. Is (Done (m ++ v ∷ [])) i) (λ i. Is (Again (m ++ v ∷ [])) i))
     by e (reads {v = v} {w = w} {n = i} h) =
         let few = entry-left d (At n) (kept.identMet l) (length l) (kept.linesAll l) v i e in
         follows (length l) (l ++ v ∷ []) (m ++ w ∷ []) (sames-more s h) (sym (length-append l (v ∷ []))) few i
@@ -152,7 +157,8 @@ module _ (d : List ℕ) where
   abbrev out : Variables
   out = books.Not (fault 0 0)
 
-  no-variable : (g : ℕ) (f : Fault) (l : List kept.Variable) (m : List Variable) → Sames d l m → 0 < g → loopOf (variableStep d) out g (course (Refused f) l) ≡ books.Not f
+  no-variable : (g : ℕ) (f : Fault) (l : List kept.Variable) (m : List Variable) → Sames d l m → 0 < g
+      → loopOf (variableStep d) out g (course (Refused f) l) ≡ books.Not f
   unfolding loopOf variableStep
   no-variable zero f l m s h = absurd (omega arith)
   no-variable (suc g) f l m s h = rw (refused-entry (entry-same {A = ℕ} l m s (Not f)))
@@ -177,11 +183,14 @@ module _ (d : List ℕ) where
   ends-on : (n : ℕ) → endsOn d n ≡ toReading (ends d n)
   unfolding endsOn ends
   ends-on n = rw (word-on d (Is n n) RECORD) (at-record (word d RECORD n)) where
-    at-end : (r : Result Unit) → wordOn d (statementOn d (toReading r) END) SSS ≡ toReading (bind r λ a n. bind (statement d END n) λ a. word d SSS)
+    at-end : (r : Result Unit) → wordOn d (statementOn d (toReading r) END) SSS ≡ toReading
+        (bind r λ a n. bind (statement d END n) λ a. word d SSS)
     at-end (Is a n) = rw (statement-on d (Is a n) END) (word-on d (statement d END n) SSS)
     at-end (Not f) = rw (statement-on d {A = ℕ} (Not f) END) (word-on d {A = ℕ} (Not f) SSS)
 
-    at-survey : (r : Result Unit) → wordOn d (statementOn d (wordOn d (toReading r) SURVEY) END) SSS ≡ toReading (bind r λ a n. bind (word d SURVEY n) λ a n. bind (statement d END n) λ a. word d SSS)
+    at-survey : (r : Result Unit)
+        → wordOn d (statementOn d (wordOn d (toReading r) SURVEY) END) SSS
+        ≡ toReading (bind r λ a n. bind (word d SURVEY n) λ a n. bind (statement d END n) λ a. word d SSS)
     at-survey (Is a n) = rw (word-on d (Is a n) SURVEY) (at-end (word d SURVEY n))
     at-survey (Not f) = rw (word-on d {A = ℕ} (Not f) SURVEY) (at-end (Not f))
 
@@ -192,7 +201,8 @@ module _ (d : List ℕ) where
 
 -- ---- the survey
 pub data SameRead (d : List ℕ) : Read → Result Survey → Type 0 where
-  whole : {s : books.Survey} {t : Survey} {n : ℕ} → s .front .heading .standard ≡ t .heading .standard → Sames d (s .variables) (t .variables) → SameRead d (Whole s) (Is t n)
+  whole : {s : books.Survey} {t : Survey} {n : ℕ} → s .front .heading .standard ≡ t .heading .standard
+      → Sames d (s .variables) (t .variables) → SameRead d (Whole s) (Is t n)
   faulty : {f : Fault} → SameRead d (Faulty f) (Not f)
 
 abbrev surveyWith : Heading → List Variable → Survey
@@ -210,12 +220,14 @@ module _ (d : List ℕ) where
   pub survey-same : SameRead d (books.surveyOf d) (surveyOf d)
   unfolding books.surveyOf surveyOf survey
   survey-same = by (front-on d) where
-    at-ends : (o : Front) (h : Heading) → o .heading .standard ≡ h .standard → (l : List kept.Variable) (m : List Variable) → Sames d l m → (r : Result Unit)
+    at-ends : (o : Front) (h : Heading) → o .heading .standard ≡ h .standard → (l : List kept.Variable) (m : List Variable) → Sames d l m
+        → (r : Result Unit)
         → SameRead d (books.ended o l (toReading r)) (bind r λ a n. Is (surveyWith h m) n)
     at-ends o h e l m s (Is a n) = whole e s
     at-ends o h e l m s (Not f) = faulty
 
-    at-variables : (o : Front) (h : Heading) → o .heading .standard ≡ h .standard → {v : Variables} {q : Result (List Variable)} → SameVariables d v q
+    at-variables : (o : Front) (h : Heading) → o .heading .standard ≡ h .standard → {v : Variables} {q : Result (List Variable)}
+        → SameVariables d v q
         → SameRead d (closed d o v) (bind q λ m n. bind (ends d n) λ a n. Is (surveyWith h m) n)
     at-variables o h e (gives {l = l} {m = m} {n = n} s) = rw (ends-on d n) (at-ends o h e l m s (ends d n))
     at-variables o h e refuses = faulty
@@ -224,7 +236,8 @@ module _ (d : List ℕ) where
     at-refused o refuses = faulty
 
     by : {o : Front} {r : Result Heading} → SameFront o r
-        → SameRead d (closed d o (variablesFrom d (course (o .next) []))) (bind r λ h n. bind (repeat (suc 512) (another d) [] n) λ m n. bind (ends d n) λ a n. Is (surveyWith h m) n)
+        → SameRead d (closed d o (variablesFrom d (course (o .next) [])))
+        (bind r λ h n. bind (repeat (suc 512) (another d) [] n) λ m n. bind (ends d n) λ a n. Is (surveyWith h m) n)
     by (fronts {o = o} {h = h} {n = n} i e) = at-variables o h e (variables-from n (o .next) i)
     by (stopped {o = o} {f = f} i) = at-refused o (variables-none f (o .next) i)
 
@@ -240,13 +253,18 @@ module _ (d : List ℕ) where
     by true = refused
     by false = built s
 
-  named-same : (n : ℕ) (standard : Bool) {l : List kept.Variable} {m : List Variable} → Sames d l m → SameOutcome (books.named d n standard l) (named d n standard m)
-  unfolding books.named named
-  named-same n standard {l} {m} s = rw (sames-names s, sames-count s) (rw (sames-quote s (nameFault (namesOf d m))) (by standard (ltb (nameFault (namesOf d m)) (length m)) (quoteAt m (nameFault (namesOf d m))))) where
-    by : (a b : Bool) (p : ℕ) → SameOutcome (cond a (cond b (books.Refusal 9 p) (books.fitting n l)) (books.fitting n l)) (cond a (cond b (Refusal 9 p) (fitting n m)) (fitting n m))
-    by true true p = refused
-    by true false p = fitting-same n s
-    by false b p = fitting-same n s
+  named-same : (n : ℕ) (standard : Bool) {l : List kept.Variable} {m : List Variable} → Sames d l m
+      → SameOutcome (books.named d n standard l) (judgeNames d n standard m)
+  unfolding books.named judgeNames
+  named-same n standard {l} {m} s =
+      rw (sames-names s, sames-count s)
+      (rw (sames-quote s (nameFault (namesOf d m)))
+      (by standard (ltb (nameFault (namesOf d m)) (length m)) (quoteAt m (nameFault (namesOf d m))))) where
+        by : (a b : Bool) (p : ℕ) → SameOutcome (cond a (cond b (books.Refusal 9 p) (books.fitting n l)) (books.fitting n l))
+            (cond a (cond b (Refusal 9 p) (fitting n m)) (fitting n m))
+        by true true p = refused
+        by true false p = fitting-same n s
+        by false b p = fitting-same n s
 
   pub outcome-same : (n : ℕ) → SameOutcome (books.outcomeIn d n) (outcomeOf d n)
   unfolding books.outcomeIn outcomeOf
@@ -255,7 +273,8 @@ module _ (d : List ℕ) where
     on (whole {t = t} e s) = rw e (named-same n (t .heading .standard) s)
     on faulty = refused
 
-    by : (q : Bool) → SameRead d (books.surveyOf d) (surveyOf d) → SameOutcome (cond q (books.Refusal 1 0) (judged d n (books.surveyOf d))) (cond q (Refusal 1 0) (settled d n (surveyOf d)))
+    by : (q : Bool) → SameRead d (books.surveyOf d) (surveyOf d)
+        → SameOutcome (cond q (books.Refusal 1 0) (judged d n (books.surveyOf d))) (cond q (Refusal 1 0) (settled d n (surveyOf d)))
     by true s = refused
     by false s = on s
 

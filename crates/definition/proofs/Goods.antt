@@ -15,18 +15,18 @@ use Rattle.tokens.specs.declared.Reading.the-variants.{At, Refused}
 use Rattle.tokens.specs.declared.Choice.{Choice}
 use Rattle.tokens.specs.declared.Choice.the-variants.{Taken, Left}
 use Rattle.tokens.specs.rule.Gap.{fault}
-use Rattle.tokens.specs.rule.Token.{choiceOf}
+use Rattle.tokens.specs.Token.{choiceOf}
 use Rattle.statements.specs.rule.Words.{END}
-use Rattle.statements.specs.rule.Note.{notesOn}
+use Rattle.statements.specs.Note.{notesOn}
 use Rattle.heading.specs.declared.Front.{Front}
-use Rattle.heading.specs.rule.Heading.{frontOn}
+use Rattle.heading.specs.Heading.{frontOn}
 use Rattle.sound.specs.rule.Sound.{wellFormed}
-use Rattle.measures.specs.rule.Survey.{Variable, linesAll, identMet, tableOf}
+use Rattle.measures.specs.Survey.{Variable, linesAll, identMet, tableOf}
 use Rattle.measures.specs.Good.{Good}
 use Rattle.measures.specs.Good as good
 use Rattle.measures.proofs.Snoc.{added, length-with}
-use Rattle.entries.specs.rule.Entry.{Entry}
-use Rattle.entries.specs.rule.Entry as entry
+use Rattle.entries.specs.Entry.{Entry}
+use Rattle.entries.specs.Entry as entry
 use Rattle.entries.proofs.Goods.{entry-good}
 use Rattle.built.specs.Nth.{few-lines}
 use Rattle.survey.specs.rule.Survey as survey
@@ -135,20 +135,24 @@ module _ (d : List ℕ) (n : ℕ) (l : List Variable) where
     by true i e = none cc
     by false i e = whole (ltb-false 1048576 (length d) i) (surveyOf d) refl e
 
-in-well-formed : (d : List ℕ) (t : List ℤ) (l : List Variable) → outcomeIn d (length t) ≡ Built l → wellFormed (tableIn (outcomeIn d (length t)) t) ≡ true
+in-well-formed : (d : List ℕ) (t : List ℤ) (l : List Variable) → outcomeIn d (length t) ≡ Built l
+    → wellFormed (tableIn (outcomeIn d (length t)) t) ≡ true
 unfolding tableIn
 in-well-formed d t l e =
     let g = built-good d (length t) l e in
     rw e (table-well-formed l t (g .0) (g .1) (g .2))
 
 -- so is the table of every survey that the rule reads
-pub read-well-formed : (d : List ℕ) (t : List ℤ) (l : List survey.Variable) → rule.outcomeOf d (length t) ≡ rule.Built l → wellFormed (rule.tableAfter (rule.outcomeOf d (length t)) t) ≡ true
+pub read-well-formed : (d : List ℕ) (t : List ℤ) (l : List survey.Variable) → rule.outcomeOf d (length t) ≡ rule.Built l
+    → wellFormed (rule.tableAfter (rule.outcomeOf d (length t)) t) ≡ true
 read-well-formed d t l e = rw (← table-same d (length t) t) (by refl e (outcome-same d (length t))) where
-  by : {o : Outcome} {q : rule.Outcome} → outcomeIn d (length t) ≡ o → q ≡ rule.Built l → SameOutcome d o q → wellFormed (tableIn (outcomeIn d (length t)) t) ≡ true
+  by : {o : Outcome} {q : rule.Outcome} → outcomeIn d (length t) ≡ o → q ≡ rule.Built l → SameOutcome d o q
+      → wellFormed (tableIn (outcomeIn d (length t)) t) ≡ true
   by i j (bridge.built {l = m} s) = in-well-formed d t m i
   by i j bridge.refused = none cc
 
 -- ---- NO TWO OUTCOMES: the contract settles the answer and the table
-pub definition-settled : (d : List ℕ) (t t₁ t₂ : List ℤ) (r₁ r₂ : Answer) → r₁ ≡ rule.answerOf (rule.outcomeOf d (length t)) → t₁ ≡ rule.tableAfter (rule.outcomeOf d (length t)) t
+pub definition-settled : (d : List ℕ) (t t₁ t₂ : List ℤ) (r₁ r₂ : Answer) → r₁ ≡ rule.answerOf (rule.outcomeOf d (length t))
+    → t₁ ≡ rule.tableAfter (rule.outcomeOf d (length t)) t
     → r₂ ≡ rule.answerOf (rule.outcomeOf d (length t)) → t₂ ≡ rule.tableAfter (rule.outcomeOf d (length t)) t → (r₁ ≡ r₂) × (t₁ ≡ t₂)
 definition-settled d t t₁ t₂ r₁ r₂ a b c e = (a ∙ sym c, b ∙ sym e)

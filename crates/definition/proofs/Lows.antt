@@ -3,7 +3,7 @@ use mathlib.Core.Path.{_≡_}
 use mathlib.Core.List.{List, [], _∷_, _++_}
 use Prim.Native.Nat.{ℕ, _≤_, max}
 use native.Mathlib.Omega.{arith}
-use Rattle.measures.specs.rule.Survey.{Variable, linesAll, highestIn}
+use Rattle.measures.specs.Survey.{Variable, linesAll, highestIn}
 use Rattle.measures.specs.Good.{Good, GoodVariable}
 use Rattle.measures.specs.Good as good
 use Rattle.measures.proofs.Snoc.{highest-with}

@@ -21,8 +21,8 @@ use Rattle.layout.specs.declared.Header.{Header}
 use Rattle.definition.proofs.Rans.{at-start}
 use Rattle.rows.specs.rule.Cells.{rowCells, headerCells}
 use Rattle.names.specs.rule.Standard.{nameAt, nameFault}
-use Rattle.measures.specs.rule.Width.{fullColumns, widened, plainColumns}
-use Rattle.measures.specs.rule.Survey.{Variable, linesIn, columnsIn, linesAll, highestIn, headerFor, rowsFrom, allLines, tableOf}
+use Rattle.measures.specs.Width.{fullColumns, widened, plainColumns}
+use Rattle.measures.specs.Survey.{Variable, linesIn, columnsIn, linesAll, highestIn, headerFor, rowsFrom, allLines, tableOf}
 use Rattle.measures.proofs.Snoc.{row-length, rows-length, lines-length, table-length}
 use Rattle.definition.specs.declared.Tally.{Tally}
 use Rattle.definition.specs.declared.Answer.{Answer}

@@ -18,8 +18,8 @@ use Rattle.layout.specs.declared.Kind.the-variants.{Single, Multiple, Quantity,
 use Rattle.layout.specs.declared.Spread.the-variants.{Bits, Fields}
 use Rattle.sound.specs.rule.Sound.{identGood, positionGood, subfieldsGood, textsGood, countsGood, placesGood, roomGood}
 use Rattle.rows.specs.Cells.{SmallRow}
-use Rattle.measures.specs.rule.Width.{fullColumns, widened, plainColumns}
-use Rattle.measures.specs.rule.Survey.{Variable, countedIn, columnsIn, holdsIn}
+use Rattle.measures.specs.Width.{fullColumns, widened, plainColumns}
+use Rattle.measures.specs.Survey.{Variable, countedIn, columnsIn, holdsIn}
 use Rattle.measures.specs.Good.{GoodVariable}
 
 module _ (c : Columns) where

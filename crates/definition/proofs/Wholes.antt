@@ -14,8 +14,8 @@ use Rattle.tokens.specs.declared.Fault.{Fault}
 use Rattle.tokens.specs.declared.Reading.{Reading}
 use Rattle.tokens.specs.declared.Reading.the-variants.{At, Refused}
 use Rattle.heading.specs.declared.Front.{Front}
-use Rattle.heading.specs.rule.Heading.{frontOn}
-use Rattle.measures.specs.rule.Survey.{Variable, linesAll, highestIn, rowsFrom, allLines}
+use Rattle.heading.specs.Heading.{frontOn}
+use Rattle.measures.specs.Survey.{Variable, linesAll, highestIn, rowsFrom, allLines}
 use Rattle.measures.specs.Good.{Good}
 use Rattle.measures.proofs.Snoc.{rows-length, lines-length}
 use Rattle.built.specs.Nth.{few-rows, few-lines}

@@ -17,15 +17,15 @@ use Rattle.tokens.specs.declared.Reading.the-variants.{At, Refused}
 use Rattle.tokens.specs.declared.Choice.{Choice}
 use Rattle.tokens.specs.declared.Choice.the-variants.{Taken, Left}
 use Rattle.tokens.specs.rule.Gap.{fault}
-use Rattle.tokens.specs.rule.Token.{choiceOf, wordOn}
+use Rattle.tokens.specs.Token.{choiceOf, wordOn}
 use Rattle.statements.specs.rule.Words.{END, RECORD, SURVEY, SSS}
-use Rattle.statements.specs.rule.Note.{notesOn, statementOn}
+use Rattle.statements.specs.Note.{notesOn, statementOn}
 use Rattle.heading.specs.declared.Front.{Front}
-use Rattle.heading.specs.rule.Heading.{frontOn}
+use Rattle.heading.specs.Heading.{frontOn}
 use Rattle.names.specs.rule.Standard.{nameFault}
-use Rattle.measures.specs.rule.Survey.{Variable, linesAll, identMet, tableOf}
-use Rattle.entries.specs.rule.Entry.{Entry, entryOf}
-use Rattle.entries.specs.rule.Entry as entry
+use Rattle.measures.specs.Survey.{Variable, linesAll, identMet, tableOf}
+use Rattle.entries.specs.Entry.{Entry, entryOf}
+use Rattle.entries.specs.Entry as entry
 use Rattle.definition.specs.declared.Answer.{Answer}
 use Rattle.definition.specs.declared.Answer.the-variants as answer
 

@@ -20,14 +20,14 @@ use Rattle.tokens.specs.declared.Reading.{Reading}
 use Rattle.tokens.specs.declared.Reading.the-variants.{At, Refused}
 use Rattle.tokens.specs.declared.Choice.{Choice}
 use Rattle.tokens.specs.declared.Choice.the-variants.{Taken, Left}
-use Rattle.tokens.specs.rule.Token.{choiceOf}
+use Rattle.tokens.specs.Token.{choiceOf}
 use Rattle.statements.specs.rule.Words.{END}
-use Rattle.statements.specs.rule.Note.{notesOn}
+use Rattle.statements.specs.Note.{notesOn}
 use Rattle.names.specs.rule.Standard.{nameAt, nameFault}
-use Rattle.measures.specs.rule.Survey.{Variable, linesIn, columnsIn, linesAll, highestIn, rowsFrom, allLines}
+use Rattle.measures.specs.Survey.{Variable, linesIn, columnsIn, linesAll, highestIn, rowsFrom, allLines}
 use Rattle.measures.specs.Good.{Good}
-use Rattle.entries.specs.rule.Entry.{Entry}
-use Rattle.entries.specs.rule.Entry as entry
+use Rattle.entries.specs.Entry.{Entry}
+use Rattle.entries.specs.Entry as entry
 use Rattle.definition.specs.Books.{Variables, Outcome, Refusal, named, answerIn, tableIn}
 use Rattle.definition.specs.Books as variables
 use Rattle.definition.specs.declared.Tally.{Tally}

@@ -18,7 +18,7 @@ ghost use Rattle.cells.specs.rule.Cell.{cell, countOf};
 ghost use Rattle.layout.specs.rule.Layout.{rowSize, lineSize, lineBase, mostRows, mostLines};
 ghost use Rattle.rows.specs.Cells.{nameColumn};
 ghost use Rattle.variables.specs.Ident.{marked};
-ghost use Rattle.entries.specs.rule.Entry.{entryOf};
+ghost use Rattle.entries.specs.Entry.{entryOf};
 ghost use Rattle.entries.specs.Entry.{Stored};
 ghost use Rattle.definition.specs.rule.Definition.{outcomeOf, answerOf, tableAfter};
 ghost use Rattle.definition.specs.Books.{course, variablesFrom, endsOn, judged, surveyOf, answerIn, tableIn};

@@ -15,7 +15,7 @@ ghost use Rattle.ascii.specs.rule.Tens.{Tens};
 ghost use Rattle.layout.specs.rule.Layout.{lineSize, mostLines};
 ghost use Rattle.measures.specs.Width.{numberIn, Measurable};
 ghost use Rattle.variables.specs.Ident.{marked};
-ghost use Rattle.entries.specs.rule.Entry.{endVariable, restThen, entryOf};
+ghost use Rattle.entries.specs.Entry.{endVariable, restThen, entryOf};
 ghost use Rattle.entries.specs.Entry.{settledBy, GoodHead, stoodOf, Stored};
 
 // A variable that stands: its columns, how many value lines there are then in all, and the place after END VARIABLE.

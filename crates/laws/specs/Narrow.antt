@@ -17,14 +17,14 @@ use Rattle.tokens.specs.declared.Reading.the-variants.{At}
 use Rattle.tokens.specs.rule.Gap.{fault}
 use Rattle.variables.specs.declared.Head.{Head}
 use Rattle.variables.specs.declared.Headed.the-variants as headed
-use Rattle.variables.specs.rule.Ident.{identOn}
-use Rattle.variables.specs.rule.Head.{headOn}
-use Rattle.variables.specs.rule.Rest.{Telling, restOf}
-use Rattle.variables.specs.rule.Rest as told
-use Rattle.measures.specs.rule.Width.{flagOf, plainColumns, widened, fullColumns, linesWidth, widestOf, widthOf}
-use Rattle.measures.specs.rule.Survey.{countedIn, columnsIn, holdsIn}
-use Rattle.entries.specs.rule.Entry.{variable, endVariable, entryOf}
-use Rattle.entries.specs.rule.Entry as entry
+use Rattle.variables.specs.Ident.{identOn}
+use Rattle.variables.specs.Head.{headOn}
+use Rattle.variables.specs.Rest.{Telling, restOf}
+use Rattle.variables.specs.Rest as told
+use Rattle.measures.specs.Width.{flagOf, plainColumns, widened, fullColumns, linesWidth, widestOf, widthOf}
+use Rattle.measures.specs.Survey.{countedIn, columnsIn, holdsIn}
+use Rattle.entries.specs.Entry.{variable, endVariable, entryOf}
+use Rattle.entries.specs.Entry as entry
 use Rattle.entries.proofs.Goods.{narrow-is-7}
 
 -- a quantity in bytes 1 and 2, whatever its ident, its texts and their places

@@ -20,7 +20,7 @@ use Rattle.variables.specs.declared.Head.{Head}
 use Rattle.variables.specs.declared.Rest.{Rest}
 use Rattle.measures.specs.declared.Measured.{Measured}
 use Rattle.measures.specs.declared.Measured.the-variants.{Is, Not}
-use Rattle.measures.specs.rule.Width.{plainColumns, widened, linesWidth, widestOf, widthOf, fullColumns}
+use Rattle.measures.specs.Width.{plainColumns, widened, linesWidth, widestOf, widthOf, fullColumns}
 use Rattle.measures.specs.Width.{numberIn, Ready, Measurable, measured}
 
 -- ---- the width

@@ -9,10 +9,10 @@ use lib.IntN.{ℤ}
 use lib.ListN.{length, length-append}
 use Rattle.layout.specs.rule.Layout.{rowSize, lineSize, lineBase}
 use Rattle.rows.specs.rule.Cells.{rowCells, headerCells}
-use Rattle.values.specs.rule.Line.{cellsOf}
+use Rattle.values.specs.Line.{cellsOf}
 use Rattle.values.proofs.Rooms.{cells-length}
-use Rattle.measures.specs.rule.Survey.{Variable, linesIn, columnsIn, linesAll, highestIn, identMet, headerFor, rowsFrom, allLines}
-use Rattle.measures.specs.rule.Survey.{tableOf}
+use Rattle.measures.specs.Survey.{Variable, linesIn, columnsIn, linesAll, highestIn, identMet, headerFor, rowsFrom, allLines}
+use Rattle.measures.specs.Survey.{tableOf}
 
 abbrev pub added : List Variable → Variable → List Variable
 added l v = l ++ v ∷ []

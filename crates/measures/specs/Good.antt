@@ -10,9 +10,9 @@ use Rattle.strides.specs.rule.Stride.{allDiffer}
 use Rattle.layout.specs.rule.Layout.{mostRows, mostLines, lineSize, lineAt}
 use Rattle.layout.specs.rule.Row.{kindOf, rowOf}
 use Rattle.sound.specs.rule.Sound.{countsGood, placesGood, rangeLacked, rangeGood, linePlain, valuesFit, widthGood}
-use Rattle.values.specs.rule.Line.{numberAt, cellsOf}
-use Rattle.measures.specs.rule.Width.{widestOf}
-use Rattle.measures.specs.rule.Survey.{Variable, linesIn, columnsIn, holdsIn, linesAll, identMet}
+use Rattle.values.specs.Line.{numberAt, cellsOf}
+use Rattle.measures.specs.Width.{widestOf}
+use Rattle.measures.specs.Survey.{Variable, linesIn, columnsIn, holdsIn, linesAll, identMet}
 
 -- a variable before whose lines `before` others stand
 pub record GoodVariable (before : ℕ) (v : Variable) : Type 0 where

@@ -1,3 +1,3 @@
-pub mod rule
 pub mod Width
 pub mod Good
+pub mod Survey

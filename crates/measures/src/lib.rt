@@ -3,7 +3,7 @@
 ghost use mathlib.Core.Path.{_≡_};
 ghost use Prim.Native.Nat.{_≤_};
 ghost use Rattle.ascii.specs.rule.Tens.{Tens};
-ghost use Rattle.measures.specs.rule.Width.{flagOf, plainColumns, widened, linesWidth, widestOf, widthOf, fullColumns};
+ghost use Rattle.measures.specs.Width.{flagOf, plainColumns, widened, linesWidth, widestOf, widthOf, fullColumns};
 ghost use Rattle.measures.specs.Width.{numberIn, Ready, Measurable, measured};
 use layout::Columns;
 use layout::Kind;

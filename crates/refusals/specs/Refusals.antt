@@ -1,5 +1,5 @@
 -- Every refusal of a definition has a number of the table, 1 to 10, and its place lies in the text or is its length.
-use mathlib.Core.Path.{_≡_}
+use mathlib.Core.Path.{_≡_, refl}
 use mathlib.Core.List.{List, [], _∷_, _++_}
 use Prim.Native.Nat.{ℕ, zero, suc, _+_, _-_, _≤_, _<_}
 use native.Mathlib.Omega.{arith}
@@ -10,14 +10,14 @@ use Rattle.tokens.specs.declared.Reading.the-variants.{At, Refused}
 use Rattle.tokens.specs.declared.Choice.{Choice}
 use Rattle.tokens.specs.declared.Choice.the-variants.{Taken, Left}
 use Rattle.tokens.specs.rule.Gap.{fault}
-use Rattle.tokens.specs.rule.Token.{choiceOf, wordOn}
+use Rattle.tokens.specs.Token.{choiceOf, wordOn}
 use Rattle.statements.specs.rule.Words.{END, RECORD, SURVEY, SSS}
-use Rattle.statements.specs.rule.Note.{notesOn, statementOn}
-use Rattle.heading.specs.rule.Heading.{frontOn}
+use Rattle.statements.specs.Note.{notesOn, statementOn}
+use Rattle.heading.specs.Heading.{frontOn}
 use Rattle.names.specs.rule.Standard.{nameFault}
-use Rattle.measures.specs.rule.Survey.{Variable, linesAll, identMet, tableOf}
-use Rattle.entries.specs.rule.Entry.{Entry, entryOf}
-use Rattle.entries.specs.rule.Entry as entry
+use Rattle.measures.specs.Survey.{Variable, linesAll, identMet, tableOf}
+use Rattle.entries.specs.Entry.{Entry, entryOf}
+use Rattle.entries.specs.Entry as entry
 use Rattle.definition.specs.Books.{Variables, Course, course, endOr, entered, variableStep, variablesFrom, endsOn}
 use Rattle.definition.specs.Books.{Read, Whole, Faulty, ended, closed, surveyOf, namesOf, quoteAt}
 use Rattle.definition.specs.Books.{Outcome, Built, Refusal, fitting, named, judged, outcomeIn}

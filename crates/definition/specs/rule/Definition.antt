@@ -1,4 +1,5 @@
--- A definition and a lent table: "1 is first of all", 2 to 8 as they are met, "9 (earliest place) after `END SSS`, then 10. .. Every refusal
+-- A definition and a lent table: "1 is first of all", 2 to 8 as they are met, "9 (earliest place) after `END SSS`, then 10. .. Every
+-- refusal
 -- keeps all lent memory." What was read is the table of its survey, at the start of the lent one: "Numbers beyond 6 + 18V + 4E are kept."
 use mathlib.Core.Bool.{Bool, cond}
 use mathlib.Core.List.{List, [], _∷_, map}
@@ -36,13 +37,13 @@ quoteAt [] i = 0
 quoteAt (v ∷ l) zero = v .name .place - 1
 quoteAt (v ∷ l) (suc i) = quoteAt l i
 
-unfoldable pub named : List ℕ → ℕ → Bool → List Variable → Outcome
-named d n standard l =
+unfoldable pub judgeNames : List ℕ → ℕ → Bool → List Variable → Outcome
+judgeNames d n standard l =
     let i = nameFault (namesOf d l) in
     cond standard (cond (ltb i (length l)) (Refusal 9 (quoteAt l i)) (fitting n l)) (fitting n l)
 
 abbrev pub settled : List ℕ → ℕ → Result Survey → Outcome
-settled d n (Is s m) = named d n (s .heading .standard) (s .variables)
+settled d n (Is s m) = judgeNames d n (s .heading .standard) (s .variables)
 settled d n (Not f) = Refusal (f .number) (f .place)
 
 unfoldable pub outcomeOf : List ℕ → ℕ → Outcome

@@ -1,4 +1,4 @@
-use Rattle.measures.specs.rule.Width.{flagOf}
+use Rattle.measures.specs.Width.{flagOf}
 use Rattle.measures.proofs.flag.Statement.{statement}
 use Rattle.measures.proofs.flag.Tie as tie
 

@@ -4,7 +4,7 @@ use native.Mathlib.Omega.{arith}
 use borrow.Author.Needs.{needs}
 use Rattle.below.specs.Below.{max-none}
 use Rattle.sound.specs.Block.{hull-fits, hull-width}
-use Rattle.measures.specs.rule.Width.{linesWidth}
+use Rattle.measures.specs.Width.{linesWidth}
 use Rattle.measures.specs.Width.{numberIn}
 use Rattle.measures.proofs.lines_width.Statement.{statement}
 use Rattle.measures.proofs.lines_width.Tie as tie

@@ -1,5 +1,5 @@
 use mathlib.Core.Path.{_∙_, sym}
-use Rattle.measures.specs.rule.Width.{widestOf}
+use Rattle.measures.specs.Width.{widestOf}
 use borrow.Author.Needs.{needs}
 use Rattle.measures.proofs.widest.Statement.{statement}
 use Rattle.measures.proofs.widest.Tie as tie

@@ -1,5 +1,5 @@
 use mathlib.Core.Path.{_∙_}
-use Rattle.measures.specs.rule.Width.{widthOf}
+use Rattle.measures.specs.Width.{widthOf}
 use borrow.Author.Needs.{needs}
 use Rattle.measures.proofs.Measures.{width-valued}
 use Rattle.measures.proofs.width_of.Statement.{statement}

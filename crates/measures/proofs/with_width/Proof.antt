@@ -1,5 +1,5 @@
 use mathlib.Core.Path.{refl}
-use Rattle.measures.specs.rule.Width.{widened}
+use Rattle.measures.specs.Width.{widened}
 use Rattle.measures.proofs.with_width.Statement.{statement}
 use Rattle.measures.proofs.with_width.Tie as tie
 

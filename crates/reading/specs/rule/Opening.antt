@@ -8,7 +8,7 @@ use Rattle.scan.specs.rule.Text.{text, placeOf}
 use Rattle.scan.specs.rule.Number.{isSpace, isValue, runOf, bytesOf}
 use Rattle.tokens.specs.rule.Gap.{fault}
 use Rattle.statements.specs.rule.Words.{SSS, VERSION, ONE-ONE}
-use Rattle.reading.specs.rule.Result.{Result, Is, Not, Reader, bind, _>>=_, _>>_, give, due}
+use Rattle.reading.specs.rule.Result.{Is, Reader, _>>_, due}
 use Rattle.reading.specs.rule.Least.{_when_, judged}
 use Rattle.reading.specs.rule.Token.{here}
 

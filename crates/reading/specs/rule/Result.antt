@@ -1,6 +1,5 @@
 -- A reader starts at a place of the file. It answers what it read and the place behind it; or a refusal, which then is the answer of
 -- everything that begins with it: "the first 2 or 3 met".
-use mathlib.Core.List.{List}
 use Prim.Native.Nat.{ℕ, zero, suc}
 use Rattle.scan.specs.rule.Loop.{Next, Again, Done}
 use Rattle.tokens.specs.declared.Fault.{Fault}

@@ -1,6 +1,6 @@
 -- "NOTE and a string may stand after VERSION between whole statements." A statement begins with its word. "POSITION a [TO b]", "`SPREAD` n
 -- [`OF` w]" and SIZE are judged once read, by the true values of their numbers.
-use mathlib.Core.Bool.{Bool, true, false, cond, not}
+use mathlib.Core.Bool.{not}
 use mathlib.Core.List.{List, [], _∷_}
 use mathlib.Core.Option.{Option, none, some, Option·getD}
 use Prim.Native.Nat.{ℕ, suc, _%_}
@@ -10,7 +10,7 @@ use Rattle.scan.specs.rule.Loop.{Next, Again, Done}
 use Rattle.tokens.specs.rule.Gap.{fault}
 use Rattle.statements.specs.rule.Words.{NOTE, POSITION, TO, OF, SIZE}
 use Rattle.survey.specs.rule.Survey.{Figure, Text, Spread}
-use Rattle.reading.specs.rule.Result.{Result, Is, Not, Reader, bind, _>>=_, _>>_, give, repeat}
+use Rattle.reading.specs.rule.Result.{Reader, _>>_, give, repeat, _>>=_}
 use Rattle.reading.specs.rule.Least.{Charge, _when_, judged}
 use Rattle.reading.specs.rule.Token.{gap, either, here, optional, number, string}
 

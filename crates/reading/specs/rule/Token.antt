@@ -3,7 +3,7 @@
 use mathlib.Core.Bool.{Bool, true, false, cond, _&&_}
 use mathlib.Core.List.{List, [], _∷_, _++_}
 use mathlib.Core.Option.{Option, none, some}
-use Prim.Native.Nat.{ℕ, suc, _+_, _-_}
+use Prim.Native.Nat.{ℕ, _+_, _-_}
 use lib.Dec.{eqb, ltb}
 use lib.ListN.{length}
 use Rattle.ascii.specs.rule.Class.{classOf}
@@ -21,7 +21,7 @@ use Rattle.tokens.specs.declared.Reading.{Reading}
 use Rattle.tokens.specs.declared.Reading.the-variants.{At, Refused}
 use Rattle.tokens.specs.rule.Gap.{fault, gapAt}
 use Rattle.survey.specs.rule.Survey.{Figure, Amount, Text}
-use Rattle.reading.specs.rule.Result.{Result, Is, Not, Reader, bind, _>>=_, _>>_, give, due}
+use Rattle.reading.specs.rule.Result.{Result, Is, Not, Reader, _>>=_, _>>_, give, due}
 
 -- ---- "a value is the longest run of digits, points, `+` and `-`": of its bytes, a minus or none, digits, a point or none, digits
 unfoldable pub leading : List ℕ → List ℕ
@@ -66,7 +66,7 @@ closed p (Bad q) = Not (fault 3 q)
 
 unfoldable pub quoted : scan.Text → Result Text
 quoted (stop p) = due p
-quoted (sign p b t) = cond (eqb b 34) (closed p (stringOf Plain t)) (due p)
+quoted (sign p b t) = let k = stringOf Plain t in cond (eqb b 34) (closed p k) (due p)
 
 unfoldable pub letterIn : scan.Text → Result ℕ
 letterIn (stop p) = due p

@@ -1,6 +1,6 @@
 -- "VALUES: a range `a TO b`, followed by WITH exactly when lines follow; lines are a value, a string, optional SPECIAL; `END VALUES`.
 -- Without a range, at least one line. No value labelled twice." Notes may stand before a range, line or END.
-use mathlib.Core.Bool.{Bool, true, false, cond, not, _&&_, _||_}
+use mathlib.Core.Bool.{Bool, cond, not, _&&_, _||_}
 use mathlib.Core.List.{List, [], _∷_, _++_}
 use mathlib.Core.Option.{Option, none, some}
 use Prim.Native.Nat.{ℕ, suc, _+_}
@@ -12,9 +12,9 @@ use Rattle.layout.specs.rule.Layout.{mostLines}
 use Rattle.scan.specs.rule.Loop.{Next, Again, Done}
 use Rattle.tokens.specs.rule.Gap.{fault}
 use Rattle.statements.specs.rule.Words.{VALUES, TO, WITH, SPECIAL, END}
-use Rattle.survey.specs.rule.Survey.{Amount, Text, Range, Line, Block}
+use Rattle.survey.specs.rule.Survey.{Amount, Range, Line, Block}
 use Rattle.survey.specs.rule.Width.{someOf, amounts, scaled}
-use Rattle.reading.specs.rule.Result.{Result, Is, Not, Reader, bind, _>>=_, _>>_, give, repeat}
+use Rattle.reading.specs.rule.Result.{Reader, _>>=_, _>>_, give, repeat}
 use Rattle.reading.specs.rule.Least.{Charge, _when_, judged}
 use Rattle.reading.specs.rule.Token.{either, here, word, optional, whether, amount, value, string}
 use Rattle.reading.specs.rule.Statement.{notes, statement}
@@ -86,7 +86,8 @@ module _ (d : List ℕ) where
     listed s = do
       l ← line (s .block) (s .next)
       notes d
-      either d END (endValues (withLine (s .block) l) >>= λ b. give (Done b)) (amount d >>= λ a. give (Again (listing (withLine (s .block) l) a)))
+      either d END (endValues (withLine (s .block) l) >>= λ b. give (Done b))
+          (amount d >>= λ a. give (Again (listing (withLine (s .block) l) a)))
 
     -- "4,096 value lines in all": the 4,097th is refused
     abbrev pub lines : Block → Amount → Reader Block

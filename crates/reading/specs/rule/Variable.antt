@@ -1,18 +1,18 @@
 -- "A variable: `VARIABLE` id, NAME, LABEL, TYPE, POSITION a [TO b], then by type. SINGLE and QUANTITY: VALUES. MULTIPLE: optional `SPREAD`
 -- n [`OF` w], then VALUES. CHARACTER: SIZE. LOGICAL: nothing. Then `END VARIABLE`." Its width is judged after that.
-use mathlib.Core.Bool.{Bool, true, false, not}
+use mathlib.Core.Bool.{true, false, not}
 use mathlib.Core.List.{List, [], _∷_}
-use mathlib.Core.Option.{Option, none, some, Option·getD}
+use mathlib.Core.Option.{none, some, Option·getD}
 use Prim.Native.Nat.{ℕ, _+_, _-_}
 use lib.Dec.{eqb, ltb, leb}
 use lib.ListN.{length}
 use Rattle.layout.specs.rule.Layout.{mostRows}
 use Rattle.tokens.specs.rule.Gap.{fault}
 use Rattle.statements.specs.rule.Words.{VARIABLE, NAME, LABEL, TYPE, SINGLE, MULTIPLE, QUANTITY, CHARACTER, LOGICAL, SPREAD, END}
-use Rattle.survey.specs.rule.Survey.{Figure, Text, Spread, Content, single, multiple, quantity, character, logical, Variable}
+use Rattle.survey.specs.rule.Survey.{Figure, Text, Content, single, multiple, quantity, character, logical, Variable}
 use Rattle.survey.specs.rule.Width.{someOf}
 use Rattle.survey.specs.rule.Table.{holds, linesAll}
-use Rattle.reading.specs.rule.Result.{Result, Is, Not, Reader, bind, _>>=_, _>>_, give, due}
+use Rattle.reading.specs.rule.Result.{Reader, _>>=_, give, due, _>>_}
 use Rattle.reading.specs.rule.Least.{Charge, _when_, judged}
 use Rattle.reading.specs.rule.Token.{gap, either, word, number}
 use Rattle.reading.specs.rule.Statement.{notes, statement, phrase, Position, position, spread, size}

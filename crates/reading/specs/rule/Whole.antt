@@ -1,6 +1,6 @@
 -- "Then `VERSION 1.1`; DATE, TIME, ORIGIN, USER, STANDARD NAMES in any order, each at most once; `SURVEY`; optional TITLE; `RECORD` and one
 -- letter; one or more variables; `END RECORD`, `END SURVEY`, `END SSS`. What follows is ignored."
-use mathlib.Core.Bool.{Bool, true, false, cond, _||_}
+use mathlib.Core.Bool.{Bool, cond}
 use mathlib.Core.List.{List, [], _∷_, _++_}
 use mathlib.Core.Option.{Option, none, some}
 use Prim.Native.Nat.{ℕ, suc}
@@ -12,7 +12,7 @@ use Rattle.scan.specs.rule.Loop.{Next, Again, Done}
 use Rattle.statements.specs.rule.Words.{DATE, TIME, ORIGIN, USER, STANDARD, NAMES, SURVEY, TITLE, RECORD, SSS, END}
 use Rattle.survey.specs.rule.Survey.{Text, Variable, Heading, Survey}
 use Rattle.survey.specs.rule.Width.{someOf}
-use Rattle.reading.specs.rule.Result.{Result, Is, Not, Reader, bind, _>>=_, _>>_, give, due, repeat}
+use Rattle.reading.specs.rule.Result.{Result, Reader, _>>=_, _>>_, give, due, repeat}
 use Rattle.reading.specs.rule.Token.{either, here, word, string, letter}
 use Rattle.reading.specs.rule.Opening.{opening}
 use Rattle.reading.specs.rule.Statement.{notes, statement}
@@ -53,7 +53,8 @@ module _ (d : List ℕ) where
   names = word d NAMES >> give none
 
   -- the statement k, by its word w with p behind it, where it was not given before; a second one is 2 at its word. Or else q
-  abbrev pub once : List Entry → ℕ → List ℕ → Reader (Option Text) → Reader (Next (List Entry) (List Entry)) → Reader (Next (List Entry) (List Entry))
+  abbrev pub once : List Entry → ℕ → List ℕ → Reader (Option Text) → Reader (Next (List Entry) (List Entry))
+      → Reader (Next (List Entry) (List Entry))
   once l k w p q n =
       either d w (cond (given k l) (λ m. due n) (p >>= λ t. notes d >> give (Again (entry k t ∷ l)))) q n
 

@@ -1,6 +1,6 @@
 -- "The table": a header of six numbers, eighteen a variable, four a value line; and whether a POSITION holds its w. "Columns a type lacks
 -- are 0, and from and to with no range; lines before is counted in every row."
-use mathlib.Core.Bool.{Bool, true, false}
+use mathlib.Core.Bool.{Bool}
 use mathlib.Core.List.{List, [], _∷_, _++_}
 use mathlib.Core.Option.{Option, none, some}
 use Prim.Native.Nat.{ℕ, _+_, max}
@@ -12,7 +12,7 @@ use Rattle.layout.specs.declared.Columns.{Columns}
 use Rattle.layout.specs.declared.Header.{Header}
 use Rattle.rows.specs.rule.Cells.{rowCells, headerCells}
 use Rattle.sound.specs.rule.Sound.{roomGood}
-use Rattle.survey.specs.rule.Survey.{Range, Line, Block, Spread, Content, single, multiple, quantity, character, logical, Variable}
+use Rattle.survey.specs.rule.Survey.{Range, Line, Spread, Content, single, multiple, quantity, character, logical, Variable}
 use Rattle.survey.specs.rule.Width.{flag, amounts, scaled, decimalsIn, pointIn, blockIn, finishIn, roomIn, partsOf, subwidthOf}
 use Rattle.survey.specs.rule.Width.{kindIn, widthIn}
 

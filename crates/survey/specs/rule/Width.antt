@@ -11,7 +11,8 @@ use Rattle.layout.specs.rule.Row.{spreadOf}
 use Rattle.layout.specs.declared.Kind.{Kind}
 use Rattle.layout.specs.declared.Kind.the-variants.{Single, Multiple, Quantity, Character, Logical}
 use Rattle.widths.specs.rule.Width.{need}
-use Rattle.survey.specs.rule.Survey.{Amount, Range, Line, Block, Spread, Figure, Content, single, multiple, quantity, character, logical, Variable}
+use Rattle.survey.specs.rule.Survey.{Amount, Range, Block, Spread, Figure, Content, single, multiple, quantity, character}
+use Rattle.survey.specs.rule.Survey.{logical, Variable}
 
 abbrev pub flag : Bool → ℕ
 flag true = 1
@@ -23,12 +24,12 @@ someOf f [] = false
 someOf f (a ∷ l) = f a || someOf f l
 
 -- ---- the numbers of a block: its range ends, then its values
-abbrev pub ends : Option Range → List Amount
-ends none = []
-ends (some r) = r .from ∷ r .to ∷ []
+abbrev pub rangeEnds : Option Range → List Amount
+rangeEnds none = []
+rangeEnds (some r) = r .from ∷ r .to ∷ []
 
 unfoldable pub amounts : Block → List Amount
-amounts b = ends (b .range) ++ map (λ l. l .value) (b .lines)
+amounts b = rangeEnds (b .range) ++ map (λ l. l .value) (b .lines)
 
 -- "scaled by a power of ten; `-0` is 0"
 abbrev pub scaled : Amount → ℤ

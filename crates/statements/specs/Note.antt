@@ -1,3 +1,4 @@
+-- THE CODE'S BOOKS, which contracts inside the library name; crate `bridge` proves them equal to the rule of crate `reading`.
 -- NOTE and a string may stand, any number of times, before a statement. A statement begins with its word; a text statement is a word
 -- and a string.
 use Prim.Native.Nat.{ℕ, suc}
@@ -8,8 +9,8 @@ use Rattle.tokens.specs.declared.Reading.the-variants.{At}
 use Rattle.tokens.specs.declared.Choice.{Choice}
 use Rattle.tokens.specs.declared.Choice.the-variants.{Taken, Left}
 use Rattle.tokens.specs.declared.Phrase.{Phrase}
-use Rattle.tokens.specs.rule.Gap.{left, gapOn}
-use Rattle.tokens.specs.rule.Token.{choiceOf, wordHere, stringOn, pastString}
+use Rattle.tokens.specs.Gap.{left, gapOn}
+use Rattle.tokens.specs.Token.{choiceOf, wordHere, stringOn, pastString}
 use Rattle.statements.specs.rule.Words.{NOTE}
 
 -- a note behind its word, and the gap after it

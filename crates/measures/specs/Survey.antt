@@ -1,5 +1,6 @@
+-- THE CODE'S BOOKS, which contracts inside the library name; crate `bridge` proves them equal to the rule of crate `reading`.
 -- A survey: what the statements of a definition say of its variables, in the order of the file; and the table that it gives.
-use mathlib.Core.Bool.{Bool, true, false, cond, _||_}
+use mathlib.Core.Bool.{Bool, false, _||_}
 use mathlib.Core.List.{List, [], _∷_, _++_}
 use Prim.Native.Nat.{ℕ, _+_, max}
 use lib.Dec.{eqb}
@@ -12,11 +13,11 @@ use Rattle.layout.specs.declared.Header.{Header}
 use Rattle.rows.specs.rule.Cells.{rowCells, headerCells}
 use Rattle.sound.specs.rule.Sound.{roomGood}
 use Rattle.values.specs.declared.Said.{Said}
-use Rattle.values.specs.rule.Line.{numberAt, cellsOf}
+use Rattle.values.specs.Line.{numberAt, cellsOf}
 use Rattle.variables.specs.declared.Head.{Head}
 use Rattle.variables.specs.declared.Rest.{Rest}
-use Rattle.variables.specs.rule.Rest.{Telling}
-use Rattle.measures.specs.rule.Width.{fullColumns}
+use Rattle.variables.specs.Rest.{Telling}
+use Rattle.measures.specs.Width.{fullColumns}
 
 -- a variable: its ident, texts, type and position, and what its type has behind them
 pub record Variable : Type 0 where
