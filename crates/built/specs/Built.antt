@@ -18,10 +18,10 @@ use Rattle.layout.specs.declared.Header.{Header}
 use Rattle.sound.specs.rule.Sound.{valueAt, columnsOf, linesAt, finishAt, linesBefore, highestFinish, goodAt, headCounts, headSums}
 use Rattle.sound.specs.rule.Sound.{rowsGood, wellFormed}
 use Rattle.values.proofs.Rooms.{length-pasted}
-use Rattle.survey.specs.rule.Width.{widthOf}
-use Rattle.survey.specs.rule.Survey.{Variable, linesAll, highestIn, headerFor, tableOf}
-use Rattle.survey.specs.Good.{Good}
-use Rattle.survey.proofs.Snoc.{table-length}
+use Rattle.measures.specs.Width.{widthOf}
+use Rattle.measures.specs.Survey.{Variable, linesAll, highestIn, headerFor, tableOf}
+use Rattle.measures.specs.Good.{Good}
+use Rattle.measures.proofs.Snoc.{table-length}
 use Rattle.built.specs.Nth.{Nth, nth, few-rows, few-lines, sum-all, highest-all}
 use Rattle.built.specs.Rows.{before-column, lines-here, finish-here, lines-before, row-good, width-here, idents-differ}
 use Rattle.built.specs.Cells.{laid, header-back, columns-of}

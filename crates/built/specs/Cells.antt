@@ -10,11 +10,11 @@ use Rattle.layout.specs.rule.Layout.{headerSize, rowSize, lineSize, rowBase, li
 use Rattle.rows.specs.rule.Cells.{rowCells, headerCells}
 use Rattle.sound.specs.rule.Sound.{columnsOf, valueAt}
 use Rattle.strides.specs.rule.Stride.{strideAt}
-use Rattle.values.specs.rule.Line.{numberAt, cellsOf}
+use Rattle.values.specs.Line.{numberAt, cellsOf}
 use Rattle.values.proofs.Rooms.{cells-length, cells-number}
-use Rattle.survey.specs.rule.Survey.{Variable, linesIn, columnsIn, linesAll, headerFor, rowsFrom, allLines, tableOf}
-use Rattle.survey.specs.rule.Width.{fullColumns, widened, plainColumns}
-use Rattle.survey.proofs.Snoc.{rows-length, lines-length}
+use Rattle.measures.specs.Survey.{Variable, linesIn, columnsIn, linesAll, headerFor, rowsFrom, allLines, tableOf}
+use Rattle.measures.specs.Width.{fullColumns, widened, plainColumns}
+use Rattle.measures.proofs.Snoc.{rows-length, lines-length}
 use Rattle.built.specs.Standing.{Stands, inside, cell-there, columns-there, line-there}
 use Rattle.built.specs.Nth.{Nth}
 

@@ -19,10 +19,10 @@ use Rattle.layout.specs.declared.Kind.the-variants.{Single, Multiple, Quantity,
 use Rattle.widths.specs.rule.Width.{need}
 use Rattle.sound.specs.rule.Sound.{valueAt, plainAt, linePlain, linesPlain, valuesFit, widest, rangeWidth, linesGood, valuesGood}
 use Rattle.sound.specs.rule.Sound.{widthsGood, columnsGood, rowGood, linesAt, finishAt, linesBefore, goodAt, identsDiffer}
-use Rattle.values.specs.rule.Line.{numberAt, cellsOf}
-use Rattle.survey.specs.rule.Width.{plainColumns, widened, fullColumns, linesWidth, widestOf, widthOf}
-use Rattle.survey.specs.rule.Survey.{Variable, linesIn, countedIn, columnsIn, holdsIn, linesAll}
-use Rattle.survey.specs.Good.{Good}
+use Rattle.values.specs.Line.{numberAt, cellsOf}
+use Rattle.measures.specs.Width.{plainColumns, widened, fullColumns, linesWidth, widestOf, widthOf}
+use Rattle.measures.specs.Survey.{Variable, linesIn, countedIn, columnsIn, holdsIn, linesAll}
+use Rattle.measures.specs.Good.{Good}
 use Rattle.built.specs.Same.{max-same, fit-same, differ-same}
 use Rattle.built.specs.Nth.{Nth, further, nth, sum-all, lines-join, ident-new}
 use Rattle.built.specs.Cells.{laid, columns-of, ident-of, value-of, line-of}

@@ -15,15 +15,15 @@ use Rattle.strides.specs.rule.Stride.{numberNew, allDiffer}
 use Rattle.sound.specs.rule.Sound.{countsGood, placesGood, valuesFit, rangeWidth, widthGood, roomGood}
 use Rattle.tokens.specs.declared.Quoted.{Quoted}
 use Rattle.values.specs.declared.Said.{Said}
-use Rattle.values.specs.rule.Line.{numberAt, numbers, cellsOf, lineCells}
-use Rattle.values.specs.rule.Value.{scaledOf}
+use Rattle.values.specs.Line.{numberAt, numbers, cellsOf, lineCells}
+use Rattle.values.specs.Value.{scaledOf}
 use Rattle.variables.specs.declared.Head.{Head}
-use Rattle.survey.specs.rule.Width.{flagOf, plainColumns, widened, fullColumns, linesWidth, widestOf, widthOf}
-use Rattle.survey.specs.rule.Survey.{Variable, countedIn, columnsIn, holdsIn, linesAll, identMet, rowsFrom, allLines, headerFor, tableOf}
-use Rattle.survey.specs.rule.Survey.{highestIn}
+use Rattle.measures.specs.Width.{flagOf, plainColumns, widened, fullColumns, linesWidth, widestOf, widthOf}
+use Rattle.measures.specs.Survey.{Variable, countedIn, columnsIn, holdsIn, linesAll, identMet, rowsFrom, allLines, headerFor, tableOf}
+use Rattle.measures.specs.Survey.{highestIn}
 use Rattle.rows.specs.rule.Cells.{rowCells, headerCells}
-use Rattle.survey.specs.Good.{GoodVariable, Good}
-use Rattle.survey.specs.Good.{none, more}
+use Rattle.measures.specs.Good.{GoodVariable, Good}
+use Rattle.measures.specs.Good.{none, more}
 
 abbrev text : ℕ → Quoted
 text n = record { place = n; length = 3; next = n }

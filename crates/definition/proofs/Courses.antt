@@ -24,27 +24,27 @@ use Rattle.tokens.specs.declared.Reading.the-variants.{At, Refused}
 use Rattle.tokens.specs.declared.Choice.{Choice}
 use Rattle.tokens.specs.declared.Choice.the-variants.{Taken, Left}
 use Rattle.tokens.specs.rule.Gap.{fault}
-use Rattle.tokens.specs.rule.Token.{choiceOf, numberOn}
+use Rattle.tokens.specs.Token.{choiceOf, numberOn}
 use Rattle.statements.specs.rule.Words.{END, VARIABLE}
-use Rattle.statements.specs.rule.Note.{notesOn, statementOn}
+use Rattle.statements.specs.Note.{notesOn, statementOn}
 use Rattle.rows.specs.rule.Cells.{rowCells}
-use Rattle.values.specs.rule.Line.{cellsOf}
-use Rattle.variables.specs.rule.Ident.{wrongIdent, judgeIdent, identOn}
+use Rattle.values.specs.Line.{cellsOf}
+use Rattle.variables.specs.Ident.{wrongIdent, judgeIdent, identOn}
 use Rattle.variables.specs.Ident.{marked}
-use Rattle.survey.specs.rule.Survey.{Variable, linesIn, columnsIn, linesAll, highestIn, identMet, rowsFrom, allLines}
-use Rattle.survey.specs.Good.{Good, GoodVariable}
-use Rattle.survey.specs.Good as good
-use Rattle.survey.proofs.Snoc.{added, length-with, lines-with, highest-with, met-with, rows-with, cells-with, rows-length, lines-length}
-use Rattle.entries.specs.rule.Entry.{Entry, entryOf}
+use Rattle.measures.specs.Survey.{Variable, linesIn, columnsIn, linesAll, highestIn, identMet, rowsFrom, allLines}
+use Rattle.measures.specs.Good.{Good, GoodVariable}
+use Rattle.measures.specs.Good as good
+use Rattle.measures.proofs.Snoc.{added, length-with, lines-with, highest-with, met-with, rows-with, cells-with, rows-length, lines-length}
+use Rattle.entries.specs.Entry.{Entry, entryOf}
 use Rattle.entries.specs.Entry.{Stored}
-use Rattle.entries.specs.rule.Entry as entry
+use Rattle.entries.specs.Entry as entry
 use Rattle.entries.specs.Good.{EntryGood}
 use Rattle.entries.proofs.Goods.{entry-good, entry-left}
 use Rattle.definition.specs.declared.Tally.{Tally}
 use Rattle.definition.specs.declared.Turn.{Turn}
 use Rattle.definition.specs.declared.Turn.the-variants as turn
-use Rattle.definition.specs.rule.Definition.{Variables, Course, course, endOr, entered, variableStep, variablesFrom}
-use Rattle.definition.specs.rule.Definition as variables
+use Rattle.definition.specs.Books.{Variables, Course, course, endOr, entered, variableStep, variablesFrom}
+use Rattle.definition.specs.Books as variables
 use Rattle.definition.specs.Code.{zeros, tallyOf, tallyWith, turnOr, followed, turnAfter, RowStored}
 use Rattle.definition.proofs.Small.{row-ident, row-finish, ident-few}
 use Rattle.built.specs.Nth.{few-rows, few-lines}

@@ -19,19 +19,19 @@ use Rattle.tokens.specs.declared.Reading.{Reading}
 use Rattle.tokens.specs.declared.Reading.the-variants.{At, Refused}
 use Rattle.tokens.specs.declared.Choice.{Choice}
 use Rattle.tokens.specs.declared.Choice.the-variants.{Taken, Left}
-use Rattle.tokens.specs.rule.Token.{choiceOf}
+use Rattle.tokens.specs.Token.{choiceOf}
 use Rattle.statements.specs.rule.Words.{END}
-use Rattle.statements.specs.rule.Note.{notesOn}
+use Rattle.statements.specs.Note.{notesOn}
 use Rattle.rows.specs.rule.Cells.{rowCells}
-use Rattle.values.specs.rule.Line.{cellsOf}
+use Rattle.values.specs.Line.{cellsOf}
 use Rattle.variables.specs.Ident.{marked}
-use Rattle.survey.specs.rule.Survey.{Variable, linesIn, columnsIn, linesAll, highestIn, identMet, rowsFrom, allLines}
-use Rattle.survey.specs.Good.{Good, GoodVariable}
-use Rattle.survey.specs.Good as good
-use Rattle.survey.proofs.Snoc.{added, length-with, lines-with, highest-with, met-with, rows-with, cells-with, rows-length, lines-length}
-use Rattle.entries.specs.rule.Entry.{Entry, entryOf}
+use Rattle.measures.specs.Survey.{Variable, linesIn, columnsIn, linesAll, highestIn, identMet, rowsFrom, allLines}
+use Rattle.measures.specs.Good.{Good, GoodVariable}
+use Rattle.measures.specs.Good as good
+use Rattle.measures.proofs.Snoc.{added, length-with, lines-with, highest-with, met-with, rows-with, cells-with, rows-length, lines-length}
+use Rattle.entries.specs.Entry.{Entry, entryOf}
 use Rattle.entries.specs.Entry.{Stored}
-use Rattle.entries.specs.rule.Entry as entry
+use Rattle.entries.specs.Entry as entry
 use Rattle.entries.specs.Good.{EntryGood}
 use Rattle.entries.proofs.Goods.{entry-good}
 use Rattle.definition.specs.declared.Tally.{Tally}
@@ -39,8 +39,8 @@ use Rattle.definition.specs.declared.Turn.{Turn}
 use Rattle.definition.specs.declared.Turn.the-variants as turn
 use Rattle.definition.specs.declared.Run.{Run}
 use Rattle.definition.specs.declared.Run.the-variants as run
-use Rattle.definition.specs.rule.Definition.{Variables, Course, course, endOr, entered, variableStep, variablesFrom}
-use Rattle.definition.specs.rule.Definition as variables
+use Rattle.definition.specs.Books.{Variables, Course, course, endOr, entered, variableStep, variablesFrom}
+use Rattle.definition.specs.Books as variables
 use Rattle.definition.specs.Code.{zeros, tallyOf, tallyWith, turnOr, followed, turnAfter, RowStored, runOf, Laid}
 use Rattle.definition.proofs.Small.{row-ident, row-finish, ident-few}
 use Rattle.definition.proofs.Courses.{next-entry, entry-same, from-again, from-done}

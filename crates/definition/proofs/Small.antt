@@ -18,9 +18,9 @@ use Rattle.layout.specs.declared.Kind.the-variants.{Single, Multiple, Quantity,
 use Rattle.layout.specs.declared.Spread.the-variants.{Bits, Fields}
 use Rattle.sound.specs.rule.Sound.{identGood, positionGood, subfieldsGood, textsGood, countsGood, placesGood, roomGood}
 use Rattle.rows.specs.Cells.{SmallRow}
-use Rattle.survey.specs.rule.Width.{fullColumns, widened, plainColumns}
-use Rattle.survey.specs.rule.Survey.{Variable, countedIn, columnsIn, holdsIn}
-use Rattle.survey.specs.Good.{GoodVariable}
+use Rattle.measures.specs.Width.{fullColumns, widened, plainColumns}
+use Rattle.measures.specs.Survey.{Variable, countedIn, columnsIn, holdsIn}
+use Rattle.measures.specs.Good.{GoodVariable}
 
 module _ (c : Columns) where
   -- only a MULTIPLE has subfields

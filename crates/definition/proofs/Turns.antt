@@ -13,12 +13,12 @@ use Rattle.rows.specs.rule.Cells.{rowCells}
 use Rattle.rows.specs.Cells.{SmallRow}
 use Rattle.tokens.specs.declared.Fault.{Fault}
 use Rattle.tokens.specs.declared.Reading.{Reading}
-use Rattle.survey.specs.rule.Survey.{Variable, linesIn, columnsIn}
+use Rattle.measures.specs.Survey.{Variable, linesIn, columnsIn}
 use Rattle.entries.specs.declared.Stood.{Stood}
 use Rattle.entries.specs.declared.Stood.the-variants as stood
-use Rattle.entries.specs.rule.Entry.{Entry, entryOf}
+use Rattle.entries.specs.Entry.{Entry, entryOf}
 use Rattle.entries.specs.Entry.{stoodOf}
-use Rattle.entries.specs.rule.Entry as entry
+use Rattle.entries.specs.Entry as entry
 use Rattle.entries.specs.Good.{EntryGood}
 use Rattle.entries.proofs.Goods.{entry-good}
 use Rattle.definition.specs.declared.Tally.{Tally}

@@ -20,16 +20,16 @@ use Rattle.tokens.specs.declared.Reading.{Reading}
 use Rattle.tokens.specs.declared.Reading.the-variants.{At, Refused}
 use Rattle.tokens.specs.declared.Choice.{Choice}
 use Rattle.tokens.specs.declared.Choice.the-variants.{Taken, Left}
-use Rattle.tokens.specs.rule.Token.{choiceOf}
+use Rattle.tokens.specs.Token.{choiceOf}
 use Rattle.statements.specs.rule.Words.{END}
-use Rattle.statements.specs.rule.Note.{notesOn}
+use Rattle.statements.specs.Note.{notesOn}
 use Rattle.names.specs.rule.Standard.{nameAt, nameFault}
-use Rattle.survey.specs.rule.Survey.{Variable, linesIn, columnsIn, linesAll, highestIn, rowsFrom, allLines}
-use Rattle.survey.specs.Good.{Good}
-use Rattle.entries.specs.rule.Entry.{Entry}
-use Rattle.entries.specs.rule.Entry as entry
-use Rattle.definition.specs.rule.Definition.{Variables, Outcome, Refusal, named, answerOf, tableAfter}
-use Rattle.definition.specs.rule.Definition as variables
+use Rattle.measures.specs.Survey.{Variable, linesIn, columnsIn, linesAll, highestIn, rowsFrom, allLines}
+use Rattle.measures.specs.Good.{Good}
+use Rattle.entries.specs.Entry.{Entry}
+use Rattle.entries.specs.Entry as entry
+use Rattle.definition.specs.Books.{Variables, Outcome, Refusal, named, answerIn, tableIn}
+use Rattle.definition.specs.Books as variables
 use Rattle.definition.specs.declared.Tally.{Tally}
 use Rattle.definition.specs.declared.Turn.{Turn}
 use Rattle.definition.specs.declared.Turn.the-variants as turn
@@ -118,5 +118,5 @@ fillLeaves y rows lines t = cond (ltb (length t) (lineBase (y .rows) (y .lines))
 
 -- the outcome is that of the variables which the rooms hold
 pub record Settled (d : List ℕ) (standard : Bool) (y : Tally) (rows lines t end : List ℤ) (r : Answer) : Type 0 where
-  pub says : (l : List Variable) → Held l y rows lines → r ≡ answerOf (named d (length t) standard l)
-  pub leaves : (l : List Variable) → Held l y rows lines → end ≡ tableAfter (named d (length t) standard l) t
+  pub says : (l : List Variable) → Held l y rows lines → r ≡ answerIn (named d (length t) standard l)
+  pub leaves : (l : List Variable) → Held l y rows lines → end ≡ tableIn (named d (length t) standard l) t

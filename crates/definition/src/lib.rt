@@ -18,10 +18,10 @@ ghost use Rattle.cells.specs.rule.Cell.{cell, countOf};
 ghost use Rattle.layout.specs.rule.Layout.{rowSize, lineSize, lineBase, mostRows, mostLines};
 ghost use Rattle.rows.specs.Cells.{nameColumn};
 ghost use Rattle.variables.specs.Ident.{marked};
-ghost use Rattle.entries.specs.rule.Entry.{entryOf};
+ghost use Rattle.entries.specs.Entry.{entryOf};
 ghost use Rattle.entries.specs.Entry.{Stored};
-ghost use Rattle.definition.specs.rule.Definition.{course, variablesFrom, endsOn, judged, surveyOf, answerOf};
-ghost use Rattle.definition.specs.rule.Definition.{tableAfter, DefinitionRead};
+ghost use Rattle.definition.specs.rule.Definition.{DefinitionRead};
+ghost use Rattle.definition.specs.Books.{course, variablesFrom, endsOn, judged, surveyOf, answerIn, tableIn};
 ghost use Rattle.definition.specs.Code.{zeros, tallyWith, followed, turnAfter, RowStored, runOf, Laid, NamesJudged, laidOver, fillSays, fillLeaves, Settled};
 
 // Room for the most rows, and for the most lines.
@@ -308,8 +308,8 @@ fn read_in(
     requires { ⌜ length (now d) ≤ 1048576 ⌝ }
     requires { ⌜ (length (now rows) ≡ rowSize * mostRows) × (length (now lines) ≡ lineSize * mostLines) × (length (now marks) ≡ 16384) ⌝ }
     requires { ⌜ now seen ≡ zeros 10000 ⌝ }
-    ensures { λ r. ⌜ r ≡ answerOf (judged (now (d .entry)) (length (now (table .entry))) (surveyOf (now (d .entry)))) ⌝ }
-    ensures { λ r. ⌜ now (table .exit) ≡ tableAfter (judged (now (d .entry)) (length (now (table .entry))) (surveyOf (now (d .entry)))) (now (table .entry)) ⌝ }
+    ensures { λ r. ⌜ r ≡ answerIn (judged (now (d .entry)) (length (now (table .entry))) (surveyOf (now (d .entry)))) ⌝ }
+    ensures { λ r. ⌜ now (table .exit) ≡ tableIn (judged (now (d .entry)) (length (now (table .entry))) (surveyOf (now (d .entry)))) (now (table .entry)) ⌝ }
 {
     let front = heading::read_front(classes, d);
     let h = front.heading;

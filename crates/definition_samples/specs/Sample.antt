@@ -10,9 +10,11 @@ use borrow.Author.Tests.{lt-ltb, le-ltb}
 use Rattle.layout.specs.declared.Columns.{Columns}
 use Rattle.layout.specs.declared.Header.{Header}
 use Rattle.rows.specs.rule.Cells.{rowCells, headerCells}
-use Rattle.survey.specs.rule.Survey.{Variable, tableOf}
+use Rattle.survey.specs.rule.Survey.{Variable}
+use Rattle.survey.specs.rule.Table.{tableOf}
 use Rattle.definition.specs.declared.Answer.the-variants as answer
-use Rattle.definition.specs.rule.Definition.{Read, Whole, Faulty, surveyOf, Built, Refusal, outcomeOf, answerOf, tableAfter}
+use Rattle.definition.specs.Books.{Read, Whole, Faulty, surveyOf}
+use Rattle.definition.specs.rule.Definition.{Built, Refusal, outcomeOf, answerOf, tableAfter}
 use Rattle.definition_samples.specs.Bytes.{bytes}
 use Rattle.definition_samples.specs.Definitions.{definitions}
 

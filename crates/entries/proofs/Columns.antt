@@ -23,14 +23,14 @@ use Rattle.widths.specs.rule.Width.{fitsKind, lowest, highest}
 use Rattle.widths.specs.Width.{decimalsOf, FewDecimals}
 use Rattle.sound.specs.rule.Sound.{rangeGood, valuesFit}
 use Rattle.sound.specs.Block.{Subfielded}
-use Rattle.values.specs.rule.Line.{numberAt, cellsOf}
+use Rattle.values.specs.Line.{numberAt, cellsOf}
 use Rattle.values.specs.Good.{Limited}
 use Rattle.values.proofs.Rooms.{room-number, length-pasted, cells-length}
 use Rattle.variables.specs.declared.Head.{Head}
-use Rattle.variables.specs.rule.Rest.{Telling}
-use Rattle.survey.specs.rule.Width.{flagOf, plainColumns}
-use Rattle.survey.specs.Width.{numberIn, Ready, Measurable}
-use Rattle.survey.specs.rule.Survey.{countedIn}
+use Rattle.variables.specs.Rest.{Telling}
+use Rattle.measures.specs.Width.{flagOf, plainColumns}
+use Rattle.measures.specs.Width.{numberIn, Ready, Measurable}
+use Rattle.measures.specs.Survey.{countedIn}
 use Rattle.entries.specs.Entry.{GoodHead}
 use Rattle.entries.specs.Good.{GoodTelling}
 

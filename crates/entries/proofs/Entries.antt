@@ -17,33 +17,32 @@ use Rattle.tokens.specs.declared.Fault.{Fault}
 use Rattle.tokens.specs.declared.Reading.{Reading}
 use Rattle.tokens.specs.declared.Reading.the-variants.{At, Refused}
 use Rattle.tokens.specs.rule.Gap.{fault}
-use Rattle.values.specs.rule.Line.{numberAt, cellsOf}
+use Rattle.values.specs.Line.{numberAt, cellsOf}
 use Rattle.variables.specs.declared.Head.{Head}
 use Rattle.cells.specs.rule.Cell.{pasted}
 use Rattle.values.proofs.Goods.{values-good}
 use Rattle.variables.specs.declared.Rest.{Rest}
 use Rattle.variables.specs.declared.Rested.{Rested}
 use Rattle.variables.specs.declared.Rested.the-variants as rested
-use Rattle.variables.specs.rule.Rest.{Telling, Told, restOf}
+use Rattle.variables.specs.Rest.{Telling, Told, restOf}
 use Rattle.variables.specs.Rest.{restedOf}
-use Rattle.variables.specs.rule.Rest as told
-use Rattle.variables.specs.Rest as kept
+use Rattle.variables.specs.Rest as told
 use Rattle.tokens.specs.declared.Number.{Number}
 use Rattle.variables.specs.declared.Headed.{Headed}
 use Rattle.variables.specs.declared.Headed.the-variants as headed
-use Rattle.variables.specs.rule.Ident.{identOn}
-use Rattle.variables.specs.rule.Head.{headOn}
+use Rattle.variables.specs.Ident.{identOn}
+use Rattle.variables.specs.Head.{headOn}
 use Rattle.entries.proofs.Heads.{none, head-good}
 use Rattle.entries.proofs.Tellings.{rest-good}
-use Rattle.survey.specs.declared.Measured.the-variants as measure
-use Rattle.survey.specs.rule.Width.{plainColumns, linesWidth, widestOf, widthOf, widened, fullColumns}
-use Rattle.survey.specs.Width.{numberIn, Measurable, measured}
-use Rattle.survey.specs.rule.Survey.{Variable, countedIn, columnsIn, holdsIn, linesIn}
+use Rattle.measures.specs.declared.Measured.the-variants as measure
+use Rattle.measures.specs.Width.{plainColumns, linesWidth, widestOf, widthOf, widened, fullColumns}
+use Rattle.measures.specs.Width.{numberIn, Measurable, measured}
+use Rattle.measures.specs.Survey.{Variable, countedIn, columnsIn, holdsIn, linesIn}
 use Rattle.entries.specs.declared.Stood.{Stood}
 use Rattle.entries.specs.declared.Stood.the-variants as stood
-use Rattle.entries.specs.rule.Entry.{Entry, variable, endVariable, toldThen, ended, heldBy, restThen, entryOf}
+use Rattle.entries.specs.Entry.{Entry, variable, endVariable, toldThen, ended, heldBy, restThen, entryOf}
 use Rattle.entries.specs.Entry.{GoodHead, stoodOf, Stored, measuredAt, settledBy}
-use Rattle.entries.specs.rule.Entry as entry
+use Rattle.entries.specs.Entry as entry
 use Rattle.entries.specs.Good.{GoodTelling}
 use Rattle.entries.proofs.Columns.{filled, in-room, measurable}
 
@@ -101,7 +100,7 @@ module _ (d : List ℕ) (h : Head) (before : ℕ) where
     pub good : GoodTelling (h .kind) before telling
 
   module _ (long : length d ≤ 1048576) (few : before ≤ 4096) (g : GoodHead h) (room after : List ℤ) (wide : length room ≡ 16384) where
-    pub known : (q : Rested) (r : Rest) → q ≡ restedOf before told-of → kept.Stored before told-of room after → q ≡ rested.Is r → Known room after r
+    pub known : (q : Rested) (r : Rest) → q ≡ restedOf before told-of → told.Stored before told-of room after → q ≡ rested.Is r → Known room after r
     unfolding restedOf countedIn
     known q r e s i = by told-of refl where
       by : (t : Told) → told-of ≡ t → Known room after r

@@ -27,23 +27,23 @@ use Rattle.tokens.specs.declared.Number.{Number}
 use Rattle.tokens.specs.declared.Number.the-variants as number
 use Rattle.tokens.specs.rule.Gap.{fault}
 use Rattle.values.specs.declared.Said.{Said}
-use Rattle.values.specs.rule.Line.{numberAt, lineCells, cellsOf}
+use Rattle.values.specs.Line.{numberAt, lineCells, cellsOf}
 use Rattle.values.specs.Good.{EachGood}
 use Rattle.values.specs.Good as each
 use Rattle.values.proofs.Goods.{values-good}
 use Rattle.variables.specs.declared.Head.{Head}
 use Rattle.variables.specs.declared.Headed.{Headed}
 use Rattle.variables.specs.declared.Headed.the-variants as headed
-use Rattle.variables.specs.rule.Ident.{wrongIdent, judgeIdent, identOn}
-use Rattle.variables.specs.rule.Head.{headOn}
-use Rattle.variables.specs.rule.Rest.{Telling, Told, restOf}
-use Rattle.variables.specs.rule.Rest as told
-use Rattle.survey.specs.rule.Width.{flagOf, plainColumns, widestOf, widthOf, widened, fullColumns}
-use Rattle.survey.specs.rule.Survey.{Variable, countedIn, columnsIn, holdsIn}
-use Rattle.survey.specs.Good.{GoodVariable}
+use Rattle.variables.specs.Ident.{wrongIdent, judgeIdent, identOn}
+use Rattle.variables.specs.Head.{headOn}
+use Rattle.variables.specs.Rest.{Telling, Told, restOf}
+use Rattle.variables.specs.Rest as told
+use Rattle.measures.specs.Width.{flagOf, plainColumns, widestOf, widthOf, widened, fullColumns}
+use Rattle.measures.specs.Survey.{Variable, countedIn, columnsIn, holdsIn}
+use Rattle.measures.specs.Good.{GoodVariable}
 use Rattle.entries.specs.Entry.{GoodHead}
-use Rattle.entries.specs.rule.Entry.{variable, endVariable, toldThen, ended, heldBy, restThen, headThen, entryOf}
-use Rattle.entries.specs.rule.Entry as entry
+use Rattle.entries.specs.Entry.{variable, endVariable, toldThen, ended, heldBy, restThen, headThen, entryOf}
+use Rattle.entries.specs.Entry as entry
 use Rattle.entries.specs.Good.{GoodTelling, EntryGood}
 use Rattle.entries.proofs.Heads.{none, head-good}
 use Rattle.entries.proofs.Heads as heads

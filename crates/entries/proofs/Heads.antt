@@ -8,7 +8,8 @@ use borrow.Author.Tests.{eqb-true, eqb-false, ltb-true, ltb-false, leb-true, leb
 use lib.Dec.{eqb, ltb, leb}
 use lib.ListN.{length}
 use Rattle.scan.specs.rule.Text.{text}
-use Rattle.scan.specs.rule.Number.{isDigit, capped, digitsFrom}
+use Rattle.scan.specs.rule.Number.{isDigit}
+use Rattle.scan.specs.Number.{capped, digitsFrom}
 use Rattle.scan.specs.declared.Digits.{Digits}
 use Rattle.scan.proofs.Runs.{low, digits-held}
 use Rattle.scan.proofs.Orders.{run-value}
@@ -20,16 +21,17 @@ use Rattle.tokens.specs.declared.Choice.the-variants.{Taken, Left}
 use Rattle.tokens.specs.declared.Figures.{Figures}
 use Rattle.tokens.specs.declared.Number.{Number}
 use Rattle.tokens.specs.declared.Number.the-variants as number
-use Rattle.tokens.specs.rule.Gap.{fault, gapOn}
+use Rattle.tokens.specs.rule.Gap.{fault}
+use Rattle.tokens.specs.Gap.{gapOn}
 use Rattle.statements.specs.declared.Typed.{Typed}
 use Rattle.statements.specs.declared.Typed.the-variants as typed
 use Rattle.statements.specs.rule.Words.{SINGLE, MULTIPLE, QUANTITY, CHARACTER, LOGICAL, POSITION, TO}
-use Rattle.statements.specs.rule.Kinds.{or, last, typeHere, typeOn}
-use Rattle.tokens.specs.rule.Token.{choiceOf, wordHere, ofDigits, numberHere, numberOn, pastNumber, stringOn}
+use Rattle.statements.specs.Kinds.{or, last, typeHere, typeOn}
+use Rattle.tokens.specs.Token.{choiceOf, wordHere, ofDigits, numberHere, numberOn, pastNumber, stringOn}
 use Rattle.statements.specs.declared.Position.{Position}
 use Rattle.statements.specs.declared.Stated.{Stated}
 use Rattle.statements.specs.declared.Stated.the-variants as stated
-use Rattle.statements.specs.rule.Note.{statementOn, textOn}
+use Rattle.statements.specs.Note.{statementOn, textOn}
 use Rattle.tokens.specs.declared.Quoted.{Quoted}
 use Rattle.tokens.specs.declared.Phrase.{Phrase}
 use Rattle.tokens.specs.declared.Phrase.the-variants as phrase
@@ -37,8 +39,8 @@ use Rattle.tokens.proofs.Aheads.{quoted-within}
 use Rattle.variables.specs.declared.Head.{Head}
 use Rattle.variables.specs.declared.Headed.{Headed}
 use Rattle.variables.specs.declared.Headed.the-variants as headed
-use Rattle.variables.specs.rule.Head.{joinTitles, joinHead, headOn}
-use Rattle.statements.specs.rule.Position.{trueOf, judgePosition, bothOf, positionRest, positionOn}
+use Rattle.variables.specs.Head.{joinTitles, joinHead, headOn}
+use Rattle.statements.specs.Position.{trueOf, judgePosition, bothOf, positionRest, positionOn}
 
 -- an equation between two different cases
 pub none : {A : Type 0} → _≡_ {A = ℕ} 0 1 → A

@@ -16,24 +16,24 @@ use Rattle.tokens.specs.declared.Choice.the-variants.{Taken, Left}
 use Rattle.tokens.specs.declared.Figures.{Figures}
 use Rattle.tokens.specs.declared.Number.{Number}
 use Rattle.tokens.specs.declared.Number.the-variants as number
-use Rattle.tokens.specs.rule.Token.{choiceOf}
+use Rattle.tokens.specs.Token.{choiceOf}
 use Rattle.statements.specs.declared.Subfields.{Subfields}
 use Rattle.statements.specs.declared.Spreading.{Spreading}
 use Rattle.statements.specs.declared.Spreading.the-variants as spreading
 use Rattle.statements.specs.rule.Words.{SPREAD}
-use Rattle.statements.specs.rule.Note.{notesOn}
-use Rattle.statements.specs.rule.Spread.{spreadRest}
-use Rattle.statements.specs.rule.Size.{sizeOn}
+use Rattle.statements.specs.Note.{notesOn}
+use Rattle.statements.specs.Spread.{spreadRest}
+use Rattle.statements.specs.Size.{sizeOn}
 use Rattle.values.specs.declared.Block.{Block}
 use Rattle.values.specs.declared.Said.{Said}
-use Rattle.values.specs.rule.Line.{Given}
-use Rattle.values.specs.rule.Line as given
-use Rattle.values.specs.rule.Block.{emptyBlock, valuesOn}
+use Rattle.values.specs.Line.{Given}
+use Rattle.values.specs.Line as given
+use Rattle.values.specs.Block.{emptyBlock, valuesOn}
 use Rattle.values.specs.Good.{GoodBlock, GoodLines, GoodValues, EachGood}
 use Rattle.values.specs.Good as good
-use Rattle.variables.specs.rule.Rest.{Telling, Told, joinValues, valuesRest, joinSize, joinNothing, spreadOr, optional, spreadThen}
-use Rattle.variables.specs.rule.Rest.{restOf}
-use Rattle.variables.specs.rule.Rest as told
+use Rattle.variables.specs.Rest.{Telling, Told, joinValues, valuesRest, joinSize, joinNothing, spreadOr, optional, spreadThen}
+use Rattle.variables.specs.Rest.{restOf}
+use Rattle.variables.specs.Rest as told
 use Rattle.entries.specs.Good.{GoodTelling}
 use Rattle.entries.proofs.Heads.{none}
 use Rattle.entries.proofs.Spreads.{GoodSpread, spread-good, size-good}

@@ -7,9 +7,9 @@ use lib.Dec.{eqb}
 use lib.ListN.{length}
 use Rattle.layout.specs.rule.Layout.{mostRows}
 use Rattle.values.specs.Good.{GoodBlock, GoodLines}
-use Rattle.variables.specs.rule.Rest.{Telling}
-use Rattle.survey.specs.rule.Survey.{Variable}
-use Rattle.survey.specs.Good.{GoodVariable}
+use Rattle.variables.specs.Rest.{Telling}
+use Rattle.measures.specs.Survey.{Variable}
+use Rattle.measures.specs.Good.{GoodVariable}
 
 -- of a variable of a type, before whose lines `first` others stand
 pub record GoodTelling (kind first : ℕ) (x : Telling) : Type 0 where

@@ -1,3 +1,2 @@
-pub mod rule
 pub mod Entry
 pub mod Good

@@ -13,18 +13,18 @@ use Rattle.tokens.specs.declared.Reading.the-variants.{At, Refused}
 use Rattle.tokens.specs.declared.Choice.{Choice}
 use Rattle.tokens.specs.declared.Choice.the-variants.{Taken, Left}
 use Rattle.tokens.specs.declared.Quoted.{Quoted}
-use Rattle.tokens.specs.rule.Gap.{left, gapOn}
-use Rattle.tokens.specs.rule.Token.{choiceOf, wordOn, stringOn, pastString}
+use Rattle.tokens.specs.Gap.{left, gapOn}
+use Rattle.tokens.specs.Token.{choiceOf, wordOn, stringOn, pastString}
 use Rattle.tokens.proofs.Aheads.{taken-less, string-left, word-left}
 use Rattle.statements.specs.rule.Words.{DATE, TIME, ORIGIN, USER, STANDARD, NAMES}
-use Rattle.statements.specs.rule.Note.{notesOn}
+use Rattle.statements.specs.Note.{notesOn}
 use Rattle.statements.proofs.Notes.{notes-left}
 use Rattle.heading.specs.declared.Heading.{Heading}
 use Rattle.heading.specs.declared.Entered.{Entered}
 use Rattle.heading.specs.declared.Entry.{Entry}
 use Rattle.heading.specs.declared.Entry.the-variants.{Text, Standard, Other}
-use Rattle.heading.specs.rule.Heading.{or, last, entryOf, again, onceOf, textAt, textEntry, named, nameEntry, noHeading, entered}
-use Rattle.heading.specs.rule.Heading.{entryStep, entriesFrom}
+use Rattle.heading.specs.Heading.{or, last, entryOf, again, onceOf, textAt, textEntry, named, nameEntry, noHeading, entered}
+use Rattle.heading.specs.Heading.{entryStep, entriesFrom}
 
 -- where a word was taken
 data Takes (d : List ℕ) (t : Reading) : Entry → Type 0 where

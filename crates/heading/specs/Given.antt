@@ -12,7 +12,7 @@ use Rattle.tokens.specs.declared.Quoted.{Quoted}
 use Rattle.tokens.specs.declared.Phrase.the-variants.{Is}
 use Rattle.heading.specs.declared.Heading.{Heading}
 use Rattle.heading.specs.declared.Entered.{Entered}
-use Rattle.heading.specs.rule.Heading.{textAt, withText, onceOf, named, noHeading, entered}
+use Rattle.heading.specs.Heading.{textAt, withText, onceOf, named, noHeading, entered}
 
 -- statement k was given
 unfoldable pub given : ℕ → List ℕ → Bool

@@ -9,17 +9,17 @@ use Rattle.tokens.specs.declared.Reading.the-variants.{At, Refused}
 use Rattle.tokens.specs.declared.Choice.{Choice}
 use Rattle.tokens.specs.declared.Choice.the-variants.{Taken, Left}
 use Rattle.tokens.specs.declared.Quoted.{Quoted}
-use Rattle.tokens.specs.rule.Gap.{left}
-use Rattle.tokens.specs.rule.Token.{choiceOf, wordHere, wordOn, stringOn, pastString}
+use Rattle.tokens.specs.Gap.{left}
+use Rattle.tokens.specs.Token.{choiceOf, wordHere, wordOn, stringOn, pastString}
 use Rattle.statements.specs.rule.Words.{DATE, TIME, ORIGIN, USER, STANDARD, NAMES, SURVEY, TITLE}
-use Rattle.statements.specs.rule.Opening.{openingOf}
-use Rattle.statements.specs.rule.Note.{notesOn}
+use Rattle.statements.specs.Opening.{openingOf}
+use Rattle.statements.specs.Note.{notesOn}
 use Rattle.heading.specs.declared.Heading.{Heading}
 use Rattle.heading.specs.declared.Entered.{Entered}
 use Rattle.heading.specs.declared.Entry.{Entry}
 use Rattle.heading.specs.declared.Entry.the-variants as entry
-use Rattle.heading.specs.rule.Heading.{or, last, entryOf, again, textAt, onceOf, textEntry, nameEntry, noHeading, entered, entryStep}
-use Rattle.heading.specs.rule.Heading.{entriesFrom, entriesOn, titleOr, frontOf, frontOn}
+use Rattle.heading.specs.Heading.{or, last, entryOf, again, textAt, onceOf, textEntry, nameEntry, noHeading, entered, entryStep}
+use Rattle.heading.specs.Heading.{entriesFrom, entriesOn, titleOr, frontOf, frontOn}
 use Rattle.refusals.specs.Loops.{Onward, loop-keeps}
 use Rattle.refusals.specs.Scanned.{either}
 use Rattle.refusals.specs.Tokens.{Stands, word-here, word-on, ChoiceStands, choice-of, PhraseStands, string-on, past-string}

@@ -16,8 +16,8 @@ use Rattle.tokens.specs.declared.Choice.the-variants.{Taken, Left}
 use Rattle.tokens.specs.declared.Figures.{Figures}
 use Rattle.tokens.specs.declared.Number.{Number}
 use Rattle.tokens.specs.declared.Number.the-variants as number
-use Rattle.tokens.specs.rule.Gap.{then, gapOn, spacesOn, left}
-use Rattle.tokens.specs.rule.Token.{wordHere, choiceOf, numberOn, pastNumber, stringOn, pastString}
+use Rattle.tokens.specs.Gap.{then, gapOn, spacesOn, left}
+use Rattle.tokens.specs.Token.{wordHere, choiceOf, numberOn, pastNumber, stringOn, pastString}
 use Rattle.statements.specs.declared.Typed.{Typed}
 use Rattle.statements.specs.declared.Typed.the-variants as typed
 use Rattle.statements.specs.declared.Stated.{Stated}
@@ -26,12 +26,12 @@ use Rattle.statements.specs.declared.Spreading.{Spreading}
 use Rattle.statements.specs.declared.Spreading.the-variants as spreading
 use Rattle.statements.specs.rule.Words.{SSS, VERSION, ONE-ONE, RECORD, NOTE, TYPE, SINGLE, MULTIPLE, QUANTITY, CHARACTER, LOGICAL}
 use Rattle.statements.specs.rule.Words.{POSITION, TO, OF, SIZE}
-use Rattle.statements.specs.rule.Note.{pastNote, noteStep, notesHere, notesOn, statementOn, textOn}
-use Rattle.statements.specs.rule.Opening.{whole, versionHere, openingOf, recordOn}
-use Rattle.statements.specs.rule.Kinds.{or, last, typeHere, typeOn}
-use Rattle.statements.specs.rule.Position.{trueOf, judgePosition, bothOf, positionRest, positionOn}
-use Rattle.statements.specs.rule.Spread.{judgeOf, judgeEven, fieldsOf, evenOf, rest, spreadRest}
-use Rattle.statements.specs.rule.Size.{judgeSize, sizeOn}
+use Rattle.statements.specs.Note.{pastNote, noteStep, notesHere, notesOn, statementOn, textOn}
+use Rattle.statements.specs.Opening.{whole, versionHere, openingOf, recordOn}
+use Rattle.statements.specs.Kinds.{or, last, typeHere, typeOn}
+use Rattle.statements.specs.Position.{trueOf, judgePosition, bothOf, positionRest, positionOn}
+use Rattle.statements.specs.Spread.{judgeOf, judgeEven, fieldsOf, evenOf, rest, spreadRest}
+use Rattle.statements.specs.Size.{judgeSize, sizeOn}
 use Rattle.refusals.specs.Loops.{Onward, loop-keeps}
 use Rattle.refusals.specs.Scanned.{either, text-within, place-within}
 use Rattle.refusals.specs.Tokens.{Met, Stands, gap-on, run-on, spaces-on, word-here, ChoiceStands, choice-of}

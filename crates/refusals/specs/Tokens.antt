@@ -7,7 +7,8 @@ use lib.Dec.{eqb}
 use lib.ListN.{length}
 use Rattle.ascii.specs.rule.Class.{classOf}
 use Rattle.scan.specs.rule.Text.{Text, stop, sign, text}
-use Rattle.scan.specs.rule.Number.{isSpace, isDigit, isValue, runOf, digitsFrom}
+use Rattle.scan.specs.rule.Number.{isSpace, isDigit, isValue, runOf}
+use Rattle.scan.specs.Number.{digitsFrom}
 use Rattle.scan.specs.rule.Word.{wordAt}
 use Rattle.scan.specs.rule.Loop.{Next}
 use Rattle.scan.specs.declared.Word.{Word}
@@ -30,10 +31,11 @@ use Rattle.tokens.specs.declared.Amount.{Amount}
 use Rattle.tokens.specs.declared.Amount.the-variants as amount
 use Rattle.tokens.specs.declared.Phrase.{Phrase}
 use Rattle.tokens.specs.declared.Phrase.the-variants as phrase
-use Rattle.tokens.specs.rule.Gap.{gapSkip, gapStep, gapAt, then, gapOn, spacesOn}
-use Rattle.tokens.specs.rule.Token.{ofWord, wordHere, wordOn, ofChoice, choiceOf, ofDigits, numberHere, numberOn, pastNumber}
-use Rattle.tokens.specs.rule.Token.{markOf, valueAt, ofValue, valueHere, valueOn, pastValue}
-use Rattle.tokens.specs.rule.Token.{ofSkip, stringIn, phraseOn, stringOn, pastString, letterIn, letterOn}
+use Rattle.tokens.specs.rule.Gap.{gapSkip, gapStep, gapAt}
+use Rattle.tokens.specs.Gap.{then, gapOn, spacesOn}
+use Rattle.tokens.specs.Token.{ofWord, wordHere, wordOn, ofChoice, choiceOf, ofDigits, numberHere, numberOn, pastNumber}
+use Rattle.tokens.specs.Token.{markOf, valueAt, ofValue, valueHere, valueOn, pastValue}
+use Rattle.tokens.specs.Token.{ofSkip, stringIn, phraseOn, stringOn, pastString, letterIn, letterOn}
 use Rattle.refusals.specs.Loops.{Onward, loop-keeps}
 use Rattle.refusals.specs.Scanned.{either, Within, text-within, place-within, run-within, WordWithin, word-at}
 use Rattle.refusals.specs.Scanned.{SkipWithin, string-within, comment-within}

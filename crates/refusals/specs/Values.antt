@@ -18,10 +18,11 @@ use Rattle.tokens.specs.declared.Amount.{Amount}
 use Rattle.tokens.specs.declared.Amount.the-variants as amount
 use Rattle.tokens.specs.declared.Phrase.{Phrase}
 use Rattle.tokens.specs.declared.Phrase.the-variants as phrase
-use Rattle.tokens.specs.rule.Gap.{fault, gapOn}
-use Rattle.tokens.specs.rule.Token.{choiceOf, wordHere, wordOn, valueHere, valueOn, pastValue, stringOn, pastString}
+use Rattle.tokens.specs.rule.Gap.{fault}
+use Rattle.tokens.specs.Gap.{gapOn}
+use Rattle.tokens.specs.Token.{choiceOf, wordHere, wordOn, valueHere, valueOn, pastValue, stringOn, pastString}
 use Rattle.statements.specs.rule.Words.{VALUES, TO, END, WITH, SPECIAL}
-use Rattle.statements.specs.rule.Note.{notesOn, statementOn}
+use Rattle.statements.specs.Note.{notesOn, statementOn}
 use Rattle.values.specs.declared.Block.{Block}
 use Rattle.values.specs.declared.Said.{Said}
 use Rattle.values.specs.declared.Judged.{Judged}
@@ -34,11 +35,11 @@ use Rattle.values.specs.declared.Verdict.{Verdict}
 use Rattle.values.specs.declared.Verdict.the-variants.{Good, Bad}
 use Rattle.values.specs.declared.Turn.{Turn}
 use Rattle.values.specs.declared.Turn.the-variants as turn
-use Rattle.values.specs.rule.Value.{formOf, largeOf, trueOf, scaledOf}
-use Rattle.values.specs.rule.Range.{limitRange, judgeRange, settled, rangedOf, withOr, rangeRest}
-use Rattle.values.specs.rule.Line.{saidOf, specialOr, lineRest, numberAt, repeatedIn, lineFault, judgeLine, grownBy, endOf, endOr, moreOf}
-use Rattle.values.specs.rule.Line.{Given, Is, Not, Listing, stateOf, after, judgedStep, readStep, lineStep, linesFrom}
-use Rattle.values.specs.rule.Block.{emptyBlock, closedBy, rangeThen, toOr, valuesOn}
+use Rattle.values.specs.Value.{formOf, largeOf, trueOf, scaledOf}
+use Rattle.values.specs.Range.{limitRange, judgeRange, settled, rangedOf, withOr, rangeRest}
+use Rattle.values.specs.Line.{saidOf, specialOr, lineRest, numberAt, repeatedIn, lineFault, judgeLine, grownBy, endOf, endOr, moreOf}
+use Rattle.values.specs.Line.{Given, Is, Not, Listing, stateOf, after, judgedStep, readStep, lineStep, linesFrom}
+use Rattle.values.specs.Block.{emptyBlock, closedBy, rangeThen, toOr, valuesOn}
 use Rattle.refusals.specs.Loops.{Onward, loop-keeps}
 use Rattle.refusals.specs.Scanned.{either}
 use Rattle.refusals.specs.Tokens.{Met, Stands, gap-on, word-here, word-on, ChoiceStands, choice-of, ValueStands, AmountStands}

@@ -16,7 +16,7 @@ use Rattle.tokens.specs.declared.Number.the-variants as number
 use Rattle.tokens.specs.declared.Phrase.{Phrase}
 use Rattle.tokens.specs.declared.Phrase.the-variants as phrase
 use Rattle.tokens.specs.rule.Gap.{fault}
-use Rattle.tokens.specs.rule.Token.{choiceOf, numberOn, pastNumber, pastString}
+use Rattle.tokens.specs.Token.{choiceOf, numberOn, pastNumber, pastString}
 use Rattle.statements.specs.declared.Typed.{Typed}
 use Rattle.statements.specs.declared.Typed.the-variants as typed
 use Rattle.statements.specs.declared.Stated.{Stated}
@@ -24,25 +24,25 @@ use Rattle.statements.specs.declared.Stated.the-variants as stated
 use Rattle.statements.specs.declared.Spreading.{Spreading}
 use Rattle.statements.specs.declared.Spreading.the-variants as spreading
 use Rattle.statements.specs.rule.Words.{VARIABLE, NAME, LABEL, SPREAD, END}
-use Rattle.statements.specs.rule.Note.{notesOn, statementOn, textOn}
-use Rattle.statements.specs.rule.Kinds.{typeOn}
-use Rattle.statements.specs.rule.Position.{positionOn}
-use Rattle.statements.specs.rule.Spread.{spreadRest}
-use Rattle.statements.specs.rule.Size.{sizeOn}
-use Rattle.values.specs.rule.Line.{Given}
-use Rattle.values.specs.rule.Line as given
-use Rattle.values.specs.rule.Block.{valuesOn}
+use Rattle.statements.specs.Note.{notesOn, statementOn, textOn}
+use Rattle.statements.specs.Kinds.{typeOn}
+use Rattle.statements.specs.Position.{positionOn}
+use Rattle.statements.specs.Spread.{spreadRest}
+use Rattle.statements.specs.Size.{sizeOn}
+use Rattle.values.specs.Line.{Given}
+use Rattle.values.specs.Line as given
+use Rattle.values.specs.Block.{valuesOn}
 use Rattle.variables.specs.declared.Head.{Head}
 use Rattle.variables.specs.declared.Headed.{Headed}
 use Rattle.variables.specs.declared.Headed.the-variants as headed
-use Rattle.variables.specs.rule.Ident.{wrongIdent, judgeIdent, identOn}
-use Rattle.variables.specs.rule.Head.{pastType, joinTitles, joinHead, headOn}
-use Rattle.variables.specs.rule.Rest.{Telling, Told, joinValues, valuesRest, joinSize, joinNothing, spreadOr, optional, spreadThen}
-use Rattle.variables.specs.rule.Rest.{restOf}
-use Rattle.variables.specs.rule.Rest as told
-use Rattle.survey.specs.rule.Survey.{Variable, holdsIn}
-use Rattle.entries.specs.rule.Entry.{Entry, variable, endVariable, ended, toldThen, heldBy, restThen, headThen, entryOf}
-use Rattle.entries.specs.rule.Entry as entry
+use Rattle.variables.specs.Ident.{wrongIdent, judgeIdent, identOn}
+use Rattle.variables.specs.Head.{pastType, joinTitles, joinHead, headOn}
+use Rattle.variables.specs.Rest.{Telling, Told, joinValues, valuesRest, joinSize, joinNothing, spreadOr, optional, spreadThen}
+use Rattle.variables.specs.Rest.{restOf}
+use Rattle.variables.specs.Rest as told
+use Rattle.measures.specs.Survey.{Variable, holdsIn}
+use Rattle.entries.specs.Entry.{Entry, variable, endVariable, ended, toldThen, heldBy, restThen, headThen, entryOf}
+use Rattle.entries.specs.Entry as entry
 use Rattle.refusals.specs.Scanned.{either}
 use Rattle.refusals.specs.Tokens.{Met, Stands, word-on, ChoiceStands, choice-of, NumberStands, number-on}
 use Rattle.refusals.specs.Tokens.{PhraseStands, past-string}

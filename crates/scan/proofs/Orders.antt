@@ -15,7 +15,7 @@ use Rattle.scan.specs.declared.Figure.the-variants.{One, Nothing}
 use Rattle.scan.specs.declared.Order.{Order}
 use Rattle.scan.specs.declared.Order.the-variants.{Less, Same, More}
 use Rattle.scan.specs.rule.Number.{isDigit, runOf, bytesOf, decimalOf}
-use Rattle.scan.specs.rule.Order.{digitsTo, valueOf}
+use Rattle.scan.specs.Order.{digitsTo, valueOf}
 use Rattle.scan.specs.Order.{figureOf, stripped, orderThen, isLess, lessOf}
 use Rattle.scan.proofs.Texts.{From, at-stop, at-sign, from-text}
 

@@ -9,7 +9,8 @@ use lib.ListN.{length}
 use borrow.Author.Tests.{lt-ltb, le-ltb, ltb-true, ltb-false}
 use Rattle.scan.specs.rule.Text.{Text, stop, sign}
 use Rattle.scan.specs.declared.Digits.{Digits}
-use Rattle.scan.specs.rule.Number.{runOf, bytesOf, decimalOf, capped, isDigit, digitsFrom}
+use Rattle.scan.specs.rule.Number.{runOf, bytesOf, decimalOf, isDigit}
+use Rattle.scan.specs.Number.{capped, digitsFrom}
 use Rattle.scan.specs.Number.{pushOf}
 
 module _ (f : ℕ → Bool) (n : ℕ) {t : Text} where

@@ -2,5 +2,4 @@
 pub mod Text
 pub mod Word
 pub mod Number
-pub mod Order
 pub mod Loop

@@ -10,10 +10,11 @@ ghost use Rattle.ascii.specs.rule.Class.{upperOf};
 ghost use Rattle.scan.specs.rule.Text.{text, placeOf};
 ghost use Rattle.scan.specs.Text.{stepOf};
 ghost use Rattle.scan.specs.rule.Word.{wordAt};
-ghost use Rattle.scan.specs.rule.Number.{isSpace, isDigit, isValue, runOf, digitsFrom};
+ghost use Rattle.scan.specs.rule.Number.{isSpace, isDigit, isValue, runOf};
+ghost use Rattle.scan.specs.Number.{digitsFrom};
 ghost use Rattle.scan.specs.Number.{pushOf};
 ghost use Rattle.scan.specs.Order.{figureOf, stripped, orderThen, isLess};
-ghost use Rattle.scan.specs.rule.Order.{digitsTo, valueOf};
+ghost use Rattle.scan.specs.Order.{digitsTo, valueOf};
 
 // The next byte that is not dropped, with its place and the place after it; or the end.
 pub enum Step {

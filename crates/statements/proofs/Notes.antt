@@ -9,11 +9,11 @@ use Rattle.tokens.specs.declared.Reading.{Reading}
 use Rattle.tokens.specs.declared.Reading.the-variants.{At, Refused}
 use Rattle.tokens.specs.declared.Choice.{Choice}
 use Rattle.tokens.specs.declared.Choice.the-variants.{Taken, Left}
-use Rattle.tokens.specs.rule.Gap.{left, gapOn}
-use Rattle.tokens.specs.rule.Token.{choiceOf, stringOn, pastString}
+use Rattle.tokens.specs.Gap.{left, gapOn}
+use Rattle.tokens.specs.Token.{choiceOf, stringOn, pastString}
 use Rattle.tokens.proofs.Aheads.{taken-less, gap-left, string-left}
 use Rattle.statements.specs.rule.Words.{NOTE}
-use Rattle.statements.specs.rule.Note.{pastNote, noteStep, notesHere, notesOn}
+use Rattle.statements.specs.Note.{pastNote, noteStep, notesHere, notesOn}
 
 module _ (d : List ℕ) where
   past-left : (m : ℕ) → left d (pastNote d m) ≤ left d (At m)

@@ -9,14 +9,14 @@ use tokens::Phrase;
 use tokens::Reading;
 ghost use mathlib.Core.Path.{_≡_};
 ghost use Rattle.ascii.specs.Class.{Classes};
-ghost use Rattle.tokens.specs.rule.Token.{choiceOf};
+ghost use Rattle.tokens.specs.Token.{choiceOf};
 ghost use Rattle.statements.specs.rule.Words.{NOTE};
-ghost use Rattle.statements.specs.rule.Note.{notesOn, statementOn, textOn};
-ghost use Rattle.statements.specs.rule.Opening.{versionHere, openingOf, recordOn};
-ghost use Rattle.statements.specs.rule.Kinds.{typeHere, typeOn};
-ghost use Rattle.statements.specs.rule.Position.{judgePosition, bothOf, positionOn};
-ghost use Rattle.statements.specs.rule.Spread.{judgeOf, judgeEven, fieldsOf, evenOf, spreadRest};
-ghost use Rattle.statements.specs.rule.Size.{judgeSize, sizeOn};
+ghost use Rattle.statements.specs.Note.{notesOn, statementOn, textOn};
+ghost use Rattle.statements.specs.Opening.{versionHere, openingOf, recordOn};
+ghost use Rattle.statements.specs.Kinds.{typeHere, typeOn};
+ghost use Rattle.statements.specs.Position.{judgePosition, bothOf, positionOn};
+ghost use Rattle.statements.specs.Spread.{judgeOf, judgeEven, fieldsOf, evenOf, spreadRest};
+ghost use Rattle.statements.specs.Size.{judgeSize, sizeOn};
 
 fn note_word(classes: &[u8; 256], d: &[u8], t: Reading) -> Choice
     requires { ⌜ Classes (now classes) ⌝ }

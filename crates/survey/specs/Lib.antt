@@ -1,3 +1,1 @@
 pub mod rule
-pub mod Width
-pub mod Good

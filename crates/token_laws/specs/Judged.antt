@@ -17,9 +17,9 @@ use Rattle.statements.specs.declared.Stated.{Stated}
 use Rattle.statements.specs.declared.Stated.the-variants as stated
 use Rattle.statements.specs.declared.Spreading.{Spreading}
 use Rattle.statements.specs.declared.Spreading.the-variants as spreading
-use Rattle.statements.specs.rule.Position.{trueOf, judgePosition}
-use Rattle.statements.specs.rule.Spread.{judgeOf, judgeEven}
-use Rattle.statements.specs.rule.Size.{judgeSize}
+use Rattle.statements.specs.Position.{trueOf, judgePosition}
+use Rattle.statements.specs.Spread.{judgeOf, judgeEven}
+use Rattle.statements.specs.Size.{judgeSize}
 
 -- ---- the words
 -- a fault comes before another: it has a lower number, or the same and no later place

@@ -7,3 +7,5 @@ pub mod Numbers
 pub mod Opening
 pub mod Judged
 pub mod Places
+pub mod Runs
+pub mod Turns

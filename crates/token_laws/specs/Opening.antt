@@ -22,9 +22,10 @@ use Rattle.scan.proofs.Keywords.{word-exactly}
 use Rattle.scan.proofs.Texts.{From, at-stop, at-sign, from-text}
 use Rattle.tokens.specs.declared.Reading.{Reading}
 use Rattle.tokens.specs.declared.Reading.the-variants.{At, Refused}
-use Rattle.tokens.specs.rule.Gap.{fault, then, spacesOn}
-use Rattle.tokens.specs.rule.Token.{ofWord, wordHere}
-use Rattle.statements.specs.rule.Opening.{whole, versionHere, openingOf}
+use Rattle.tokens.specs.rule.Gap.{fault}
+use Rattle.tokens.specs.Gap.{then, spacesOn}
+use Rattle.tokens.specs.Token.{ofWord, wordHere}
+use Rattle.statements.specs.Opening.{whole, versionHere, openingOf}
 use Rattle.token_laws.specs.Gaps.{space-is, space-not, not-space}
 use Rattle.token_laws.specs.Values.{run-empty}
 

@@ -8,7 +8,8 @@ use native.Mathlib.Omega.{arith}
 use lib.Dec.{eqb}
 use Rattle.ascii.specs.rule.Class.{upperOf}
 use Rattle.scan.specs.rule.Text.{Text, stop, sign, text, placeOf}
-use Rattle.scan.specs.rule.Number.{isDigit, runOf, digitsFrom}
+use Rattle.scan.specs.rule.Number.{isDigit, runOf}
+use Rattle.scan.specs.Number.{digitsFrom}
 use Rattle.scan.specs.rule.Word.{wordOf, wordAt}
 use Rattle.scan.specs.declared.Word.{Word}
 use Rattle.scan.specs.declared.Word.the-variants.{Matched, Not}
@@ -21,8 +22,9 @@ use Rattle.tokens.specs.declared.Reading.the-variants.{At, Refused}
 use Rattle.tokens.specs.declared.Choice.the-variants.{Taken}
 use Rattle.tokens.specs.declared.Figures.{Figures}
 use Rattle.tokens.specs.declared.Number.the-variants as number
-use Rattle.tokens.specs.rule.Gap.{fault, gapAt, gapOn}
-use Rattle.tokens.specs.rule.Token.{ofChoice, choiceOf, ofDigits, numberHere, numberOn}
+use Rattle.tokens.specs.rule.Gap.{fault, gapAt}
+use Rattle.tokens.specs.Gap.{gapOn}
+use Rattle.tokens.specs.Token.{ofChoice, choiceOf, ofDigits, numberHere, numberOn}
 use Rattle.token_laws.specs.Gaps.{Gap, none, space, comment, Behind, token, ended, gap-exactly}
 
 module _ (d : List ℕ) where

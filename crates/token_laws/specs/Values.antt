@@ -11,12 +11,13 @@ use lib.ListN.{length}
 use borrow.Author.Tests.{eqb-true, eq-eqb, ne-eqb, ltb-true, ltb-false}
 use Rattle.ascii.specs.rule.Class.{classOf}
 use Rattle.scan.specs.rule.Text.{Text, stop, sign, text}
-use Rattle.scan.specs.rule.Number.{isDigit, isValue, runOf, bytesOf, decimalOf, capped, digitsFrom}
+use Rattle.scan.specs.rule.Number.{isDigit, isValue, runOf, bytesOf, decimalOf}
+use Rattle.scan.specs.Number.{capped, digitsFrom}
 use Rattle.scan.proofs.Texts.{From, at-stop, at-sign, from-text}
 use Rattle.scan.proofs.Runs.{held}
 use Rattle.scan.proofs.Orders.{run-ahead}
 use Rattle.tokens.specs.declared.Mark.{Mark}
-use Rattle.tokens.specs.rule.Token.{markOf, valueAt}
+use Rattle.tokens.specs.Token.{markOf, valueAt}
 
 -- ---- the words
 -- bytes that are digits

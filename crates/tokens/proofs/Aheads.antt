@@ -30,8 +30,9 @@ use Rattle.tokens.specs.declared.Choice.the-variants.{Taken, Left}
 use Rattle.tokens.specs.declared.Quoted.{Quoted}
 use Rattle.tokens.specs.declared.Phrase.{Phrase}
 use Rattle.tokens.specs.declared.Phrase.the-variants as phrase
-use Rattle.tokens.specs.rule.Gap.{fault, gapSkip, gapStep, gapAt, gapOn, left}
-use Rattle.tokens.specs.rule.Token.{ofWord, wordHere, wordOn, ofChoice, choiceOf, ofSkip, phraseOn, stringIn, stringOn, pastString}
+use Rattle.tokens.specs.rule.Gap.{fault, gapSkip, gapStep, gapAt}
+use Rattle.tokens.specs.Gap.{gapOn, left}
+use Rattle.tokens.specs.Token.{ofWord, wordHere, wordOn, ofChoice, choiceOf, ofSkip, phraseOn, stringIn, stringOn, pastString}
 use Rattle.tokens.proofs.Gaps.{gap-less, gap-again, gap-done}
 
 abbrev quote : ℕ → ℕ → Quoted

@@ -8,13 +8,14 @@ use lib.Dec.{eqb, leb}
 use borrow.Author.Tests.{eqb-true, lt-leb, le-leb}
 use Rattle.ascii.specs.rule.Class.{classOf}
 use Rattle.scan.specs.rule.Text.{Text, stop, sign, text}
-use Rattle.scan.specs.rule.Number.{isDigit, runOf, bytesOf, decimalOf, capped, digitsFrom}
-use Rattle.scan.specs.rule.Order.{digitsTo, valueOf}
+use Rattle.scan.specs.rule.Number.{isDigit, runOf, bytesOf, decimalOf}
+use Rattle.scan.specs.Number.{capped, digitsFrom}
+use Rattle.scan.specs.Order.{digitsTo, valueOf}
 use Rattle.scan.proofs.Texts.{From, at-stop, at-sign, from-text}
 use Rattle.scan.proofs.Runs.{held, digits-held}
 use Rattle.scan.proofs.Orders.{run-ahead}
 use Rattle.tokens.specs.declared.Mark.{Mark}
-use Rattle.tokens.specs.rule.Token.{markOf, valueAt}
+use Rattle.tokens.specs.Token.{markOf, valueAt}
 
 dot : isDigit 46 ≡ false
 unfolding isDigit classOf

@@ -17,11 +17,11 @@ use Rattle.cells.specs.rule.Cell.{cell, numberOf, signedOf, eqZ}
 use Rattle.cells.specs.Cell.{same-true}
 use Rattle.scan.specs.rule.Text.{Text, stop, sign, text}
 use Rattle.scan.specs.rule.Number.{decimalOf}
-use Rattle.scan.specs.rule.Order.{digitsTo, valueOf}
+use Rattle.scan.specs.Order.{digitsTo, valueOf}
 use Rattle.tokens.specs.declared.Value.{Value}
 use Rattle.values.specs.declared.Block.{Block}
-use Rattle.values.specs.rule.Value.{formOf, largeOf, trueOf}
-use Rattle.values.specs.rule.Line.{repeatedIn, lineFault}
+use Rattle.values.specs.Value.{formOf, largeOf, trueOf}
+use Rattle.values.specs.Line.{repeatedIn, lineFault}
 use Rattle.values.specs.Room.{roomAt, slotOf, Marked}
 
 pub or-none : (a b : Bool) → (a || b) ≡ false → a ≡ false

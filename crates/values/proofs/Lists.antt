@@ -24,11 +24,12 @@ use Rattle.tokens.specs.declared.Amount.{Amount}
 use Rattle.tokens.specs.declared.Amount.the-variants as amount
 use Rattle.tokens.specs.declared.Phrase.{Phrase}
 use Rattle.tokens.specs.declared.Phrase.the-variants as phrase
-use Rattle.tokens.specs.rule.Gap.{fault, gapOn}
-use Rattle.tokens.specs.rule.Token.{choiceOf, pastValue, stringOn, pastString}
+use Rattle.tokens.specs.rule.Gap.{fault}
+use Rattle.tokens.specs.Gap.{gapOn}
+use Rattle.tokens.specs.Token.{choiceOf, pastValue, stringOn, pastString}
 use Rattle.tokens.proofs.Aheads.{quoted-within}
 use Rattle.statements.specs.rule.Words.{SPECIAL}
-use Rattle.values.specs.rule.Value.{scaledOf}
+use Rattle.values.specs.Value.{scaledOf}
 use Rattle.values.specs.declared.Block.{Block}
 use Rattle.values.specs.declared.Said.{Said}
 use Rattle.values.specs.declared.Lined.{Lined}
@@ -39,11 +40,11 @@ use Rattle.values.specs.declared.Turn.{Turn}
 use Rattle.values.specs.declared.Turn.the-variants as turn
 use Rattle.values.specs.declared.Listed.{Listed}
 use Rattle.values.specs.declared.Listed.the-variants as listed
-use Rattle.values.specs.rule.Line.{Given, Is, Not, saidOf, specialOr, lineRest, numberOn, numberAt, repeatedIn, lineFault}
-use Rattle.values.specs.rule.Line.{judgeLine, grownBy, lineCells, cellsOf, moreOf, Listing, stateOf, after, judgedStep, readStep}
-use Rattle.values.specs.rule.Line.{lineStep, linesFrom}
+use Rattle.values.specs.Line.{Given, Is, Not, saidOf, specialOr, lineRest, numberOn, numberAt, repeatedIn, lineFault}
+use Rattle.values.specs.Line.{judgeLine, grownBy, lineCells, cellsOf, moreOf, Listing, stateOf, after, judgedStep, readStep}
+use Rattle.values.specs.Line.{lineStep, linesFrom}
 use Rattle.values.specs.Line.{listedOf, Stored}
-use Rattle.values.specs.rule.Block.{closedBy}
+use Rattle.values.specs.Block.{closedBy}
 use Rattle.values.specs.Room.{roomAt, slotOf, Marked, storable, judgedTurn, judgedRoom, judgedMarks, Standing, standAt, judgedAt, readTurn, readRoom, readMarks, turnOf, roomAfter, marksAfter}
 use Rattle.values.specs.Good.{GoodLine}
 use Rattle.values.proofs.Facts.{repeated-alike, marked-more}

@@ -13,8 +13,8 @@ use borrow.Author.Tests.{ltb-true, leb-true, eqb-true, not-true, not-false}
 use Rattle.below.specs.Below.{holds-not, either-true, and-left, and-right, any-fails, any-none}
 use Rattle.cells.specs.rule.Cell.{numberOf, eqZ}
 use Rattle.cells.specs.Cell.{same-true}
-use Rattle.scan.specs.rule.Number.{capped}
-use Rattle.scan.specs.rule.Order.{valueOf}
+use Rattle.scan.specs.Number.{capped}
+use Rattle.scan.specs.Order.{valueOf}
 use Rattle.scan.specs.rule.Loop.{Next, Again, Done, onNext, loopOf}
 use Rattle.tokens.specs.declared.Reading.{Reading}
 use Rattle.tokens.specs.declared.Reading.the-variants.{At, Refused}
@@ -23,19 +23,19 @@ use Rattle.tokens.specs.declared.Choice.the-variants.{Taken, Left}
 use Rattle.tokens.specs.declared.Value.{Value}
 use Rattle.tokens.specs.declared.Amount.the-variants as amount
 use Rattle.tokens.specs.rule.Gap.{fault}
-use Rattle.tokens.specs.rule.Token.{choiceOf, valueHere, wordOn}
+use Rattle.tokens.specs.Token.{choiceOf, valueHere, wordOn}
 use Rattle.statements.specs.rule.Words.{END, VALUES}
-use Rattle.statements.specs.rule.Note.{notesOn}
+use Rattle.statements.specs.Note.{notesOn}
 use Rattle.values.specs.declared.Block.{Block}
 use Rattle.values.specs.declared.Said.{Said}
 use Rattle.values.specs.declared.Lined.{Lined}
 use Rattle.values.specs.declared.Lined.the-variants as lined
 use Rattle.values.specs.declared.Verdict.{Verdict}
 use Rattle.values.specs.declared.Verdict.the-variants.{Good, Bad}
-use Rattle.values.specs.rule.Value.{formOf, largeOf, trueOf, scaledOf}
-use Rattle.values.specs.rule.Line.{Given, Not, Listing, stateOf, lineRest, numberOn, numbers, numberAt, repeatedIn, lineFault}
-use Rattle.values.specs.rule.Line.{judgeLine, grownBy, endOf, endOr, moreOf, after, judgedStep, readStep, lineStep, linesFrom}
-use Rattle.values.specs.rule.Block.{emptyBlock}
+use Rattle.values.specs.Value.{formOf, largeOf, trueOf, scaledOf}
+use Rattle.values.specs.Line.{Given, Not, Listing, stateOf, lineRest, numberOn, numbers, numberAt, repeatedIn, lineFault}
+use Rattle.values.specs.Line.{judgeLine, grownBy, endOf, endOr, moreOf, after, judgedStep, readStep, lineStep, linesFrom}
+use Rattle.values.specs.Block.{emptyBlock}
 use Rattle.values.specs.Good.{Limited}
 use Rattle.values.specs.Order.{trues, trueAt, paperLine, paperRead, paperStep, paperFrom, Reached, alone, behind, next}
 use Rattle.values.proofs.Facts.{sound-value}

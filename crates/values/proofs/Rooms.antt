@@ -8,7 +8,7 @@ use lib.ListN.{length, take, drop, getD, length-append, length-take, length-drop
 use lib.Seq.{length-take-le, drop-append-seam, getD-append-add, getD-at}
 use Rattle.cells.specs.rule.Cell.{cell, pasted}
 use Rattle.values.specs.declared.Said.{Said}
-use Rattle.values.specs.rule.Line.{numberOn, numbers, numberAt, lineCells, cellsOf}
+use Rattle.values.specs.Line.{numberOn, numbers, numberAt, lineCells, cellsOf}
 
 -- ---- lists of lines
 pub numbers-length : (l : List Said) → length (numbers l) ≡ length l

@@ -10,7 +10,7 @@ use lib.Signed.{leZ}
 use Rattle.cells.specs.rule.Cell.{eqZ}
 use Rattle.values.specs.declared.Block.{Block}
 use Rattle.values.specs.declared.Said.{Said}
-use Rattle.values.specs.rule.Line.{numberAt}
+use Rattle.values.specs.Line.{numberAt}
 
 -- the limits of a type: a scaled quantity has at most 15 digits, either sign; a category goes from 1 to 9,999
 abbrev pub least : Bool → ℤ

@@ -15,8 +15,8 @@ use Rattle.tokens.specs.declared.Reading.{Reading}
 use Rattle.tokens.specs.declared.Reading.the-variants.{At}
 use Rattle.tokens.specs.declared.Value.{Value}
 use Rattle.tokens.specs.rule.Gap.{fault}
-use Rattle.tokens.specs.rule.Token.{valueHere}
-use Rattle.statements.specs.rule.Note.{notesOn}
+use Rattle.tokens.specs.Token.{valueHere}
+use Rattle.statements.specs.Note.{notesOn}
 use Rattle.values.specs.declared.Block.{Block}
 use Rattle.values.specs.declared.Said.{Said}
 use Rattle.values.specs.declared.Lined.{Lined}
@@ -24,10 +24,10 @@ use Rattle.values.specs.declared.Lined.the-variants as lined
 use Rattle.values.specs.declared.Ranged.the-variants as ranged
 use Rattle.values.specs.declared.Verdict.{Verdict}
 use Rattle.values.specs.declared.Verdict.the-variants.{Good, Bad}
-use Rattle.values.specs.rule.Value.{formOf, largeOf, trueOf}
-use Rattle.values.specs.rule.Range.{rangeRest}
-use Rattle.values.specs.rule.Line.{Given, Not, Listing, stateOf, lineRest, repeatedIn, judgedStep, lineStep}
-use Rattle.values.specs.rule.Block.{emptyBlock}
+use Rattle.values.specs.Value.{formOf, largeOf, trueOf}
+use Rattle.values.specs.Range.{rangeRest}
+use Rattle.values.specs.Line.{Given, Not, Listing, stateOf, lineRest, repeatedIn, judgedStep, lineStep}
+use Rattle.values.specs.Block.{emptyBlock}
 
 -- the true numbers of lines one after the other, and that of line i
 unfoldable pub trues : List ℕ → List Said → List ℤ

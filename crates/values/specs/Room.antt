@@ -17,7 +17,7 @@ use Rattle.values.specs.declared.Verdict.{Verdict}
 use Rattle.values.specs.declared.Verdict.the-variants.{Good, Bad}
 use Rattle.values.specs.declared.Turn.{Turn}
 use Rattle.values.specs.declared.Turn.the-variants as turn
-use Rattle.values.specs.rule.Line.{lineRest, judgeLine, grownBy, lineCells, moreOf}
+use Rattle.values.specs.Line.{lineRest, judgeLine, grownBy, lineCells, moreOf}
 
 -- the number that line i of the block says
 unfoldable pub roomAt : List ℤ → ℕ → ℕ → ℤ

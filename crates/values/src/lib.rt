@@ -18,13 +18,13 @@ ghost use lib.Signed.{ltZ};
 ghost use Rattle.ascii.specs.Class.{Classes};
 ghost use Rattle.cells.specs.rule.Cell.{pasted};
 ghost use Rattle.layout.specs.rule.Layout.{lineSize, mostLines};
-ghost use Rattle.values.specs.rule.Value.{formOf, largeOf, trueOf, scaledOf, pointOf};
-ghost use Rattle.values.specs.rule.Range.{limitRange, judgeRange, settled, rangedOf, rangeRest};
-ghost use Rattle.values.specs.rule.Line.{saidOf, lineRest, numberOn, repeatedIn, lineFault, judgeLine, grownBy, lineCells, endOf};
-ghost use Rattle.values.specs.rule.Line.{moreOf, stateOf, linesFrom};
+ghost use Rattle.values.specs.Value.{formOf, largeOf, trueOf, scaledOf, pointOf};
+ghost use Rattle.values.specs.Range.{limitRange, judgeRange, settled, rangedOf, rangeRest};
+ghost use Rattle.values.specs.Line.{saidOf, lineRest, numberOn, repeatedIn, lineFault, judgeLine, grownBy, lineCells, endOf};
+ghost use Rattle.values.specs.Line.{moreOf, stateOf, linesFrom};
 ghost use Rattle.values.specs.Line.{listedOf, Stored};
 ghost use Rattle.values.specs.Room.{roomAt, slotOf, Marked, storable, judgedTurn, judgedRoom, judgedMarks, standAt, turnOf, roomAfter, marksAfter};
-ghost use Rattle.values.specs.rule.Block.{emptyBlock, closedBy, rangeThen, valuesOn};
+ghost use Rattle.values.specs.Block.{emptyBlock, closedBy, rangeThen, valuesOn};
 
 // What the values of a variable have said so far: whether there is a range, and its ends; whether a number was read, and then how
 // many decimals all have; and the code of the point, 0 none, 1 one.

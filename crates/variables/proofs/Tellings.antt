@@ -17,15 +17,14 @@ use Rattle.values.specs.declared.Block.{Block}
 use Rattle.values.specs.declared.Said.{Said}
 use Rattle.values.specs.declared.Listed.{Listed}
 use Rattle.values.specs.declared.Listed.the-variants as listed
-use Rattle.values.specs.rule.Line.{Given, cellsOf}
+use Rattle.values.specs.Line.{Given, cellsOf}
 use Rattle.values.specs.Line.{listedOf}
-use Rattle.values.specs.rule.Line as given
-use Rattle.values.specs.Line as kept
-use Rattle.values.specs.rule.Block.{emptyBlock}
+use Rattle.values.specs.Line as given
+use Rattle.values.specs.Block.{emptyBlock}
 use Rattle.variables.specs.declared.Rest.{Rest}
 use Rattle.variables.specs.declared.Rested.{Rested}
 use Rattle.variables.specs.declared.Rested.the-variants as rested
-use Rattle.variables.specs.rule.Rest.{Telling, Told, Is, Not, joinValues, joinSize, joinNothing}
+use Rattle.variables.specs.Rest.{Telling, Told, Is, Not, joinValues, joinSize, joinNothing}
 use Rattle.variables.specs.Rest.{restedOf, Stored}
 
 abbrev rest : Block → ℕ → ℕ → ℕ → ℕ → ℕ → Rest
@@ -47,7 +46,7 @@ module _ (first count width : ℕ) where
   rested-not (given.Is b l n) e = let z : _≡_ {A = ℕ} 0 1 = cc in absurd (omega arith)
   rested-not (given.Not f) e = cc
 
-  pub stored-values : (g : Given) {room end : List ℤ} → kept.Stored first g room end → Stored first (joinValues count width g) room end
+  pub stored-values : (g : Given) {room end : List ℤ} → given.Stored first g room end → Stored first (joinValues count width g) room end
   unfolding joinValues
   stored-values (given.Is b l n) {room} {end} s = record { stored = λ {y} q. let j : l ≡ y .lines = ap lines-of q in s .stored refl ∙ ap (λ (x : List Said). pasted room (4 * first) (cellsOf x)) j }
   stored-values (given.Not f) s = record { stored = λ {y} q. let z : _≡_ {A = ℕ} 0 1 = cc in absurd (omega arith) }

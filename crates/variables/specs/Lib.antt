@@ -1,3 +1,3 @@
-pub mod rule
 pub mod Ident
 pub mod Rest
+pub mod Head

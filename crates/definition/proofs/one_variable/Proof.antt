@@ -3,7 +3,7 @@ use Prim.Native.Nat.{_<_}
 use native.Mathlib.Omega.{arith}
 use borrow.Author.Needs.{needs}
 use Rattle.variables.specs.Ident.{marked}
-use Rattle.entries.specs.rule.Entry.{entryOf}
+use Rattle.entries.specs.Entry.{entryOf}
 use Rattle.definition.proofs.Turns.{Told, told, small-here, left-here, turn-here, row-here, turn-not, row-not}
 use Rattle.definition.proofs.one_variable.Statement.{statement}
 use Rattle.definition.proofs.one_variable.Tie as tie

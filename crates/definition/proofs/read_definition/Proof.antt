@@ -5,6 +5,8 @@ use lib.ListN.{length}
 use borrow.Author.Needs.{needs}
 use borrow.Author.Tests.{lt-ltb, le-ltb}
 use Rattle.definition.specs.rule.Definition.{outcomeOf, answerOf, tableAfter}
+use Rattle.definition.specs.Books.{outcomeIn}
+use Rattle.definition.proofs.Bridge.{answer-same, table-same}
 use Rattle.definition.specs.Code.{zeros}
 use Rattle.definition.proofs.read_definition.Statement.{statement}
 use Rattle.definition.proofs.read_definition.Tie as tie
@@ -20,11 +22,11 @@ unfolding zeros
 read-in-requires c κs = (c .before .before .before .before .before .before .before .before .classes .ensures, (c .before .before .before .before .before .before .before .powers .ensures, (c .before .before .before .before .before .before .before .before .before .if1 .left, ((refl, refl, refl), refl))))
 
 returns-2 : tie.Need-returns-2
-unfolding outcomeOf
+unfolding outcomeIn
 returns-2 c =
     let e : ltb 1048576 (length (c .before .before .before .before .before .before .before .before .before .before .before .before .before .before .before .before .before .args .d .now)) ≡ false = le-ltb _ _ (c .before .before .before .before .before .before .before .before .before .before .before .before .before .before .before .if1 .left) in
     let q = c .before .before .before .before .before .read-in .ensures in
-    record { says = rw e (q .0); leaves = rw e (q .1) }
+    record { says = rw (← answer-same _ _) (rw e (q .0)); leaves = rw (← table-same _ _ _) (rw e (q .1)) }
 
 pub read-definition-spec : {M : Type 1} → statement M
 read-definition-spec =

@@ -1,6 +1,6 @@
 use mathlib.Core.Path.{_∙_, sym}
-use Rattle.entries.specs.rule.Entry.{endVariable}
-use Rattle.statements.specs.rule.Note.{statementOn}
+use Rattle.entries.specs.Entry.{endVariable}
+use Rattle.statements.specs.Note.{statementOn}
 use borrow.Author.Needs.{needs}
 use Rattle.entries.proofs.end_variable.Statement.{statement}
 use Rattle.entries.proofs.end_variable.Tie as tie

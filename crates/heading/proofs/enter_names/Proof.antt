@@ -1,5 +1,5 @@
 use mathlib.Core.Path.{_∙_, sym}
-use Rattle.heading.specs.rule.Heading.{named, nameEntry}
+use Rattle.heading.specs.Heading.{named, nameEntry}
 use borrow.Author.Needs.{needs}
 use Rattle.heading.proofs.enter_names.Statement.{statement}
 use Rattle.heading.proofs.enter_names.Tie as tie

@@ -1,5 +1,5 @@
 use mathlib.Core.Path.{_∙_, sym}
-use Rattle.heading.specs.rule.Heading.{textEntry}
+use Rattle.heading.specs.Heading.{textEntry}
 use borrow.Author.Needs.{needs}
 use Rattle.heading.proofs.enter_text.Statement.{statement}
 use Rattle.heading.proofs.enter_text.Tie as tie

@@ -2,8 +2,8 @@
 use mathlib.Core.Path.{_≡_, refl, _∙_, sym, ap}
 use native.Mathlib.Omega.{arith}
 use borrow.Author.Needs.{needs}
-use Rattle.tokens.specs.rule.Gap.{left}
-use Rattle.heading.specs.rule.Heading.{entered, entriesFrom, entriesOn}
+use Rattle.tokens.specs.Gap.{left}
+use Rattle.heading.specs.Heading.{entered, entriesFrom, entriesOn}
 use Rattle.heading.proofs.Entries.{entries-text, entries-names, entries-other}
 use Rattle.heading.proofs.entries_on.Statement.{statement}
 use Rattle.heading.proofs.entries_on.Tie as tie

@@ -1,5 +1,5 @@
 use mathlib.Core.Path.{_∙_, sym}
-use Rattle.heading.specs.rule.Heading.{entryOf}
+use Rattle.heading.specs.Heading.{entryOf}
 use borrow.Author.Needs.{needs}
 use Rattle.heading.proofs.entry_here.Statement.{statement}
 use Rattle.heading.proofs.entry_here.Tie as tie

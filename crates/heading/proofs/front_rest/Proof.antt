@@ -1,5 +1,5 @@
 use mathlib.Core.Path.{_∙_, sym}
-use Rattle.heading.specs.rule.Heading.{frontOf}
+use Rattle.heading.specs.Heading.{frontOf}
 use borrow.Author.Needs.{needs}
 use Rattle.heading.proofs.front_rest.Statement.{statement}
 use Rattle.heading.proofs.front_rest.Tie as tie

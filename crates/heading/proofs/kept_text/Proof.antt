@@ -1,5 +1,5 @@
 use mathlib.Core.Path.{_∙_, sym}
-use Rattle.heading.specs.rule.Heading.{keptOf}
+use Rattle.heading.specs.Heading.{keptOf}
 use borrow.Author.Needs.{needs}
 use Rattle.heading.proofs.kept_text.Statement.{statement}
 use Rattle.heading.proofs.kept_text.Tie as tie

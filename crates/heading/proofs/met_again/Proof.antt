@@ -1,5 +1,5 @@
 use mathlib.Core.Path.{_∙_, sym}
-use Rattle.heading.specs.rule.Heading.{again}
+use Rattle.heading.specs.Heading.{again}
 use borrow.Author.Needs.{needs}
 use Rattle.heading.proofs.met_again.Statement.{statement}
 use Rattle.heading.proofs.met_again.Tie as tie

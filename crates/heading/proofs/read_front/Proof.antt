@@ -1,5 +1,5 @@
 use mathlib.Core.Path.{_∙_, sym}
-use Rattle.heading.specs.rule.Heading.{frontOn}
+use Rattle.heading.specs.Heading.{frontOn}
 use borrow.Author.Needs.{needs}
 use Rattle.heading.proofs.read_front.Statement.{statement}
 use Rattle.heading.proofs.read_front.Tie as tie

@@ -1,5 +1,5 @@
 use mathlib.Core.Path.{_∙_, sym}
-use Rattle.heading.specs.rule.Heading.{onceOf}
+use Rattle.heading.specs.Heading.{onceOf}
 use borrow.Author.Tests.{eq-eqb, ne-eqb}
 use borrow.Author.Needs.{needs}
 use Rattle.heading.proofs.read_once.Statement.{statement}

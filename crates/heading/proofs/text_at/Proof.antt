@@ -1,5 +1,5 @@
 use mathlib.Core.Path.{_∙_, sym}
-use Rattle.heading.specs.rule.Heading.{textAt}
+use Rattle.heading.specs.Heading.{textAt}
 use borrow.Author.Tests.{eq-eqb, ne-eqb}
 use Rattle.heading.proofs.text_at.Statement.{statement}
 use Rattle.heading.proofs.text_at.Tie as tie

@@ -1,5 +1,5 @@
 use mathlib.Core.Path.{_∙_, sym}
-use Rattle.heading.specs.rule.Heading.{withText}
+use Rattle.heading.specs.Heading.{withText}
 use borrow.Author.Tests.{eq-eqb, ne-eqb}
 use Rattle.heading.proofs.with_text.Statement.{statement}
 use Rattle.heading.proofs.with_text.Tie as tie

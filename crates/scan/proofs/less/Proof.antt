@@ -4,7 +4,7 @@ use Prim.Native.Nat.{_-_}
 use lib.Dec.{ltb}
 use lib.ListN.{length}
 use Rattle.scan.specs.rule.Text.{text}
-use Rattle.scan.specs.rule.Order.{digitsTo, valueOf}
+use Rattle.scan.specs.Order.{digitsTo, valueOf}
 use Rattle.scan.specs.Order.{lessOf}
 use Rattle.scan.proofs.Orders.{figure-one, figure-none, less-exactly, less-both, less-longer, less-shorter, less-even}
 use borrow.Author.Needs.{needs}

@@ -1,5 +1,5 @@
 use mathlib.Core.Path.{_∙_, sym}
-use Rattle.statements.specs.rule.Position.{bothOf}
+use Rattle.statements.specs.Position.{bothOf}
 use borrow.Author.Needs.{needs}
 use Rattle.statements.proofs.both.Statement.{statement}
 use Rattle.statements.proofs.both.Tie as tie

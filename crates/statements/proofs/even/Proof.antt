@@ -1,5 +1,5 @@
 use mathlib.Core.Path.{_∙_, sym}
-use Rattle.statements.specs.rule.Spread.{evenOf}
+use Rattle.statements.specs.Spread.{evenOf}
 use borrow.Author.Needs.{needs}
 use Rattle.statements.proofs.even.Statement.{statement}
 use Rattle.statements.proofs.even.Tie as tie

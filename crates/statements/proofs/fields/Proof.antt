@@ -1,5 +1,5 @@
 use mathlib.Core.Path.{_∙_, sym}
-use Rattle.statements.specs.rule.Spread.{fieldsOf}
+use Rattle.statements.specs.Spread.{fieldsOf}
 use borrow.Author.Needs.{needs}
 use Rattle.statements.proofs.fields.Statement.{statement}
 use Rattle.statements.proofs.fields.Tie as tie

@@ -1,5 +1,5 @@
 use mathlib.Core.Path.{_∙_, sym}
-use Rattle.statements.specs.rule.Spread.{judgeEven}
+use Rattle.statements.specs.Spread.{judgeEven}
 use borrow.Author.Tests.{eq-eqb, ne-eqb}
 use borrow.Author.Needs.{needs}
 use Rattle.statements.proofs.judge_even.Statement.{statement}

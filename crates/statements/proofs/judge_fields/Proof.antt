@@ -1,5 +1,5 @@
 use mathlib.Core.Path.{_∙_, sym}
-use Rattle.statements.specs.rule.Spread.{judgeOf}
+use Rattle.statements.specs.Spread.{judgeOf}
 use borrow.Author.Tests.{eq-eqb, ne-eqb}
 use Rattle.statements.proofs.judge_fields.Statement.{statement}
 use Rattle.statements.proofs.judge_fields.Tie as tie

@@ -1,7 +1,7 @@
 -- `statements::notes_on` meets its contract. The invariant: the notes from here on end as all of them do.
 use mathlib.Core.Path.{_≡_, refl, _∙_, sym, ap}
-use Rattle.tokens.specs.rule.Gap.{left}
-use Rattle.statements.specs.rule.Note.{pastNote, notesHere, notesOn}
+use Rattle.tokens.specs.Gap.{left}
+use Rattle.statements.specs.Note.{pastNote, notesHere, notesOn}
 use Rattle.statements.proofs.Notes.{note-left, notes-again, notes-done}
 use borrow.Author.Needs.{needs}
 use native.Mathlib.Omega.{arith}

@@ -1,5 +1,5 @@
 use mathlib.Core.Path.{_∙_, sym}
-use Rattle.statements.specs.rule.Opening.{openingOf}
+use Rattle.statements.specs.Opening.{openingOf}
 use borrow.Author.Needs.{needs}
 use Rattle.statements.proofs.read_opening.Statement.{statement}
 use Rattle.statements.proofs.read_opening.Tie as tie

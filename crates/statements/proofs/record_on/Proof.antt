@@ -1,5 +1,5 @@
 use mathlib.Core.Path.{_∙_, sym}
-use Rattle.statements.specs.rule.Opening.{recordOn}
+use Rattle.statements.specs.Opening.{recordOn}
 use borrow.Author.Needs.{needs}
 use Rattle.statements.proofs.record_on.Statement.{statement}
 use Rattle.statements.proofs.record_on.Tie as tie

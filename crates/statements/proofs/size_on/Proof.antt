@@ -1,6 +1,6 @@
 use mathlib.Core.Path.{_∙_, sym}
-use Rattle.statements.specs.rule.Size.{sizeOn}
-use Rattle.statements.specs.rule.Note.{statementOn}
+use Rattle.statements.specs.Size.{sizeOn}
+use Rattle.statements.specs.Note.{statementOn}
 use borrow.Author.Needs.{needs}
 use Rattle.statements.proofs.size_on.Statement.{statement}
 use Rattle.statements.proofs.size_on.Tie as tie

@@ -1,5 +1,5 @@
 use mathlib.Core.Path.{_∙_, sym}
-use Rattle.statements.specs.rule.Spread.{spreadRest}
+use Rattle.statements.specs.Spread.{spreadRest}
 use borrow.Author.Needs.{needs}
 use Rattle.statements.proofs.spread_rest.Statement.{statement}
 use Rattle.statements.proofs.spread_rest.Tie as tie

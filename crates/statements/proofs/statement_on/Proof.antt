@@ -1,5 +1,5 @@
 use mathlib.Core.Path.{_∙_, sym}
-use Rattle.statements.specs.rule.Note.{statementOn}
+use Rattle.statements.specs.Note.{statementOn}
 use borrow.Author.Needs.{needs}
 use Rattle.statements.proofs.statement_on.Statement.{statement}
 use Rattle.statements.proofs.statement_on.Tie as tie

@@ -1,5 +1,5 @@
 use mathlib.Core.Path.{_∙_, sym}
-use Rattle.statements.specs.rule.Note.{textOn}
+use Rattle.statements.specs.Note.{textOn}
 use borrow.Author.Needs.{needs}
 use Rattle.statements.proofs.text_on.Statement.{statement}
 use Rattle.statements.proofs.text_on.Tie as tie

@@ -1,5 +1,5 @@
 use mathlib.Core.Path.{_∙_, sym}
-use Rattle.statements.specs.rule.Kinds.{typeHere}
+use Rattle.statements.specs.Kinds.{typeHere}
 use borrow.Author.Needs.{needs}
 use Rattle.statements.proofs.type_here.Statement.{statement}
 use Rattle.statements.proofs.type_here.Tie as tie

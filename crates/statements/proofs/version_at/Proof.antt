@@ -1,5 +1,5 @@
 use mathlib.Core.Path.{_∙_, sym}
-use Rattle.statements.specs.rule.Opening.{versionHere}
+use Rattle.statements.specs.Opening.{versionHere}
 use borrow.Author.Tests.{eq-eqb, ne-eqb}
 use borrow.Author.Needs.{needs}
 use Rattle.statements.proofs.version_at.Statement.{statement}

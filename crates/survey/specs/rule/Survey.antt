@@ -1,86 +1,82 @@
--- A survey: what the statements of a definition say of its variables, in the order of the file; and the table that it gives.
-use mathlib.Core.Bool.{Bool, true, false, cond, _||_}
-use mathlib.Core.List.{List, [], _∷_, _++_}
-use Prim.Native.Nat.{ℕ, _+_, max}
-use lib.Dec.{eqb}
-use lib.IntN.{ℤ}
-use lib.ListN.{length}
-use Rattle.layout.specs.rule.Layout.{mark, headerSize, linesBase}
-use Rattle.layout.specs.rule.Row.{kindOf, rowOf}
-use Rattle.layout.specs.declared.Columns.{Columns}
-use Rattle.layout.specs.declared.Header.{Header}
-use Rattle.rows.specs.rule.Cells.{rowCells, headerCells}
-use Rattle.sound.specs.rule.Sound.{roomGood}
-use Rattle.values.specs.declared.Said.{Said}
-use Rattle.values.specs.rule.Line.{numberAt, cellsOf}
-use Rattle.variables.specs.declared.Head.{Head}
-use Rattle.variables.specs.declared.Rest.{Rest}
-use Rattle.variables.specs.rule.Rest.{Telling}
-use Rattle.survey.specs.rule.Width.{fullColumns}
+-- WHAT A DEFINITION SAYS, as plain data: every number and text with its place in the file, every number as it was written and by its
+-- true value, however long. "A variable: `VARIABLE` id, NAME, LABEL, TYPE, POSITION a [TO b], then by type. SINGLE and QUANTITY: VALUES.
+-- MULTIPLE: optional `SPREAD` n [`OF` w], then VALUES. CHARACTER: SIZE. LOGICAL: nothing."
+use mathlib.Core.Bool.{Bool}
+use mathlib.Core.List.{List}
+use mathlib.Core.Option.{Option}
+use Prim.Native.Nat.{ℕ}
 
--- a variable: its ident, texts, type and position, and what its type has behind them
+-- ---- what stands in the file
+-- a number: the place of its first digit, the place after its last, how many digits were written, and what they say
+pub record Figure : Type 0 where
+  pub place : ℕ
+  pub end : ℕ
+  pub digits : ℕ
+  pub value : ℕ
+
+-- a value of VALUES, a run of digits, points, `+` and `-`: a minus or none, digits, a point or none, decimals; what all its digits say,
+-- the point left out; and whether that is the whole run, with a digit in it
+pub record Amount : Type 0 where
+  pub place : ℕ
+  pub end : ℕ
+  pub minus : Bool
+  pub whole : ℕ
+  pub point : Bool
+  pub decimals : ℕ
+  pub size : ℕ
+  pub formed : Bool
+
+-- a text: "places are just after the opening quote; lengths are undecoded bytes"
+pub record Text : Type 0 where
+  pub place : ℕ
+  pub length : ℕ
+
+-- ---- VALUES: "a range `a TO b` ..; lines are a value, a string, optional SPECIAL"
+pub record Range : Type 0 where
+  pub from : Amount
+  pub to : Amount
+
+pub record Line : Type 0 where
+  pub value : Amount
+  pub text : Text
+  pub special : Bool
+
+pub record Block : Type 0 where
+  pub range : Option Range
+  pub lines : List Line
+
+-- ---- a variable
+-- SPREAD n, and OF w or none
+pub record Spread : Type 0 where
+  pub count : Figure
+  pub width : Option Figure
+
+pub data Content : Type 0 where
+  single : Block → Content
+  multiple : Option Spread → Block → Content
+  quantity : Block → Content
+  character : Figure → Content
+  logical : Content
+
+-- POSITION start, and TO finish or none
 pub record Variable : Type 0 where
-  pub head : Head
-  pub rest : Telling
+  pub ident : Figure
+  pub name : Text
+  pub label : Text
+  pub start : Figure
+  pub finish : Option Figure
+  pub content : Content
 
--- its value lines
-abbrev pub linesIn : Variable → List Said
-linesIn v = v .rest .lines
+-- ---- the whole: the texts of the heading, whether STANDARD NAMES was given, the record's letter, and the variables
+pub record Heading : Type 0 where
+  pub date : Option Text
+  pub time : Option Text
+  pub origin : Option Text
+  pub user : Option Text
+  pub standard : Bool
+  pub title : Option Text
+  pub letter : ℕ
 
--- the same with its lines counted, together with the `before` lines before them
-unfoldable pub countedIn : ℕ → Telling → Rest
-countedIn before x = record {
-  block = x .block;
-  last = before + length (x .lines);
-  subfields = x .subfields;
-  subwidth = x .subwidth;
-  size = x .size;
-  next = x .next;
-}
-
--- its columns, w among them, where `before` lines stand before its own
-unfoldable pub columnsIn : ℕ → Variable → Columns
-columnsIn before v = fullColumns (numberAt (linesIn v)) (v .head) (countedIn before (v .rest)) before
-
--- whether its position holds w
-unfoldable pub holdsIn : ℕ → Variable → Bool
-holdsIn before v = roomGood (kindOf (columnsIn before v)) (rowOf (columnsIn before v))
-
--- ---- variables one after the other
--- how many value lines they have in all
-unfoldable pub linesAll : List Variable → ℕ
-linesAll [] = 0
-linesAll (v ∷ l) = length (linesIn v) + linesAll l
-
--- the highest finish
-unfoldable pub highestIn : List Variable → ℕ
-highestIn [] = 0
-highestIn (v ∷ l) = max (v .head .finish) (highestIn l)
-
--- whether one of them has the ident n
-unfoldable pub identMet : List Variable → ℕ → Bool
-identMet [] n = false
-identMet (v ∷ l) n = eqb (v .head .ident) n || identMet l n
-
--- ---- the table: header, rows, lines
-unfoldable pub headerFor : List Variable → Header
-headerFor l = record {
-  mark = mark;
-  rows = length l;
-  lines = linesAll l;
-  length = highestIn l;
-  «rows_at» = headerSize;
-  «lines_at» = linesBase (length l);
-}
-
--- the rows of variables before which `before` lines stand
-unfoldable pub rowsFrom : ℕ → List Variable → List ℤ
-rowsFrom before [] = []
-rowsFrom before (v ∷ l) = rowCells (columnsIn before v) ++ rowsFrom (before + length (linesIn v)) l
-
-unfoldable pub allLines : List Variable → List ℤ
-allLines [] = []
-allLines (v ∷ l) = cellsOf (linesIn v) ++ allLines l
-
-unfoldable pub tableOf : List Variable → List ℤ
-tableOf l = headerCells (headerFor l) ++ rowsFrom 0 l ++ allLines l
+pub record Survey : Type 0 where
+  pub heading : Heading
+  pub variables : List Variable

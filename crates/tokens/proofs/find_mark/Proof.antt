@@ -1,7 +1,7 @@
 use borrow.Author.Tests.{eq-eqb, ne-eqb}
 use borrow.Author.Needs.{needs}
 use Rattle.scan.proofs.Texts.{stepped, ended}
-use Rattle.tokens.specs.rule.Token.{markOf}
+use Rattle.tokens.specs.Token.{markOf}
 use Rattle.tokens.proofs.find_mark.Statement.{statement}
 use Rattle.tokens.proofs.find_mark.Tie as tie
 

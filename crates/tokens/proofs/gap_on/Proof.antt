@@ -1,4 +1,4 @@
-use Rattle.tokens.specs.rule.Gap.{gapOn}
+use Rattle.tokens.specs.Gap.{gapOn}
 use mathlib.Core.Path.{_∙_, sym}
 use borrow.Author.Needs.{needs}
 use Rattle.tokens.proofs.gap_on.Statement.{statement}

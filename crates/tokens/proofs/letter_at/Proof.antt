@@ -2,7 +2,7 @@ use mathlib.Core.Path.{_∙_, sym}
 use borrow.Author.Tests.{eq-eqb, ne-eqb}
 use borrow.Author.Needs.{needs}
 use Rattle.scan.proofs.Texts.{stepped, ended}
-use Rattle.tokens.specs.rule.Token.{letterIn}
+use Rattle.tokens.specs.Token.{letterIn}
 use Rattle.tokens.proofs.letter_at.Statement.{statement}
 use Rattle.tokens.proofs.letter_at.Tie as tie
 

@@ -1,4 +1,4 @@
-use Rattle.tokens.specs.rule.Token.{letterOn}
+use Rattle.tokens.specs.Token.{letterOn}
 use mathlib.Core.Path.{_∙_, sym}
 use borrow.Author.Needs.{needs}
 use Rattle.tokens.proofs.letter_on.Statement.{statement}

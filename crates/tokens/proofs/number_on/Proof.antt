@@ -1,4 +1,4 @@
-use Rattle.tokens.specs.rule.Token.{numberOn}
+use Rattle.tokens.specs.Token.{numberOn}
 use mathlib.Core.Path.{_∙_, sym}
 use borrow.Author.Needs.{needs}
 use Rattle.tokens.proofs.number_on.Statement.{statement}

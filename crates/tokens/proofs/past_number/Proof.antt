@@ -1,4 +1,4 @@
-use Rattle.tokens.specs.rule.Token.{pastNumber}
+use Rattle.tokens.specs.Token.{pastNumber}
 use mathlib.Core.Path.{_∙_, sym}
 use borrow.Author.Needs.{needs}
 use Rattle.tokens.proofs.past_number.Statement.{statement}

@@ -1,4 +1,4 @@
-use Rattle.tokens.specs.rule.Token.{pastString}
+use Rattle.tokens.specs.Token.{pastString}
 use mathlib.Core.Path.{_∙_, sym}
 use borrow.Author.Needs.{needs}
 use Rattle.tokens.proofs.past_string.Statement.{statement}

@@ -1,4 +1,4 @@
-use Rattle.tokens.specs.rule.Token.{pastValue}
+use Rattle.tokens.specs.Token.{pastValue}
 use mathlib.Core.Path.{_∙_, sym}
 use borrow.Author.Needs.{needs}
 use Rattle.tokens.proofs.past_value.Statement.{statement}

@@ -1,7 +1,7 @@
 use mathlib.Core.Path.{_≡_, _∙_, sym}
 use borrow.Author.Needs.{needs}
 use Rattle.scan.proofs.Runs.{digits-held}
-use Rattle.tokens.specs.rule.Token.{valueAt}
+use Rattle.tokens.specs.Token.{valueAt}
 use Rattle.tokens.proofs.read_value.Statement.{statement}
 use Rattle.tokens.proofs.read_value.Tie as tie
 

@@ -1,4 +1,4 @@
-use Rattle.tokens.specs.rule.Gap.{spacesOn}
+use Rattle.tokens.specs.Gap.{spacesOn}
 use mathlib.Core.Path.{_∙_, sym}
 use borrow.Author.Needs.{needs}
 use Rattle.tokens.proofs.spaces_on.Statement.{statement}

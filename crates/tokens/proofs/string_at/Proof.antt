@@ -4,7 +4,7 @@ use borrow.Author.Tests.{eq-eqb, ne-eqb}
 use borrow.Author.Needs.{needs}
 use Rattle.scan.proofs.Texts.{stepped, ended, from-text}
 use Rattle.marks.proofs.Levels.{ahead, string-ahead}
-use Rattle.tokens.specs.rule.Token.{stringIn}
+use Rattle.tokens.specs.Token.{stringIn}
 use Rattle.tokens.proofs.string_at.Statement.{statement}
 use Rattle.tokens.proofs.string_at.Tie as tie
 

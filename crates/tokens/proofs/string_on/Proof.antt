@@ -1,4 +1,4 @@
-use Rattle.tokens.specs.rule.Token.{stringOn}
+use Rattle.tokens.specs.Token.{stringOn}
 use mathlib.Core.Path.{_∙_, sym}
 use borrow.Author.Needs.{needs}
 use Rattle.tokens.proofs.string_on.Statement.{statement}

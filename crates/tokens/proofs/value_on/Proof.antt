@@ -1,4 +1,4 @@
-use Rattle.tokens.specs.rule.Token.{valueOn}
+use Rattle.tokens.specs.Token.{valueOn}
 use mathlib.Core.Path.{_∙_, sym}
 use borrow.Author.Needs.{needs}
 use Rattle.tokens.proofs.value_on.Statement.{statement}

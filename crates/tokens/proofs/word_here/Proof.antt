@@ -1,4 +1,4 @@
-use Rattle.tokens.specs.rule.Token.{wordHere}
+use Rattle.tokens.specs.Token.{wordHere}
 use mathlib.Core.Path.{_∙_, sym}
 use borrow.Author.Needs.{needs}
 use Rattle.tokens.proofs.word_here.Statement.{statement}

@@ -1,4 +1,4 @@
-use Rattle.tokens.specs.rule.Token.{wordOn}
+use Rattle.tokens.specs.Token.{wordOn}
 use mathlib.Core.Path.{_∙_, sym}
 use borrow.Author.Needs.{needs}
 use Rattle.tokens.proofs.word_on.Statement.{statement}

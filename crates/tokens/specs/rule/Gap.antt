@@ -5,8 +5,8 @@ use mathlib.Core.Bool.{cond}
 use mathlib.Core.List.{List}
 use lib.Dec.{eqb}
 use lib.ListN.{length}
-use Rattle.scan.specs.rule.Text.{Text, stop, sign, text, placeOf}
-use Rattle.scan.specs.rule.Number.{isSpace, runOf}
+use Rattle.scan.specs.rule.Text.{Text, stop, sign, text}
+use Rattle.scan.specs.rule.Number.{isSpace}
 use Rattle.scan.specs.rule.Loop.{Next, Again, Done, loopOf}
 use Rattle.marks.specs.declared.Skip.{Skip}
 use Rattle.marks.specs.declared.Skip.the-variants.{Past, Unclosed, Bad}
@@ -33,19 +33,3 @@ gapStep (sign p b t) =
 -- spaces and comments from `at` on, as long as there are any: the place of the token behind them
 unfoldable pub gapAt : List ℕ → ℕ → Reading
 gapAt d at = loopOf (λ n. gapStep (text d n)) (At 0) (suc (length d - at)) at
-
--- what follows where reading stands; a refusal stays as it is
-abbrev pub then : Reading → (ℕ → Reading) → Reading
-then (At n) k = k n
-then (Refused f) k = Refused f
-
-unfoldable pub gapOn : List ℕ → Reading → Reading
-gapOn d t = then t (gapAt d)
-
-unfoldable pub spacesOn : List ℕ → Reading → Reading
-spacesOn d t = then t λ n. At (placeOf (text d (runOf isSpace n (text d n))))
-
--- how much is left to read, at most: it falls with every token, so that what is read again and again comes to an end
-unfoldable pub left : List ℕ → Reading → ℕ
-left d (At n) = suc (length d - n)
-left d (Refused f) = 0

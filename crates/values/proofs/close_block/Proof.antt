@@ -1,6 +1,6 @@
 use mathlib.Core.Path.{_∙_, sym}
 use Rattle.values.specs.Line.{listedOf}
-use Rattle.values.specs.rule.Block.{closedBy}
+use Rattle.values.specs.Block.{closedBy}
 use Rattle.values.proofs.Lists.{listed-none}
 use borrow.Author.Needs.{needs}
 use Rattle.values.proofs.close_block.Statement.{statement}

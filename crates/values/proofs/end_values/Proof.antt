@@ -1,5 +1,5 @@
 use mathlib.Core.Path.{_∙_, sym}
-use Rattle.values.specs.rule.Line.{endOf}
+use Rattle.values.specs.Line.{endOf}
 use borrow.Author.Needs.{needs}
 use Rattle.values.proofs.end_values.Statement.{statement}
 use Rattle.values.proofs.end_values.Tie as tie

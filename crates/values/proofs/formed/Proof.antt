@@ -1,5 +1,5 @@
 use mathlib.Core.Path.{_∙_, sym}
-use Rattle.values.specs.rule.Value.{formOf}
+use Rattle.values.specs.Value.{formOf}
 use Rattle.values.proofs.formed.Statement.{statement}
 use Rattle.values.proofs.formed.Tie as tie
 

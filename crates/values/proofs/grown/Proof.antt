@@ -2,7 +2,7 @@ use mathlib.Core.Path.{_≡_}
 use mir.Syntax.{w64}
 use mir.Val.{toZ, ofZ}
 use borrow.Author.Needs.{needs}
-use Rattle.values.specs.rule.Line.{grownBy}
+use Rattle.values.specs.Line.{grownBy}
 use Rattle.values.proofs.grown.Statement.{statement}
 use Rattle.values.proofs.grown.Tie as tie
 

@@ -1,5 +1,5 @@
 use mathlib.Core.Path.{_∙_, sym}
-use Rattle.values.specs.rule.Line.{saidOf}
+use Rattle.values.specs.Line.{saidOf}
 use borrow.Author.Needs.{needs}
 use Rattle.values.proofs.join_line.Statement.{statement}
 use Rattle.values.proofs.join_line.Tie as tie

@@ -1,5 +1,5 @@
 use mathlib.Core.Path.{_∙_, sym}
-use Rattle.values.specs.rule.Range.{rangedOf}
+use Rattle.values.specs.Range.{rangedOf}
 use borrow.Author.Needs.{needs}
 use Rattle.values.proofs.join_range.Statement.{statement}
 use Rattle.values.proofs.join_range.Tie as tie

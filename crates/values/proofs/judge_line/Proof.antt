@@ -4,7 +4,7 @@ use native.Mathlib.Omega.{arith}
 use mir.Facts.{toZ-ofZ}
 use borrow.Author.Needs.{needs, sfits-of}
 use borrow.Author.Tests.{eq-eqb, ne-eqb, le-leb, lt-leb}
-use Rattle.values.specs.rule.Line.{judgeLine}
+use Rattle.values.specs.Line.{judgeLine}
 use Rattle.values.proofs.Facts.{sound-value}
 use Rattle.values.proofs.judge_line.Statement.{statement}
 use Rattle.values.proofs.judge_line.Tie as tie

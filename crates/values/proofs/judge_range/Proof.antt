@@ -1,5 +1,5 @@
 use mathlib.Core.Path.{_∙_, sym}
-use Rattle.values.specs.rule.Range.{judgeRange}
+use Rattle.values.specs.Range.{judgeRange}
 use borrow.Author.Tests.{eq-eqb, ne-eqb, not-false, not-true}
 use borrow.Author.Needs.{needs}
 use Rattle.values.proofs.judge_range.Statement.{statement}

@@ -1,5 +1,5 @@
 use mathlib.Core.Path.{_∙_, sym}
-use Rattle.values.specs.rule.Value.{largeOf}
+use Rattle.values.specs.Value.{largeOf}
 use Rattle.values.proofs.large.Statement.{statement}
 use Rattle.values.proofs.large.Tie as tie
 

@@ -1,7 +1,7 @@
 use mathlib.Core.Path.{_∙_, sym}
 use borrow.Author.Needs.{needs, sfits-of}
 use mir.Facts.{toZ-ofZ}
-use Rattle.values.specs.rule.Range.{limitRange}
+use Rattle.values.specs.Range.{limitRange}
 use Rattle.values.proofs.limit_range.Statement.{statement}
 use Rattle.values.proofs.limit_range.Tie as tie
 

@@ -1,5 +1,5 @@
 use mathlib.Core.Path.{_∙_, sym}
-use Rattle.values.specs.rule.Line.{lineFault}
+use Rattle.values.specs.Line.{lineFault}
 use borrow.Author.Tests.{not-false, not-true}
 use borrow.Author.Needs.{needs}
 use Rattle.values.proofs.line_fault.Statement.{statement}

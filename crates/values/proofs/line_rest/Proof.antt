@@ -1,5 +1,5 @@
 use mathlib.Core.Path.{_∙_, sym}
-use Rattle.values.specs.rule.Line.{lineRest}
+use Rattle.values.specs.Line.{lineRest}
 use borrow.Author.Needs.{needs}
 use Rattle.values.proofs.line_rest.Statement.{statement}
 use Rattle.values.proofs.line_rest.Tie as tie

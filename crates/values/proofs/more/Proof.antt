@@ -1,5 +1,5 @@
 use mathlib.Core.Path.{_∙_, sym}
-use Rattle.values.specs.rule.Line.{moreOf}
+use Rattle.values.specs.Line.{moreOf}
 use borrow.Author.Needs.{needs}
 use Rattle.values.proofs.more.Statement.{statement}
 use Rattle.values.proofs.more.Tie as tie

@@ -1,5 +1,5 @@
 use mathlib.Core.Path.{_∙_, sym}
-use Rattle.values.specs.rule.Range.{rangeRest}
+use Rattle.values.specs.Range.{rangeRest}
 use borrow.Author.Needs.{needs}
 use Rattle.values.proofs.range_rest.Statement.{statement}
 use Rattle.values.proofs.range_rest.Tie as tie

@@ -1,7 +1,7 @@
 use mathlib.Core.Path.{_≡_, refl, _∙_, sym}
 use borrow.Author.Needs.{needs}
 use Rattle.values.specs.Line.{listedOf}
-use Rattle.values.specs.rule.Block.{rangeThen}
+use Rattle.values.specs.Block.{rangeThen}
 use Rattle.values.proofs.Lists.{stored-none, stored-not}
 use Rattle.values.proofs.range_then.Statement.{statement}
 use Rattle.values.proofs.range_then.Tie as tie

@@ -4,7 +4,7 @@ use mathlib.Core.Path.{_≡_, refl, _∙_, sym, ap}
 use Prim.Native.Nat.{_-_}
 use native.Mathlib.Omega.{arith}
 use borrow.Author.Needs.{needs}
-use Rattle.values.specs.rule.Line.{stateOf}
+use Rattle.values.specs.Line.{stateOf}
 use Rattle.values.proofs.Lists.{Ran, none-held, marked-here, went-more, went-over, turned-not, lines-more, lines-done, listed-over, listed-not}
 use Rattle.values.proofs.read_lines.Statement.{statement}
 use Rattle.values.proofs.read_lines.Tie as tie

@@ -7,7 +7,7 @@ use mir.Val.{toZ}
 use mir.Facts.{toZ-ofZ}
 use borrow.Author.Needs.{needs, sfits-of}
 use native.Mathlib.Omega.{arith}
-use Rattle.values.specs.rule.Line.{repeatedIn}
+use Rattle.values.specs.Line.{repeatedIn}
 use Rattle.values.specs.Room.{roomAt}
 use Rattle.values.proofs.Facts.{none-until, one-says, none-yet}
 use Rattle.values.proofs.repeated.Statement.{statement}

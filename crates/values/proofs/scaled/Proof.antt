@@ -1,7 +1,7 @@
 use mathlib.Core.Path.{_∙_}
 use mir.Facts.{toZ-ofZ}
 use borrow.Author.Needs.{needs, sfits-of}
-use Rattle.values.specs.rule.Value.{scaledOf}
+use Rattle.values.specs.Value.{scaledOf}
 use Rattle.values.proofs.Facts.{large-size}
 use Rattle.values.proofs.scaled.Statement.{statement}
 use Rattle.values.proofs.scaled.Tie as tie

@@ -1,5 +1,5 @@
 use mathlib.Core.Path.{_∙_, sym}
-use Rattle.values.specs.rule.Range.{settled}
+use Rattle.values.specs.Range.{settled}
 use borrow.Author.Needs.{needs}
 use Rattle.values.proofs.settle.Statement.{statement}
 use Rattle.values.proofs.settle.Tie as tie

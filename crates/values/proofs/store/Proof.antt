@@ -1,7 +1,7 @@
 use mathlib.Core.Path.{_∙_}
 use mir.Facts.{toZ-ofZ}
 use borrow.Author.Needs.{needs, sfits-of}
-use Rattle.values.specs.rule.Line.{lineCells}
+use Rattle.values.specs.Line.{lineCells}
 use Rattle.values.proofs.store.Statement.{statement}
 use Rattle.values.proofs.store.Tie as tie
 

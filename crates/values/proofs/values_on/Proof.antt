@@ -1,7 +1,7 @@
 use mathlib.Core.Path.{_≡_, _∙_, sym}
-use Rattle.statements.specs.rule.Note.{statementOn}
+use Rattle.statements.specs.Note.{statementOn}
 use borrow.Author.Needs.{needs}
-use Rattle.values.specs.rule.Block.{valuesOn}
+use Rattle.values.specs.Block.{valuesOn}
 use Rattle.values.proofs.values_on.Statement.{statement}
 use Rattle.values.proofs.values_on.Tie as tie
 

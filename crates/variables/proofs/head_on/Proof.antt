@@ -1,5 +1,5 @@
 use mathlib.Core.Path.{_∙_, sym}
-use Rattle.variables.specs.rule.Head.{headOn}
+use Rattle.variables.specs.Head.{headOn}
 use borrow.Author.Needs.{needs}
 use Rattle.variables.proofs.head_on.Statement.{statement}
 use Rattle.variables.proofs.head_on.Tie as tie

@@ -1,6 +1,6 @@
 use mathlib.Core.Path.{_∙_, sym}
-use Rattle.variables.specs.rule.Ident.{identOn}
-use Rattle.statements.specs.rule.Note.{statementOn}
+use Rattle.variables.specs.Ident.{identOn}
+use Rattle.statements.specs.Note.{statementOn}
 use borrow.Author.Needs.{needs}
 use Rattle.variables.proofs.ident_on.Statement.{statement}
 use Rattle.variables.proofs.ident_on.Tie as tie

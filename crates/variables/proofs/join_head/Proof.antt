@@ -1,5 +1,5 @@
 use mathlib.Core.Path.{_∙_, sym}
-use Rattle.variables.specs.rule.Head.{joinHead}
+use Rattle.variables.specs.Head.{joinHead}
 use borrow.Author.Needs.{needs}
 use Rattle.variables.proofs.join_head.Statement.{statement}
 use Rattle.variables.proofs.join_head.Tie as tie

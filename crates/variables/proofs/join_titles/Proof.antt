@@ -1,5 +1,5 @@
 use mathlib.Core.Path.{_∙_, sym}
-use Rattle.variables.specs.rule.Head.{joinTitles}
+use Rattle.variables.specs.Head.{joinTitles}
 use borrow.Author.Needs.{needs}
 use Rattle.variables.proofs.join_titles.Statement.{statement}
 use Rattle.variables.proofs.join_titles.Tie as tie

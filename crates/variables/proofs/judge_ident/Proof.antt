@@ -1,5 +1,5 @@
 use mathlib.Core.Path.{_∙_, sym}
-use Rattle.variables.specs.rule.Ident.{judgeIdent}
+use Rattle.variables.specs.Ident.{judgeIdent}
 use borrow.Author.Tests.{le-leb, lt-leb}
 use borrow.Author.Needs.{needs}
 use Rattle.variables.proofs.judge_ident.Statement.{statement}

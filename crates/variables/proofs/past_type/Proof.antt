@@ -1,5 +1,5 @@
 use mathlib.Core.Path.{_∙_, sym}
-use Rattle.variables.specs.rule.Head.{pastType}
+use Rattle.variables.specs.Head.{pastType}
 use borrow.Author.Needs.{needs}
 use Rattle.variables.proofs.past_type.Statement.{statement}
 use Rattle.variables.proofs.past_type.Tie as tie

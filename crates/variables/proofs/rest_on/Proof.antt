@@ -1,7 +1,7 @@
 use mathlib.Core.Path.{_≡_, _∙_, sym}
 use borrow.Author.Tests.{eq-eqb, ne-eqb}
 use borrow.Author.Needs.{needs}
-use Rattle.variables.specs.rule.Rest.{restOf}
+use Rattle.variables.specs.Rest.{restOf}
 use Rattle.variables.proofs.Tellings.{stored-size, stored-nothing}
 use Rattle.variables.proofs.rest_on.Statement.{statement}
 use Rattle.variables.proofs.rest_on.Tie as tie

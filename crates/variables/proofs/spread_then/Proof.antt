@@ -1,6 +1,6 @@
 use mathlib.Core.Path.{_≡_, refl, _∙_, sym}
 use borrow.Author.Needs.{needs}
-use Rattle.variables.specs.rule.Rest.{spreadThen}
+use Rattle.variables.specs.Rest.{spreadThen}
 use Rattle.variables.specs.Rest.{restedOf}
 use Rattle.variables.proofs.Tellings.{stored-not}
 use Rattle.variables.proofs.spread_then.Statement.{statement}

@@ -1,6 +1,6 @@
 use mathlib.Core.Path.{_≡_, _∙_, sym}
 use borrow.Author.Needs.{needs}
-use Rattle.variables.specs.rule.Rest.{valuesRest}
+use Rattle.variables.specs.Rest.{valuesRest}
 use Rattle.variables.proofs.Tellings.{rested-is, rested-not, stored-values}
 use Rattle.variables.proofs.values_rest.Statement.{statement}
 use Rattle.variables.proofs.values_rest.Tie as tie

@@ -1,5 +1,5 @@
 use mathlib.Core.Path.{_∙_, sym}
-use Rattle.variables.specs.rule.Ident.{wrongIdent}
+use Rattle.variables.specs.Ident.{wrongIdent}
 use borrow.Author.Tests.{le-ltb, lt-ltb}
 use borrow.Author.Needs.{needs}
 use Rattle.variables.proofs.wrong_ident.Statement.{statement}
