@@ -1,52 +1,44 @@
 /* Zarfolin: reading, judging and correcting Triple-S 1.1 survey files.
  *
- * The face of the verified static library, for C. Link with target/staticlib/libzarfolin.a, which
- * `rt staticlib zarfolin` builds:
+ * The face of the verified static library, for C. Link with libzarfolin.a, which `rt staticlib zarfolin` builds
+ * (target/staticlib) and a release has in lib/:
  *
  *     cc -Wall -Wextra -Werror -I include program.c target/staticlib/libzarfolin.a -o program
+ *     cc program.c $(pkg-config --cflags --libs zarfolin) -o program
+ *
+ * The archive is for Linux on x86-64. This header is C89 to C23 and C++98 to C++20. examples/c/judge.c is a whole program.
  *
  * Rules that hold for every call
  *
- *   - Every call takes any input: any bytes, any numbers, any lengths, any row. It ends, and touches only the buffers
- *     lent to it.
- *   - A slice goes as a pointer and a length. The pointer must point to that many bytes or numbers; where the length is
- *     0 nothing is read or written, and the pointer must still not be NULL. Lengths stay below 2^63 bytes.
- *   - No two buffers of one call may overlap.
- *   - The return value is the number given back: 0 is done, otherwise a refusal (see below). zarfolin_next_record has
- *     its own meaning for it.
- *   - `answer` points to four numbers. A call that has one fills all four each time, refused or not, and the first of
- *     them is the value returned.
- *   - A refusal leaves every other buffer as it was.
- *   - Rows, byte places and text places count from 0; records count from 1.
+ *   Input     Every call takes any input: any bytes, any numbers, any lengths, any row. It ends, and its answer is settled
+ *             by what it is given; nothing is undefined but what breaks a rule below.
+ *   Buffers   A slice goes as a pointer and a length, the length in elements: bytes for uint8_t, numbers for int64_t.
+ *             Lengths stay below 2^63 bytes. Where the length is 0 nothing is read or written.
+ *   NULL      No pointer may be NULL, not even where the length is 0: give the address of anything then.
+ *   Alignment A pointer to int64_t is aligned to 8 bytes, also where the length is 0. One to uint8_t may stand anywhere.
+ *   Overlap   No two buffers of one call may overlap, unless both are only read.
+ *   Change    While a call runs nobody else may write to any of its buffers, nor read one that it writes. That counts for
+ *             files mapped into memory too, which another process may change or cut short: read them into memory first.
+ *   Threads   The library has no state: no variable of its own, no allocation, no lock, no errno, no locale. Calls may run
+ *             at once on any threads as long as each keeps to "Change"; a table or a record that is only read may be
+ *             shared by all of them. A call may be made in a signal handler, if there is stack enough.
+ *   Stack     See ZARFOLIN_STACK_READ_DEFINITION below: up to 261,000 bytes. A small thread (musl gives 128 KiB) is not enough.
+ *   Needs     Of the C library memcpy and memset alone.
+ *   Refusal   The value returned is 0 for done, otherwise a refusal, ZARFOLIN_E_TOO_LONG to ZARFOLIN_E_LENGTH below, which
+ *             zarfolin_message puts into words. zarfolin_next_record alone has its own meaning for it. A later library may
+ *             have further refusals: treat a number that you don't know as a refusal.
+ *   Kept      A refusal leaves every buffer but `answer` as it was, and so is whatever a call doesn't say that it writes.
+ *   answer    Points to four numbers (ZARFOLIN_ANSWER). A call that has one fills all four each time, refused or not, and
+ *             the first of them is the value returned.
+ *   Counting  Rows, lines, byte places and text places count from 0; records, and the locations of POSITION, from 1.
+ *   Encoding  Data and definitions are bytes. Outside its texts a definition means what it means in ASCII. Names, labels and
+ *             texts of values are handed on undecoded, as place and length in the definition: bytes below 32 are to be
+ *             dropped and brace forms ({"} {{} {NL} {hex}) to be decoded, in the encoding that the sender used.
+ *   Table     The numbers of a table are int64_t in the machine's own byte order. It is for memory, not for files: its shape
+ *             belongs to ZARFOLIN_VERSION.
  *
- * Refusals
- *
- *    1 definition too long (over 1,048,576 bytes)
- *    2 another token was due
- *    3 string or comment unclosed, bad brace form, comment of level 33
- *    4 version not 1.1
- *    5 ident 0, over four digits, or repeated
- *    6 value form wrong for its type, range reversed, decimals differ, value repeated
- *    7 start 0, finish below start, subfields or SIZE 0, subfield width 0 or inexact, position too narrow
- *    8 another limit passed
- *    9 STANDARD NAMES broken
- *   10 lent table too short
- *   20 table not well formed
- *   21 no such row
- *   22 record shorter than L
- *   23 byte below 32 in the record (whole record only)
- *   24 field illegal
- *   25 set list shorter than the set
- *   26 value of another type
- *   27 value not legal
- *   28 more members than subfields
- *   30 last record has no terminator
- *   31 length differs from the first record's
- *
- * The table
- *
- *   64-bit numbers. Header, six: 11, variables V, value lines E, least record length L, 6, 6 + 18 V. Then V rows of
- *   eighteen, then E lines of four; 6 + 18 V + 4 E numbers in all, at most ZARFOLIN_MAX_TABLE.
+ * Everything that ends in `;` below is proved to answer what is said of it (docs/CONTRACTS.md). The inline functions at the
+ * end are plain C, for convenience, and are not.
  */
 #ifndef ZARFOLIN_H
 #define ZARFOLIN_H
@@ -58,42 +50,58 @@
 extern "C" {
 #endif
 
+/* ---- version ------------------------------------------------------------------------------------------------------- */
+
+/* The version of this face. It is raised by each change that a program compiled before it would not survive: another shape
+ * of the table, another meaning of a call or a number. A new call, or a refusal met in a new case, doesn't raise it. */
+#define ZARFOLIN_VERSION 1
+
+/* The version of the archive that is linked. A program asks once, when it starts:
+ *
+ *     if (zarfolin_version() != ZARFOLIN_VERSION) { .. header and archive don't belong together .. }
+ */
+uint64_t zarfolin_version(void);
+
+/* ---- numbers ------------------------------------------------------------------------------------------------------- */
+
 /* What the calls return. */
 typedef uint64_t zarfolin_number;
 
-/* The table of any definition fits in this many numbers. */
-#define ZARFOLIN_MAX_TABLE (6 + 18 * 512 + 4 * 4096)
-
-/* The columns of a row, which begins at table[6 + 18 * row]. */
+/* The refusals. zarfolin_message has them in words. */
 enum {
-    ZARFOLIN_IDENT = 0,
-    ZARFOLIN_TYPE = 1, /* 1 SINGLE, 2 MULTIPLE, 3 QUANTITY, 4 CHARACTER, 5 LOGICAL */
-    ZARFOLIN_START = 2, /* the locations of POSITION, from 1 */
-    ZARFOLIN_FINISH = 3,
-    ZARFOLIN_WIDTH = 4, /* the value width w */
-    ZARFOLIN_DECIMALS = 5,
-    ZARFOLIN_POINT = 6,
-    ZARFOLIN_SUBFIELDS = 7,
-    ZARFOLIN_SUBFIELD_WIDTH = 8,
-    ZARFOLIN_RANGE = 9,
-    ZARFOLIN_FROM = 10,
-    ZARFOLIN_TO = 11,
-    ZARFOLIN_LINES_BEFORE = 12,
-    ZARFOLIN_LINES = 13,
-    ZARFOLIN_NAME = 14, /* place and length of the undecoded text in the definition */
-    ZARFOLIN_NAME_LENGTH = 15,
-    ZARFOLIN_LABEL = 16,
-    ZARFOLIN_LABEL_LENGTH = 17,
-    ZARFOLIN_ROW = 18
+    ZARFOLIN_OK = 0,
+    /* of a definition */
+    ZARFOLIN_E_TOO_LONG = 1,    /* definition too long: over ZARFOLIN_MAX_DEFINITION bytes */
+    ZARFOLIN_E_TOKEN = 2,       /* another token was due */
+    ZARFOLIN_E_MARK = 3,        /* string or comment unclosed, bad brace form, comment of level 33 */
+    ZARFOLIN_E_VERSION = 4,     /* version not 1.1 */
+    ZARFOLIN_E_IDENT = 5,       /* ident 0, over four digits, or repeated */
+    ZARFOLIN_E_VALUES = 6,      /* value form wrong for its type, range reversed, decimals differ, value repeated */
+    ZARFOLIN_E_POSITION = 7,    /* start 0, finish below start, subfields or SIZE 0, subfield width 0 or inexact, or
+                                 * position too narrow */
+    ZARFOLIN_E_LIMIT = 8,       /* another limit passed */
+    ZARFOLIN_E_NAMES = 9,       /* STANDARD NAMES broken */
+    ZARFOLIN_E_TABLE_ROOM = 10, /* lent table too short */
+    /* of a table, a record and a value */
+    ZARFOLIN_E_TABLE = 20,     /* table not well formed */
+    ZARFOLIN_E_ROW = 21,       /* no such row */
+    ZARFOLIN_E_SHORT = 22,     /* record shorter than ZARFOLIN_H_RECORD says */
+    ZARFOLIN_E_LOW_BYTE = 23,  /* byte below 32 in the record (whole record only) */
+    ZARFOLIN_E_FIELD = 24,     /* field illegal */
+    ZARFOLIN_E_LIST_ROOM = 25, /* lent list shorter than the set; can't come where it has ZARFOLIN_MAX_SET numbers */
+    ZARFOLIN_E_TYPE = 26,      /* value of another type */
+    ZARFOLIN_E_VALUE = 27,     /* value not legal */
+    ZARFOLIN_E_MEMBERS = 28,   /* more members than subfields */
+    /* of a data file */
+    ZARFOLIN_E_UNENDED = 30, /* last record has no terminator */
+    ZARFOLIN_E_LENGTH = 31   /* length differs from the first record's */
 };
 
-/* The columns of a line, which begins at table[table[5] + 4 * line]. */
+/* What zarfolin_next_record returns. */
 enum {
-    ZARFOLIN_LINE_VALUE = 0,
-    ZARFOLIN_LINE_SPECIAL = 1,
-    ZARFOLIN_LINE_TEXT = 2,
-    ZARFOLIN_LINE_TEXT_LENGTH = 3,
-    ZARFOLIN_LINE = 4
+    ZARFOLIN_NO_RECORD = 0,     /* none: at or past the end of the data */
+    ZARFOLIN_RECORD = 1,        /* a record with its terminator */
+    ZARFOLIN_OPEN_RECORD = 2    /* a record that the data ends without a terminator */
 };
 
 /* The kinds of value that zarfolin_read_value answers. */
@@ -105,12 +113,99 @@ enum {
     ZARFOLIN_IS_TRUTH = 4
 };
 
+/* The numbers of an answer. */
+#define ZARFOLIN_ANSWER 4
+
+/* ---- limits -------------------------------------------------------------------------------------------------------- */
+
+#define ZARFOLIN_MAX_DEFINITION 1048576            /* bytes of a definition */
+#define ZARFOLIN_MAX_VARIABLES 512                 /* rows of a table */
+#define ZARFOLIN_MAX_LINES 4096                    /* value lines of a table, over all rows */
+#define ZARFOLIN_MAX_CATEGORY 9999                 /* a SINGLE's or MULTIPLE's number */
+#define ZARFOLIN_MAX_SET ZARFOLIN_MAX_CATEGORY     /* members of a set: with a list of so many numbers 25 can't come */
+#define ZARFOLIN_MAX_QUANTITY INT64_C(999999999999999) /* a scaled quantity, either sign */
+#define ZARFOLIN_MAX_DECIMALS 9                    /* decimals of a quantity */
+#define ZARFOLIN_MAX_SIZE 4096                     /* bytes of a text */
+#define ZARFOLIN_MAX_LOCATION 16384                /* the last byte of a record that a row may use */
+#define ZARFOLIN_MAX_LEVEL 32                      /* comments within comments */
+
+/* ---- the table ----------------------------------------------------------------------------------------------------- *
+ *
+ * A header, then the rows, one for each variable, then the lines, one for each value with a text:
+ *
+ *     table[ZARFOLIN_H_VARIABLES]                                    how many rows, V
+ *     table[table[ZARFOLIN_H_ROWS_AT] + ZARFOLIN_ROW * row + column]    one number of a row
+ *     table[table[ZARFOLIN_H_LINES_AT] + ZARFOLIN_LINE * line + column] one number of a line
+ *
+ * ZARFOLIN_TABLE(V, E) numbers in all. The lines of a row are ZARFOLIN_LINES in number, from ZARFOLIN_LINES_BEFORE on. */
+
+/* The numbers of the header. */
+enum {
+    ZARFOLIN_H_MARK = 0,      /* ZARFOLIN_MARK */
+    ZARFOLIN_H_VARIABLES = 1, /* rows, V */
+    ZARFOLIN_H_LINES = 2,     /* lines, E */
+    ZARFOLIN_H_RECORD = 3,    /* least length of a record, L: the highest finish */
+    ZARFOLIN_H_ROWS_AT = 4,   /* where the rows start: ZARFOLIN_HEADER */
+    ZARFOLIN_H_LINES_AT = 5,  /* where the lines start: ZARFOLIN_HEADER + ZARFOLIN_ROW * V */
+    ZARFOLIN_HEADER = 6
+};
+
+/* The first number of every table of a 1.1 definition. */
+#define ZARFOLIN_MARK 11
+
+/* The columns of a row. Those that its type lacks are 0. */
+enum {
+    ZARFOLIN_IDENT = 0,
+    ZARFOLIN_TYPE = 1,      /* ZARFOLIN_SINGLE to ZARFOLIN_LOGICAL */
+    ZARFOLIN_START = 2,     /* the locations of POSITION, from 1 */
+    ZARFOLIN_FINISH = 3,
+    ZARFOLIN_WIDTH = 4,     /* the value width w */
+    ZARFOLIN_DECIMALS = 5,  /* of a QUANTITY */
+    ZARFOLIN_POINT = 6,     /* of a QUANTITY: whether the data has a point, 0 or 1 */
+    ZARFOLIN_SUBFIELDS = 7, /* of a MULTIPLE with SPREAD; 0 for a bitstring */
+    ZARFOLIN_SUBFIELD_WIDTH = 8,
+    ZARFOLIN_RANGE = 9,     /* whether there is a range, 0 or 1 */
+    ZARFOLIN_FROM = 10,     /* its ends, scaled by the decimals; 0 where there is none */
+    ZARFOLIN_TO = 11,
+    ZARFOLIN_LINES_BEFORE = 12, /* lines of the rows before this one */
+    ZARFOLIN_LINES = 13,        /* lines of this row */
+    ZARFOLIN_NAME = 14,         /* place and length of the undecoded text in the definition */
+    ZARFOLIN_NAME_LENGTH = 15,
+    ZARFOLIN_LABEL = 16,
+    ZARFOLIN_LABEL_LENGTH = 17,
+    ZARFOLIN_ROW = 18
+};
+
+/* The types of a row. */
+enum {
+    ZARFOLIN_SINGLE = 1,
+    ZARFOLIN_MULTIPLE = 2,
+    ZARFOLIN_QUANTITY = 3,
+    ZARFOLIN_CHARACTER = 4,
+    ZARFOLIN_LOGICAL = 5
+};
+
+/* The columns of a line. */
+enum {
+    ZARFOLIN_LINE_VALUE = 0,   /* scaled by the row's decimals */
+    ZARFOLIN_LINE_SPECIAL = 1, /* whether SPECIAL stands with it, 0 or 1 */
+    ZARFOLIN_LINE_TEXT = 2,    /* place and length of the undecoded text in the definition */
+    ZARFOLIN_LINE_TEXT_LENGTH = 3,
+    ZARFOLIN_LINE = 4
+};
+
+/* The numbers of a table of so many rows and lines, and of the largest there can be. */
+#define ZARFOLIN_TABLE(variables, lines) (ZARFOLIN_HEADER + ZARFOLIN_ROW * (variables) + ZARFOLIN_LINE * (lines))
+#define ZARFOLIN_MAX_TABLE ZARFOLIN_TABLE(ZARFOLIN_MAX_VARIABLES, ZARFOLIN_MAX_LINES)
+
+/* ---- the calls ----------------------------------------------------------------------------------------------------- */
+
 /* Reads a definition into a lent table.
  *
  * Answers 0, or 1 to 10.
  * answer: the number; its place in the definition (0 for 0, 1 and 10); V; E (both 0 when refused).
- * table:  on 0 its first 6 + 18 V + 4 E numbers are header, rows and lines, and what lies beyond is kept. On a refusal
- *         all of it is kept.
+ * table:  on 0 its first ZARFOLIN_TABLE(V, E) numbers are header, rows and lines, and what lies beyond is kept. On a
+ *         refusal all of it is kept. With ZARFOLIN_MAX_TABLE numbers 10 can't come.
  * def:    only read. */
 zarfolin_number zarfolin_read_definition(const uint8_t *def, size_t def_len, int64_t *table, size_t table_len,
                                          int64_t *answer);
@@ -126,9 +221,26 @@ zarfolin_number zarfolin_read_definition(const uint8_t *def, size_t def_len, int
  *         truth        0 or 1; 0
  *         On a refusal kind and both others are 0.
  * list:   a set's members stand at its start, rising; the rest is kept. Any other value and any refusal keep all of it.
+ *         With ZARFOLIN_MAX_SET numbers 25 can't come.
  * table, record: only read. No byte outside the row's value places decides anything. */
 zarfolin_number zarfolin_read_value(const int64_t *table, size_t table_len, uint64_t row, const uint8_t *record,
                                     size_t record_len, int64_t *list, size_t list_len, int64_t *answer);
+
+/* Reads all rows of a record: the table is tested once.
+ *
+ * Answers 0, or the first of 20, 22, 25 that holds; 25 if out has fewer than ZARFOLIN_ANSWER * V numbers, or the list has no
+ * room for the members of all sets together.
+ * answer: the number; the members in the list; the rows refused; 0. On a refusal all three are 0.
+ * out:    on 0 four numbers for each row, from out[ZARFOLIN_ANSWER * row] on: just those that zarfolin_read_value answers for it (24
+ *         for an illegal field, so that all faults of a record come at once), but for a set
+ *             0; ZARFOLIN_IS_SET; the count of members; where they start in the list
+ *         What lies beyond ZARFOLIN_ANSWER * V numbers is kept. On a refusal all of it is kept.
+ * list:   on 0 the members of the sets, row after row, rising inside each; an empty set starts where the next one does.
+ *         What lies beyond them is kept. On a refusal all of it is kept. For each MULTIPLE as many numbers
+ *         as it has subfields, or bytes of width where it has none, are enough.
+ * table, record: only read. No byte outside the rows' value places decides anything. */
+zarfolin_number zarfolin_read_record(const int64_t *table, size_t table_len, const uint8_t *record, size_t record_len,
+                                     int64_t *out, size_t out_len, int64_t *list, size_t list_len, int64_t *answer);
 
 /* Judges a whole record.
  *
@@ -177,11 +289,77 @@ zarfolin_number zarfolin_judge_file(const int64_t *table, size_t table_len, cons
 
 /* Finds the record that starts at `from`, by the terminator that the file's first CR or LF settles.
  *
- * Answers 1 a record with its terminator, 2 one that the data ends without, 0 none: from is at or past the end.
- * answer: the number; the record's start; its end; where the next record starts (for 2 the end of the data). All 0
- *         where there is none.
+ * Answers ZARFOLIN_RECORD, ZARFOLIN_OPEN_RECORD or ZARFOLIN_NO_RECORD; there is no refusal.
+ * answer: the number; the record's start; its end; where the next record starts (for an open one the end of the data).
+ *         All 0 where there is none.
  * data:   only read. */
 zarfolin_number zarfolin_next_record(const uint8_t *data, size_t data_len, uint64_t from, int64_t *answer);
+
+/* ---- stack --------------------------------------------------------------------------------------------------------- *
+ *
+ * The most bytes of stack that a call took, rounded up, its own return address included, memcpy and memset too. Measured,
+ * not proved: on painted stacks, over the inputs of tests/c/stack.c, which the merge gate holds to these figures. Not
+ * counted is what the dynamic linker takes where it binds memcpy at a first call. No function of the archive calls itself
+ * but the one that skips comments, at most ZARFOLIN_MAX_LEVEL deep, so leave some room and no more. */
+#define ZARFOLIN_STACK_READ_DEFINITION 261000
+#define ZARFOLIN_STACK_READ_VALUE 38000
+#define ZARFOLIN_STACK_READ_RECORD 102000
+#define ZARFOLIN_STACK_JUDGE_RECORD 27500
+#define ZARFOLIN_STACK_WRITE 27600
+#define ZARFOLIN_STACK_JUDGE_FILE 27500
+#define ZARFOLIN_STACK_NEXT_RECORD 128
+#define ZARFOLIN_STACK_VERSION 16
+
+/* ---- in plain C, for convenience: no part of the archive, and not proved --------------------------------------------- */
+
+#if defined(__cplusplus) || (defined(__STDC_VERSION__) && __STDC_VERSION__ >= 199901L)
+#define ZARFOLIN_INLINE static inline
+#elif defined(__GNUC__)
+#define ZARFOLIN_INLINE static __inline__
+#else
+#define ZARFOLIN_INLINE static
+#endif
+
+/* A row and a line of a table that zarfolin_read_definition filled. */
+ZARFOLIN_INLINE const int64_t *zarfolin_row(const int64_t *table, size_t row) {
+    return table + table[ZARFOLIN_H_ROWS_AT] + ZARFOLIN_ROW * row;
+}
+
+ZARFOLIN_INLINE const int64_t *zarfolin_line(const int64_t *table, size_t line) {
+    return table + table[ZARFOLIN_H_LINES_AT] + ZARFOLIN_LINE * line;
+}
+
+/* A refusal in words, in ASCII; it is never NULL and never freed. */
+ZARFOLIN_INLINE const char *zarfolin_message(zarfolin_number number) {
+    switch (number) {
+    case ZARFOLIN_OK: return "done";
+    case ZARFOLIN_E_TOO_LONG: return "the definition is longer than 1,048,576 bytes";
+    case ZARFOLIN_E_TOKEN: return "another word, number or text was due here";
+    case ZARFOLIN_E_MARK: return "a string or comment is not closed, has a bad brace form, or is a comment of level 33";
+    case ZARFOLIN_E_VERSION: return "the version is not 1.1";
+    case ZARFOLIN_E_IDENT: return "the ident is 0, has over four digits, or is repeated";
+    case ZARFOLIN_E_VALUES:
+        return "the value has the wrong form for its type, reverses its range, differs in decimals, or is repeated";
+    case ZARFOLIN_E_POSITION:
+        return "the position starts at 0, ends before it starts, has 0 subfields or bytes, is not a multiple of its "
+               "subfields, or is too narrow for its values";
+    case ZARFOLIN_E_LIMIT: return "a limit is passed";
+    case ZARFOLIN_E_NAMES: return "the name is no standard name, or agrees with an earlier one";
+    case ZARFOLIN_E_TABLE_ROOM: return "the lent table is too short for this definition";
+    case ZARFOLIN_E_TABLE: return "the table is not well formed";
+    case ZARFOLIN_E_ROW: return "there is no such row";
+    case ZARFOLIN_E_SHORT: return "the record is shorter than its definition needs";
+    case ZARFOLIN_E_LOW_BYTE: return "the record has a byte below 32";
+    case ZARFOLIN_E_FIELD: return "the field holds no legal value";
+    case ZARFOLIN_E_LIST_ROOM: return "the lent list is too short for this set";
+    case ZARFOLIN_E_TYPE: return "the value does not fit the variable's type";
+    case ZARFOLIN_E_VALUE: return "the value is not legal for this variable";
+    case ZARFOLIN_E_MEMBERS: return "the set has more members than the variable has subfields";
+    case ZARFOLIN_E_UNENDED: return "the last record has no terminator";
+    case ZARFOLIN_E_LENGTH: return "the record's length differs from the first record's";
+    default: return "refused for a reason that this header does not know";
+    }
+}
 
 #ifdef __cplusplus
 }

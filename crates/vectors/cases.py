@@ -11,7 +11,7 @@ variable, in the order of the file; texts of the heading and of notes have none)
 are held against the same two files by rust/compare/tests/vectors.rs.
 
 stdin:  for each case a line `LEN ROOM` (bytes of the definition, numbers of table lent), LEN bytes, LF.
-stdout: `case N: read V E kept` and a line with the 6 + 18V + 4E numbers of the table, or `case N: NUMBER PLACE kept`. `kept` says that
+stdout: `case N: read V E kept` and a line with the numbers of the table, or `case N: NUMBER PLACE kept`. `kept` says that
         every other number of the table holds what it held before; the program would print `touched`.
 """
 import os
@@ -19,6 +19,12 @@ import sys
 
 ROOM = 120  # room of a refused definition where the case says nothing: more than its table would need
 CASES = []
+HEADER, ROW, LINE = 6, 18, 4  # numbers of the header, of a row, of a line
+
+
+def size(rows, lines=0):
+    """The numbers of a table of so many rows and lines."""
+    return HEADER + ROW * rows + LINE * lines
 
 
 def bare(text):
@@ -57,9 +63,9 @@ def sound(title, text, *rows, room=None):
             values += [value, special, *next(texts)]
         before += len(lines)
     assert next(texts, None) is None, title
-    header = [11, len(rows), before, max(c[3] for c, _ in rows), 6, 6 + 18 * len(rows)]
+    header = [11, len(rows), before, max(c[3] for c, _ in rows), HEADER, size(len(rows))]
     table = header + variables + values
-    assert len(table) == 6 + 18 * len(rows) + 4 * before, title
+    assert len(table) == size(len(rows), before), title
     needed = len(table)
     answer = f"read {len(rows)} {before} kept\n" + " ".join(map(str, table)) + "\n"
     CASES.append((title, bare(text), needed + 5 if room is None else needed + room, answer))
@@ -109,7 +115,7 @@ SAMPLE_ROWS = (
 )
 sound("document 01's sample", SAMPLE, *SAMPLE_ROWS)
 sound("document 01's sample, exactly enough room", SAMPLE, *SAMPLE_ROWS, room=0)
-refused("document 01's sample, room for one number too few", 10, SAMPLE, 6 + 18 * 3 + 4 * 3 - 1)
+refused("document 01's sample, room for one number too few", 10, SAMPLE, size(3, 3) - 1)
 refused("document 01's sample, no room at all", 10, SAMPLE, 0)
 sound("document 01's sample with CR LF", SAMPLE.replace("\n", "\r\n"), *SAMPLE_ROWS)
 
@@ -661,7 +667,7 @@ def listing(lines, kind="QUANTITY", position="1 TO 5", ident=1):
     return f'VARIABLE {ident} NAME"~~"LABEL"~~"TYPE {kind} POSITION {position} VALUES {text} END VALUES END VARIABLE '
 
 
-FULL = 6 + 18 * 513 + 4 * 4097
+FULL = size(513, 4097)
 sound("512 variables", many(512), *[row(n, LOGICAL, 1, 1, 1) for n in range(1, 513)])
 refused("513 variables", 8, many(513, "@513"), FULL)
 refused("a 513th variable whose ident is repeated: 5 before 8", 5, many(513, "@12"), FULL)
@@ -716,8 +722,8 @@ refused("9 before 10", 9, names('"a"', '@"a"'), 0)
 
 # ---------------------------------------------------------------------------------------------- the table is too short
 
-refused("room for the header alone", 10, whole(TRUTH), 6)
-refused("room for one number too few", 10, whole(TRUTH), 23)
+refused("room for the header alone", 10, whole(TRUTH), HEADER)
+refused("room for one number too few", 10, whole(TRUTH), size(1) - 1)
 sound("room for every number", whole(TRUTH), ONE, room=0)
 refused("10 is last: 2 before it", 2, HEAD + TRUTH + " END RECORD END SURVEY END @X", 0)
 refused("10 is last: 3 before it", 3, HEAD + '@<', 0)
@@ -726,7 +732,7 @@ refused("10 is last: 5 before it", 5, whole(TRUTH + SECOND.replace("VARIABLE 2",
 refused("10 is last: 6 before it", 6, values("5 TO @1"), 0)
 refused("10 is last: 7 before it", 7, one("CHARACTER POSITION @1 SIZE 2"), 0)
 refused("10 is last: 8 before it", 8, one("LOGICAL POSITION @16385"), 0)
-refused("room for all but the last line's length", 10, values('1 "a" 2 "b"'), 6 + 18 + 4 * 2 - 1)
+refused("room for all but the last line's length", 10, values('1 "a" 2 "b"'), size(1, 2) - 1)
 sound("room for the last line's length", values('1 "~a~" 2 "~b~"'), row(1, SINGLE, 1, 9, 1, lines=(1, 2)), room=0)
 
 

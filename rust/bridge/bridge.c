@@ -1,30 +1,21 @@
 /* The library behind two pipes, for comparing where it can't be linked: the archive is for x86-64, and on another machine
  * this program runs under an emulator while the tests run outside it.
  *
- * A request: eight 64-bit numbers (call, row or from, number, then the lengths of table, list, bytes and text, then 0), then
- * the table, the list, the bytes and the text themselves. A reply: the number returned, the four answers, 1 if anything
- * changed that the call may not change (an input, or a byte around a buffer), then the buffer that the call may
- * change. All numbers as this machine lays them out: little-endian. Ends when its input ends. */
+ * A request: eight 64-bit numbers (call, row or from, number, then the lengths of table, list, bytes, text and out), then
+ * the table, the list, the bytes, the text and out themselves. A reply: the number returned, the four answers, 1 if
+ * anything changed that the call may not change (an input, or a byte around a buffer), then the buffer that the call may
+ * change (of two the list, then out). All numbers as this machine lays them out: little-endian. Ends when its input ends. */
 #include "zarfolin.h"
 
 #include <stdio.h>
 #include <stdlib.h>
 #include <string.h>
 
-/* For a library that has no reader of definitions yet (rust/test sees to it): a number that no call gives back. */
-#ifdef NO_DEFINITIONS
-zarfolin_number zarfolin_read_definition(const uint8_t *def, size_t def_len, int64_t *table, size_t table_len,
-                                         int64_t *answer) {
-    (void)def, (void)def_len, (void)table, (void)table_len;
-    answer[0] = answer[1] = answer[2] = answer[3] = 99;
-    return 99;
-}
-#endif
-
 #define AROUND 64
 #define ANSWER INT64_C(0x7a6172666f6c696e)
 
-enum { READ_DEFINITION, READ_VALUE, JUDGE_RECORD, WRITE_MISSING, WRITE_NUMBER, WRITE_TRUTH, WRITE_SET, WRITE_TEXT, JUDGE_FILE, NEXT_RECORD };
+enum { READ_DEFINITION, READ_VALUE, JUDGE_RECORD, WRITE_MISSING, WRITE_NUMBER, WRITE_TRUTH, WRITE_SET, WRITE_TEXT, JUDGE_FILE, NEXT_RECORD,
+       READ_RECORD };
 
 static int take(void *to, size_t length) { return length == 0 || fread(to, 1, length, stdin) == length; }
 
@@ -76,10 +67,11 @@ static int kept(const struct lent *b, int may_change) {
 }
 
 int main(void) {
-    static struct lent table, list, bytes, text;
+    static struct lent table, list, bytes, text, out;
     uint64_t head[8];
     while (take(head, sizeof head)) {
-        if (!fill(&table, head[3] * 8) || !fill(&list, head[4] * 8) || !fill(&bytes, head[5]) || !fill(&text, head[6])) {
+        if (!fill(&table, head[3] * 8) || !fill(&list, head[4] * 8) || !fill(&bytes, head[5]) || !fill(&text, head[6]) ||
+            !fill(&out, head[7] * 8)) {
             return 2;
         }
         int64_t answer[4 + 2] = {ANSWER, ANSWER, ANSWER, ANSWER, ANSWER, ANSWER};
@@ -88,7 +80,7 @@ int main(void) {
         int64_t *l = (int64_t *)(void *)inner(&list);
         uint8_t *b = inner(&bytes);
         const uint64_t row = head[1];
-        struct lent *may_change = NULL;
+        struct lent *may_change = NULL, *may_too = NULL;
         zarfolin_number number;
         switch (head[0]) {
         case READ_DEFINITION:
@@ -128,18 +120,26 @@ int main(void) {
         case NEXT_RECORD:
             number = zarfolin_next_record(b, head[5], row, a);
             break;
+        case READ_RECORD:
+            may_change = &list;
+            may_too = &out;
+            number = zarfolin_read_record(t, head[3], b, head[5], (int64_t *)(void *)inner(&out), head[7], l, head[4], a);
+            break;
         default:
             return 2;
         }
         const uint64_t returned = number;
         const uint64_t touched = !kept(&table, may_change == &table) || !kept(&list, may_change == &list) ||
-                                 !kept(&bytes, may_change == &bytes) || !kept(&text, 0) || answer[0] != ANSWER ||
-                                 answer[5] != ANSWER;
+                                 !kept(&bytes, may_change == &bytes) || !kept(&text, 0) || !kept(&out, may_too == &out) ||
+                                 answer[0] != ANSWER || answer[5] != ANSWER;
         give(&returned, 8);
         give(a, 32);
         give(&touched, 8);
         if (may_change != NULL) {
             give(inner(may_change), may_change->length);
+        }
+        if (may_too != NULL) {
+            give(inner(may_too), may_too->length);
         }
         if (fflush(stdout) != 0) {
             return 3;

@@ -1,2 +1,3 @@
+pub mod rule
 pub mod Class
 pub mod Tens

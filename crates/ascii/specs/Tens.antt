@@ -1,4 +1,4 @@
--- Powers of ten, and how many digits a number has.
+-- What follows from rule/Tens.antt, and what the code keeps.
 use Prim.Native.Nat.{ℕ, zero, suc, _+_, _^_, _<_, _≤_}
 use mathlib.Core.Logic.{⊎-elim}
 use native.Mathlib.Nat.{add-zero, add-suc, suc-add, eq-or-lt-of-le}
@@ -6,25 +6,8 @@ use native.Mathlib.Omega.{arith}
 use mathlib.Core.Path.{_≡_, refl}
 use borrow.Author.Tests.{ltb-true, ltb-false}
 use mathlib.Core.Bool.{Bool, true, false, cond}
-use mathlib.Core.List.{List}
 use lib.Dec.{ltb}
-use Rattle.below.specs.Table.{tableOf}
-
-abbrev pub tenTo : ℕ → ℕ
-tenTo k = 10 ^ k
-
--- the table of the powers of ten from 0 to 15
-abbrev pub Tens : List ℕ → Type 0
-Tens l = l ≡ tableOf tenTo 16
-
--- the least j from k on, within f tries, with n < 10 ^ j
-unfoldable pub countFrom : ℕ → ℕ → ℕ → ℕ
-countFrom zero k n = k
-countFrom (suc f) k n = cond (ltb n (10 ^ k)) k (countFrom f (suc k) n)
-
--- how many digits n has, at least one; a number of more than 15 digits counts 16
-unfoldable pub digitsOf : ℕ → ℕ
-digitsOf n = countFrom 15 1 n
+use Rattle.ascii.specs.rule.Tens.{countFrom, digitsOf}
 
 -- ---- laws
 -- n is below the power of ten of its digits

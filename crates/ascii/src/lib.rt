@@ -2,8 +2,9 @@
 // the scanners of a definition and everything that reads, writes or measures numbers.
 ghost use mathlib.Core.Path.{_≡_};
 ghost use Prim.Native.Nat.{_^_, _<_, _≤_};
-ghost use Rattle.ascii.specs.Class.{classOf, upperOf, Classes};
-ghost use Rattle.ascii.specs.Tens.{Tens, digitsOf};
+ghost use Rattle.ascii.specs.rule.Class.{classOf, upperOf};
+ghost use Rattle.ascii.specs.Class.{Classes};
+ghost use Rattle.ascii.specs.rule.Tens.{Tens, digitsOf};
 
 pub const DROPPED: u8 = 0;
 

@@ -10,18 +10,18 @@ use lib.IntN.{ℤ, pos}
 use lib.ListN.{length, drop}
 use lib.Seq.{getD-append-add, getD-drop}
 use Rattle.below.specs.Below.{both-and, all-of}
-use Rattle.cells.specs.Cell.{cell, pasted}
-use Rattle.layout.specs.Layout.{mark, mostRows, mostLines, linesBase, lineBase, headerOf}
-use Rattle.layout.specs.Row.{rowOf, rowAt}
+use Rattle.cells.specs.rule.Cell.{cell, pasted}
+use Rattle.layout.specs.rule.Layout.{mark, mostRows, mostLines, linesBase, lineBase, headerOf}
+use Rattle.layout.specs.rule.Row.{rowOf, rowAt}
 use Rattle.layout.specs.declared.Columns.{Columns}
 use Rattle.layout.specs.declared.Header.{Header}
-use Rattle.sound.specs.Sound.{valueAt, columnsOf, linesAt, finishAt, linesBefore, highestFinish, goodAt, headCounts, headSums, rowsGood}
-use Rattle.sound.specs.Sound.{wellFormed}
+use Rattle.sound.specs.rule.Sound.{valueAt, columnsOf, linesAt, finishAt, linesBefore, highestFinish, goodAt, headCounts, headSums}
+use Rattle.sound.specs.rule.Sound.{rowsGood, wellFormed}
 use Rattle.values.proofs.Rooms.{length-pasted}
-use Rattle.survey.specs.Width.{widthOf}
-use Rattle.survey.specs.Survey.{Variable, linesAll, highestIn, headerFor, tableOf}
-use Rattle.survey.specs.Good.{Good}
-use Rattle.survey.proofs.Snoc.{table-length}
+use Rattle.measures.specs.Width.{widthOf}
+use Rattle.measures.specs.Survey.{Variable, linesAll, highestIn, headerFor, tableOf}
+use Rattle.measures.specs.Good.{Good}
+use Rattle.measures.proofs.Snoc.{table-length}
 use Rattle.built.specs.Nth.{Nth, nth, few-rows, few-lines, sum-all, highest-all}
 use Rattle.built.specs.Rows.{before-column, lines-here, finish-here, lines-before, row-good, width-here, idents-differ}
 use Rattle.built.specs.Cells.{laid, header-back, columns-of}

@@ -5,16 +5,16 @@ use Prim.Native.Nat.{ℕ, _+_, _*_, _<_}
 use native.Mathlib.Omega.{arith}
 use lib.IntN.{ℤ, pos}
 use lib.ListN.{length, drop, length-append}
-use Rattle.cells.specs.Cell.{countOf, pasted}
-use Rattle.layout.specs.Layout.{headerSize, rowSize, lineSize, rowBase, lineBase, headerOf, lineAt}
-use Rattle.rows.specs.Cells.{rowCells, headerCells}
-use Rattle.sound.specs.Sound.{columnsOf, valueAt}
-use Rattle.strides.specs.Stride.{strideAt}
+use Rattle.cells.specs.rule.Cell.{countOf, pasted}
+use Rattle.layout.specs.rule.Layout.{headerSize, rowSize, lineSize, rowBase, lineBase, headerOf, lineAt}
+use Rattle.rows.specs.rule.Cells.{rowCells, headerCells}
+use Rattle.sound.specs.rule.Sound.{columnsOf, valueAt}
+use Rattle.strides.specs.rule.Stride.{strideAt}
 use Rattle.values.specs.Line.{numberAt, cellsOf}
 use Rattle.values.proofs.Rooms.{cells-length, cells-number}
-use Rattle.survey.specs.Survey.{Variable, linesIn, columnsIn, linesAll, headerFor, rowsFrom, allLines, tableOf}
-use Rattle.survey.specs.Width.{fullColumns, widened, plainColumns}
-use Rattle.survey.proofs.Snoc.{rows-length, lines-length}
+use Rattle.measures.specs.Survey.{Variable, linesIn, columnsIn, linesAll, headerFor, rowsFrom, allLines, tableOf}
+use Rattle.measures.specs.Width.{fullColumns, widened, plainColumns}
+use Rattle.measures.proofs.Snoc.{rows-length, lines-length}
 use Rattle.built.specs.Standing.{Stands, inside, cell-there, columns-there, line-there}
 use Rattle.built.specs.Nth.{Nth}
 

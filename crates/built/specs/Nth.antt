@@ -9,12 +9,13 @@ use native.Mathlib.Omega.{arith}
 use borrow.Author.Tests.{ne-eqb, eqb-false}
 use lib.Dec.{eqb}
 use lib.ListN.{length}
-use Rattle.below.specs.Below.{sumBelow, sum-none, sum-more, maxBelow, max-none, max-more, holds-not}
-use Rattle.layout.specs.Layout.{mostRows, mostLines}
-use Rattle.survey.specs.Survey.{Variable, linesIn, linesAll, highestIn, identMet}
-use Rattle.survey.specs.Good.{GoodVariable, Good}
-use Rattle.survey.specs.Good.Good.{none, more}
-use Rattle.survey.proofs.Snoc.{added, length-with, lines-with, highest-with}
+use Rattle.below.specs.rule.Below.{sumBelow, maxBelow}
+use Rattle.below.specs.Below.{sum-none, sum-more, max-none, max-more, holds-not}
+use Rattle.layout.specs.rule.Layout.{mostRows, mostLines}
+use Rattle.measures.specs.Survey.{Variable, linesIn, linesAll, highestIn, identMet}
+use Rattle.measures.specs.Good.{GoodVariable, Good}
+use Rattle.measures.specs.Good.{none, more}
+use Rattle.measures.proofs.Snoc.{added, length-with, lines-with, highest-with}
 
 -- variable i
 pub record Nth (l : List Variable) (i : ℕ) : Type 0 where

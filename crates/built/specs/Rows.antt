@@ -8,21 +8,21 @@ use borrow.Author.Tests.{eq-eqb, le-leb}
 use lib.IntN.{ℤ}
 use lib.ListN.{length}
 use Rattle.below.specs.Below.{both-and, all-of, all-at}
-use Rattle.cells.specs.Cell.{eqZ}
-use Rattle.strides.specs.Stride.{strideAt, unlike, numberNew, allDiffer}
-use Rattle.layout.specs.Layout.{headerSize, rowSize, lineSize, lineAt}
-use Rattle.layout.specs.Row.{kindOf, rowOf}
+use Rattle.cells.specs.rule.Cell.{eqZ}
+use Rattle.strides.specs.rule.Stride.{strideAt, unlike, numberNew, allDiffer}
+use Rattle.layout.specs.rule.Layout.{headerSize, rowSize, lineSize, lineAt}
+use Rattle.layout.specs.rule.Row.{kindOf, rowOf}
 use Rattle.layout.specs.declared.Columns.{Columns}
 use Rattle.layout.specs.declared.Row.{Row}
 use Rattle.layout.specs.declared.Kind.{Kind}
 use Rattle.layout.specs.declared.Kind.the-variants.{Single, Multiple, Quantity, Character, Logical}
-use Rattle.widths.specs.Width.{need}
-use Rattle.sound.specs.Sound.{valueAt, plainAt, linePlain, linesPlain, valuesFit, widest, rangeWidth, linesGood, valuesGood, widthsGood}
-use Rattle.sound.specs.Sound.{columnsGood, rowGood, linesAt, finishAt, linesBefore, goodAt, identsDiffer}
+use Rattle.widths.specs.rule.Width.{need}
+use Rattle.sound.specs.rule.Sound.{valueAt, plainAt, linePlain, linesPlain, valuesFit, widest, rangeWidth, linesGood, valuesGood}
+use Rattle.sound.specs.rule.Sound.{widthsGood, columnsGood, rowGood, linesAt, finishAt, linesBefore, goodAt, identsDiffer}
 use Rattle.values.specs.Line.{numberAt, cellsOf}
-use Rattle.survey.specs.Width.{plainColumns, widened, fullColumns, linesWidth, widestOf, widthOf}
-use Rattle.survey.specs.Survey.{Variable, linesIn, countedIn, columnsIn, holdsIn, linesAll}
-use Rattle.survey.specs.Good.{Good}
+use Rattle.measures.specs.Width.{plainColumns, widened, fullColumns, linesWidth, widestOf, widthOf}
+use Rattle.measures.specs.Survey.{Variable, linesIn, countedIn, columnsIn, holdsIn, linesAll}
+use Rattle.measures.specs.Good.{Good}
 use Rattle.built.specs.Same.{max-same, fit-same, differ-same}
 use Rattle.built.specs.Nth.{Nth, further, nth, sum-all, lines-join, ident-new}
 use Rattle.built.specs.Cells.{laid, columns-of, ident-of, value-of, line-of}

@@ -4,11 +4,12 @@ use mathlib.Core.Bool.{true}
 use Prim.Native.Nat.{ℕ, zero, suc, _<_}
 use native.Mathlib.Omega.{arith}
 use lib.IntN.{ℤ}
-use Rattle.below.specs.Below.{maxBelow, all-of, all-at}
-use Rattle.strides.specs.Stride.{unlike, numberNew, allDiffer}
+use Rattle.below.specs.rule.Below.{maxBelow}
+use Rattle.below.specs.Below.{all-of, all-at}
+use Rattle.strides.specs.rule.Stride.{unlike, numberNew, allDiffer}
 use Rattle.layout.specs.declared.Kind.{Kind}
-use Rattle.widths.specs.Width.{fitsKind}
-use Rattle.sound.specs.Sound.{valuesFit}
+use Rattle.widths.specs.rule.Width.{fitsKind}
+use Rattle.sound.specs.rule.Sound.{valuesFit}
 
 pub max-same : (n : ℕ) (f g : ℕ → ℕ) → ((k : ℕ) → k < n → f k ≡ g k) → maxBelow n f ≡ maxBelow n g
 unfolding maxBelow

@@ -5,25 +5,25 @@ use mathlib.Core.List.{List, [], _∷_}
 use Prim.Native.Nat.{ℕ}
 use native.Mathlib.Omega.{arith}
 use lib.IntN.{pos}
-use Rattle.ascii.specs.Tens.{countFrom, digitsOf}
-use Rattle.below.specs.Below.{_and_, allBelow, maxBelow}
-use Rattle.cells.specs.Cell.{countOf, signedOf, eqZ, numberOf}
-use Rattle.layout.specs.Layout.{lineAt}
-use Rattle.layout.specs.Row.{rowOf, kindOf}
-use Rattle.widths.specs.Width.{need, lowest, highest}
-use Rattle.strides.specs.Stride.{numberNew, allDiffer}
-use Rattle.sound.specs.Sound.{countsGood, placesGood, valuesFit, rangeWidth, widthGood, roomGood}
+use Rattle.ascii.specs.rule.Tens.{countFrom, digitsOf}
+use Rattle.below.specs.rule.Below.{_and_, allBelow, maxBelow}
+use Rattle.cells.specs.rule.Cell.{countOf, signedOf, eqZ, numberOf}
+use Rattle.layout.specs.rule.Layout.{lineAt}
+use Rattle.layout.specs.rule.Row.{rowOf, kindOf}
+use Rattle.widths.specs.rule.Width.{need, lowest, highest}
+use Rattle.strides.specs.rule.Stride.{numberNew, allDiffer}
+use Rattle.sound.specs.rule.Sound.{countsGood, placesGood, valuesFit, rangeWidth, widthGood, roomGood}
 use Rattle.tokens.specs.declared.Quoted.{Quoted}
 use Rattle.values.specs.declared.Said.{Said}
 use Rattle.values.specs.Line.{numberAt, numbers, cellsOf, lineCells}
 use Rattle.values.specs.Value.{scaledOf}
 use Rattle.variables.specs.declared.Head.{Head}
-use Rattle.survey.specs.Width.{flagOf, plainColumns, widened, fullColumns, linesWidth, widestOf, widthOf}
-use Rattle.survey.specs.Survey.{Variable, countedIn, columnsIn, holdsIn, linesAll, identMet, rowsFrom, allLines, headerFor, tableOf}
-use Rattle.survey.specs.Survey.{highestIn}
-use Rattle.rows.specs.Cells.{rowCells, headerCells}
-use Rattle.survey.specs.Good.{GoodVariable, Good}
-use Rattle.survey.specs.Good.Good.{none, more}
+use Rattle.measures.specs.Width.{flagOf, plainColumns, widened, fullColumns, linesWidth, widestOf, widthOf}
+use Rattle.measures.specs.Survey.{Variable, countedIn, columnsIn, holdsIn, linesAll, identMet, rowsFrom, allLines, headerFor, tableOf}
+use Rattle.measures.specs.Survey.{highestIn}
+use Rattle.rows.specs.rule.Cells.{rowCells, headerCells}
+use Rattle.measures.specs.Good.{GoodVariable, Good}
+use Rattle.measures.specs.Good.{none, more}
 
 abbrev text : ℕ → Quoted
 text n = record { place = n; length = 3; next = n }

@@ -6,10 +6,10 @@ use native.Mathlib.Omega.{arith}
 use lib.IntN.{ℤ, pos}
 use lib.ListN.{length, length-append, List·getD-append}
 use lib.Seq.{getD-append-add}
-use Rattle.cells.specs.Cell.{cell, countOf}
-use Rattle.layout.specs.Layout.{columnsAt, lineAt, lineSize}
+use Rattle.cells.specs.rule.Cell.{cell, countOf}
+use Rattle.layout.specs.rule.Layout.{columnsAt, lineAt, lineSize}
 use Rattle.layout.specs.declared.Columns.{Columns}
-use Rattle.rows.specs.Cells.{rowCells}
+use Rattle.rows.specs.rule.Cells.{rowCells}
 
 -- the numbers s stand in t from `at` on
 pub record Stands (t : List ℤ) (at : ℕ) (s : List ℤ) : Type 0 where

@@ -5,7 +5,7 @@ ghost use Prim.Native.Nat.{_+_, _≤_, _<_};
 ghost use lib.ListN.{length};
 ghost use lib.IntN.{pos};
 ghost use lib.Signed.{leZ};
-ghost use Rattle.cells.specs.Cell.{cell, countOf, signedOf, numberOf, eqZ, pasted};
+ghost use Rattle.cells.specs.rule.Cell.{cell, countOf, signedOf, numberOf, eqZ, pasted};
 
 // A sign and a size. Zero has no minus.
 pub struct Signed {

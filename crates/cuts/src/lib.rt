@@ -3,7 +3,8 @@ ghost use mathlib.Core.Path.{_≡_};
 ghost use mathlib.Core.Bool.{true};
 ghost use Prim.Native.Nat.{_+_, _≤_, _<_};
 ghost use lib.ListN.{length, drop};
-ghost use Rattle.cuts.specs.Cut.{terminatorAt, terminatorOf, wholeAt, beginsAt, nextOf, nextFrom, Found, Unbroken};
+ghost use Rattle.cuts.specs.rule.Cut.{terminatorAt, terminatorOf, wholeAt, beginsAt, nextFrom, NextFound, Found};
+ghost use Rattle.cuts.specs.Cut.{Unbroken};
 ghost use Rattle.cuts.specs.Records.{PlainNext};
 
 // A file's terminator: one byte or two, and how many; none where the file has no CR and no LF.
@@ -149,7 +150,7 @@ pub fn next_plain(d: &[u8], w: Terminator, from: usize, size: usize) -> bool
 
 // The next record from a place on. The terminator is found from the start of the data, whatever the place.
 pub fn next_record(d: &[u8], from: usize) -> Next
-    ensures { λ r. ⌜ r ≡ nextOf (now (d .entry)) from ⌝ }
+    ensures { λ r. ⌜ NextFound (now (d .entry)) from r ⌝ }
 {
     next_from(d, find_terminator(d), from)
 }

@@ -8,32 +8,39 @@ use lib.Dec.{ltb}
 use lib.IntN.{ℤ}
 use lib.ListN.{length}
 use borrow.Author.Tests.{ltb-false}
-use Rattle.cells.specs.Cell.{pasted}
-use Rattle.scan.specs.Loop.{Next, Again, Done, onNext, loopOf}
+use Rattle.cells.specs.rule.Cell.{pasted}
+use Rattle.scan.specs.rule.Loop.{Next, Again, Done, onNext, loopOf}
 use Rattle.tokens.specs.declared.Reading.{Reading}
 use Rattle.tokens.specs.declared.Reading.the-variants.{At, Refused}
 use Rattle.tokens.specs.declared.Choice.{Choice}
 use Rattle.tokens.specs.declared.Choice.the-variants.{Taken, Left}
-use Rattle.tokens.specs.Gap.{fault}
+use Rattle.tokens.specs.rule.Gap.{fault}
 use Rattle.tokens.specs.Token.{choiceOf}
-use Rattle.statements.specs.Words.{END}
+use Rattle.statements.specs.rule.Words.{END}
 use Rattle.statements.specs.Note.{notesOn}
 use Rattle.heading.specs.declared.Front.{Front}
 use Rattle.heading.specs.Heading.{frontOn}
-use Rattle.sound.specs.Sound.{wellFormed}
-use Rattle.survey.specs.Survey.{Variable, linesAll, identMet, tableOf}
-use Rattle.survey.specs.Good.{Good}
-use Rattle.survey.specs.Good as good
-use Rattle.survey.proofs.Snoc.{added, length-with}
+use Rattle.sound.specs.rule.Sound.{wellFormed}
+use Rattle.measures.specs.Survey.{Variable, linesAll, identMet, tableOf}
+use Rattle.measures.specs.Good.{Good}
+use Rattle.measures.specs.Good as good
+use Rattle.measures.proofs.Snoc.{added, length-with}
 use Rattle.entries.specs.Entry.{Entry}
 use Rattle.entries.specs.Entry as entry
 use Rattle.entries.proofs.Goods.{entry-good}
 use Rattle.built.specs.Nth.{few-lines}
+use Rattle.survey.specs.rule.Survey as survey
 use Rattle.built.specs.Built.{table-well-formed}
-use Rattle.names.specs.Standard.{nameFault}
-use Rattle.definition.specs.Definition.{Variables, Course, course, endOr, entered, variableStep, variablesFrom, endsOn, Survey, Read, Whole, Faulty, ended, closed, surveyOf, namesOf, quoteAt, Outcome, Built, Refusal, fitting, named, judged, outcomeOf, answerOf, tableAfter}
+use Rattle.names.specs.rule.Standard.{nameFault}
+use Rattle.definition.specs.Books.{Variables, Course, course, endOr, entered, variableStep, variablesFrom, endsOn, Survey}
+use Rattle.definition.specs.Books.{Read, Whole, Faulty, ended, closed, surveyOf, namesOf, quoteAt, Outcome, Built}
+use Rattle.definition.specs.Books.{Refusal, fitting, named, judged, outcomeIn, tableIn}
+use Rattle.definition.specs.rule.Definition as rule
+use Rattle.definition.proofs.Bridge.{SameOutcome, outcome-same, table-same}
+use Rattle.definition.proofs.Bridge as bridge
+use Rattle.definition.specs.rule.Definition.{DefinitionRead}
 use Rattle.definition.specs.declared.Answer.{Answer}
-use Rattle.definition.specs.Definition as variables
+use Rattle.definition.specs.Books as variables
 use Rattle.definition.proofs.Courses.{next-entry}
 
 none : {A : Type 0} → _≡_ {A = ℕ} 0 1 → A
@@ -115,8 +122,8 @@ module _ (d : List ℕ) (n : ℕ) (l : List Variable) where
     by true i = none cc
     by false i = fitting-built v i
 
-  pub built-good : outcomeOf d n ≡ Built l → Good l × (1 ≤ length l) × (length (tableOf l) ≤ n)
-  unfolding outcomeOf
+  pub built-good : outcomeIn d n ≡ Built l → Good l × (1 ≤ length l) × (length (tableOf l) ≤ n)
+  unfolding outcomeIn
   built-good = by (ltb 1048576 (length d)) refl where
     whole : length d ≤ 1048576 → (r : Read) → surveyOf d ≡ r → judged d n r ≡ Built l → Good l × (1 ≤ length l) × (length (tableOf l) ≤ n)
     whole long (Whole s) i e =
@@ -129,12 +136,22 @@ module _ (d : List ℕ) (n : ℕ) (l : List Variable) where
     by true i e = none cc
     by false i e = whole (ltb-false 1048576 (length d) i) (surveyOf d) refl e
 
-pub read-well-formed : (d : List ℕ) (t : List ℤ) (l : List Variable) → outcomeOf d (length t) ≡ Built l → wellFormed (tableAfter (outcomeOf d (length t)) t) ≡ true
-unfolding tableAfter
-read-well-formed d t l e =
+in-well-formed : (d : List ℕ) (t : List ℤ) (l : List Variable) → outcomeIn d (length t) ≡ Built l
+    → wellFormed (tableIn (outcomeIn d (length t)) t) ≡ true
+unfolding tableIn
+in-well-formed d t l e =
     let g = built-good d (length t) l e in
     rw e (table-well-formed l t (g .0) (g .1) (g .2))
 
+-- so is the table of every survey that the rule reads
+pub read-well-formed : (d : List ℕ) (t : List ℤ) (l : List survey.Variable) → rule.outcomeOf d (length t) ≡ rule.Built l
+    → wellFormed (rule.tableAfter (rule.outcomeOf d (length t)) t) ≡ true
+read-well-formed d t l e = rw (← table-same d (length t) t) (by refl e (outcome-same d (length t))) where
+  by : {o : Outcome} {q : rule.Outcome} → outcomeIn d (length t) ≡ o → q ≡ rule.Built l → SameOutcome d o q
+      → wellFormed (tableIn (outcomeIn d (length t)) t) ≡ true
+  by i j (bridge.built {l = m} s) = in-well-formed d t m i
+  by i j bridge.refused = none cc
+
 -- ---- NO TWO OUTCOMES: the contract settles the answer and the table
-pub definition-settled : (d : List ℕ) (t t₁ t₂ : List ℤ) (r₁ r₂ : Answer) → r₁ ≡ answerOf (outcomeOf d (length t)) → t₁ ≡ tableAfter (outcomeOf d (length t)) t → r₂ ≡ answerOf (outcomeOf d (length t)) → t₂ ≡ tableAfter (outcomeOf d (length t)) t → (r₁ ≡ r₂) × (t₁ ≡ t₂)
-definition-settled d t t₁ t₂ r₁ r₂ a b c e = (a ∙ sym c, b ∙ sym e)
+pub definition-settled : {d : List ℕ} {t t₁ t₂ : List ℤ} {r₁ r₂ : Answer} → DefinitionRead d t t₁ r₁ → DefinitionRead d t t₂ r₂ → (r₁ ≡ r₂) × (t₁ ≡ t₂)
+definition-settled a b = (a .says ∙ sym (b .says), a .leaves ∙ sym (b .leaves))

@@ -9,7 +9,7 @@ use lib.IntN.{ℤ}
 use lib.ListN.{length, getD, set}
 use lib.Seq.{getD-set-same, getD-set-other}
 use Rattle.names.specs.Name.{keyOf}
-use Rattle.names.specs.Standard.{nameAt, nameFault}
+use Rattle.names.specs.rule.Standard.{nameAt, nameFault}
 use Rattle.names.specs.Clash.{faultOf}
 use Rattle.names.proofs.Standards.{keys-fault}
 use Rattle.definition.specs.Code.{nameIn, NamesJudged}

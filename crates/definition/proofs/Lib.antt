@@ -4,6 +4,7 @@ pub mod Keys
 pub mod Courses
 pub mod Rans
 pub mod Settles
+pub mod Bridge
 pub mod Goods
 pub mod Lows
 pub mod Wholes

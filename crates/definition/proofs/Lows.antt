@@ -3,10 +3,10 @@ use mathlib.Core.Path.{_≡_}
 use mathlib.Core.List.{List, [], _∷_, _++_}
 use Prim.Native.Nat.{ℕ, _≤_, max}
 use native.Mathlib.Omega.{arith}
-use Rattle.survey.specs.Survey.{Variable, linesAll, highestIn}
-use Rattle.survey.specs.Good.{Good, GoodVariable}
-use Rattle.survey.specs.Good as good
-use Rattle.survey.proofs.Snoc.{highest-with}
+use Rattle.measures.specs.Survey.{Variable, linesAll, highestIn}
+use Rattle.measures.specs.Good.{Good, GoodVariable}
+use Rattle.measures.specs.Good as good
+use Rattle.measures.proofs.Snoc.{highest-with}
 use Rattle.definition.proofs.Small.{row-finish, finish-few}
 
 pub highest-low : {l : List Variable} → Good l → highestIn l ≤ 16384

@@ -11,22 +11,23 @@ use lib.Dec.{ltb}
 use lib.IntN.{ℤ, pos}
 use lib.ListN.{length, take, getD, length-append}
 use lib.Seq.{getD-append-add, getD-take}
-use Rattle.cells.specs.Cell.{cell, countOf, pasted, paste-more}
-use Rattle.scan.specs.Text.{text}
+use Rattle.cells.specs.rule.Cell.{cell, countOf, pasted}
+use Rattle.cells.specs.Cell.{paste-more}
+use Rattle.scan.specs.rule.Text.{text}
 use Rattle.marks.specs.declared.Inside.the-variants.{Plain}
-use Rattle.marks.specs.Spelling.{decodeOf}
-use Rattle.layout.specs.Layout.{headerSize, rowSize, lineSize, linesBase, lineBase}
+use Rattle.marks.specs.rule.Spelling.{decodeOf}
+use Rattle.layout.specs.rule.Layout.{headerSize, rowSize, lineSize, linesBase, lineBase}
 use Rattle.layout.specs.declared.Header.{Header}
 use Rattle.definition.proofs.Rans.{at-start}
-use Rattle.rows.specs.Cells.{rowCells, headerCells}
-use Rattle.names.specs.Standard.{nameAt, nameFault}
-use Rattle.survey.specs.Width.{fullColumns, widened, plainColumns}
-use Rattle.survey.specs.Survey.{Variable, linesIn, columnsIn, linesAll, highestIn, headerFor, rowsFrom, allLines, tableOf}
-use Rattle.survey.proofs.Snoc.{row-length, rows-length, lines-length, table-length}
+use Rattle.rows.specs.rule.Cells.{rowCells, headerCells}
+use Rattle.names.specs.rule.Standard.{nameAt, nameFault}
+use Rattle.measures.specs.Width.{fullColumns, widened, plainColumns}
+use Rattle.measures.specs.Survey.{Variable, linesIn, columnsIn, linesAll, highestIn, headerFor, rowsFrom, allLines, tableOf}
+use Rattle.measures.proofs.Snoc.{row-length, rows-length, lines-length, table-length}
 use Rattle.definition.specs.declared.Tally.{Tally}
 use Rattle.definition.specs.declared.Answer.{Answer}
 use Rattle.definition.specs.declared.Answer.the-variants as answer
-use Rattle.definition.specs.Definition.{namesOf, quoteAt, Outcome, Built, Refusal, fitting, named, answerOf, tableAfter}
+use Rattle.definition.specs.Books.{namesOf, quoteAt, Outcome, Built, Refusal, fitting, named, answerIn, tableIn}
 use Rattle.definition.specs.Code.{tallyOf, Held, nameIn, NamesJudged, headerBy, laidOver, fillSays, fillLeaves, Settled}
 
 -- ---- the place of the name of variable i
@@ -112,31 +113,31 @@ module _ (d : List ℕ) (y : Tally) (rows lines : List ℤ) (l : List Variable) 
             ap (λ (s : List ℤ). pasted s (linesBase (length l)) (allLines l)) (at-start t head (rowsFrom 0 l) headerSize (sym six) (omega (arith, six, room)))
             ∙ at-start t (head ++ rowsFrom 0 l) (allLines l) (linesBase (length l)) (sym front) (omega (arith, front, room))
 
-    says-fit : fillSays y (length t) ≡ answerOf (fitting (length t) l)
-    unfolding fillSays fitting answerOf
+    says-fit : fillSays y (length t) ≡ answerIn (fitting (length t) l)
+    unfolding fillSays fitting answerIn
     says-fit = rw (count-is, lines-is, table-length l) (by (ltb (length t) (lineBase (length l) (linesAll l))))
       where
-        by : (b : Bool) → cond b (answer.Refused 10 0) (answer.Read (length l) (linesAll l)) ≡ answerOf (cond b (Refusal 10 0) (Built l))
+        by : (b : Bool) → cond b (answer.Refused 10 0) (answer.Read (length l) (linesAll l)) ≡ answerIn (cond b (Refusal 10 0) (Built l))
         by true = refl
         by false = refl
 
     base-is : lineBase (y .rows) (y .lines) ≡ length (tableOf l)
     base-is = rw (count-is, lines-is) (sym (table-length l))
 
-    leaves-fit : fillLeaves y rows lines t ≡ tableAfter (fitting (length t) l) t
-    unfolding fillLeaves fitting tableAfter
+    leaves-fit : fillLeaves y rows lines t ≡ tableIn (fitting (length t) l) t
+    unfolding fillLeaves fitting tableIn
     leaves-fit = rw base-is (by (ltb (length t) (length (tableOf l))) refl)
       where
-        by : (b : Bool) → ltb (length t) (length (tableOf l)) ≡ b → cond b t (laidOver t y rows lines) ≡ tableAfter (cond b (Refusal 10 0) (Built l)) t
+        by : (b : Bool) → ltb (length t) (length (tableOf l)) ≡ b → cond b t (laidOver t y rows lines) ≡ tableIn (cond b (Refusal 10 0) (Built l)) t
         by true e = refl
         by false e = laid-table (ltb-false (length t) (length (tableOf l)) e)
 
     -- without STANDARD NAMES
-    pub plain-says : fillSays y (length t) ≡ answerOf (named d (length t) false l)
+    pub plain-says : fillSays y (length t) ≡ answerIn (named d (length t) false l)
     unfolding named
     plain-says = says-fit
 
-    pub plain-leaves : fillLeaves y rows lines t ≡ tableAfter (named d (length t) false l) t
+    pub plain-leaves : fillLeaves y rows lines t ≡ tableIn (named d (length t) false l) t
     unfolding named
     plain-leaves = leaves-fit
 
@@ -146,11 +147,11 @@ module _ (d : List ℕ) (y : Tally) (rows lines : List ℤ) (l : List Variable) 
       unfolding named
       good-outcome k = rw (← fault-here r j, le-ltb r (length l) (omega (arith, count-is)))
 
-      pub good-says : y .rows ≤ r → fillSays y (length t) ≡ answerOf (named d (length t) true l)
-      good-says k = says-fit ∙ ap answerOf (sym (good-outcome k))
+      pub good-says : y .rows ≤ r → fillSays y (length t) ≡ answerIn (named d (length t) true l)
+      good-says k = says-fit ∙ ap answerIn (sym (good-outcome k))
 
-      pub good-leaves : y .rows ≤ r → fillLeaves y rows lines t ≡ tableAfter (named d (length t) true l) t
-      good-leaves k = leaves-fit ∙ ap (λ (o : Outcome). tableAfter o t) (sym (good-outcome k))
+      pub good-leaves : y .rows ≤ r → fillLeaves y rows lines t ≡ tableIn (named d (length t) true l) t
+      good-leaves k = leaves-fit ∙ ap (λ (o : Outcome). tableIn o t) (sym (good-outcome k))
 
       -- or one is not
       bad-outcome : r < y .rows → named d (length t) true l ≡ Refusal 9 (countOf (cell rows (rowSize * r + 14)) - 1)
@@ -159,10 +160,10 @@ module _ (d : List ℕ) (y : Tally) (rows lines : List ℤ) (l : List Variable) 
           let q : r < length l = omega (arith, count-is) in
           rw (← fault-here r j, lt-ltb r (length l) q, quote-is l r, ← place-here r q)
 
-      pub bad-says : (p q : ℕ) → r < y .rows → p ≡ countOf (cell rows (rowSize * r + 14)) → q ≡ p - 1 → answer.Refused 9 q ≡ answerOf (named d (length t) true l)
-      unfolding answerOf
+      pub bad-says : (p q : ℕ) → r < y .rows → p ≡ countOf (cell rows (rowSize * r + 14)) → q ≡ p - 1 → answer.Refused 9 q ≡ answerIn (named d (length t) true l)
+      unfolding answerIn
       bad-says p q k e f = rw (f, e, bad-outcome k)
 
-      pub bad-leaves : r < y .rows → t ≡ tableAfter (named d (length t) true l) t
-      unfolding tableAfter
+      pub bad-leaves : r < y .rows → t ≡ tableIn (named d (length t) true l) t
+      unfolding tableIn
       bad-leaves k = rw (bad-outcome k)

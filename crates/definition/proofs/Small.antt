@@ -8,17 +8,19 @@ use native.Mathlib.Omega.{arith}
 use borrow.Author.Tests.{eqb-true, eqb-false, eq-eqb, leb-true}
 use lib.Dec.{eqb, leb}
 use lib.ListN.{length}
-use Rattle.below.specs.Below.{_and_, and-both, and-left, and-right, either-true, holds-not}
-use Rattle.layout.specs.Row.{kindOf, rowOf, spreadOf, kind-cases}
+use Rattle.below.specs.rule.Below.{_and_}
+use Rattle.below.specs.Below.{and-both, and-left, and-right, either-true, holds-not}
+use Rattle.layout.specs.rule.Row.{kindOf, rowOf, spreadOf}
+use Rattle.layout.specs.Row.{kind-cases}
 use Rattle.layout.specs.declared.Columns.{Columns}
 use Rattle.layout.specs.declared.Kind.{Kind}
 use Rattle.layout.specs.declared.Kind.the-variants.{Single, Multiple, Quantity, Character, Logical}
 use Rattle.layout.specs.declared.Spread.the-variants.{Bits, Fields}
-use Rattle.sound.specs.Sound.{identGood, positionGood, subfieldsGood, textsGood, countsGood, placesGood, roomGood}
+use Rattle.sound.specs.rule.Sound.{identGood, positionGood, subfieldsGood, textsGood, countsGood, placesGood, roomGood}
 use Rattle.rows.specs.Cells.{SmallRow}
-use Rattle.survey.specs.Width.{fullColumns, widened, plainColumns}
-use Rattle.survey.specs.Survey.{Variable, countedIn, columnsIn, holdsIn}
-use Rattle.survey.specs.Good.{GoodVariable}
+use Rattle.measures.specs.Width.{fullColumns, widened, plainColumns}
+use Rattle.measures.specs.Survey.{Variable, countedIn, columnsIn, holdsIn}
+use Rattle.measures.specs.Good.{GoodVariable}
 
 module _ (c : Columns) where
   -- only a MULTIPLE has subfields

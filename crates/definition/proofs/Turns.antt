@@ -6,16 +6,18 @@ use Prim.Native.Nat.{ℕ, _+_, _*_, _≤_, _<_, max}
 use native.Mathlib.Omega.{arith}
 use lib.IntN.{ℤ}
 use lib.ListN.{length}
-use Rattle.cells.specs.Cell.{pasted}
-use Rattle.layout.specs.Layout.{rowSize}
+use Rattle.cells.specs.rule.Cell.{pasted}
+use Rattle.layout.specs.rule.Layout.{rowSize}
 use Rattle.layout.specs.declared.Columns.{Columns}
-use Rattle.rows.specs.Cells.{rowCells, SmallRow}
+use Rattle.rows.specs.rule.Cells.{rowCells}
+use Rattle.rows.specs.Cells.{SmallRow}
 use Rattle.tokens.specs.declared.Fault.{Fault}
 use Rattle.tokens.specs.declared.Reading.{Reading}
-use Rattle.survey.specs.Survey.{Variable, linesIn, columnsIn}
+use Rattle.measures.specs.Survey.{Variable, linesIn, columnsIn}
 use Rattle.entries.specs.declared.Stood.{Stood}
 use Rattle.entries.specs.declared.Stood.the-variants as stood
-use Rattle.entries.specs.Entry.{Entry, entryOf, stoodOf}
+use Rattle.entries.specs.Entry.{Entry, entryOf}
+use Rattle.entries.specs.Entry.{stoodOf}
 use Rattle.entries.specs.Entry as entry
 use Rattle.entries.specs.Good.{EntryGood}
 use Rattle.entries.proofs.Goods.{entry-good}

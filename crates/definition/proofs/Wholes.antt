@@ -8,24 +8,25 @@ use lib.Dec.{ltb}
 use lib.IntN.{ℤ}
 use lib.ListN.{length, take}
 use lib.Seq.{take-at}
-use Rattle.cells.specs.Cell.{pasted}
-use Rattle.layout.specs.Layout.{rowSize, lineSize}
+use Rattle.cells.specs.rule.Cell.{pasted}
+use Rattle.layout.specs.rule.Layout.{rowSize, lineSize}
 use Rattle.tokens.specs.declared.Fault.{Fault}
 use Rattle.tokens.specs.declared.Reading.{Reading}
 use Rattle.tokens.specs.declared.Reading.the-variants.{At, Refused}
 use Rattle.heading.specs.declared.Front.{Front}
 use Rattle.heading.specs.Heading.{frontOn}
-use Rattle.survey.specs.Survey.{Variable, linesAll, highestIn, rowsFrom, allLines}
-use Rattle.survey.specs.Good.{Good}
-use Rattle.survey.proofs.Snoc.{rows-length, lines-length}
+use Rattle.measures.specs.Survey.{Variable, linesAll, highestIn, rowsFrom, allLines}
+use Rattle.measures.specs.Good.{Good}
+use Rattle.measures.proofs.Snoc.{rows-length, lines-length}
 use Rattle.built.specs.Nth.{few-rows, few-lines}
 use Rattle.definition.specs.declared.Tally.{Tally}
 use Rattle.definition.specs.declared.Run.{Run}
 use Rattle.definition.specs.declared.Run.the-variants as run
 use Rattle.definition.specs.declared.Answer.{Answer}
 use Rattle.definition.specs.declared.Answer.the-variants as answer
-use Rattle.definition.specs.Definition.{Variables, course, variablesFrom, endsOn, Read, Whole, Faulty, ended, closed, surveyOf, Outcome, Refusal, named, judged, outcomeOf, answerOf, tableAfter}
-use Rattle.definition.specs.Definition as variables
+use Rattle.definition.specs.Books.{Variables, course, variablesFrom, endsOn, Read, Whole, Faulty, ended, closed, surveyOf}
+use Rattle.definition.specs.Books.{Outcome, Refusal, named, judged, outcomeIn, answerIn, tableIn}
+use Rattle.definition.specs.Books as variables
 use Rattle.definition.specs.Code.{tallyOf, runOf, Laid, Held, Settled}
 use Rattle.definition.proofs.Goods.{AllGood, variables-good}
 use Rattle.definition.proofs.Lows.{highest-low}
@@ -82,24 +83,24 @@ module _ (d : List ℕ) (long : length d ≤ 1048576) (t : Reading) (front : t �
       ends-here : (y : Tally) (m k : ℕ) (r : Reading) (e : q ≡ run.Is y m) → r ≡ endsOn d m → r ≡ At k → judged d n (surveyOf d) ≡ named d n (frontOn d .heading .standard) (stands y m e .read)
       ends-here y m k r e a b = let s = stands y m e in ap (judged d n) (survey-is (variables.Is (s .read) m) (s .are)) ∙ rw (sym a ∙ b)
 
-      pub says-here : (y : Tally) (m k : ℕ) (r : Reading) (standard : Bool) (table table′ : List ℤ) (o : Answer) → n ≡ length table → q ≡ run.Is y m → r ≡ endsOn d m → r ≡ At k → standard ≡ frontOn d .heading .standard → Settled d standard y rows′ lines′ table table′ o → o ≡ answerOf (judged d n (surveyOf d))
+      pub says-here : (y : Tally) (m k : ℕ) (r : Reading) (standard : Bool) (table table′ : List ℤ) (o : Answer) → n ≡ length table → q ≡ run.Is y m → r ≡ endsOn d m → r ≡ At k → standard ≡ frontOn d .heading .standard → Settled d standard y rows′ lines′ table table′ o → o ≡ answerIn (judged d n (surveyOf d))
       says-here y m k r standard table table′ o i e a b f s =
-          s .says (stands y m e .read) (stands y m e .held) ∙ ap answerOf (rw (← i, f) refl ∙ sym (ends-here y m k r e a b))
+          s .says (stands y m e .read) (stands y m e .held) ∙ ap answerIn (rw (← i, f) refl ∙ sym (ends-here y m k r e a b))
 
-      pub leaves-here : (y : Tally) (m k : ℕ) (r : Reading) (standard : Bool) (table table′ : List ℤ) (o : Answer) → n ≡ length table → q ≡ run.Is y m → r ≡ endsOn d m → r ≡ At k → standard ≡ frontOn d .heading .standard → Settled d standard y rows′ lines′ table table′ o → table′ ≡ tableAfter (judged d n (surveyOf d)) table
+      pub leaves-here : (y : Tally) (m k : ℕ) (r : Reading) (standard : Bool) (table table′ : List ℤ) (o : Answer) → n ≡ length table → q ≡ run.Is y m → r ≡ endsOn d m → r ≡ At k → standard ≡ frontOn d .heading .standard → Settled d standard y rows′ lines′ table table′ o → table′ ≡ tableIn (judged d n (surveyOf d)) table
       leaves-here y m k r standard table table′ o i e a b f s =
-          s .leaves (stands y m e .read) (stands y m e .held) ∙ ap (λ (w : Outcome). tableAfter w table) (rw (← i, f) refl ∙ sym (ends-here y m k r e a b))
+          s .leaves (stands y m e .read) (stands y m e .held) ∙ ap (λ (w : Outcome). tableIn w table) (rw (← i, f) refl ∙ sym (ends-here y m k r e a b))
 
       ends-not : (y : Tally) (m : ℕ) (r : Reading) (g : Fault) → q ≡ run.Is y m → r ≡ endsOn d m → r ≡ Refused g → judged d n (surveyOf d) ≡ Refusal (g .number) (g .place)
       ends-not y m r g e a b = let s = stands y m e in ap (judged d n) (survey-is (variables.Is (s .read) m) (s .are)) ∙ rw (sym a ∙ b)
 
-      pub says-ends : (y : Tally) (m : ℕ) (r : Reading) (g : Fault) → q ≡ run.Is y m → r ≡ endsOn d m → r ≡ Refused g → answer.Refused (g .number) (g .place) ≡ answerOf (judged d n (surveyOf d))
-      unfolding answerOf
-      says-ends y m r g e a b = sym (ap answerOf (ends-not y m r g e a b))
+      pub says-ends : (y : Tally) (m : ℕ) (r : Reading) (g : Fault) → q ≡ run.Is y m → r ≡ endsOn d m → r ≡ Refused g → answer.Refused (g .number) (g .place) ≡ answerIn (judged d n (surveyOf d))
+      unfolding answerIn
+      says-ends y m r g e a b = sym (ap answerIn (ends-not y m r g e a b))
 
-      pub leaves-ends : (y : Tally) (m : ℕ) (r : Reading) (g : Fault) (table : List ℤ) → q ≡ run.Is y m → r ≡ endsOn d m → r ≡ Refused g → table ≡ tableAfter (judged d n (surveyOf d)) table
-      unfolding tableAfter
-      leaves-ends y m r g table e a b = sym (ap (λ (w : Outcome). tableAfter w table) (ends-not y m r g e a b))
+      pub leaves-ends : (y : Tally) (m : ℕ) (r : Reading) (g : Fault) (table : List ℤ) → q ≡ run.Is y m → r ≡ endsOn d m → r ≡ Refused g → table ≡ tableIn (judged d n (surveyOf d)) table
+      unfolding tableIn
+      leaves-ends y m r g table e a b = sym (ap (λ (w : Outcome). tableIn w table) (ends-not y m r g e a b))
 
       run-not : (g : Fault) → q ≡ run.Not g → judged d n (surveyOf d) ≡ Refusal (g .number) (g .place)
       unfolding runOf
@@ -108,10 +109,10 @@ module _ (d : List ℕ) (long : length d ≤ 1048576) (t : Reading) (front : t �
         by (variables.Is l k) i j = none cc
         by (variables.Not h) i j = let o : h ≡ g = cc in ap (judged d n) (survey-is (variables.Not h) i) ∙ rw o
 
-      pub says-not : (g : Fault) → q ≡ run.Not g → answer.Refused (g .number) (g .place) ≡ answerOf (judged d n (surveyOf d))
-      unfolding answerOf
-      says-not g e = sym (ap answerOf (run-not g e))
+      pub says-not : (g : Fault) → q ≡ run.Not g → answer.Refused (g .number) (g .place) ≡ answerIn (judged d n (surveyOf d))
+      unfolding answerIn
+      says-not g e = sym (ap answerIn (run-not g e))
 
-      pub leaves-not : (g : Fault) (table : List ℤ) → q ≡ run.Not g → table ≡ tableAfter (judged d n (surveyOf d)) table
-      unfolding tableAfter
-      leaves-not g table e = sym (ap (λ (w : Outcome). tableAfter w table) (run-not g e))
+      pub leaves-not : (g : Fault) (table : List ℤ) → q ≡ run.Not g → table ≡ tableIn (judged d n (surveyOf d)) table
+      unfolding tableIn
+      leaves-not g table e = sym (ap (λ (w : Outcome). tableIn w table) (run-not g e))

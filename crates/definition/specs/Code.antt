@@ -6,29 +6,30 @@ use Prim.Native.Nat.{ℕ, zero, suc, _+_, _-_, _*_, _≤_, _<_, max}
 use lib.Dec.{ltb}
 use lib.IntN.{ℤ}
 use lib.ListN.{length, take}
-use Rattle.cells.specs.Cell.{cell, countOf, pasted}
-use Rattle.scan.specs.Text.{text}
+use Rattle.cells.specs.rule.Cell.{cell, countOf, pasted}
+use Rattle.scan.specs.rule.Text.{text}
 use Rattle.marks.specs.declared.Inside.the-variants.{Plain}
-use Rattle.marks.specs.Spelling.{decodeOf}
-use Rattle.layout.specs.Layout.{mark, headerSize, rowSize, lineSize, linesBase, lineBase}
+use Rattle.marks.specs.rule.Spelling.{decodeOf}
+use Rattle.layout.specs.rule.Layout.{mark, headerSize, rowSize, lineSize, linesBase, lineBase}
 use Rattle.layout.specs.declared.Columns.{Columns}
 use Rattle.layout.specs.declared.Header.{Header}
-use Rattle.rows.specs.Cells.{rowCells, headerCells, nameColumn}
+use Rattle.rows.specs.rule.Cells.{rowCells, headerCells}
+use Rattle.rows.specs.Cells.{nameColumn}
 use Rattle.tokens.specs.declared.Fault.{Fault}
 use Rattle.tokens.specs.declared.Reading.{Reading}
 use Rattle.tokens.specs.declared.Reading.the-variants.{At, Refused}
 use Rattle.tokens.specs.declared.Choice.{Choice}
 use Rattle.tokens.specs.declared.Choice.the-variants.{Taken, Left}
 use Rattle.tokens.specs.Token.{choiceOf}
-use Rattle.statements.specs.Words.{END}
+use Rattle.statements.specs.rule.Words.{END}
 use Rattle.statements.specs.Note.{notesOn}
-use Rattle.names.specs.Standard.{nameAt, nameFault}
-use Rattle.survey.specs.Survey.{Variable, linesIn, columnsIn, linesAll, highestIn, rowsFrom, allLines}
-use Rattle.survey.specs.Good.{Good}
+use Rattle.names.specs.rule.Standard.{nameAt, nameFault}
+use Rattle.measures.specs.Survey.{Variable, linesIn, columnsIn, linesAll, highestIn, rowsFrom, allLines}
+use Rattle.measures.specs.Good.{Good}
 use Rattle.entries.specs.Entry.{Entry}
 use Rattle.entries.specs.Entry as entry
-use Rattle.definition.specs.Definition.{Variables, Outcome, Refusal, named, answerOf, tableAfter}
-use Rattle.definition.specs.Definition as variables
+use Rattle.definition.specs.Books.{Variables, Outcome, Refusal, named, answerIn, tableIn}
+use Rattle.definition.specs.Books as variables
 use Rattle.definition.specs.declared.Tally.{Tally}
 use Rattle.definition.specs.declared.Turn.{Turn}
 use Rattle.definition.specs.declared.Turn.the-variants as turn
@@ -117,5 +118,5 @@ fillLeaves y rows lines t = cond (ltb (length t) (lineBase (y .rows) (y .lines))
 
 -- the outcome is that of the variables which the rooms hold
 pub record Settled (d : List ℕ) (standard : Bool) (y : Tally) (rows lines t end : List ℤ) (r : Answer) : Type 0 where
-  pub says : (l : List Variable) → Held l y rows lines → r ≡ answerOf (named d (length t) standard l)
-  pub leaves : (l : List Variable) → Held l y rows lines → end ≡ tableAfter (named d (length t) standard l) t
+  pub says : (l : List Variable) → Held l y rows lines → r ≡ answerIn (named d (length t) standard l)
+  pub leaves : (l : List Variable) → Held l y rows lines → end ≡ tableIn (named d (length t) standard l) t

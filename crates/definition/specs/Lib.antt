@@ -1,2 +1,3 @@
-pub mod Definition
+pub mod rule
+pub mod Books
 pub mod Code

@@ -13,13 +13,15 @@ ghost use mathlib.Core.List.{[]};
 ghost use Prim.Native.Nat.{_+_, _-_, _*_, _≤_, _<_};
 ghost use lib.ListN.{length, take};
 ghost use Rattle.ascii.specs.Class.{Classes};
-ghost use Rattle.ascii.specs.Tens.{Tens};
-ghost use Rattle.cells.specs.Cell.{cell, countOf};
-ghost use Rattle.layout.specs.Layout.{rowSize, lineSize, lineBase, mostRows, mostLines};
+ghost use Rattle.ascii.specs.rule.Tens.{Tens};
+ghost use Rattle.cells.specs.rule.Cell.{cell, countOf};
+ghost use Rattle.layout.specs.rule.Layout.{rowSize, lineSize, lineBase, mostRows, mostLines};
 ghost use Rattle.rows.specs.Cells.{nameColumn};
 ghost use Rattle.variables.specs.Ident.{marked};
-ghost use Rattle.entries.specs.Entry.{entryOf, Stored};
-ghost use Rattle.definition.specs.Definition.{course, variablesFrom, endsOn, judged, surveyOf, outcomeOf, answerOf, tableAfter};
+ghost use Rattle.entries.specs.Entry.{entryOf};
+ghost use Rattle.entries.specs.Entry.{Stored};
+ghost use Rattle.definition.specs.rule.Definition.{DefinitionRead};
+ghost use Rattle.definition.specs.Books.{course, variablesFrom, endsOn, judged, surveyOf, answerIn, tableIn};
 ghost use Rattle.definition.specs.Code.{zeros, tallyWith, followed, turnAfter, RowStored, runOf, Laid, NamesJudged, laidOver, fillSays, fillLeaves, Settled};
 
 // Room for the most rows, and for the most lines.
@@ -306,8 +308,8 @@ fn read_in(
     requires { ⌜ length (now d) ≤ 1048576 ⌝ }
     requires { ⌜ (length (now rows) ≡ rowSize * mostRows) × (length (now lines) ≡ lineSize * mostLines) × (length (now marks) ≡ 16384) ⌝ }
     requires { ⌜ now seen ≡ zeros 10000 ⌝ }
-    ensures { λ r. ⌜ r ≡ answerOf (judged (now (d .entry)) (length (now (table .entry))) (surveyOf (now (d .entry)))) ⌝ }
-    ensures { λ r. ⌜ now (table .exit) ≡ tableAfter (judged (now (d .entry)) (length (now (table .entry))) (surveyOf (now (d .entry)))) (now (table .entry)) ⌝ }
+    ensures { λ r. ⌜ r ≡ answerIn (judged (now (d .entry)) (length (now (table .entry))) (surveyOf (now (d .entry)))) ⌝ }
+    ensures { λ r. ⌜ now (table .exit) ≡ tableIn (judged (now (d .entry)) (length (now (table .entry))) (surveyOf (now (d .entry)))) (now (table .entry)) ⌝ }
 {
     let front = heading::read_front(classes, d);
     let h = front.heading;
@@ -329,8 +331,7 @@ fn read_in(
 
 // Reads a definition into a lent table. The table is filled from its start, or kept whole.
 pub fn read_definition(d: &[u8], table: &mut [i64]) -> Answer
-    ensures { λ r. ⌜ r ≡ answerOf (outcomeOf (now (d .entry)) (length (now (table .entry)))) ⌝ }
-    ensures { λ r. ⌜ now (table .exit) ≡ tableAfter (outcomeOf (now (d .entry)) (length (now (table .entry)))) (now (table .entry)) ⌝ }
+    ensures { λ r. ⌜ DefinitionRead (now (d .entry)) (now (table .entry)) (now (table .exit)) r ⌝ }
 {
     if 1_048_576 < d.len() {
         return Answer::Refused {

@@ -9,13 +9,13 @@ use borrow.Author.Tests.{eq-eqb, ne-eqb}
 use lib.ListN.{length, set, take, replicate}
 use mathlib.Core.Bool.{true, false}
 use lib.IntN.{ℤ}
-use Rattle.cells.specs.Cell.{signedOf}
+use Rattle.cells.specs.rule.Cell.{signedOf}
 use Rattle.cells.specs.declared.Signed.{Signed}
-use Rattle.places.specs.Places.{put, run}
+use Rattle.places.specs.rule.Places.{put, run}
 use Rattle.places.specs.Laws.{put-run-append, back, once-run, below-run, length-run, pick-run, length-put}
 use Rattle.layout.specs.declared.Format.{Format}
-use Rattle.widths.specs.Width.{tailOf, minusOf}
-use Rattle.fields.specs.Number.{padded, amountBytes, quantityBytes}
+use Rattle.widths.specs.rule.Width.{tailOf, minusOf}
+use Rattle.fields.specs.rule.Number.{padded, amountBytes, quantityBytes}
 use Rattle.digits.specs.Room.{Room, Wide}
 use Rattle.fieldlaws.specs.NumberLaws.{length-padded}
 

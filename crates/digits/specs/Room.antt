@@ -2,7 +2,7 @@
 use Prim.Native.Nat.{ℕ, _+_, _^_, _≤_, _<_}
 use lib.IntN.{ℤ}
 use Rattle.layout.specs.declared.Format.{Format}
-use Rattle.widths.specs.Width.{tailOf, sizeOf, minusOf}
+use Rattle.widths.specs.rule.Width.{tailOf, sizeOf, minusOf}
 
 -- a size, from the place at on
 pub record Room (f : Format) (at w n : ℕ) : Type 0 where

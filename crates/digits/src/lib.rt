@@ -3,10 +3,10 @@
 ghost use mathlib.Core.Path.{_≡_};
 ghost use Prim.Native.Nat.{_+_, _/_, _%_, _^_, _≤_, _<_};
 ghost use lib.ListN.{length};
-ghost use Rattle.places.specs.Places.{put, run};
-ghost use Rattle.ascii.specs.Tens.{Tens};
-ghost use Rattle.widths.specs.Width.{sizeOf};
-ghost use Rattle.fields.specs.Number.{padded, amountBytes, quantityBytes, codeBytes};
+ghost use Rattle.places.specs.rule.Places.{put, run};
+ghost use Rattle.ascii.specs.rule.Tens.{Tens};
+ghost use Rattle.widths.specs.rule.Width.{sizeOf};
+ghost use Rattle.fields.specs.rule.Number.{padded, amountBytes, quantityBytes, codeBytes};
 ghost use Rattle.digits.specs.Room.{Room, Wide};
 use layout::Format;
 

@@ -11,23 +11,26 @@ use lib.IntN.{ℤ, pos, negsuc}
 use lib.ListN.{length}
 use lib.Signed.{leZ}
 use Rattle.below.specs.Below.{all-of, and-true}
-use Rattle.cells.specs.Cell.{cell, pasted}
-use Rattle.layout.specs.Layout.{lineSize}
-use Rattle.layout.specs.Row.{kindOf, rowOf, spreadOf, kind-cases}
+use Rattle.cells.specs.rule.Cell.{cell, pasted}
+use Rattle.layout.specs.rule.Layout.{lineSize}
+use Rattle.layout.specs.rule.Row.{kindOf, rowOf, spreadOf}
+use Rattle.layout.specs.Row.{kind-cases}
 use Rattle.layout.specs.declared.Columns.{Columns}
 use Rattle.layout.specs.declared.Kind.{Kind}
 use Rattle.layout.specs.declared.Kind.the-variants.{Single, Multiple, Quantity, Character, Logical}
 use Rattle.layout.specs.declared.Spread.the-variants.{Bits, Fields}
-use Rattle.widths.specs.Width.{fitsKind, lowest, highest, decimalsOf, FewDecimals}
-use Rattle.sound.specs.Sound.{rangeGood, valuesFit}
+use Rattle.widths.specs.rule.Width.{fitsKind, lowest, highest}
+use Rattle.widths.specs.Width.{decimalsOf, FewDecimals}
+use Rattle.sound.specs.rule.Sound.{rangeGood, valuesFit}
 use Rattle.sound.specs.Block.{Subfielded}
 use Rattle.values.specs.Line.{numberAt, cellsOf}
 use Rattle.values.specs.Good.{Limited}
 use Rattle.values.proofs.Rooms.{room-number, length-pasted, cells-length}
 use Rattle.variables.specs.declared.Head.{Head}
 use Rattle.variables.specs.Rest.{Telling}
-use Rattle.survey.specs.Width.{flagOf, plainColumns, numberIn, Ready, Measurable}
-use Rattle.survey.specs.Survey.{countedIn}
+use Rattle.measures.specs.Width.{flagOf, plainColumns}
+use Rattle.measures.specs.Width.{numberIn, Ready, Measurable}
+use Rattle.measures.specs.Survey.{countedIn}
 use Rattle.entries.specs.Entry.{GoodHead}
 use Rattle.entries.specs.Good.{GoodTelling}
 

@@ -6,25 +6,26 @@ use Prim.Native.Nat.{ℕ, zero, suc, _+_, _-_, _*_, _≤_, _<_, max}
 use native.Mathlib.Omega.{arith}
 use lib.IntN.{ℤ}
 use lib.ListN.{length}
-use Rattle.below.specs.Below.{maxBelow}
-use Rattle.layout.specs.Row.{kindOf, rowOf}
+use Rattle.below.specs.rule.Below.{maxBelow}
+use Rattle.layout.specs.rule.Row.{kindOf, rowOf}
 use Rattle.layout.specs.declared.Row.{Row}
 use Rattle.layout.specs.declared.Kind.{Kind}
 use Rattle.layout.specs.declared.Kind.the-variants.{Single, Multiple, Quantity, Character, Logical}
-use Rattle.sound.specs.Sound.{rangeWidth, roomGood}
-use Rattle.widths.specs.Width.{need}
+use Rattle.sound.specs.rule.Sound.{rangeWidth, roomGood}
+use Rattle.widths.specs.rule.Width.{need}
 use Rattle.tokens.specs.declared.Fault.{Fault}
 use Rattle.tokens.specs.declared.Reading.{Reading}
 use Rattle.tokens.specs.declared.Reading.the-variants.{At, Refused}
-use Rattle.tokens.specs.Gap.{fault}
+use Rattle.tokens.specs.rule.Gap.{fault}
 use Rattle.values.specs.Line.{numberAt, cellsOf}
 use Rattle.variables.specs.declared.Head.{Head}
-use Rattle.cells.specs.Cell.{pasted}
+use Rattle.cells.specs.rule.Cell.{pasted}
 use Rattle.values.proofs.Goods.{values-good}
 use Rattle.variables.specs.declared.Rest.{Rest}
 use Rattle.variables.specs.declared.Rested.{Rested}
 use Rattle.variables.specs.declared.Rested.the-variants as rested
-use Rattle.variables.specs.Rest.{Telling, Told, restOf, restedOf}
+use Rattle.variables.specs.Rest.{Telling, Told, restOf}
+use Rattle.variables.specs.Rest.{restedOf}
 use Rattle.variables.specs.Rest as told
 use Rattle.tokens.specs.declared.Number.{Number}
 use Rattle.variables.specs.declared.Headed.{Headed}
@@ -33,12 +34,14 @@ use Rattle.variables.specs.Ident.{identOn}
 use Rattle.variables.specs.Head.{headOn}
 use Rattle.entries.proofs.Heads.{none, head-good}
 use Rattle.entries.proofs.Tellings.{rest-good}
-use Rattle.survey.specs.declared.Measured.the-variants as measure
-use Rattle.survey.specs.Width.{plainColumns, numberIn, Measurable, linesWidth, widestOf, widthOf, widened, fullColumns, measured}
-use Rattle.survey.specs.Survey.{Variable, countedIn, columnsIn, holdsIn, linesIn}
+use Rattle.measures.specs.declared.Measured.the-variants as measure
+use Rattle.measures.specs.Width.{plainColumns, linesWidth, widestOf, widthOf, widened, fullColumns}
+use Rattle.measures.specs.Width.{numberIn, Measurable, measured}
+use Rattle.measures.specs.Survey.{Variable, countedIn, columnsIn, holdsIn, linesIn}
 use Rattle.entries.specs.declared.Stood.{Stood}
 use Rattle.entries.specs.declared.Stood.the-variants as stood
-use Rattle.entries.specs.Entry.{Entry, GoodHead, variable, endVariable, toldThen, ended, heldBy, restThen, entryOf, stoodOf, Stored, measuredAt, settledBy}
+use Rattle.entries.specs.Entry.{Entry, variable, endVariable, toldThen, ended, heldBy, restThen, entryOf}
+use Rattle.entries.specs.Entry.{GoodHead, stoodOf, Stored, measuredAt, settledBy}
 use Rattle.entries.specs.Entry as entry
 use Rattle.entries.specs.Good.{GoodTelling}
 use Rattle.entries.proofs.Columns.{filled, in-room, measurable}

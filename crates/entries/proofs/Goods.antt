@@ -11,18 +11,21 @@ use lib.Dec.{eqb, ltb, leb}
 use lib.IntN.{ℤ, pos}
 use lib.ListN.{length}
 use Rattle.below.specs.Below.{both-and, and-true, holds-not, all-of}
-use Rattle.cells.specs.Cell.{countOf, eqZ, same-true, same-self}
-use Rattle.strides.specs.Stride.{unlike, numberNew, allDiffer}
-use Rattle.layout.specs.Layout.{lineSize, lineAt}
-use Rattle.layout.specs.Row.{kindOf, rowOf, kind-cases}
+use Rattle.cells.specs.rule.Cell.{countOf, eqZ}
+use Rattle.cells.specs.Cell.{same-true, same-self}
+use Rattle.strides.specs.rule.Stride.{unlike, numberNew, allDiffer}
+use Rattle.layout.specs.rule.Layout.{lineSize, lineAt}
+use Rattle.layout.specs.rule.Row.{kindOf, rowOf}
+use Rattle.layout.specs.Row.{kind-cases}
 use Rattle.layout.specs.declared.Columns.{Columns}
-use Rattle.sound.specs.Sound.{lackedZero, pointGiven, valuesGiven, countsGood, placesGood, rangeLacked, rangeGood, linePlain, valuesFit, rangeWidth, widthGood}
+use Rattle.sound.specs.rule.Sound.{lackedZero, pointGiven, valuesGiven, countsGood, placesGood, rangeLacked, rangeGood, linePlain}
+use Rattle.sound.specs.rule.Sound.{valuesFit, rangeWidth, widthGood}
 use Rattle.tokens.specs.declared.Reading.{Reading}
 use Rattle.tokens.specs.declared.Reading.the-variants.{At, Refused}
 use Rattle.tokens.specs.declared.Figures.{Figures}
 use Rattle.tokens.specs.declared.Number.{Number}
 use Rattle.tokens.specs.declared.Number.the-variants as number
-use Rattle.tokens.specs.Gap.{fault}
+use Rattle.tokens.specs.rule.Gap.{fault}
 use Rattle.values.specs.declared.Said.{Said}
 use Rattle.values.specs.Line.{numberAt, lineCells, cellsOf}
 use Rattle.values.specs.Good.{EachGood}
@@ -35,10 +38,11 @@ use Rattle.variables.specs.Ident.{wrongIdent, judgeIdent, identOn}
 use Rattle.variables.specs.Head.{headOn}
 use Rattle.variables.specs.Rest.{Telling, Told, restOf}
 use Rattle.variables.specs.Rest as told
-use Rattle.survey.specs.Width.{flagOf, plainColumns, widestOf, widthOf, widened, fullColumns}
-use Rattle.survey.specs.Survey.{Variable, countedIn, columnsIn, holdsIn}
-use Rattle.survey.specs.Good.{GoodVariable}
-use Rattle.entries.specs.Entry.{GoodHead, variable, endVariable, toldThen, ended, heldBy, restThen, headThen, entryOf}
+use Rattle.measures.specs.Width.{flagOf, plainColumns, widestOf, widthOf, widened, fullColumns}
+use Rattle.measures.specs.Survey.{Variable, countedIn, columnsIn, holdsIn}
+use Rattle.measures.specs.Good.{GoodVariable}
+use Rattle.entries.specs.Entry.{GoodHead}
+use Rattle.entries.specs.Entry.{variable, endVariable, toldThen, ended, heldBy, restThen, headThen, entryOf}
 use Rattle.entries.specs.Entry as entry
 use Rattle.entries.specs.Good.{GoodTelling, EntryGood}
 use Rattle.entries.proofs.Heads.{none, head-good}

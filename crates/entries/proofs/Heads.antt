@@ -7,8 +7,9 @@ use native.Mathlib.Omega.{arith}
 use borrow.Author.Tests.{eqb-true, eqb-false, ltb-true, ltb-false, leb-true, leb-false}
 use lib.Dec.{eqb, ltb, leb}
 use lib.ListN.{length}
-use Rattle.scan.specs.Text.{text}
-use Rattle.scan.specs.Number.{isDigit, capped, digitsFrom}
+use Rattle.scan.specs.rule.Text.{text}
+use Rattle.scan.specs.rule.Number.{isDigit}
+use Rattle.scan.specs.Number.{capped, digitsFrom}
 use Rattle.scan.specs.declared.Digits.{Digits}
 use Rattle.scan.proofs.Runs.{low, digits-held}
 use Rattle.scan.proofs.Orders.{run-value}
@@ -20,23 +21,21 @@ use Rattle.tokens.specs.declared.Choice.the-variants.{Taken, Left}
 use Rattle.tokens.specs.declared.Figures.{Figures}
 use Rattle.tokens.specs.declared.Number.{Number}
 use Rattle.tokens.specs.declared.Number.the-variants as number
-use Rattle.tokens.specs.Gap.{fault, gapOn}
+use Rattle.tokens.specs.rule.Gap.{fault}
+use Rattle.tokens.specs.Gap.{gapOn}
 use Rattle.statements.specs.declared.Typed.{Typed}
 use Rattle.statements.specs.declared.Typed.the-variants as typed
-use Rattle.statements.specs.Words.{SINGLE, MULTIPLE, QUANTITY, CHARACTER, LOGICAL}
+use Rattle.statements.specs.rule.Words.{SINGLE, MULTIPLE, QUANTITY, CHARACTER, LOGICAL, POSITION, TO}
 use Rattle.statements.specs.Kinds.{or, last, typeHere, typeOn}
-use Rattle.tokens.specs.Token.{choiceOf, wordHere, ofDigits, numberHere, numberOn, pastNumber}
+use Rattle.tokens.specs.Token.{choiceOf, wordHere, ofDigits, numberHere, numberOn, pastNumber, stringOn}
 use Rattle.statements.specs.declared.Position.{Position}
 use Rattle.statements.specs.declared.Stated.{Stated}
 use Rattle.statements.specs.declared.Stated.the-variants as stated
-use Rattle.statements.specs.Words.{POSITION, TO}
-use Rattle.statements.specs.Note.{statementOn}
+use Rattle.statements.specs.Note.{statementOn, textOn}
 use Rattle.tokens.specs.declared.Quoted.{Quoted}
 use Rattle.tokens.specs.declared.Phrase.{Phrase}
 use Rattle.tokens.specs.declared.Phrase.the-variants as phrase
 use Rattle.tokens.proofs.Aheads.{quoted-within}
-use Rattle.tokens.specs.Token.{stringOn}
-use Rattle.statements.specs.Note.{textOn}
 use Rattle.variables.specs.declared.Head.{Head}
 use Rattle.variables.specs.declared.Headed.{Headed}
 use Rattle.variables.specs.declared.Headed.the-variants as headed

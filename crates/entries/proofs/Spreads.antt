@@ -14,16 +14,16 @@ use Rattle.tokens.specs.declared.Choice.the-variants.{Taken, Left}
 use Rattle.tokens.specs.declared.Figures.{Figures}
 use Rattle.tokens.specs.declared.Number.{Number}
 use Rattle.tokens.specs.declared.Number.the-variants as number
-use Rattle.tokens.specs.Gap.{fault, gapOn}
+use Rattle.tokens.specs.rule.Gap.{fault}
+use Rattle.tokens.specs.Gap.{gapOn}
 use Rattle.tokens.specs.Token.{choiceOf, numberOn, pastNumber}
 use Rattle.statements.specs.declared.Subfields.{Subfields}
 use Rattle.statements.specs.declared.Spreading.{Spreading}
 use Rattle.statements.specs.declared.Spreading.the-variants as spreading
-use Rattle.statements.specs.Words.{OF}
+use Rattle.statements.specs.rule.Words.{OF, SIZE}
 use Rattle.statements.specs.Note.{statementOn}
 use Rattle.statements.specs.Spread.{judgeOf, judgeEven, fieldsOf, evenOf, rest, spreadRest}
 use Rattle.statements.specs.Size.{judgeSize, sizeOn}
-use Rattle.statements.specs.Words.{SIZE}
 use Rattle.entries.proofs.Heads.{none}
 
 pub record GoodSpread (s : Subfields) : Type 0 where

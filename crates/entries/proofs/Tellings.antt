@@ -20,7 +20,7 @@ use Rattle.tokens.specs.Token.{choiceOf}
 use Rattle.statements.specs.declared.Subfields.{Subfields}
 use Rattle.statements.specs.declared.Spreading.{Spreading}
 use Rattle.statements.specs.declared.Spreading.the-variants as spreading
-use Rattle.statements.specs.Words.{SPREAD}
+use Rattle.statements.specs.rule.Words.{SPREAD}
 use Rattle.statements.specs.Note.{notesOn}
 use Rattle.statements.specs.Spread.{spreadRest}
 use Rattle.statements.specs.Size.{sizeOn}
@@ -31,7 +31,8 @@ use Rattle.values.specs.Line as given
 use Rattle.values.specs.Block.{emptyBlock, valuesOn}
 use Rattle.values.specs.Good.{GoodBlock, GoodLines, GoodValues, EachGood}
 use Rattle.values.specs.Good as good
-use Rattle.variables.specs.Rest.{Telling, Told, joinValues, valuesRest, joinSize, joinNothing, spreadOr, optional, spreadThen, restOf}
+use Rattle.variables.specs.Rest.{Telling, Told, joinValues, valuesRest, joinSize, joinNothing, spreadOr, optional, spreadThen}
+use Rattle.variables.specs.Rest.{restOf}
 use Rattle.variables.specs.Rest as told
 use Rattle.entries.specs.Good.{GoodTelling}
 use Rattle.entries.proofs.Heads.{none}

@@ -1,32 +1,33 @@
+-- THE CODE'S BOOKS, which contracts inside the library name; crate `bridge` proves them equal to the rule of crate `reading`.
 -- A variable: VARIABLE id, NAME, LABEL, TYPE, POSITION a [TO b], then by type, then END VARIABLE; its width is judged after that.
-use mathlib.Core.Path.{_≡_}
-use mathlib.Core.Bool.{Bool, true, false, cond}
+use mathlib.Core.Bool.{Bool, cond}
 use mathlib.Core.List.{List}
 use Prim.Native.Nat.{ℕ, _+_, _-_, _*_, _≤_}
-use lib.IntN.{ℤ}
-use lib.ListN.{length}
-use Rattle.cells.specs.Cell.{pasted}
-use Rattle.layout.specs.Layout.{lineSize}
 use Rattle.tokens.specs.declared.Fault.{Fault}
 use Rattle.tokens.specs.declared.Reading.{Reading}
 use Rattle.tokens.specs.declared.Reading.the-variants.{At, Refused}
-use Rattle.tokens.specs.Gap.{fault}
+use Rattle.tokens.specs.rule.Gap.{fault}
 use Rattle.tokens.specs.Token.{wordOn}
-use Rattle.statements.specs.Words.{END, VARIABLE}
+use Rattle.statements.specs.rule.Words.{END, VARIABLE}
 use Rattle.statements.specs.Note.{statementOn}
-use Rattle.values.specs.Line.{cellsOf}
 use Rattle.variables.specs.declared.Head.{Head}
 use Rattle.variables.specs.declared.Headed.{Headed}
 use Rattle.variables.specs.declared.Headed.the-variants as headed
-use Rattle.variables.specs.declared.Rest.{Rest}
 use Rattle.variables.specs.Ident.{identOn}
 use Rattle.variables.specs.Head.{headOn}
 use Rattle.variables.specs.Rest.{Telling, Told, restOf}
 use Rattle.variables.specs.Rest as told
-use Rattle.survey.specs.declared.Measured.{Measured}
-use Rattle.survey.specs.declared.Measured.the-variants as measure
-use Rattle.survey.specs.Width.{measured}
-use Rattle.survey.specs.Survey.{Variable, linesIn, columnsIn, holdsIn}
+use Rattle.measures.specs.Survey.{Variable, holdsIn, linesIn, columnsIn}
+use mathlib.Core.Path.{_≡_}
+use lib.IntN.{ℤ}
+use lib.ListN.{length}
+use Rattle.cells.specs.rule.Cell.{pasted}
+use Rattle.layout.specs.rule.Layout.{lineSize}
+use Rattle.values.specs.Line.{cellsOf}
+use Rattle.variables.specs.declared.Rest.{Rest}
+use Rattle.measures.specs.declared.Measured.{Measured}
+use Rattle.measures.specs.declared.Measured.the-variants as measure
+use Rattle.measures.specs.Width.{measured}
 use Rattle.entries.specs.declared.Stood.{Stood}
 use Rattle.entries.specs.declared.Stood.the-variants as stood
 

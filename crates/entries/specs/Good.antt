@@ -5,11 +5,11 @@ use mathlib.Core.Bool.{Bool, true, false}
 use Prim.Native.Nat.{ℕ, _≤_, _<_}
 use lib.Dec.{eqb}
 use lib.ListN.{length}
-use Rattle.layout.specs.Layout.{mostRows}
+use Rattle.layout.specs.rule.Layout.{mostRows}
 use Rattle.values.specs.Good.{GoodBlock, GoodLines}
 use Rattle.variables.specs.Rest.{Telling}
-use Rattle.survey.specs.Survey.{Variable}
-use Rattle.survey.specs.Good.{GoodVariable}
+use Rattle.measures.specs.Survey.{Variable}
+use Rattle.measures.specs.Good.{GoodVariable}
 
 -- of a variable of a type, before whose lines `first` others stand
 pub record GoodTelling (kind first : ℕ) (x : Telling) : Type 0 where

@@ -1,6 +1,6 @@
 // A variable from VARIABLE to END VARIABLE, as a row of the table. Above it stands the definition as a whole.
 use layout::Columns;
-use survey::Measured;
+use measures::Measured;
 use tokens::Fault;
 use tokens::Reading;
 use variables::Head;
@@ -11,11 +11,12 @@ ghost use mathlib.Core.Path.{_≡_};
 ghost use Prim.Native.Nat.{_+_, _*_, _≤_};
 ghost use lib.ListN.{length};
 ghost use Rattle.ascii.specs.Class.{Classes};
-ghost use Rattle.ascii.specs.Tens.{Tens};
-ghost use Rattle.layout.specs.Layout.{lineSize, mostLines};
-ghost use Rattle.survey.specs.Width.{numberIn, Measurable};
+ghost use Rattle.ascii.specs.rule.Tens.{Tens};
+ghost use Rattle.layout.specs.rule.Layout.{lineSize, mostLines};
+ghost use Rattle.measures.specs.Width.{numberIn, Measurable};
 ghost use Rattle.variables.specs.Ident.{marked};
-ghost use Rattle.entries.specs.Entry.{endVariable, settledBy, GoodHead, restThen, entryOf, stoodOf, Stored};
+ghost use Rattle.entries.specs.Entry.{endVariable, restThen, entryOf};
+ghost use Rattle.entries.specs.Entry.{settledBy, GoodHead, stoodOf, Stored};
 
 // A variable that stands: its columns, how many value lines there are then in all, and the place after END VARIABLE.
 pub enum Stood {
@@ -43,7 +44,7 @@ fn settle(powers: &[u64; 16], lines: &[i64], h: Head, r: Rest, before: usize, en
     ensures { λ s. ⌜ s ≡ settledBy (numberIn (now (lines .entry)) before) h r before end ⌝ }
 {
     match end {
-        Reading::At(next) => match survey::measure(powers, lines, h, r, before) {
+        Reading::At(next) => match measures::measure(powers, lines, h, r, before) {
             Measured::Is(columns) => Stood::Is {
                 columns,
                 last: r.last,

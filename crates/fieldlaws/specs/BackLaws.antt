@@ -12,22 +12,23 @@ use lib.IntN.{ℤ, pos, negsuc}
 use lib.Signed.{leZ}
 use lib.ListN.{length, getD}
 use Rattle.below.specs.Below.{holds-not}
-use Rattle.ascii.specs.Tens.{digitsOf, digits-hold}
-use Rattle.cells.specs.Cell.{eqZ, signedOf}
-use Rattle.widths.specs.Width.{need, lowest, highest, sizeOf}
+use Rattle.ascii.specs.rule.Tens.{digitsOf}
+use Rattle.ascii.specs.Tens.{digits-hold}
+use Rattle.cells.specs.rule.Cell.{eqZ, signedOf}
+use Rattle.widths.specs.rule.Width.{need, lowest, highest, sizeOf}
 use Rattle.places.specs.Laws.{length-run}
 use Rattle.layout.specs.declared.Format.{Format}
 use Rattle.layout.specs.declared.Spread.the-variants.{Bits, Fields}
 use Rattle.layout.specs.declared.Kind.{Kind}
 use Rattle.layout.specs.declared.Kind.the-variants.{Single, Multiple, Quantity, Character, Logical}
 use Rattle.layout.specs.declared.Row.{Row}
-use Rattle.fields.specs.Legal.{legal}
-use Rattle.fields.specs.Number.{allSpaces, Said, blank, says, wrong, codeOf, codeAfter, codeBytes, quantityOf, quantityAfter}
-use Rattle.fields.specs.Field.{Value, missing, number, members, text, truth, holds, illegal, numberField}
-use Rattle.fields.specs.Field.{singleSays, singleField, quantitySays, setBits, allBits, bitsField, allEntries}
-use Rattle.fields.specs.Field.{spreadSet, spreadField, allPlain, unended, textField, truthField, spaces, setFits, textFits}
-use Rattle.fields.specs.Row.{categories, placesBy, placesOf, fieldBy, fieldOf, fits}
-use Rattle.fields.specs.Row.{otherType, notLegal, tooMany, legalFit, fitsBy, fitOf, bytesBy, bytesOf}
+use Rattle.fields.specs.rule.Legal.{legal}
+use Rattle.fields.specs.rule.Number.{allSpaces, Said, blank, says, wrong, codeOf, codeAfter, codeBytes, quantityOf, quantityAfter}
+use Rattle.fields.specs.rule.Field.{Value, missing, number, members, text, truth, holds, illegal, numberField}
+use Rattle.fields.specs.rule.Field.{singleSays, singleField, quantitySays, setBits, allBits, bitsField, allEntries}
+use Rattle.fields.specs.rule.Field.{spreadSet, spreadField, allPlain, unended, textField, truthField, spaces, setFits, textFits}
+use Rattle.fields.specs.rule.Row.{categories, placesBy, placesOf, fieldBy, fieldOf, fits}
+use Rattle.fields.specs.rule.Row.{otherType, notLegal, tooMany, legalFit, fitsBy, fitOf, bytesBy, bytesOf}
 use Rattle.fields.specs.Facts.{KindFacts, RowFacts}
 use Rattle.fieldlaws.specs.Tests.{counts-differ}
 use Rattle.fieldlaws.specs.PlaceLaws.{length-bits, length-spread}

@@ -10,9 +10,9 @@ use lib.Dec.{eqb}
 use lib.IntN.{ℤ, pos}
 use lib.ListN.{length}
 use Rattle.below.specs.Below.{holds-not, and-true}
-use Rattle.fields.specs.Number.{allSpaces}
-use Rattle.fields.specs.Field.{members, holds, allBits, setBits, bitsField, bitBytes, isMember, passing, allLegal, setFits}
-use Rattle.fields.specs.Row.{defined}
+use Rattle.fields.specs.rule.Number.{allSpaces}
+use Rattle.fields.specs.rule.Field.{members, holds, allBits, setBits, bitsField, bitBytes, isMember, passing, allLegal, setFits}
+use Rattle.fields.specs.rule.Row.{defined}
 use Rattle.fieldlaws.specs.Tests.{either}
 use Rattle.fieldlaws.specs.RisingLaws.{Rising, none, skip, keep, rising-empty, fits-of, members-back, not-member}
 

@@ -10,17 +10,18 @@ use lib.Dec.{eqb}
 use lib.IntN.{ℤ}
 use lib.ListN.{length, getD}
 use lib.Seq.{set-getD}
-use Rattle.places.specs.Places.{pick, put, Out, Apart, Below}
+use Rattle.places.specs.rule.Places.{pick, put, Out, Apart}
+use Rattle.places.specs.Places.{Below}
 use Rattle.places.specs.Laws.{length-put, keeps, last, commute, back, apart, length-run, length-pick}
 use Rattle.layout.specs.declared.Spread.the-variants.{Bits}
 use Rattle.layout.specs.declared.Kind.{Kind}
 use Rattle.layout.specs.declared.Kind.the-variants.{Multiple, Character, Logical}
 use Rattle.layout.specs.declared.Row.{Row}
-use Rattle.fields.specs.Legal.{legal}
-use Rattle.fields.specs.Number.{allSpaces}
-use Rattle.fields.specs.Field.{Value, missing, members, text, truth, holds, illegal, allBits}
-use Rattle.fields.specs.Field.{setBits, bitsField, allPlain, unended, textField, truthField, spaces}
-use Rattle.fields.specs.Row.{categories, placesBy, placesOf, fieldBy, fieldOf, readingOf, fits, fitOf, bytesBy, bytesOf, writtenOf}
+use Rattle.fields.specs.rule.Legal.{legal}
+use Rattle.fields.specs.rule.Number.{allSpaces}
+use Rattle.fields.specs.rule.Field.{Value, missing, members, text, truth, holds, illegal, allBits}
+use Rattle.fields.specs.rule.Field.{setBits, bitsField, allPlain, unended, textField, truthField, spaces}
+use Rattle.fields.specs.rule.Row.{categories, placesBy, placesOf, fieldBy, fieldOf, readingOf, fits, fitOf, bytesBy, bytesOf, writtenOf}
 use Rattle.fields.specs.Facts.{RowFacts}
 use Rattle.fieldlaws.specs.PlaceLaws.{places-once, places-inside, length-bits}
 use Rattle.fieldlaws.specs.BackLaws.{Topped, bytes-many, bytes-say, missing-back, held-fits, held, illegal-holds}

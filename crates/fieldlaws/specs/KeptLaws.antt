@@ -12,9 +12,9 @@ use lib.IntN.{ℤ, pos}
 use lib.ListN.{length, getD}
 use Rattle.below.specs.Below.{and-left, and-right}
 use Rattle.cells.specs.Cell.{same-self}
-use Rattle.fields.specs.Number.{allSpaces}
-use Rattle.fields.specs.Field.{isMember, allBits, setBits, bitBytes, unended, spaces, textBytes, truthBytes}
-use Rattle.fields.specs.Row.{defined}
+use Rattle.fields.specs.rule.Number.{allSpaces}
+use Rattle.fields.specs.rule.Field.{isMember, allBits, setBits, bitBytes, unended, spaces, textBytes, truthBytes}
+use Rattle.fields.specs.rule.Row.{defined}
 use Rattle.fieldlaws.specs.Tests.{or-left, counts-differ}
 use Rattle.fieldlaws.specs.RisingLaws.{not-below}
 use Rattle.fieldlaws.specs.BitLaws.{set-rising}

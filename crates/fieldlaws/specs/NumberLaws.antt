@@ -13,11 +13,12 @@ use lib.IntN.{ℤ, pos, negsuc}
 use lib.ListN.{length, take, drop, getD, length-append}
 use lib.Seq.{take-at, getD-at, drop-append-add, take-length, drop-length}
 use Rattle.ascii.specs.Tens.{digits-hold, digits-some}
-use Rattle.cells.specs.Cell.{numberOf, signedOf}
-use Rattle.widths.specs.Width.{tailOf, ten-some, wholeDigits, quantityWidth, sizeOf, minusOf}
+use Rattle.cells.specs.rule.Cell.{numberOf, signedOf}
+use Rattle.widths.specs.rule.Width.{tailOf, wholeDigits, quantityWidth, sizeOf, minusOf}
+use Rattle.widths.specs.Width.{ten-some}
 use Rattle.layout.specs.declared.Format.{Format}
-use Rattle.fields.specs.Number.{unspaced, digitsOnly, decimalFrom, decimal, says, codeAfter, codeOf, amountForm}
-use Rattle.fields.specs.Number.{amountSize, amountOf, quantityAfter, quantityOf, padded, amountBytes, quantityBytes, codeBytes}
+use Rattle.fields.specs.rule.Number.{unspaced, digitsOnly, decimalFrom, decimal, says, codeAfter, codeOf, amountForm}
+use Rattle.fields.specs.rule.Number.{amountSize, amountOf, quantityAfter, quantityOf, padded, amountBytes, quantityBytes, codeBytes}
 
 -- ---- digits
 pub length-padded : (k n : ℕ) → length (padded k n) ≡ k

@@ -7,13 +7,14 @@ use native.Mathlib.Nat.{zero-mul, suc-mul}
 use native.Mathlib.Omega.{arith}
 use lib.IntN.{ℤ, pos}
 use lib.ListN.{length, length-append}
-use Rattle.places.specs.Places.{run, Out, Apart, Once, Below}
+use Rattle.places.specs.rule.Places.{run, Out, Apart}
+use Rattle.places.specs.Places.{Once, Below}
 use Rattle.places.specs.Laws.{out-run, once-run, below-run, length-run}
 use Rattle.layout.specs.declared.Row.{Row}
 use Rattle.layout.specs.declared.Kind.{Kind}
 use Rattle.layout.specs.declared.Kind.the-variants.{Single, Multiple, Quantity, Character, Logical}
 use Rattle.layout.specs.declared.Spread.the-variants.{Bits, Fields}
-use Rattle.fields.specs.Row.{defined, bitPlaces, spreadPlaces, placesBy, placesOf}
+use Rattle.fields.specs.rule.Row.{defined, bitPlaces, spreadPlaces, placesBy, placesOf}
 use Rattle.fields.specs.Facts.{KindFacts, PositionFacts, RowFacts}
 use Rattle.fieldlaws.specs.Tests.{either}
 

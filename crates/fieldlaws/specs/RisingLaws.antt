@@ -10,8 +10,9 @@ use borrow.Author.Tests.{eq-eqb, ne-eqb, ltb-true, lt-ltb, leb-true}
 use lib.IntN.{ℤ, pos, negsuc}
 use lib.Signed.{ltZ, leZ}
 use Rattle.below.specs.Below.{holds-not, and-left, and-right, and-true}
-use Rattle.cells.specs.Cell.{eqZ, same-true}
-use Rattle.fields.specs.Field.{passing, isMember, risingFrom, allLegal, setFits}
+use Rattle.cells.specs.rule.Cell.{eqZ}
+use Rattle.cells.specs.Cell.{same-true}
+use Rattle.fields.specs.rule.Field.{passing, isMember, risingFrom, allLegal, setFits}
 
 pub data Rising : ℕ → ℕ → List ℤ → Type 0 where
   none : {c : ℕ} → Rising c zero []

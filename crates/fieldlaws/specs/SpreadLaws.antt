@@ -10,11 +10,12 @@ use lib.IntN.{ℤ, pos}
 use lib.ListN.{length, take, drop, length-append}
 use lib.Seq.{take-at, drop-at}
 use Rattle.below.specs.Below.{holds-not, and-left, and-right, or-true}
-use Rattle.cells.specs.Cell.{eqZ, same-true, signedOf}
+use Rattle.cells.specs.rule.Cell.{eqZ, signedOf}
+use Rattle.cells.specs.Cell.{same-true}
 use Rattle.widths.specs.Width.{ten-some}
-use Rattle.fields.specs.Number.{Said, blank, says, wrong, allSpaces, codeOf, padded, codeBytes}
-use Rattle.fields.specs.Field.{members, holds, entryGood, entryIs, allEntries, someEntry}
-use Rattle.fields.specs.Field.{spreadSet, spreadField, spreadBytes, isMember, passing, allLegal, setFits}
+use Rattle.fields.specs.rule.Number.{Said, blank, says, wrong, allSpaces, codeOf, padded, codeBytes}
+use Rattle.fields.specs.rule.Field.{members, holds, entryGood, entryIs, allEntries, someEntry}
+use Rattle.fields.specs.rule.Field.{spreadSet, spreadField, spreadBytes, isMember, passing, allLegal, setFits}
 use Rattle.fieldlaws.specs.Tests.{counts-differ}
 use Rattle.fieldlaws.specs.NumberLaws.{length-code, code-back}
 use Rattle.fieldlaws.specs.RisingLaws.{Rising, fits-of, members-back, passing-same}

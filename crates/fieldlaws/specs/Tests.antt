@@ -4,7 +4,7 @@ use mathlib.Core.Bool.{Bool, true, false, cond, _||_}
 use Prim.Native.Nat.{ℕ}
 use borrow.Author.Tests.{ne-eqb}
 use lib.IntN.{pos}
-use Rattle.cells.specs.Cell.{eqZ}
+use Rattle.cells.specs.rule.Cell.{eqZ}
 
 -- what holds of both holds of the one that is taken
 pub either : {A : Type 0} (P : A → Type 0) (b : Bool) (x y : A) → P x → P y → P (cond b x y)

@@ -8,8 +8,8 @@ use borrow.Author.Tests.{ne-eqb, eqb-false, le-leb, leb-true, lt-ltb, ltb-true}
 use lib.Dec.{eqb, leb, ltb}
 use lib.ListN.{length, getD, length-append}
 use Rattle.below.specs.Below.{holds-not, and-left, and-right, and-true}
-use Rattle.fields.specs.Number.{allSpaces, unspaced}
-use Rattle.fields.specs.Field.{text, truth, holds, allPlain, unended, textField, truthField, spaces, textBytes, truthBytes, textFits}
+use Rattle.fields.specs.rule.Number.{allSpaces, unspaced}
+use Rattle.fields.specs.rule.Field.{text, truth, holds, allPlain, unended, textField, truthField, spaces, textBytes, truthBytes, textFits}
 
 -- ---- spaces
 pub length-spaces : (n : ℕ) → length (spaces n) ≡ n

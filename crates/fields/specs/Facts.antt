@@ -7,14 +7,14 @@ use Prim.Native.Nat.{ℕ, _+_, _*_, _≤_}
 use lib.IntN.{ℤ}
 use lib.ListN.{length}
 use lib.Signed.{leZ}
-use Rattle.layout.specs.Layout.{mostRows, mostLines, lineBase}
+use Rattle.layout.specs.rule.Layout.{mostRows, mostLines, lineBase}
 use Rattle.layout.specs.declared.Format.{Format}
 use Rattle.layout.specs.declared.Spread.the-variants.{Bits, Fields}
 use Rattle.layout.specs.declared.Kind.{Kind}
 use Rattle.layout.specs.declared.Kind.the-variants.{Single, Multiple, Quantity, Character, Logical}
 use Rattle.layout.specs.declared.Row.{Row}
-use Rattle.widths.specs.Width.{need, lowest, highest}
-use Rattle.fields.specs.Legal.{legal}
+use Rattle.widths.specs.rule.Width.{need, lowest, highest}
+use Rattle.fields.specs.rule.Legal.{legal}
 
 -- the row's lines stand in the table
 pub record LineFacts (t : List ℤ) (v : ℕ) (r : Row) : Type 0 where

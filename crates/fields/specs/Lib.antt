@@ -1,5 +1,2 @@
-pub mod Legal
-pub mod Number
-pub mod Field
-pub mod Row
+pub mod rule
 pub mod Facts

@@ -1,3 +1,4 @@
+pub mod rule
 pub mod File
 pub mod Tested
 pub mod Passed

@@ -10,10 +10,12 @@ use lib.IntN.{ℤ}
 use lib.ListN.{length, drop}
 use Rattle.below.specs.Below.{holds-not}
 use Rattle.cuts.specs.declared.Terminator.{Terminator}
-use Rattle.cuts.specs.Records.{recordsFrom, part, next-ended, PlainNext}
-use Rattle.sound.specs.Rows.{rowsOf, lengthOf}
-use Rattle.records.specs.Verdict.{Verdict, refused, rowsVerdict}
-use Rattle.files.specs.File.{recordVerdict, recordsVerdict, firstLength, isSound, verdict-rows, records-next, go-sound}
+use Rattle.cuts.specs.rule.Records.{recordsFrom}
+use Rattle.cuts.specs.Records.{part, next-ended, PlainNext}
+use Rattle.sound.specs.rule.Rows.{rowsOf, lengthOf}
+use Rattle.records.specs.rule.Verdict.{Verdict, refused, rowsVerdict}
+use Rattle.files.specs.rule.File.{recordVerdict, recordsVerdict, firstLength, isSound}
+use Rattle.files.specs.File.{verdict-rows, records-next, go-sound}
 use Rattle.files.specs.declared.Place.{Place}
 
 -- the next record from a place on has `first` bytes and is sound

@@ -1,16 +1,10 @@
--- A table that was tested, and its header.
+-- What follows from rule/Tested.antt, and what the code keeps.
 use mathlib.Core.Path.{_≡_}
-use mathlib.Core.Bool.{true}
 use mathlib.Core.List.{List}
 use lib.IntN.{ℤ}
-use Rattle.layout.specs.Layout.{headerOf}
 use Rattle.layout.specs.declared.Header.{Header}
-use Rattle.sound.specs.Sound.{wellFormed}
-use Rattle.sound.specs.Rows.{rowsOf, lengthOf}
-
-pub record Tested (t : List ℤ) (h : Header) : Type 0 where
-  pub good : wellFormed t ≡ true
-  pub head : h ≡ headerOf t
+use Rattle.sound.specs.rule.Rows.{rowsOf, lengthOf}
+use Rattle.files.specs.rule.Tested.{Tested}
 
 -- ---- laws
 pub tested-rows : {t : List ℤ} {h : Header} → Tested t h → h .rows ≡ rowsOf t

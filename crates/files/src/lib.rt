@@ -3,13 +3,15 @@ ghost use mathlib.Core.Path.{_≡_};
 ghost use mathlib.Core.Bool.{true};
 ghost use Prim.Native.Nat.{_+_, _≤_, _<_};
 ghost use lib.ListN.{length};
-ghost use Rattle.cuts.specs.Cut.{Found};
-ghost use Rattle.cuts.specs.Records.{recordsOf};
-ghost use Rattle.records.specs.Verdict.{judgedAs};
-ghost use Rattle.files.specs.File.{fileSaid, recordVerdict, goOn, soundWith, firstLength, recordsVerdict, fileVerdict, isSound, soundSoFar};
-ghost use Rattle.files.specs.Tested.{Tested};
+ghost use Rattle.cuts.specs.rule.Cut.{Found};
+ghost use Rattle.cuts.specs.rule.Records.{recordsOf};
+ghost use Rattle.records.specs.rule.Verdict.{judgedAs};
+ghost use Rattle.files.specs.rule.File.{fileSaid, recordVerdict, goOn, soundWith, firstLength, recordsVerdict, FileJudged};
+ghost use Rattle.files.specs.rule.File.{isSound};
+ghost use Rattle.files.specs.File.{soundSoFar};
+ghost use Rattle.files.specs.rule.Tested.{Tested};
 ghost use Rattle.files.specs.Passed.{SoundNext, Passed};
-ghost use Rattle.sound.specs.Rows.{lengthOf};
+ghost use Rattle.sound.specs.rule.Rows.{lengthOf};
 use cuts::Next;
 use cuts::Terminator;
 use layout::Header;
@@ -177,7 +179,7 @@ pub fn judge_records(t: &[i64], h: Header, d: &[u8], w: Terminator, scratch: &mu
 
 // Judges a file by a table.
 pub fn judge_file(t: &[i64], d: &[u8]) -> Judgement
-    ensures { λ r. ⌜ fileSaid r ≡ fileVerdict (now (t .entry)) (now (d .entry)) ⌝ }
+    ensures { λ r. ⌜ FileJudged (now (t .entry)) (now (d .entry)) (fileSaid r) ⌝ }
 {
     if sound::well_formed(t) {
         let h = Header::read(t);

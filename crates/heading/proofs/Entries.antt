@@ -5,7 +5,7 @@ use mathlib.Core.List.{List, [], _∷_}
 use Prim.Native.Nat.{ℕ, _≤_, _<_}
 use native.Mathlib.Omega.{arith}
 use lib.Dec.{eqb}
-use Rattle.scan.specs.Loop.{Next, Again, Done, loopOf}
+use Rattle.scan.specs.rule.Loop.{Next, Again, Done, loopOf}
 use Rattle.scan.proofs.Loops.{loop-again, loop-done}
 use Rattle.tokens.specs.declared.Fault.{Fault}
 use Rattle.tokens.specs.declared.Reading.{Reading}
@@ -16,14 +16,15 @@ use Rattle.tokens.specs.declared.Quoted.{Quoted}
 use Rattle.tokens.specs.Gap.{left, gapOn}
 use Rattle.tokens.specs.Token.{choiceOf, wordOn, stringOn, pastString}
 use Rattle.tokens.proofs.Aheads.{taken-less, string-left, word-left}
-use Rattle.statements.specs.Words.{DATE, TIME, ORIGIN, USER, STANDARD, NAMES}
+use Rattle.statements.specs.rule.Words.{DATE, TIME, ORIGIN, USER, STANDARD, NAMES}
 use Rattle.statements.specs.Note.{notesOn}
 use Rattle.statements.proofs.Notes.{notes-left}
 use Rattle.heading.specs.declared.Heading.{Heading}
 use Rattle.heading.specs.declared.Entered.{Entered}
 use Rattle.heading.specs.declared.Entry.{Entry}
 use Rattle.heading.specs.declared.Entry.the-variants.{Text, Standard, Other}
-use Rattle.heading.specs.Heading.{or, last, entryOf, again, onceOf, textAt, textEntry, named, nameEntry, noHeading, entered, entryStep, entriesFrom}
+use Rattle.heading.specs.Heading.{or, last, entryOf, again, onceOf, textAt, textEntry, named, nameEntry, noHeading, entered}
+use Rattle.heading.specs.Heading.{entryStep, entriesFrom}
 
 -- where a word was taken
 data Takes (d : List ℕ) (t : Reading) : Entry → Type 0 where
@@ -75,7 +76,7 @@ module _ (d : List ℕ) (t : Reading) where
     by false = omega (arith, notes-left d (wordOn d (At m) NAMES), word-left d (At m) 78 (65 ∷ 77 ∷ 69 ∷ 83 ∷ []))
 
 module _ (d : List ℕ) where
-  falls : (e f : Entered) → entryStep d e (entryOf d (e .next)) ≡ Again f → left d (f .next) < left d (e .next)
+  pub falls : (e f : Entered) → entryStep d e (entryOf d (e .next)) ≡ Again f → left d (f .next) < left d (e .next)
   falls e f = by (entryOf d (e .next)) (takes d (e .next)) where
     by : (k : Entry) → Takes d (e .next) k → entryStep d e k ≡ Again f → left d (f .next) < left d (e .next)
     by (Text k m) (text l) q = let j : textEntry d (e .heading) (e .next) k m ≡ f = cc in rw (← j) (text-less d (e .next) (e .heading) k m l)

@@ -7,7 +7,7 @@ use Prim.Native.Nat.{ℕ, zero, suc, _≤_, _<_}
 use native.Mathlib.Omega.{arith}
 use lib.Dec.{eqb}
 use borrow.Author.Tests.{ne-eqb}
-use Rattle.scan.specs.Loop.{Next, Again, Done, loopOf}
+use Rattle.scan.specs.rule.Loop.{Next, Again, Done, loopOf}
 use Rattle.tokens.specs.declared.Fault.{Fault}
 use Rattle.tokens.specs.declared.Reading.{Reading}
 use Rattle.tokens.specs.declared.Reading.the-variants.{At, Refused}
@@ -16,16 +16,18 @@ use Rattle.tokens.specs.declared.Phrase.{Phrase}
 use Rattle.tokens.specs.declared.Phrase.the-variants.{Is, Not}
 use Rattle.tokens.specs.declared.Choice.{Choice}
 use Rattle.tokens.specs.declared.Choice.the-variants.{Taken, Left}
-use Rattle.tokens.specs.Gap.{fault, gapOn, left}
+use Rattle.tokens.specs.rule.Gap.{fault}
+use Rattle.tokens.specs.Gap.{gapOn, left}
 use Rattle.tokens.specs.Token.{choiceOf, phraseOn, stringOn, pastString, wordOn}
 use Rattle.tokens.proofs.Aheads.{string-next}
-use Rattle.statements.specs.Words.{DATE, TIME, ORIGIN, USER, STANDARD, NAMES}
+use Rattle.statements.specs.rule.Words.{DATE, TIME, ORIGIN, USER, STANDARD, NAMES}
 use Rattle.statements.specs.Note.{notesOn, notesHere}
 use Rattle.heading.specs.declared.Heading.{Heading}
 use Rattle.heading.specs.declared.Entered.{Entered}
 use Rattle.heading.specs.declared.Entry.{Entry}
 use Rattle.heading.specs.declared.Entry.the-variants.{Text, Standard, Other}
-use Rattle.heading.specs.Heading.{or, last, entryOf, again, textAt, withText, onceOf, keptOf, textEntry, named, nameEntry, noHeading, entered, entryStep}
+use Rattle.heading.specs.Heading.{or, last, entryOf, again, textAt, withText, onceOf, keptOf, textEntry, named, nameEntry}
+use Rattle.heading.specs.Heading.{noHeading, entered, entryStep}
 use Rattle.heading.specs.Given.{given, Reached, none, text, names, Onward, on, over}
 
 -- a text that was read has a place behind it

@@ -1,6 +1,7 @@
+-- THE CODE'S BOOKS, which contracts inside the library name; crate `bridge` proves them equal to the rule of crate `reading`.
 -- DATE, TIME, ORIGIN, USER and STANDARD NAMES, in any order, each at most once: a second one is 2 at its word, before its text is read.
 use Prim.Native.Nat.{ℕ, suc}
-use mathlib.Core.Bool.{Bool, true, false, cond}
+use mathlib.Core.Bool.{true, false, cond}
 use mathlib.Core.List.{List}
 use lib.Dec.{eqb}
 use Rattle.tokens.specs.declared.Reading.{Reading}
@@ -8,12 +9,13 @@ use Rattle.tokens.specs.declared.Reading.the-variants.{At, Refused}
 use Rattle.tokens.specs.declared.Choice.{Choice}
 use Rattle.tokens.specs.declared.Choice.the-variants.{Taken, Left}
 use Rattle.tokens.specs.declared.Quoted.{Quoted}
-use Rattle.tokens.specs.Gap.{fault, left}
-use Rattle.scan.specs.Loop.{Next, Again, Done, loopOf}
+use Rattle.tokens.specs.rule.Gap.{fault}
+use Rattle.tokens.specs.Gap.{left}
+use Rattle.scan.specs.rule.Loop.{Next, Again, Done, loopOf}
 use Rattle.tokens.specs.declared.Phrase.{Phrase}
 use Rattle.tokens.specs.declared.Phrase.the-variants.{Is, Not}
 use Rattle.tokens.specs.Token.{choiceOf, wordHere, wordOn, stringOn, pastString}
-use Rattle.statements.specs.Words.{DATE, TIME, ORIGIN, USER, STANDARD, NAMES, SURVEY, TITLE}
+use Rattle.statements.specs.rule.Words.{DATE, TIME, ORIGIN, USER, STANDARD, NAMES, SURVEY, TITLE}
 use Rattle.statements.specs.Opening.{openingOf, recordOn}
 use Rattle.statements.specs.Note.{notesOn}
 use Rattle.heading.specs.declared.Heading.{Heading}

@@ -1,2 +1,2 @@
-pub mod Heading
 pub mod Given
+pub mod Heading

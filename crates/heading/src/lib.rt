@@ -7,7 +7,8 @@ use tokens::Quoted;
 use tokens::Reading;
 ghost use mathlib.Core.Path.{_≡_};
 ghost use Rattle.ascii.specs.Class.{Classes};
-ghost use Rattle.heading.specs.Heading.{entryOf, again, textAt, withText, onceOf, keptOf, textEntry, nameEntry, noHeading, entriesOn, frontOf, frontOn};
+ghost use Rattle.heading.specs.Heading.{entryOf, again, textAt, withText, onceOf, keptOf, textEntry, nameEntry, noHeading};
+ghost use Rattle.heading.specs.Heading.{entriesOn, frontOf, frontOn};
 
 // The texts of the heading, each 0 where it was not given, and whether STANDARD NAMES was.
 pub struct Heading {

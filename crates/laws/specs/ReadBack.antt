@@ -9,32 +9,32 @@ use borrow.Author.Tests.{lt-ltb, le-leb, lt-leb}
 use lib.IntN.{ℤ}
 use lib.ListN.{length, take, drop}
 use lib.Seq.{take-take, take-append-seam}
-use Rattle.places.specs.Places.{pick, run}
+use Rattle.places.specs.rule.Places.{pick, run}
 use Rattle.places.specs.Laws.{pick-run}
-use Rattle.layout.specs.Row.{rowAt}
+use Rattle.layout.specs.rule.Row.{rowAt}
 use Rattle.layout.specs.declared.Row.{Row}
 use Rattle.layout.specs.declared.Kind.{Kind}
 use Rattle.layout.specs.declared.Kind.the-variants.{Single, Multiple, Quantity, Character, Logical}
-use Rattle.fields.specs.Field.{Value, missing, number, members, text, truth, holds, spaces, textBytes, textFits}
-use Rattle.fields.specs.Row.{fits, placesBy, fitsBy, bytesBy}
+use Rattle.fields.specs.rule.Field.{Value, missing, number, members, text, truth, holds, spaces, textBytes, textFits}
+use Rattle.fields.specs.rule.Row.{fits, placesBy, fitsBy, bytesBy}
 use Rattle.fields.specs.Facts.{KindFacts, WidthFacts}
 use Rattle.fieldlaws.specs.BackLaws.{fit-legal}
 use Rattle.fieldlaws.specs.TextLaws.{fitting}
-use Rattle.sound.specs.Rows.{rowsOf, lengthOf, row-facts}
-use Rattle.sets.specs.Sets.{filledOf, listAfter}
-use Rattle.readings.specs.declared.Answer.{Answer}
-use Rattle.records.specs.Value.{nothing, numberIs, setOf, textAt, truthIs, refused, said, outcomeOf, readAs, listAs, ValueRead}
-use Rattle.writes.specs.declared.Wrote.the-variants.{Done}
-use Rattle.writes.specs.Public.{Written}
+use Rattle.sound.specs.rule.Rows.{rowsOf, lengthOf}
+use Rattle.sound.specs.Rows.{row-facts}
+use Rattle.sets.specs.rule.Sets.{filledOf, listAfter}
+use Rattle.records.specs.rule.Value.{Outcome, nothing, numberIs, setOf, textAt, truthIs, refused, outcomeOf}
+use Rattle.records.specs.rule.Value.{readAs, listAs, ValueRead}
+use Rattle.writes.specs.rule.Public.{Written}
 use Rattle.laws.specs.Writing.{done-accepted, keeps-length, read-back, bytes-put}
 
-module _ {t : List ℤ} {i : ℕ} {x : Value} {old new : List ℕ} (w : Written t i x old new Done) {list list′ : List ℤ} {r : Answer}
-    (read : ValueRead t i new list list′ r) where
+module _ {t : List ℤ} {i : ℕ} {x : Value} {old new : List ℕ} (w : Written t i x old new 0) {list list′ : List ℤ} {o : Outcome}
+    (read : ValueRead t i new list list′ o) where
   long : lengthOf t ≤ length new
   long = rw (keeps-length w) (done-accepted w .sound .long)
 
   -- what is read is what was written
-  pub reads-written : said r ≡ outcomeOf (rowAt t i .start - 1) (length list) (holds x)
+  pub reads-written : o ≡ outcomeOf (rowAt t i .start - 1) (length list) (holds x)
   unfolding readAs
   reads-written =
       let s = done-accepted w .sound in
@@ -46,36 +46,36 @@ module _ {t : List ℤ} {i : ℕ} {x : Value} {old new : List ℕ} (w : Written 
       let s = done-accepted w .sound in
       read .leaves ∙ rw (s .formed, lt-ltb i (rowsOf t) (s .row), le-leb (lengthOf t) (length new) long, read-back w)
 
-module _ {t : List ℤ} {i : ℕ} {old new : List ℕ} {list list′ : List ℤ} {r : Answer} where
+module _ {t : List ℤ} {i : ℕ} {old new : List ℕ} {list list′ : List ℤ} {o : Outcome} where
   -- missing reads back as missing, a number and a truth as themselves
-  pub missing-back : Written t i missing old new Done → ValueRead t i new list list′ r → said r ≡ nothing
+  pub missing-back : Written t i missing old new 0 → ValueRead t i new list list′ o → o ≡ nothing
   unfolding outcomeOf
   missing-back w read = reads-written w read
 
-  pub number-back : {z : ℤ} → Written t i (number z) old new Done → ValueRead t i new list list′ r → said r ≡ numberIs z
+  pub number-back : {z : ℤ} → Written t i (number z) old new 0 → ValueRead t i new list list′ o → o ≡ numberIs z
   unfolding outcomeOf
   number-back w read = reads-written w read
 
   -- a set that the list has room for fills its start
-  pub set-back : {ms : List ℤ} → Written t i (members ms) old new Done → ValueRead t i new list list′ r → length ms ≤ length list
-      → (said r ≡ setOf (length ms)) × (list′ ≡ filledOf ms list)
+  pub set-back : {ms : List ℤ} → Written t i (members ms) old new 0 → ValueRead t i new list list′ o → length ms ≤ length list
+      → (o ≡ setOf (length ms)) × (list′ ≡ filledOf ms list)
   unfolding outcomeOf listAfter
   set-back {ms} w read h =
       (reads-written w read ∙ rw (le-leb (length ms) (length list) h), list-written w read ∙ rw (le-leb (length ms) (length list) h))
 
   -- and 25 otherwise, which keeps the list
-  pub set-short : {ms : List ℤ} → Written t i (members ms) old new Done → ValueRead t i new list list′ r → length list < length ms
-      → (said r ≡ refused 25) × (list′ ≡ list)
+  pub set-short : {ms : List ℤ} → Written t i (members ms) old new 0 → ValueRead t i new list list′ o → length list < length ms
+      → (o ≡ refused 25) × (list′ ≡ list)
   unfolding outcomeOf listAfter
   set-short {ms} w read h =
       (reads-written w read ∙ rw (lt-leb (length ms) (length list) h), list-written w read ∙ rw (lt-leb (length ms) (length list) h))
 
-  pub truth-back : {b : Bool} → Written t i (truth b) old new Done → ValueRead t i new list list′ r → said r ≡ truthIs b
+  pub truth-back : {b : Bool} → Written t i (truth b) old new 0 → ValueRead t i new list list′ o → o ≡ truthIs b
   unfolding outcomeOf
   truth-back w read = reads-written w read
 
 -- ---- a text: the bytes where the answer says are the text
-text-kind : (k : Kind) (t : List ℤ) (v : ℕ) (r : Row) (s : List ℕ) → fitsBy k t v r (text s) ≡ fits
+pub text-kind : (k : Kind) (t : List ℤ) (v : ℕ) (r : Row) (s : List ℕ) → fitsBy k t v r (text s) ≡ fits
     → (k ≡ Character) × (textFits (r .width) s ≡ true)
 unfolding fitsBy
 text-kind Character t v r s e = (refl, fit-legal (textFits (r .width) s) e)
@@ -90,17 +90,17 @@ text-bytes : (k : Kind) (t : List ℤ) (v : ℕ) (r : Row) (s new : List ℕ) �
 unfolding placesBy bytesBy
 text-bytes k t v r s new e q = rw e at q
 
-text-room : (k : Kind) (r : Row) → k ≡ Character → KindFacts k r → WidthFacts 4096 r
+pub text-room : (k : Kind) (r : Row) → k ≡ Character → KindFacts k r → WidthFacts 4096 r
 text-room k r e f = rw e at f
 
 -- the first bytes of a text with spaces behind it
-text-first : (w p : ℕ) (s new : List ℕ) → length s ≤ w → take w (drop p new) ≡ textBytes w s → take (length s) (drop p new) ≡ s
+pub text-first : (w p : ℕ) (s new : List ℕ) → length s ≤ w → take w (drop p new) ≡ textBytes w s → take (length s) (drop p new) ≡ s
 unfolding textBytes
 text-first w p s new h e =
     sym (take-take (length s) w (drop p new) h) ∙ ap (take (length s)) e ∙ take-append-seam s (spaces (w - length s))
 
-module _ {t : List ℤ} {i : ℕ} {s : List ℕ} {old new : List ℕ} (w : Written t i (text s) old new Done) where
-  pub text-back : {list list′ : List ℤ} {r : Answer} → ValueRead t i new list list′ r → said r ≡ textAt (rowAt t i .start - 1) (length s)
+module _ {t : List ℤ} {i : ℕ} {s : List ℕ} {old new : List ℕ} (w : Written t i (text s) old new 0) where
+  pub text-back : {list list′ : List ℤ} {o : Outcome} → ValueRead t i new list list′ o → o ≡ textAt (rowAt t i .start - 1) (length s)
   unfolding outcomeOf
   text-back read = reads-written w read
 

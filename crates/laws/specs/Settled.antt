@@ -1,33 +1,39 @@
--- "No two outcomes" for the calls whose promise is one equation: the test of a table, the next record, the judgement of a file. Those of
--- reading and judging a record stand in crate `read_laws` (value-settled, verdict-settled), that of writing in Writing (one-outcome).
+-- "No two outcomes" for the test of a table, the next record and the judgement of a file. Those of reading and judging a record stand in
+-- crate `read_laws` (value-settled, verdict-settled), that of writing in Writing (one-outcome), those of the face in `zarfolin`.
 use mathlib.Core.Path.{_≡_, refl, sym, ap, _∙_}
-use mathlib.Core.Bool.{Bool, cond}
+use mathlib.Core.Bool.{Bool, true, cond}
 use mathlib.Core.List.{List}
 use Prim.Native.Nat.{ℕ}
+use native.Mathlib.Omega.{arith}
 use lib.Dec.{eqb}
 use lib.IntN.{ℤ}
-use Rattle.sound.specs.Sound.{wellFormed}
-use Rattle.cuts.specs.Cut.{nextOf}
+use lib.ListN.{length}
+use Rattle.sound.specs.rule.Sound.{wellFormed, TableTested}
+use Rattle.cuts.specs.rule.Cut.{NextFound}
 use Rattle.cuts.specs.declared.Next.{Next}
-use Rattle.records.specs.Verdict.{Verdict, sound, refused, refusedAt, judgedAs}
+use Rattle.records.specs.rule.Verdict.{Verdict, sound, refused, lowByte, badField, judgedAs}
 use Rattle.records.specs.declared.Judged.{Judged}
 use Rattle.records.specs.declared.Judged.the-variants as judged
+use Rattle.definition.specs.declared.Answer.the-variants as definition
+use Rattle.definition.proofs.Goods.{read-well-formed}
+use Rattle.definition.specs.rule.Definition.{Outcome, Built, Refusal, outcomeOf, answerOf, tableAfter, DefinitionRead}
 use Rattle.files.specs.declared.Judgement.{Judgement}
 use Rattle.files.specs.declared.Judgement.the-variants as J
-use Rattle.files.specs.File.{FileVerdict, soundWith, badTable, faultIn, fileSaid, fileVerdict}
+use Rattle.files.specs.rule.File.{FileVerdict, soundWith, badTable, faultIn, fileSaid, FileJudged}
 
-pub table-settled : (t : List ℤ) (r₁ r₂ : Bool) → r₁ ≡ wellFormed t → r₂ ≡ wellFormed t → r₁ ≡ r₂
-table-settled t r₁ r₂ a b = a ∙ sym b
+pub table-settled : {t : List ℤ} {r₁ r₂ : Bool} → TableTested t r₁ → TableTested t r₂ → r₁ ≡ r₂
+table-settled a b = a .says ∙ sym (b .says)
 
-pub next-settled : (d : List ℕ) (from : ℕ) (r₁ r₂ : Next) → r₁ ≡ nextOf d from → r₂ ≡ nextOf d from → r₁ ≡ r₂
-next-settled d from r₁ r₂ a b = a ∙ sym b
+pub next-settled : {d : List ℕ} {from : ℕ} {r₁ r₂ : Next} → NextFound d from r₁ → NextFound d from r₂ → r₁ ≡ r₂
+next-settled a b = a .says ∙ sym (b .says)
 
 -- the answer that says a verdict on a file
 abbrev unfault : ℕ → Verdict → Judgement
 unfault n sound = J.Fault n judged.Sound
 unfault n (refused k) =
     cond (eqb k 30) (J.Unended n) (cond (eqb k 31) (J.OtherLength n) (J.Fault n (cond (eqb k 20) judged.BadTable judged.ShortRecord)))
-unfault n (refusedAt k p) = J.Fault n (cond (eqb k 23) (judged.LowByte p) (judged.Illegal p))
+unfault n (lowByte p) = J.Fault n (judged.LowByte p)
+unfault n (badField i) = J.Fault n (judged.Illegal i)
 
 abbrev unsaid : FileVerdict → Judgement
 unsaid (soundWith n) = J.Sound n
@@ -51,5 +57,26 @@ said-back (J.OtherLength n) = refl
 said-back (J.Fault n j) = fault-back n j
 
 -- JUDGING A FILE: one answer
-pub file-settled : (t : List ℤ) (d : List ℕ) (r₁ r₂ : Judgement) → fileSaid r₁ ≡ fileVerdict t d → fileSaid r₂ ≡ fileVerdict t d → r₁ ≡ r₂
-file-settled t d r₁ r₂ a b = sym (said-back r₁) ∙ ap unsaid (a ∙ sym b) ∙ said-back r₂
+pub file-one : {t : List ℤ} {d : List ℕ} {v₁ v₂ : FileVerdict} → FileJudged t d v₁ → FileJudged t d v₂ → v₁ ≡ v₂
+file-one a b = a .says ∙ sym (b .says)
+
+pub file-settled : {t : List ℤ} {d : List ℕ} (r₁ r₂ : Judgement) → FileJudged t d (fileSaid r₁) → FileJudged t d (fileSaid r₂) → r₁ ≡ r₂
+file-settled r₁ r₂ a b = sym (said-back r₁) ∙ ap unsaid (file-one a b) ∙ said-back r₂
+
+-- A REFUSED DEFINITION KEEPS THE TABLE
+pub definition-refused-keeps : {d : List ℕ} {t t′ : List ℤ} {n p : ℕ} → DefinitionRead d t t′ (definition.Refused n p) → t′ ≡ t
+unfolding answerOf tableAfter
+definition-refused-keeps {d} {t} {t′} {n} {p} w = go (outcomeOf d (length t)) (w .says) (w .leaves)
+  where
+    go : (o : Outcome) → definition.Refused n p ≡ answerOf o → t′ ≡ tableAfter o t → t′ ≡ t
+    go (Built l) e q = let z : _≡_ {A = ℕ} 0 1 = cc in absurd (omega arith)
+    go (Refusal k at) e q = q
+
+-- WHAT IS READ IS WELL FORMED: the table that the call leaves passes the test of every call on records
+pub definition-well-formed : {d : List ℕ} {t t′ : List ℤ} {v e : ℕ} → DefinitionRead d t t′ (definition.Read v e) → wellFormed t′ ≡ true
+unfolding answerOf
+definition-well-formed {d} {t} {t′} {v} {e} w = go (outcomeOf d (length t)) refl (w .says)
+  where
+    go : (o : Outcome) → outcomeOf d (length t) ≡ o → definition.Read v e ≡ answerOf o → wellFormed t′ ≡ true
+    go (Built l) q f = rw (w .leaves) (read-well-formed d t l q)
+    go (Refusal k at) q f = let z : _≡_ {A = ℕ} 0 1 = cc in absurd (omega arith)

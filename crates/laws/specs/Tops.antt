@@ -9,21 +9,24 @@ use lib.Dec.{leb}
 use lib.IntN.{ℤ, pos, negsuc}
 use lib.Signed.{leZ}
 use Rattle.cells.specs.Order.{le-self}
-use Rattle.below.specs.Below.{maxBelow, any-holds, all-at, and-both, holds-not, and-left}
-use Rattle.cells.specs.Cell.{eqZ, same-self, signedOf}
-use Rattle.widths.specs.Width.{need, sizeOf, lowest, fitsKind}
-use Rattle.layout.specs.Layout.{headerOf}
-use Rattle.layout.specs.Row.{rowAt}
+use Rattle.below.specs.rule.Below.{maxBelow}
+use Rattle.below.specs.Below.{any-holds, all-at, and-both, holds-not, and-left}
+use Rattle.cells.specs.rule.Cell.{eqZ, signedOf}
+use Rattle.cells.specs.Cell.{same-self}
+use Rattle.widths.specs.rule.Width.{need, sizeOf, lowest, fitsKind}
+use Rattle.layout.specs.rule.Layout.{headerOf}
+use Rattle.layout.specs.rule.Row.{rowAt}
 use Rattle.layout.specs.declared.Row.{Row}
 use Rattle.layout.specs.declared.Kind.{Kind}
 use Rattle.layout.specs.declared.Kind.the-variants.{Multiple}
 use Rattle.layout.specs.declared.Spread.the-variants.{Bits}
-use Rattle.fields.specs.Legal.{lineValue, inRange, onLine, legal}
+use Rattle.fields.specs.rule.Legal.{lineValue, inRange, onLine, legal}
 use Rattle.fields.specs.Facts.{RowFacts, KindFacts, WidthFacts}
 use Rattle.fieldlaws.specs.BackLaws.{Topped}
-use Rattle.sound.specs.Sound.{wellFormed, rowsGood, rowGood, goodAt, columnsOf, linesBefore}
-use Rattle.sound.specs.Sound.{valuesGood, widthsGood, rangeGood, rangeWidth, widest, widthGood, valueAt}
-use Rattle.sound.specs.Rows.{rowsOf, parts, row-facts, line-value}
+use Rattle.sound.specs.rule.Sound.{wellFormed, rowsGood, rowGood, goodAt, columnsOf, linesBefore}
+use Rattle.sound.specs.rule.Sound.{valuesGood, widthsGood, rangeGood, rangeWidth, widest, widthGood, valueAt}
+use Rattle.sound.specs.rule.Rows.{rowsOf}
+use Rattle.sound.specs.Rows.{parts, row-facts, line-value}
 
 -- the largest of some numbers is one of them
 data Attained (f : ℕ → ℕ) (n m : ℕ) : Type 0 where

@@ -1,2 +1,2 @@
-pub mod Layout
+pub mod rule
 pub mod Row

@@ -3,8 +3,8 @@
 ghost use mathlib.Core.Path.{_≡_};
 ghost use Prim.Native.Nat.{_+_, _≤_};
 ghost use lib.ListN.{length};
-ghost use Rattle.layout.specs.Layout.{rowSize, lineSize, rowBase, lineBase, mostRows, mostLines, headerOf, columnsAt, lineAt};
-ghost use Rattle.layout.specs.Row.{spreadOf, kindOf, rowOf, rowAt};
+ghost use Rattle.layout.specs.rule.Layout.{rowSize, lineSize, rowBase, lineBase, mostRows, mostLines, headerOf, columnsAt, lineAt};
+ghost use Rattle.layout.specs.rule.Row.{spreadOf, kindOf, rowOf, rowAt};
 
 // How a quantity's numbers stand in the data: how many decimals, and the code of its point: 0 none, 1 a point.
 pub struct Format {

@@ -1,7 +1,7 @@
 // Whether a row allows a number: its range first, then its lines. Above it stand the readings and the writes of fields.
 ghost use mathlib.Core.Path.{_≡_};
 ghost use Prim.Native.Nat.{_+_};
-ghost use Rattle.fields.specs.Legal.{inRange, onLine, legal};
+ghost use Rattle.fields.specs.rule.Legal.{inRange, onLine, legal};
 ghost use Rattle.fields.specs.Facts.{LineFacts};
 use layout::Line;
 use layout::Row;

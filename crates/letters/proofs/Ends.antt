@@ -9,8 +9,8 @@ use borrow.Author.Tests.{ne-eqb}
 use lib.Dec.{eqb}
 use lib.ListN.{length, getD, take}
 use lib.Seq.{take-suc}
-use Rattle.fields.specs.Number.{allSpaces}
-use Rattle.fields.specs.Field.{unended}
+use Rattle.fields.specs.rule.Number.{allSpaces}
+use Rattle.fields.specs.rule.Field.{unended}
 
 spaces-end : (x : List ℕ) → allSpaces (x ++ (32 ∷ [])) ≡ allSpaces x
 unfolding allSpaces

@@ -1,6 +1,6 @@
 -- What the answers of the readers of texts and truths mean: a text's length and a truth, by the field.
 use lib.ListN.{length}
-use Rattle.fields.specs.Field.{missing, number, members, text, truth, Field, holds, illegal}
+use Rattle.fields.specs.rule.Field.{missing, number, members, text, truth, Field, holds, illegal}
 use Rattle.letters.specs.declared.Text.{Text}
 use Rattle.letters.specs.declared.Text.the-variants as t
 use Rattle.letters.specs.declared.Truth.{Truth}

@@ -4,8 +4,8 @@ ghost use mathlib.Core.List.{[], _∷_};
 ghost use Prim.Native.Nat.{_≤_};
 ghost use lib.Dec.{eqb};
 ghost use lib.ListN.{length, take};
-ghost use Rattle.fields.specs.Number.{allSpaces};
-ghost use Rattle.fields.specs.Field.{allPlain, unended, textField, truthField};
+ghost use Rattle.fields.specs.rule.Number.{allSpaces};
+ghost use Rattle.fields.specs.rule.Field.{allPlain, unended, textField, truthField};
 ghost use Rattle.letters.specs.Letters.{textSaid, truthSaid};
 
 // What a text's bytes say: nothing, so many bytes up to the spaces at the end, or that a byte below 32 is among them.

@@ -1,4 +1,4 @@
--- Text laid into a lent buffer behind what it holds so far.
+-- What follows from rule/Appended.antt, and what the code keeps.
 use mathlib.Core.Path.{_≡_, refl, sym, ap, _∙_}
 use mathlib.Core.Bool.{Bool, true, false, cond}
 use mathlib.Core.List.{List, [], _∷_, _++_}
@@ -7,25 +7,17 @@ use native.Mathlib.Nat.{add-zero}
 use native.Mathlib.Omega.{arith}
 use lib.ListN.{length, set, take, drop, length-append, length-drop, length-set}
 use lib.Seq.{take-all, length-take-le}
-use Rattle.places.specs.Places.{put, run}
+use Rattle.places.specs.rule.Places.{put, run}
 use lib.IntN.{ℤ}
-use Rattle.ascii.specs.Tens.{digitsOf, digits-few, digits-least}
-use Rattle.cells.specs.Cell.{signedOf}
+use Rattle.ascii.specs.rule.Tens.{digitsOf}
+use Rattle.ascii.specs.Tens.{digits-few, digits-least}
+use Rattle.cells.specs.rule.Cell.{signedOf}
 use Rattle.cells.specs.declared.Signed.{Signed}
-use Rattle.fields.specs.Number.{padded}
+use Rattle.fields.specs.rule.Number.{padded}
 use Rattle.fieldlaws.specs.NumberLaws.{length-padded}
-use Rattle.lines.specs.Text.{numeral, numberText}
+use Rattle.lines.specs.rule.Text.{numeral, numberText}
 use Rattle.places.specs.Laws.{put-run-append, length-put}
-
--- the buffer with the text s from the place at on
-unfoldable pub laid : List ℕ → ℕ → List ℕ → List ℕ
-laid out at s = put out (run at (length s)) s
-
--- THE PROMISE of every call that appends: the text stands behind what was there, and the answer is where it ends
-pub record Appended (out : List ℕ) (at : ℕ) (s : List ℕ) (out′ : List ℕ) (r : ℕ) : Type 0 where
-  pub leaves : out′ ≡ laid out at s
-  pub ends : r ≡ at + length s
-  pub inside : r ≤ length out′
+use Rattle.lines.specs.rule.Appended.{laid, Appended}
 
 -- ---- laws
 pub laid-length : (out : List ℕ) (at : ℕ) (s : List ℕ) → length (laid out at s) ≡ length out

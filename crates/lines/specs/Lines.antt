@@ -1,4 +1,4 @@
--- What a value must be to be listed in the room that a line has, and the value that an answer says.
+-- What follows from rule/Lines.antt, and what the code keeps.
 use mathlib.Core.Path.{_≡_, ap}
 use mathlib.Core.Bool.{Bool, false, cond}
 use mathlib.Core.List.{List, [], _∷_, _++_}
@@ -8,12 +8,14 @@ use native.Mathlib.Omega.{arith}
 use lib.IntN.{ℤ, pos}
 use lib.ListN.{length, take, drop, length-take, drop-of-length-le}
 use lib.Seq.{drop-cons, getD-take, length-take-le}
-use Rattle.cells.specs.Cell.{cell, signedOf}
-use Rattle.fields.specs.Field.{Value, missing, number, members, text, truth}
-use Rattle.lines.specs.Text.{numberText, codesAfter, codes, valueText}
-use Rattle.lines.specs.Appended.{Appended, Left, less-left, left-as, as-text, code-few}
+use Rattle.cells.specs.rule.Cell.{cell, signedOf}
+use Rattle.fields.specs.rule.Field.{Value, missing, number, members, text, truth}
+use Rattle.lines.specs.rule.Text.{numberText, codesAfter, codes, valueText}
+use Rattle.lines.specs.rule.Appended.{Appended}
+use Rattle.lines.specs.Appended.{Left, less-left, left-as, as-text, code-few}
 use Rattle.readings.specs.declared.Answer.{Answer}
-use Rattle.readings.specs.declared.Answer.the-variants.{Missing, Number, Set, Text, Truth, BadTable, NoRow, ShortRecord, Illegal, ShortList}
+use Rattle.readings.specs.declared.Answer.the-variants.{Missing, Number, Set, Text, Truth, BadTable, NoRow, ShortRecord, Illegal}
+use Rattle.readings.specs.declared.Answer.the-variants.{ShortList}
 
 -- the room that a set may take, the least of which is enough: 9,999 members of four digits with their commas; a value with its letter and
 -- spaces; a line with its two numbers
@@ -25,9 +27,6 @@ setRoom = 50016
 
 abbrev pub valueRoom : ℕ
 valueRoom = 50020
-
-abbrev pub lineRoom : ℕ
-lineRoom = 50064
 
 -- the first n numbers of a list are codes: at most four digits, no minus
 pub record Codes (list : List ℤ) (n : ℕ) : Type 0 where

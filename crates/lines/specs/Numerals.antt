@@ -4,10 +4,11 @@ use mathlib.Core.Bool.{true}
 use Prim.Native.Nat.{ℕ, _^_, _≤_, _<_}
 use native.Mathlib.Omega.{arith}
 use lib.ListN.{length}
-use Rattle.ascii.specs.Tens.{digitsOf, digits-hold, digits-least}
-use Rattle.fields.specs.Number.{decimal, digitsOnly}
+use Rattle.ascii.specs.rule.Tens.{digitsOf}
+use Rattle.ascii.specs.Tens.{digits-hold, digits-least}
+use Rattle.fields.specs.rule.Number.{decimal, digitsOnly}
 use Rattle.fieldlaws.specs.NumberLaws.{padded-digits, decimal-padded}
-use Rattle.lines.specs.Text.{numeral}
+use Rattle.lines.specs.rule.Text.{numeral}
 use Rattle.lines.specs.Appended.{numeral-length}
 
 pub numeral-digits : (n : ℕ) → digitsOnly (numeral n) ≡ true

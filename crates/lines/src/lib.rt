@@ -5,11 +5,13 @@ ghost use mathlib.Core.Bool.{cond};
 ghost use mathlib.Core.List.{[], _∷_};
 ghost use Prim.Native.Nat.{_+_, _^_, _≤_, _<_};
 ghost use lib.ListN.{length, take, drop};
-ghost use Rattle.ascii.specs.Tens.{Tens};
-ghost use Rattle.cells.specs.Cell.{signedOf};
-ghost use Rattle.lines.specs.Text.{numeral, numberText, codesAfter, codes, valueText, lineText, okText, faultText, definitionText};
-ghost use Rattle.lines.specs.Appended.{Appended};
-ghost use Rattle.lines.specs.Lines.{othersRoom, setRoom, valueRoom, lineRoom, Codes, Listable, valueOf};
+ghost use Rattle.ascii.specs.rule.Tens.{Tens};
+ghost use Rattle.cells.specs.rule.Cell.{signedOf};
+ghost use Rattle.lines.specs.rule.Text.{numeral, numberText, codesAfter, codes, valueText, lineText, okText, faultText};
+ghost use Rattle.lines.specs.Text.{definitionText};
+ghost use Rattle.lines.specs.rule.Appended.{Appended};
+ghost use Rattle.lines.specs.Lines.{othersRoom, setRoom, valueRoom, Codes, Listable, valueOf};
+ghost use Rattle.lines.specs.rule.Lines.{lineRoom};
 use readings::Answer;
 
 // The room that a line may take: a set of 9,999 members of four digits, each with its comma, and what stands before them.

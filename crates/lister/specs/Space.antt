@@ -1,7 +1,7 @@
 -- A line fits where the buffer is filled on.
 use mathlib.Core.Path.{_≡_}
 use Prim.Native.Nat.{ℕ, _+_, _≤_}
-use Rattle.lines.specs.Lines.{lineRoom}
+use Rattle.lines.specs.rule.Lines.{lineRoom}
 use Rattle.lister.specs.declared.Space.{Space}
 use Rattle.lister.specs.declared.Space.the-variants.{From, Closed}
 

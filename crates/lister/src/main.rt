@@ -3,10 +3,10 @@
 ghost use mathlib.Core.Path.{_≡_};
 ghost use Prim.Native.Nat.{_≤_};
 ghost use lib.ListN.{length};
-ghost use Rattle.ascii.specs.Tens.{Tens};
-ghost use Rattle.cuts.specs.Cut.{Found};
-ghost use Rattle.files.specs.Tested.{Tested};
-ghost use Rattle.lines.specs.Lines.{lineRoom};
+ghost use Rattle.ascii.specs.rule.Tens.{Tens};
+ghost use Rattle.cuts.specs.rule.Cut.{Found};
+ghost use Rattle.files.specs.rule.Tested.{Tested};
+ghost use Rattle.lines.specs.rule.Lines.{lineRoom};
 ghost use Rattle.lister.specs.Space.{Spacious};
 use cuts::Terminator;
 use definition::Answer;

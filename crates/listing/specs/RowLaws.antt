@@ -9,24 +9,26 @@ use lib.Dec.{leb}
 use lib.IntN.{ℤ}
 use lib.ListN.{length}
 use Rattle.below.specs.Below.{and-both, and-right, all-at}
-use Rattle.layout.specs.Layout.{rowSize, rowBase, headerOf, mostRows}
-use Rattle.layout.specs.Row.{rowOf, rowAt}
+use Rattle.layout.specs.rule.Layout.{rowSize, rowBase, headerOf, mostRows}
+use Rattle.layout.specs.rule.Row.{rowOf, rowAt}
 use Rattle.layout.specs.declared.Header.{Header}
 use Rattle.layout.specs.declared.Row.{Row}
-use Rattle.fields.specs.Row.{readingOf}
-use Rattle.fields.specs.Field.{Value, holds}
-use Rattle.sound.specs.Sound.{rowsGood, rowGood, goodAt, columnsOf, linesBefore, columnsGood, placesGood}
-use Rattle.sound.specs.Rows.{rowsOf, lengthOf, parts, row-facts}
-use Rattle.records.specs.Value.{readingAt}
+use Rattle.fields.specs.rule.Row.{readingOf}
+use Rattle.fields.specs.rule.Field.{Value, holds}
+use Rattle.sound.specs.rule.Sound.{rowsGood, rowGood, goodAt, columnsOf, linesBefore, columnsGood, placesGood}
+use Rattle.sound.specs.rule.Rows.{rowsOf, lengthOf}
+use Rattle.sound.specs.Rows.{parts, row-facts}
+use Rattle.records.specs.rule.Value.{readingAt}
 use Rattle.records.specs.Tables.{table-ready}
 use Rattle.readings.specs.Ready.{RowReady}
 use Rattle.readings.specs.Answer.{RowRead, illegalAnswer}
 use Rattle.readings.specs.declared.Answer.{Answer}
-use Rattle.files.specs.Tested.{Tested, tested-rows, tested-length}
-use Rattle.lines.specs.Text.{fieldText, lineText}
+use Rattle.files.specs.rule.Tested.{Tested}
+use Rattle.files.specs.Tested.{tested-rows, tested-length}
+use Rattle.lines.specs.rule.Text.{fieldText, lineText}
 use Rattle.lines.specs.Lines.{Listable, valueOf}
 use Rattle.listing.specs.Values.{Shown, shown, shown-none, shown-some, Held, held}
-use Rattle.listing.specs.Listing.{rowText, identOf}
+use Rattle.listing.specs.rule.Listing.{rowText, identOf}
 
 module _ {t : List ℤ} {h : Header} (g : Tested t h) {i : ℕ} (low : i < h .rows) where
   low-is : i < rowsOf t

@@ -1,4 +1,4 @@
--- Listing a part at a time: what each call is given and what it answers.
+-- What follows from rule/Turns.antt, and what the code keeps.
 use mathlib.Core.Path.{_≡_, refl, sym, ap, _∙_}
 use mathlib.Core.Bool.{Bool, true, false, cond}
 use mathlib.Core.List.{List, [], _++_, append-assoc, append-nil}
@@ -9,26 +9,19 @@ use borrow.Author.Tests.{leb-true}
 use lib.Dec.{eqb, leb}
 use lib.IntN.{ℤ}
 use lib.ListN.{length}
-use Rattle.ascii.specs.Tens.{Tens}
 use Rattle.below.specs.Below.{holds-not}
-use Rattle.layout.specs.declared.Header.{Header}
-use Rattle.sound.specs.Rows.{rowsOf, lengthOf}
-use Rattle.cuts.specs.Records.{Records, record-and}
-use Rattle.records.specs.Verdict.{Verdict, sound, refused, refusedAt, rowsVerdict}
-use Rattle.files.specs.File.{FileVerdict, soundWith, badTable, faultIn, recordVerdict, goOn, firstLength, isSound}
-use Rattle.files.specs.Tested.{Tested}
-use Rattle.lines.specs.Appended.{Appended, nothing-more}
-use Rattle.listing.specs.Listing.{rowsText, lastText, recordsText, restText, rows-split, record-sound, record-fault, rest-long}
+use Rattle.sound.specs.rule.Rows.{rowsOf, lengthOf}
+use Rattle.cuts.specs.rule.Records.{Records, record-and}
+use Rattle.records.specs.rule.Verdict.{Verdict, sound, refused, lowByte, badField, rowsVerdict}
+use Rattle.files.specs.rule.File.{FileVerdict, soundWith, badTable, faultIn, recordVerdict, goOn, firstLength, isSound}
+use Rattle.lines.specs.rule.Appended.{Appended}
+use Rattle.lines.specs.Appended.{nothing-more}
+use Rattle.listing.specs.rule.Listing.{rowsText, lastText, recordsText, restText}
+use Rattle.listing.specs.Listing.{rows-split, record-sound, record-fault, rest-long}
 use Rattle.listing.specs.Listing.{rest-short}
 use Rattle.listing.specs.declared.Listed.{Listed}
 use Rattle.listing.specs.declared.Took.{Took}
 use Rattle.listing.specs.declared.Took.the-variants as took
-
--- the powers of ten, a table that was tested, and a list with room for every set
-pub record Ready (powers : List ℕ) (t : List ℤ) (h : Header) (size : ℕ) : Type 0 where
-  pub tens : Tens powers
-  pub tested : Tested t h
-  pub list : size ≡ 9999
 
 -- the count of records that a verdict names
 unfoldable pub countIn : FileVerdict → ℕ
@@ -183,4 +176,5 @@ pub count-on : (v : Verdict) (n : ℕ) → countIn (goOn v n (soundWith (n + 1))
 unfolding countIn goOn
 count-on sound n = refl
 count-on (refused k) n = refl
-count-on (refusedAt k p) n = refl
+count-on (lowByte p) n = refl
+count-on (badField i) n = refl

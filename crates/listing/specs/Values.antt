@@ -10,25 +10,26 @@ use lib.IntN.{ℤ, pos}
 use lib.ListN.{length, take, drop, getD, length-append, List·getD-append}
 use lib.Seq.{take-take, take-append-seam}
 use Rattle.below.specs.Below.{holds-not}
-use Rattle.cells.specs.Cell.{signedOf}
+use Rattle.cells.specs.rule.Cell.{signedOf}
 use Rattle.layout.specs.declared.Kind.{Kind}
 use Rattle.layout.specs.declared.Kind.the-variants.{Single, Multiple, Quantity, Character, Logical}
 use Rattle.layout.specs.declared.Spread.the-variants.{Bits, Fields}
 use Rattle.layout.specs.declared.Row.{Row}
-use Rattle.widths.specs.Width.{size-small, lowest, highest}
-use Rattle.places.specs.Places.{pick, run}
+use Rattle.widths.specs.Width.{size-small}
+use Rattle.widths.specs.rule.Width.{lowest, highest}
+use Rattle.places.specs.rule.Places.{pick, run}
 use Rattle.places.specs.Laws.{pick-run}
-use Rattle.fields.specs.Legal.{legal}
-use Rattle.fields.specs.Number.{allSpaces}
-use Rattle.fields.specs.Field.{Value, missing, number, members, text, truth, Field, holds, illegal, setFits, textFits, unended}
-use Rattle.fields.specs.Field.{allPlain, textField}
-use Rattle.fields.specs.Row.{fitsBy, fits, otherType, readingOf, fieldBy, placesBy}
+use Rattle.fields.specs.rule.Legal.{legal}
+use Rattle.fields.specs.rule.Number.{allSpaces}
+use Rattle.fields.specs.rule.Field.{Value, missing, number, members, text, truth, Field, holds, illegal, setFits, textFits, unended}
+use Rattle.fields.specs.rule.Field.{allPlain, textField}
+use Rattle.fields.specs.rule.Row.{fitsBy, fits, otherType, readingOf, fieldBy, placesBy}
 use Rattle.fields.specs.Facts.{RowFacts, KindFacts, WidthFacts}
 use Rattle.fieldlaws.specs.BackLaws.{fit-legal, fit-set}
 use Rattle.fieldlaws.specs.RisingLaws.{Rising, none, skip, keep, rising-of}
 use Rattle.fieldlaws.specs.TextLaws.{Fitting, fitting}
 use Rattle.fieldlaws.specs.Corrections.{read-fits}
-use Rattle.sets.specs.Sets.{listAfter, filledOf}
+use Rattle.sets.specs.rule.Sets.{listAfter, filledOf}
 use Rattle.readings.specs.Answer.{answerOf, RowRead, illegalAnswer}
 use Rattle.readings.specs.declared.Answer.{Answer}
 use Rattle.readings.specs.declared.Answer.the-variants as answer

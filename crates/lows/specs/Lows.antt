@@ -1,4 +1,4 @@
--- Bytes below 32, and stretches without one.
+-- Stretches without a byte below 32: what follows from rule/Lows.antt, and what the code keeps.
 use mathlib.Core.Path.{_≡_, refl, sym, ap, _∙_}
 use mathlib.Core.Bool.{Bool, true, false, _||_}
 use mathlib.Core.List.{List}
@@ -7,11 +7,9 @@ use Prim.Native.Nat.{ℕ, _+_, _-_, _≤_, _<_}
 use native.Mathlib.Omega.{arith}
 use lib.Dec.{ltb}
 use lib.ListN.{length, getD}
-use Rattle.below.specs.Below.{anyBelow, any-none, any-next, any-holds, lt-or-le}
-
--- byte i is below 32
-abbrev pub lowAt : List ℕ → ℕ → Bool
-lowAt s i = ltb (getD s i 0) 32
+use Rattle.below.specs.rule.Below.{anyBelow}
+use Rattle.below.specs.Below.{any-none, any-next, any-holds, lt-or-le}
+use Rattle.lows.specs.rule.Lows.{lowAt}
 
 -- one of the n bytes from i on is
 unfoldable pub lowAmong : List ℕ → ℕ → ℕ → Bool

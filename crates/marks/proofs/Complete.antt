@@ -6,16 +6,16 @@ use Prim.Native.Nat.{ℕ, _+_}
 use native.Mathlib.Omega.{arith}
 use lib.Dec.{eqb}
 use borrow.Author.Tests.{ne-eqb}
-use Rattle.ascii.specs.Class.{classOf}
-use Rattle.scan.specs.Text.{Text, stop, sign}
-use Rattle.ascii.specs.Class.{upperOf}
-use Rattle.scan.specs.Number.{isDigit}
+use Rattle.ascii.specs.rule.Class.{classOf, upperOf}
+use Rattle.scan.specs.rule.Text.{Text, stop, sign}
+use Rattle.scan.specs.rule.Number.{isDigit}
 use Rattle.marks.specs.declared.Inside.{Inside}
 use Rattle.marks.specs.declared.Inside.the-variants.{Plain, Opened, Shut, Ell, Pair, Low}
 use Rattle.marks.specs.declared.Move.the-variants.{Go}
 use Rattle.marks.specs.declared.Skip.the-variants.{Past}
-use Rattle.marks.specs.Marks.{isHex, insideOf, stringOf}
-use Rattle.marks.specs.Spelling.{Pairs, last, more, Piece, plain, quote, brace, line, bytes, Spelt, closed, piece, givesOf, decodeOf}
+use Rattle.marks.specs.rule.Marks.{isHex, insideOf, stringOf}
+use Rattle.marks.specs.Spelling.{Pairs, last, more, Piece, plain, quote, brace, line, bytes, Spelt, closed, piece}
+use Rattle.marks.specs.rule.Spelling.{givesOf, decodeOf}
 
 -- a hex digit is no byte that is none
 hex-not : (a k : ℕ) → isHex k ≡ false → isHex a ≡ true → eqb a k ≡ false

@@ -4,18 +4,17 @@ use mathlib.Core.Path.{_≡_, refl, _∙_, sym}
 use mathlib.Core.List.{List}
 use Prim.Native.Nat.{ℕ, _+_, _≤_}
 use native.Mathlib.Omega.{arith}
-use Rattle.ascii.specs.Class.{classOf}
-use Rattle.scan.specs.Text.{Text, stop, sign, text}
+use Rattle.ascii.specs.rule.Class.{classOf, upperOf}
+use Rattle.scan.specs.rule.Text.{Text, stop, sign, text}
 use Rattle.scan.proofs.Texts.{From, at-stop, at-sign, from-text}
-use Rattle.ascii.specs.Class.{upperOf}
-use Rattle.scan.specs.Number.{isDigit}
+use Rattle.scan.specs.rule.Number.{isDigit}
 use Rattle.marks.specs.declared.Inside.{Inside}
 use Rattle.marks.specs.declared.Inside.the-variants.{Plain, Opened, Shut, Ell, Pair, Low}
 use Rattle.marks.specs.declared.Move.{Move}
 use Rattle.marks.specs.declared.Move.the-variants.{Go, Closed, Wrong}
 use Rattle.marks.specs.declared.Skip.{Skip}
 use Rattle.marks.specs.declared.Skip.the-variants.{Past, Unclosed, Bad}
-use Rattle.marks.specs.Marks.{isHex, insideOf, moved, stringOf}
+use Rattle.marks.specs.rule.Marks.{isHex, insideOf, moved, stringOf}
 use Rattle.marks.specs.Spelling.{Pairs, last, more, Piece, plain, quote, brace, line, bytes, Spelt, Braced, here, after-piece, Broken, breaks, breaks-after, joined}
 use Rattle.marks.proofs.Complete.{string-complete, skip-piece}
 use Rattle.marks.proofs.Sound.{String, says, string-sound, bad-place}

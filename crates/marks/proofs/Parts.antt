@@ -7,9 +7,9 @@ use native.Mathlib.Omega.{arith}
 use lib.Dec.{ltb, leb, eqb}
 use lib.ListN.{length}
 use borrow.Author.Tests.{ltb-false, leb-true}
-use Rattle.ascii.specs.Class.{upperOf}
-use Rattle.scan.specs.Number.{isDigit}
-use Rattle.scan.specs.Text.{Text, stop, sign, text}
+use Rattle.ascii.specs.rule.Class.{upperOf}
+use Rattle.scan.specs.rule.Number.{isDigit}
+use Rattle.scan.specs.rule.Text.{Text, stop, sign, text}
 use Rattle.scan.proofs.Texts.{From, at-stop, at-sign, from-text}
 use Rattle.marks.specs.declared.Inside.{Inside}
 use Rattle.marks.specs.declared.Inside.the-variants.{Plain, Opened, Shut, Ell, Pair, Low}
@@ -19,8 +19,9 @@ use Rattle.marks.specs.declared.Part.{Part}
 use Rattle.marks.specs.declared.Part.the-variants.{Said, Over}
 use Rattle.marks.specs.declared.Given.{Given}
 use Rattle.marks.specs.declared.Given.the-variants.{One, Nothing}
-use Rattle.marks.specs.Marks.{isHex, insideOf}
-use Rattle.marks.specs.Spelling.{pairOf, givesOf, givenList, gone, decodeOf, ready, idle, said, parted, partFrom}
+use Rattle.marks.specs.rule.Marks.{isHex, insideOf}
+use Rattle.marks.specs.rule.Spelling.{pairOf, givesOf, gone, decodeOf}
+use Rattle.marks.specs.Spelling.{givenList, ready, idle, said, parted, partFrom}
 
 no : {A : Type 0} {s : Inside} → Closed ≡ Go s → A
 no e = let z : _≡_ {A = ℕ} 0 1 = cc in absurd (omega arith)

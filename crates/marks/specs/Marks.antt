@@ -1,61 +1,13 @@
--- Strings and comments.
-use Prim.Native.Nat.{ℕ, _+_, _-_}
-use mathlib.Core.Bool.{Bool, true, false, cond, _||_}
-use lib.Dec.{ltb, leb, eqb}
-use Rattle.ascii.specs.Class.{classOf, within}
-use Rattle.scan.specs.Text.{Text, stop, sign, text}
-use Rattle.ascii.specs.Class.{upperOf}
-use Rattle.scan.specs.Number.{isDigit}
-use Rattle.marks.specs.declared.Inside.{Inside}
-use Rattle.marks.specs.declared.Inside.the-variants.{Plain, Opened, Shut, Ell, Pair, Low}
-use Rattle.marks.specs.declared.Move.{Move}
-use Rattle.marks.specs.declared.Move.the-variants.{Go, Closed, Wrong}
+-- What follows from rule/Marks.antt, and what the code keeps.
+use Prim.Native.Nat.{ℕ, _+_}
+use mathlib.Core.Bool.{cond, _||_}
+use lib.Dec.{ltb, eqb}
+use Rattle.ascii.specs.rule.Class.{classOf, within}
+use Rattle.scan.specs.rule.Text.{Text, text}
+use Rattle.marks.specs.declared.Inside.the-variants.{Plain}
 use Rattle.marks.specs.declared.Skip.{Skip}
 use Rattle.marks.specs.declared.Skip.the-variants.{Past, Unclosed, Bad}
-
-unfoldable pub isHex : ℕ → Bool
-isHex b = cond (isDigit b) true (cond (ltb (upperOf b) 65) false (leb (upperOf b) 70))
-
--- a string's next byte b, at place p: {"} {{} {NL} { hex pairs }, else the form that opened at o is bad
-unfoldable pub insideOf : Inside → ℕ → ℕ → Move
-insideOf Plain b p = cond (eqb b 34) Closed (cond (eqb b 123) (Go (Opened p)) (Go Plain))
-insideOf (Opened o) b p =
-    cond (eqb b 34) (Go (Shut o))
-    (cond (eqb b 123) (Go (Shut o)) (cond (eqb b 78) (Go (Ell o)) (cond (isHex b) (Go (Low o)) (Wrong o))))
-insideOf (Shut o) b p = cond (eqb b 125) (Go Plain) (Wrong o)
-insideOf (Ell o) b p = cond (eqb b 76) (Go (Shut o)) (Wrong o)
-insideOf (Pair o) b p = cond (eqb b 125) (Go Plain) (cond (isHex b) (Go (Low o)) (Wrong o))
-insideOf (Low o) b p = cond (isHex b) (Go (Pair o)) (Wrong o)
-
--- what a move leads to: on with k, closed with z, or bad
-abbrev pub moved : Move → (Inside → Skip) → Skip → Skip
-moved (Go s) k z = k s
-moved Closed k z = z
-moved (Wrong o) k z = Bad o
-
--- a string, from just after its opening quote
-unfoldable pub stringOf : Inside → Text → Skip
-stringOf s (stop p) = Unclosed
-stringOf s (sign p b t) = moved (insideOf s b p) (λ s. stringOf s t) (Past (p + 1))
-
--- where a comment's reader stands: between items, or in a string
-pub data Mode : Type 0 where
-  between : Mode
-  within-string : Inside → Mode
-
--- a comment that is over when level `base` closes, read at level l
-unfoldable pub levelsOf : ℕ → ℕ → Mode → Text → Skip
-levelsOf base l m (stop p) = Unclosed
-levelsOf base l between (sign p b t) =
-    cond (eqb b 62) (cond (eqb l base) (Past (p + 1)) (levelsOf base (l - 1) between t))
-    (cond (eqb b 34) (levelsOf base l (within-string Plain) t)
-    (cond (eqb b 60) (cond (ltb l 32) (levelsOf base (l + 1) between t) (Bad p))
-    (levelsOf base l between t)))
-levelsOf base l (within-string s) (sign p b t) =
-    moved (insideOf s b p) (λ s. levelsOf base l (within-string s) t) (levelsOf base l between t)
-
-unfoldable pub commentOf : ℕ → Text → Skip
-commentOf l t = levelsOf l l between t
+use Rattle.marks.specs.rule.Marks.{stringOf, commentOf}
 
 -- one item of a comment of level l, a string, a comment or a byte, that starts with the byte b at p, and t after it
 unfoldable pub itemOf : ℕ → ℕ → ℕ → Text → Skip

@@ -1,13 +1,10 @@
--- Strings and comments as the paper has them, and the bytes that a string says. 34 is a quote, 123 and 125 are { and }, 78 and 76 are
--- N and L, 60 and 62 are < and >.
+-- What follows from rule/Spelling.antt, and what the code keeps.
 use mathlib.Core.Path.{_≡_}
-use mathlib.Core.Bool.{Bool, true, false, cond, _&&_}
+use mathlib.Core.Bool.{Bool, true, false, _&&_}
 use mathlib.Core.List.{List, [], _∷_, _++_}
-use Prim.Native.Nat.{ℕ, _+_, _*_, _-_, _<_}
-use Rattle.scan.specs.Text.{Text, stop, sign, text}
-use Rattle.ascii.specs.Class.{upperOf}
-use Rattle.scan.specs.Number.{isDigit}
-use Rattle.marks.specs.Marks.{isHex, insideOf}
+use Prim.Native.Nat.{ℕ, _+_, _<_}
+use Rattle.scan.specs.rule.Text.{Text, stop, sign, text}
+use Rattle.marks.specs.rule.Marks.{isHex, insideOf}
 use Rattle.marks.specs.declared.Inside.{Inside}
 use Rattle.marks.specs.declared.Inside.the-variants.{Plain, Opened, Shut, Ell, Pair, Low}
 use Rattle.marks.specs.declared.Move.{Move}
@@ -16,14 +13,7 @@ use Rattle.marks.specs.declared.Given.{Given}
 use Rattle.marks.specs.declared.Given.the-variants.{One, Nothing}
 use Rattle.marks.specs.declared.Part.{Part}
 use Rattle.marks.specs.declared.Part.the-variants.{Said, Over}
-use lib.Dec.{eqb}
-
--- the value of a hex digit, and of a pair
-abbrev pub hexOf : ℕ → ℕ
-hexOf b = cond (isDigit b) (b - 48) (upperOf b - 55)
-
-abbrev pub pairOf : ℕ → ℕ → ℕ
-pairOf a b = hexOf a * 16 + hexOf b
+use Rattle.marks.specs.rule.Spelling.{pairOf, givesOf}
 
 -- a text is hex pairs, one or more, and a closing brace, which say the bytes m, and then u
 pub data Pairs : Text → List ℕ → Text → Type 0 where
@@ -53,25 +43,6 @@ pub data Braced (o : ℕ) : Text → Type 0 where
 pub data Broken (o : ℕ) : Text → Type 0 where
   breaks : {u : Text} → ((m : List ℕ) (w : Text) → Piece (sign o 123 u) m w → ⊥) → Broken o (sign o 123 u)
   breaks-after : {t u : Text} {m : List ℕ} → Piece t m u → Broken o u → Broken o t
-
--- the byte that a string's byte b ends, where b follows a: none or one
-unfoldable pub givesOf : Inside → ℕ → ℕ → List ℕ
-givesOf Plain a b = cond (eqb b 123) [] (b ∷ [])
-givesOf (Opened o) a b = cond (eqb b 34) (b ∷ []) (cond (eqb b 123) (b ∷ []) [])
-givesOf (Shut o) a b = []
-givesOf (Ell o) a b = 10 ∷ []
-givesOf (Pair o) a b = []
-givesOf (Low o) a b = pairOf a b ∷ []
-
-abbrev pub gone : Move → List ℕ → (Inside → List ℕ) → List ℕ
-gone (Go s) m k = m ++ k s
-gone Closed m k = []
-gone (Wrong o) m k = []
-
--- the bytes that a string says, read on from s, where a was the byte before
-unfoldable pub decodeOf : Inside → ℕ → Text → List ℕ
-decodeOf s a (stop p) = []
-decodeOf s a (sign p b t) = gone (insideOf s b p) (givesOf s a b) (λ s. decodeOf s b t)
 
 abbrev pub givenList : Given → List ℕ
 givenList (One b) = b ∷ []

@@ -5,10 +5,12 @@ ghost use mathlib.Core.Path.{_≡_};
 ghost use Rattle.ascii.specs.Class.{Classes};
 ghost use Prim.Native.Nat.{_+_, _<_, _≤_};
 ghost use lib.ListN.{length};
-ghost use Rattle.scan.specs.Text.{text};
+ghost use Rattle.scan.specs.rule.Text.{text};
 ghost use mathlib.Core.Bool.{true};
-ghost use Rattle.marks.specs.Marks.{isHex, insideOf, stringOf, itemOf, commentOf};
-ghost use Rattle.marks.specs.Spelling.{hexOf, givesOf, givenList, ready, idle, partFrom};
+ghost use Rattle.marks.specs.rule.Marks.{isHex, insideOf, stringOf, commentOf};
+ghost use Rattle.marks.specs.Marks.{itemOf};
+ghost use Rattle.marks.specs.rule.Spelling.{hexOf, givesOf};
+ghost use Rattle.marks.specs.Spelling.{givenList, ready, idle, partFrom};
 
 // Where a string's reader stands: in plain text, or in a brace form that opened at a place: just opened, before its closing
 // brace, after an N, before a pair's first digit or its end, before a pair's second digit.

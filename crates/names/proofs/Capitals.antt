@@ -7,10 +7,10 @@ use native.Mathlib.Omega.{arith}
 use lib.Dec.{ltb, leb, eqb}
 use borrow.Author.Tests.{lt-ltb, le-ltb, le-leb, lt-leb, ltb-true, ltb-false, leb-true, leb-false, ne-eqb}
 use Rattle.below.specs.Below.{same-bool, holds-not, and-left, and-right, either-true, or-true, lt-or-le}
-use Rattle.ascii.specs.Class.{classOf, upperOf, within}
-use Rattle.scan.specs.Number.{isDigit}
+use Rattle.ascii.specs.rule.Class.{classOf, upperOf, within}
+use Rattle.scan.specs.rule.Number.{isDigit}
 use Rattle.scan.proofs.Orders.{digit-bounds}
-use Rattle.names.specs.Standard.{isLetter}
+use Rattle.names.specs.rule.Standard.{isLetter}
 
 within-of : (x y b : ℕ) → x ≤ b → b ≤ y → within x y b ≡ true
 within-of x y b h g = rw (le-leb x b h, le-leb b y g)

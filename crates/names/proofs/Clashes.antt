@@ -10,7 +10,8 @@ use lib.Dec.{eqb}
 use lib.ListN.{getD, set, length}
 use lib.Seq.{getD-set-same, getD-set-other}
 use borrow.Author.Tests.{eq-eqb, ne-eqb, eqb-true, eqb-false}
-use Rattle.below.specs.Below.{anyBelow, any-none, any-next, any-holds, any-fails}
+use Rattle.below.specs.rule.Below.{anyBelow}
+use Rattle.below.specs.Below.{any-none, any-next, any-holds, any-fails}
 use Rattle.names.specs.Clash.{wrongAt, faultFrom}
 
 module _ (keys : List ℕ) (count j : ℕ) where

@@ -8,7 +8,7 @@ use native.Mathlib.Numerals.{add-one}
 use native.Mathlib.Omega.{arith}
 use lib.Dec.{ltb}
 use borrow.Author.Tests.{lt-ltb, le-ltb}
-use Rattle.ascii.specs.Class.{upperOf}
+use Rattle.ascii.specs.rule.Class.{upperOf}
 use Rattle.names.specs.Name.{fits, keyOf}
 
 module _ (c k : ℕ) {l : List ℕ} where

@@ -10,12 +10,14 @@ use native.Mathlib.Omega.{arith}
 use lib.Dec.{ltb, leb, eqb}
 use lib.ListN.{length, getD}
 use borrow.Author.Tests.{lt-ltb, le-ltb, le-leb, lt-leb, ltb-true, ltb-false, leb-true, leb-false, eqb-true, eq-eqb, ne-eqb}
-use Rattle.below.specs.Below.{anyBelow, same-bool, decided, holds-not, and-left, and-right, and-true, lt-or-le}
-use Rattle.ascii.specs.Class.{classOf, upperOf}
-use Rattle.scan.specs.Number.{isDigit}
+use Rattle.below.specs.rule.Below.{anyBelow}
+use Rattle.below.specs.Below.{same-bool, decided, holds-not, and-left, and-right, and-true, lt-or-le}
+use Rattle.ascii.specs.rule.Class.{classOf, upperOf}
+use Rattle.scan.specs.rule.Number.{isDigit}
 use Rattle.names.specs.Name.{fits, keyOf}
 use Rattle.names.specs.Clash.{wrongAt, faultFrom, faultOf}
-use Rattle.names.specs.Standard.{isLetter, lettersOrDigits, beginsWithLetter, wellNamed, agree, nameAt, nameWrong, nameFaultFrom, nameFault}
+use Rattle.names.specs.rule.Standard.{isLetter, lettersOrDigits, beginsWithLetter, wellNamed, agree, nameAt, nameWrong}
+use Rattle.names.specs.rule.Standard.{nameFaultFrom, nameFault}
 use Rattle.names.proofs.Capitals.{letter-upper, digit-upper, upper-bounds}
 
 -- the bytes in capitals as digits to the base 256, behind what said k

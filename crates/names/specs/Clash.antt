@@ -6,7 +6,7 @@ use mathlib.Core.Bool.{Bool, true, false, cond, _||_}
 use mathlib.Core.List.{List}
 use lib.Dec.{eqb}
 use lib.ListN.{getD}
-use Rattle.below.specs.Below.{anyBelow}
+use Rattle.below.specs.rule.Below.{anyBelow}
 
 unfoldable pub wrongAt : List ℕ → ℕ → Bool
 wrongAt keys j = eqb (getD keys j 0) 0 || anyBelow j (λ i. eqb (getD keys i 0) (getD keys j 0))

@@ -1,3 +1,4 @@
+pub mod rule
 pub mod Name
 pub mod Clash
 pub mod Standard

@@ -4,7 +4,7 @@ use Prim.Native.Nat.{ℕ, _+_, _*_}
 use mathlib.Core.Bool.{Bool, cond, _&&_, _||_}
 use mathlib.Core.List.{List, [], _∷_}
 use lib.Dec.{eqb, ltb}
-use Rattle.ascii.specs.Class.{classOf, upperOf}
+use Rattle.ascii.specs.rule.Class.{classOf, upperOf}
 
 -- a byte b behind c others: a letter (class 3), or not first a digit (class 2)
 unfoldable pub fits : ℕ → ℕ → Bool

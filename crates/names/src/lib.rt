@@ -8,8 +8,8 @@ ghost use mathlib.Core.Bool.{cond};
 ghost use Prim.Native.Nat.{_≤_};
 ghost use lib.Dec.{eqb};
 ghost use Rattle.ascii.specs.Class.{Classes};
-ghost use Rattle.scan.specs.Text.{text};
-ghost use Rattle.marks.specs.Spelling.{decodeOf};
+ghost use Rattle.scan.specs.rule.Text.{text};
+ghost use Rattle.marks.specs.rule.Spelling.{decodeOf};
 ghost use Rattle.names.specs.Name.{fits, keyOf};
 ghost use Rattle.names.specs.Clash.{faultOf};
 

@@ -12,10 +12,12 @@ use lib.IntN.{pos}
 use lib.ListN.{length, take, drop, getD, length-drop, drop-of-length-le}
 use lib.Pow.{pow-add}
 use lib.Seq.{length-take-le, take-all, take-length, drop-length, drop-cons}
-use Rattle.cells.specs.Cell.{numberOf}
+use Rattle.cells.specs.rule.Cell.{numberOf}
 use Rattle.layout.specs.declared.Format.{Format}
-use Rattle.widths.specs.Width.{tailOf, tail-point}
-use Rattle.fields.specs.Number.{blank, says, wrong, digitsOnly, decimalFrom, decimal, unspaced, codeAfter, codeOf, amountForm, amountSize, amountOf, quantityAfter, quantityOf}
+use Rattle.widths.specs.rule.Width.{tailOf}
+use Rattle.widths.specs.Width.{tail-point}
+use Rattle.fields.specs.rule.Number.{blank, says, wrong, digitsOnly, decimalFrom, decimal, unspaced, codeAfter, codeOf, amountForm}
+use Rattle.fields.specs.rule.Number.{amountSize, amountOf, quantityAfter, quantityOf}
 use Rattle.numbers.specs.Numeral.{digitsRead, decimalsRead}
 use Rattle.numbers.specs.Room.{decimal-room}
 use Rattle.numbers.specs.declared.Digits.the-variants as digits

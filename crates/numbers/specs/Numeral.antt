@@ -3,9 +3,9 @@ use mathlib.Core.Path.{_≡_}
 use mathlib.Core.Bool.{Bool, cond}
 use mathlib.Core.List.{List}
 use Prim.Native.Nat.{ℕ, _≤_}
-use Rattle.cells.specs.Cell.{numberOf}
+use Rattle.cells.specs.rule.Cell.{numberOf}
 use Rattle.layout.specs.declared.Format.{Format}
-use Rattle.fields.specs.Number.{Said, blank, says, wrong, digitsOnly, decimalFrom}
+use Rattle.fields.specs.rule.Number.{Said, blank, says, wrong, digitsOnly, decimalFrom}
 use Rattle.numbers.specs.declared.Numeral.{Numeral}
 use Rattle.numbers.specs.declared.Numeral.the-variants.{Blank, Says, Wrong}
 use Rattle.numbers.specs.declared.Digits.{Digits}
@@ -23,8 +23,3 @@ digitsRead n s = cond (digitsOnly s) (digits.Value (decimalFrom n s)) digits.Wro
 -- the number that the whole part and the decimals say
 unfoldable pub decimalsRead : Bool → ℕ → List ℕ → Said
 decimalsRead minus whole s = cond (digitsOnly s) (says (numberOf minus (decimalFrom whole s))) wrong
-
--- a quantity's format: at most 9 decimals, and none without a point
-pub record FormatFacts (f : Format) : Type 0 where
-  pub few : f .decimals ≤ 9
-  pub plain : f .point ≡ 0 → f .decimals ≡ 0

@@ -8,9 +8,10 @@ use native.Mathlib.Omega.{arith}
 use borrow.Author.Tests.{leb-true}
 use lib.Dec.{leb}
 use lib.ListN.{length}
-use Rattle.below.specs.Below.{_and_, and-both}
-use Rattle.ascii.specs.Class.{within}
-use Rattle.fields.specs.Number.{digitsOnly, decimalFrom}
+use Rattle.below.specs.rule.Below.{_and_}
+use Rattle.below.specs.Below.{and-both}
+use Rattle.ascii.specs.rule.Class.{within}
+use Rattle.fields.specs.rule.Number.{digitsOnly, decimalFrom}
 
 -- a digit more, a power less
 pub step-room : (v d k m : ℕ) → d ≤ 9 → (v + 1) * 10 ^ suc k ≤ m → (v * 10 + d + 1) * 10 ^ k ≤ m

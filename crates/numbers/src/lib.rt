@@ -3,9 +3,10 @@
 ghost use mathlib.Core.Path.{_≡_};
 ghost use Prim.Native.Nat.{_+_, _*_, _^_, _≤_, _<_};
 ghost use lib.ListN.{length, drop};
-ghost use Rattle.fields.specs.Number.{codeOf, quantityOf, amountOf, unspaced};
-ghost use Rattle.cells.specs.Cell.{numberOf};
-ghost use Rattle.numbers.specs.Numeral.{saidOf, digitsRead, decimalsRead, FormatFacts};
+ghost use Rattle.fields.specs.rule.Number.{codeOf, quantityOf, amountOf, unspaced};
+ghost use Rattle.cells.specs.rule.Cell.{numberOf};
+ghost use Rattle.numbers.specs.Numeral.{saidOf, digitsRead, decimalsRead};
+ghost use Rattle.numbers.specs.rule.Format.{FormatFacts};
 use layout::Format;
 
 // What bytes say: nothing, where all are spaces; a number; or that they have no number's form.

@@ -7,7 +7,8 @@ use Prim.Native.Nat.{ℕ, zero, suc, _+_, _-_, _≤_, _<_}
 use native.Mathlib.Omega.{arith}
 use lib.Dec.{eqb}
 use lib.ListN.{length, getD}
-use Rattle.below.specs.Below.{anyBelow, any-none, any-next, any-holds, lt-or-le}
+use Rattle.below.specs.rule.Below.{anyBelow}
+use Rattle.below.specs.Below.{any-none, any-next, any-holds, lt-or-le}
 
 -- a byte is one of three
 abbrev pub isMark : ℕ → ℕ → ℕ → ℕ → Bool

@@ -5,12 +5,12 @@ use Prim.Native.Nat.{ℕ, _-_, _≤_}
 use borrow.Author.Tests.{le-leb}
 use lib.IntN.{ℤ}
 use lib.ListN.{length, getD}
-use Rattle.layout.specs.Row.{rowAt}
+use Rattle.layout.specs.rule.Row.{rowAt}
 use Rattle.layout.specs.declared.Row.{Row}
-use Rattle.places.specs.Places.{pick}
-use Rattle.fields.specs.Row.{placesOf, fieldOf, readingOf}
-use Rattle.sound.specs.Rows.{rowsOf, lengthOf}
-use Rattle.records.specs.Value.{readingAt, readAs, listAs}
+use Rattle.places.specs.rule.Places.{pick}
+use Rattle.fields.specs.rule.Row.{placesOf, fieldOf, readingOf}
+use Rattle.sound.specs.rule.Rows.{rowsOf, lengthOf}
+use Rattle.records.specs.rule.Value.{readingAt, readAs, listAs}
 
 -- two records hold the same byte at each of the places
 abbrev pub Agree : List ℕ → List ℕ → List ℕ → Type 0

@@ -1,6 +1,4 @@
--- A number's bytes in the paper's own words. SINGLE: "spaces, then digits". QUANTITY: "spaces, `-` or none, digits, at least one before
--- the point; point and decimals as in the block; minus zero is zero". Proved both ways: the bytes say a number exactly when they have
--- this form and the form says it; nothing exactly when they are all spaces; and they are wrong exactly when no form fits.
+-- What follows from rule/Forms.antt, and what the code keeps.
 use mathlib.Core.Path.{_≡_, refl, sym, ap, subst, _∙_}
 use mathlib.Core.Bool.{Bool, true, false, cond, _&&_}
 use mathlib.Core.List.{List, [], _∷_, _++_, append-nil}
@@ -13,65 +11,19 @@ use lib.IntN.{ℤ, pos}
 use lib.ListN.{length, take, drop, getD, length-append, length-drop, take-append-drop}
 use lib.Seq.{take-append-seam, drop-append-add, getD-append-seam, take-length, drop-length, drop-cons, length-take-le}
 use Rattle.numbers.proofs.Laws.{code-nonempty}
-use Rattle.below.specs.Below.{_and_, and-both, holds-not}
-use Rattle.ascii.specs.Class.{within}
-use Rattle.cells.specs.Cell.{numberOf}
+use Rattle.below.specs.rule.Below.{_and_}
+use Rattle.below.specs.Below.{and-both, holds-not}
+use Rattle.ascii.specs.rule.Class.{within}
+use Rattle.cells.specs.rule.Cell.{numberOf}
 use Rattle.layout.specs.declared.Format.{Format}
-use Rattle.widths.specs.Width.{tailOf, tail-point}
-use Rattle.fields.specs.Number.{Said, blank, says, wrong, allSpaces, unspaced, digitsOnly}
-use Rattle.fields.specs.Number.{decimalFrom, decimal, codeAfter, codeOf, wholePart, decimalPart}
-use Rattle.fields.specs.Number.{pointStands, amountForm, amountSize, amountOf, quantityAfter, quantityOf}
-use Rattle.numbers.specs.Numeral.{FormatFacts}
+use Rattle.widths.specs.rule.Width.{tailOf}
+use Rattle.widths.specs.Width.{tail-point}
+use Rattle.fields.specs.rule.Number.{Said, blank, says, wrong, allSpaces, unspaced, digitsOnly, decimalFrom, decimal, codeAfter, codeOf}
+use Rattle.fields.specs.rule.Number.{wholePart, decimalPart, pointStands, amountForm, amountSize, amountOf, quantityAfter, quantityOf}
+use Rattle.numbers.specs.rule.Format.{FormatFacts}
 use Rattle.numbers.specs.Room.{is-digit, first-digit}
-
--- ---- the words
--- spaces, or none
-pub data Spaces : List ℕ → Type 0 where
-  none : Spaces []
-  space : {s : List ℕ} → Spaces s → Spaces (32 ∷ s)
-
--- `Digits m s n`: the bytes s are digits, `0` to `9`, or none, and after the number m they say n
-pub data Digits : ℕ → List ℕ → ℕ → Type 0 where
-  end : {m : ℕ} → Digits m [] m
-  digit : {m d n : ℕ} {s : List ℕ} → d ≤ 9 → Digits (m * 10 + d) s n → Digits m ((48 + d) ∷ s) n
-
--- a minus, or none
-pub data Sign : Bool → List ℕ → Type 0 where
-  plain : Sign false []
-  minus : Sign true (45 ∷ [])
-
--- what stands after the whole digits: the point and the decimals as in the block, where it has a point, and nothing where not
-pub data Tail (f : Format) : List ℕ → List ℕ → Type 0 where
-  without : f .point ≡ 0 → Tail f [] []
-  point : {ds : List ℕ} → (f .point ≡ 0 → ⊥) → length ds ≡ f .decimals → Tail f (46 ∷ ds) ds
-
--- SINGLE: spaces, then digits, that say z
-pub record CodeForm (s : List ℕ) (z : ℤ) : Type 0 where
-  pub gap : List ℕ
-  pub whole : List ℕ
-  pub size : ℕ
-  pub made : s ≡ gap ++ whole
-  pub blank-gap : Spaces gap
-  pub some : 0 < length whole
-  pub said : Digits 0 whole size
-  pub is : z ≡ pos size
-
--- QUANTITY: spaces, a minus or none, digits, at least one, and the tail; the digits and decimals together say the size
-pub record QuantityForm (f : Format) (s : List ℕ) (z : ℤ) : Type 0 where
-  pub gap : List ℕ
-  pub sign : List ℕ
-  pub whole : List ℕ
-  pub tail : List ℕ
-  pub decimals : List ℕ
-  pub negative : Bool
-  pub size : ℕ
-  pub made : s ≡ gap ++ (sign ++ (whole ++ tail))
-  pub blank-gap : Spaces gap
-  pub signed : Sign negative sign
-  pub some : 0 < length whole
-  pub tailed : Tail f tail decimals
-  pub said : Digits 0 (whole ++ decimals) size
-  pub is : z ≡ numberOf negative size
+use Rattle.read_laws.specs.rule.Forms.{Spaces, none, space, Digits, end, digit, Sign, plain, minus, Tail, without, point, CodeForm}
+use Rattle.read_laws.specs.rule.Forms.{QuantityForm}
 
 -- ---- digits
 digits-read : (m : ℕ) (s : List ℕ) → digitsOnly s ≡ true → Digits m s (decimalFrom m s)
@@ -87,12 +39,12 @@ digits-read m (b ∷ s) e =
 digit-within : (d : ℕ) → d ≤ 9 → within 48 57 (48 + d) ≡ true
 digit-within d h = rw (le-leb 48 (48 + d) (omega arith), le-leb (48 + d) 57 (omega arith))
 
-digits-only : {m n : ℕ} {s : List ℕ} → Digits m s n → digitsOnly s ≡ true
+pub digits-only : {m n : ℕ} {s : List ℕ} → Digits m s n → digitsOnly s ≡ true
 unfolding digitsOnly
 digits-only end = refl
 digits-only (digit {d} h r) = rw (digit-within d h, digits-only r)
 
-digits-say : {m n : ℕ} {s : List ℕ} → Digits m s n → decimalFrom m s ≡ n
+pub digits-say : {m n : ℕ} {s : List ℕ} → Digits m s n → decimalFrom m s ≡ n
 unfolding decimalFrom
 digits-say end = refl
 digits-say (digit {m} {d} h r) = let e : 48 + d - 48 ≡ d = omega arith in rw e (digits-say r)

@@ -1,5 +1,4 @@
--- Each kind's reading in the paper's own words, both ways: the bytes of the value places read as this value exactly when they have this
--- form. Here `ok` is the test that a number is in the range or on a line.
+-- What follows from rule/Kinds.antt, and what the code keeps.
 use mathlib.Core.Path.{_≡_, refl, ap, _∙_}
 use mathlib.Core.Logic.{_⊎_, inl, inr, ⊎-elim}
 use mathlib.Core.Bool.{Bool, true, false, cond, _&&_, _||_}
@@ -11,23 +10,26 @@ use lib.Dec.{eqb}
 use lib.IntN.{ℤ, pos}
 use lib.ListN.{length}
 use Rattle.below.specs.Below.{holds-not}
-use Rattle.cells.specs.Cell.{eqZ, same-true, same-self}
+use Rattle.cells.specs.rule.Cell.{eqZ}
+use Rattle.cells.specs.Cell.{same-true, same-self}
 use Rattle.layout.specs.declared.Format.{Format}
-use Rattle.fields.specs.Number.{Said, blank, says, wrong, allSpaces, codeOf, quantityOf}
-use Rattle.fields.specs.Field.{missing, number, members, holds, illegal, numberField, singleSays}
-use Rattle.fields.specs.Field.{singleField, quantitySays, quantityField, allBits, setBits, bitsField}
-use Rattle.numbers.specs.Numeral.{FormatFacts}
-use Rattle.read_laws.specs.Forms.{Spaces, CodeForm, QuantityForm, code-exactly, code-blank-exactly, quantity-exactly}
+use Rattle.fields.specs.rule.Number.{Said, blank, says, wrong, allSpaces, codeOf, quantityOf}
+use Rattle.fields.specs.rule.Field.{missing, number, members, holds, illegal, numberField, singleSays}
+use Rattle.fields.specs.rule.Field.{singleField, quantitySays, quantityField, allBits, setBits, bitsField}
+use Rattle.numbers.specs.rule.Format.{FormatFacts}
+use Rattle.read_laws.specs.rule.Forms.{Spaces, CodeForm, QuantityForm}
+use Rattle.read_laws.specs.Forms.{code-exactly, code-blank-exactly, quantity-exactly}
+use Rattle.read_laws.specs.rule.Kinds.{BitForm, stop, zero-bit, one-bit}
 
 -- ---- zero or not
-zero-not : (z : ℤ) → (z ≡ pos 0 → ⊥) → eqZ z (pos 0) ≡ false
+pub zero-not : (z : ℤ) → (z ≡ pos 0 → ⊥) → eqZ z (pos 0) ≡ false
 zero-not z h = go (eqZ z (pos 0)) refl
   where
     go : (c : Bool) → eqZ z (pos 0) ≡ c → c ≡ false
     go true e = absurd (h (same-true z (pos 0) e))
     go false e = refl
 
-not-zero : (z : ℤ) → eqZ z (pos 0) ≡ false → z ≡ pos 0 → ⊥
+pub not-zero : (z : ℤ) → eqZ z (pos 0) ≡ false → z ≡ pos 0 → ⊥
 not-zero z e q = holds-not (rw q (same-self (pos 0))) e
 
 module _ (ok : ℤ → Bool) (s : List ℕ) (z : ℤ) where
@@ -103,12 +105,6 @@ module _ (ok : ℤ → Bool) (s : List ℕ) where
   pub single-missing-exactly : (singleField ok s ≡ holds missing
       → Spaces s ⊎ CodeForm s (pos 0)) × (Spaces s ⊎ CodeForm s (pos 0) → singleField ok s ≡ holds missing)
   single-missing-exactly = (λ e. missing-by (codeOf s) refl e, λ w. ⊎-elim blank-missing zero-missing w)
-
--- ---- a bitstring's bytes, one for each defined category: `0`, or `1` for a member
-pub data BitForm : List ℕ → List ℕ → List ℤ → Type 0 where
-  stop : BitForm [] [] []
-  zero-bit : {c : ℕ} {cs s : List ℕ} {ms : List ℤ} → BitForm cs s ms → BitForm (c ∷ cs) (48 ∷ s) ms
-  one-bit : {c : ℕ} {cs s : List ℕ} {ms : List ℤ} → BitForm cs s ms → BitForm (c ∷ cs) (49 ∷ s) (pos c ∷ ms)
 
 bits-all : {cs s : List ℕ} {ms : List ℤ} → BitForm cs s ms → allBits s ≡ true
 unfolding allBits

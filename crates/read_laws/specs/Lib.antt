@@ -1,4 +1,4 @@
-pub mod Proved
+pub mod rule
 pub mod Settled
 pub mod Alone
 pub mod Refused
@@ -6,3 +6,5 @@ pub mod Forms
 pub mod Kinds
 pub mod Others
 pub mod Missing
+pub mod Exactly
+pub mod Reading

@@ -1,33 +1,29 @@
--- CHARACTER, LOGICAL and spreads in the paper's own words, both ways.
-use mathlib.Core.Path.{_≡_, refl, ap, _∙_}
+-- What follows from rule/Others.antt, and what the code keeps.
+use mathlib.Core.Path.{_≡_, refl, sym, ap, _∙_}
 use mathlib.Core.Logic.{_⊎_, ⊎-elim}
 use mathlib.Core.Bool.{Bool, true, false, cond, _&&_, _||_}
 use mathlib.Core.List.{List, [], _∷_, _++_, append-assoc}
-use Prim.Native.Nat.{ℕ, zero, suc, _+_, _-_, _^_, _≤_, _<_}
-use native.Mathlib.Nat.{eq-or-lt-of-le}
+use Prim.Native.Nat.{ℕ, zero, suc, _+_, _-_, _*_, _^_, _≤_, _<_}
+use native.Mathlib.Nat.{eq-or-lt-of-le, pow-le-pow-right}
 use native.Mathlib.Omega.{arith}
-use borrow.Author.Tests.{eqb-true, eq-eqb, ne-eqb, lt-ltb}
-use lib.Dec.{eqb}
-use lib.IntN.{ℤ, pos}
-use lib.ListN.{take, drop}
-use Rattle.below.specs.Below.{holds-not}
-use Rattle.cells.specs.Cell.{eqZ, same-true, same-self}
-use Rattle.fields.specs.Number.{Said, blank, says, wrong, allSpaces, codeOf}
-use Rattle.fields.specs.Field.{missing, members, text, truth, holds, illegal, allPlain, unended, textField, truthField}
-use Rattle.fields.specs.Field.{entryGood, entryIs, allEntries, someEntry, passing, spreadSet, spreadField, isMember, risingFrom}
+use borrow.Author.Tests.{eqb-true, eq-eqb, ne-eqb, lt-ltb, ltb-true}
+use lib.Dec.{eqb, lit<}
+use lib.IntN.{ℤ, pos, negsuc}
+use lib.ListN.{length, take, drop, length-append, length-take}
+use Rattle.below.specs.Below.{holds-not, and-left, and-right, or-true, either-true}
+use Rattle.cells.specs.rule.Cell.{eqZ}
+use Rattle.cells.specs.Cell.{same-true, same-self}
+use Rattle.fields.specs.rule.Number.{Said, blank, says, wrong, allSpaces, codeOf, decimalFrom}
+use Rattle.fields.specs.rule.Field.{missing, members, text, truth, holds, illegal, allPlain, unended, textField, truthField}
+use Rattle.fields.specs.rule.Field.{entryGood, entryIs, allEntries, someEntry, passing, spreadSet, spreadField, isMember, risingFrom}
 use Rattle.fieldlaws.specs.TextLaws.{unended-blank}
-use Rattle.read_laws.specs.Forms.{Spaces, CodeForm, code-exactly, code-blank-exactly, spaces-all, all-spaces}
-
--- ---- CHARACTER
--- a text's bytes: the text, which ends in no space, and spaces
-pub record TextForm (s x : List ℕ) : Type 0 where
-  pub front : List ℕ
-  pub last : ℕ
-  pub gap : List ℕ
-  pub ends : x ≡ front ++ (last ∷ [])
-  pub made : s ≡ x ++ gap
-  pub no-space : last ≡ 32 → ⊥
-  pub blank-gap : Spaces gap
+use Rattle.fieldlaws.specs.RisingLaws.{Rising, skip, keep, rising-empty, rises-here, rises-next, rises-both, members-back, passing-same}
+use Rattle.numbers.specs.Room.{decimal-room}
+use Rattle.read_laws.specs.rule.Forms.{Spaces, CodeForm}
+use Rattle.read_laws.specs.Forms.{code-exactly, code-blank-exactly, spaces-all, all-spaces, digits-only}
+use Rattle.read_laws.specs.Forms.{digits-say}
+use Rattle.read_laws.specs.rule.Others.{TextForm, EntryForm, unused, zero-entry, entry, Entries, done, next, SomeSays, here, there}
+use Rattle.read_laws.specs.rule.Others.{SpreadSet}
 
 more-left : (b : ℕ) (s : List ℕ) → allSpaces (b ∷ s) ≡ false → unended (b ∷ s) ≡ b ∷ unended s
 unfolding unended
@@ -116,13 +112,6 @@ pub truth-exactly :
 unfolding truthField allSpaces
 truth-exactly = (refl, refl, refl, λ b p q r. rw (ne-eqb b 32 r, ne-eqb b 49 p, ne-eqb b 48 q))
 
--- ---- a spread
--- a subfield is spaces, or says zero, or says a legal number
-pub data EntryForm (ok : ℤ → Bool) (x : List ℕ) : Type 0 where
-  unused : Spaces x → EntryForm ok x
-  zero-entry : CodeForm x (pos 0) → EntryForm ok x
-  entry : (z : ℤ) → CodeForm x z → ok z ≡ true → EntryForm ok x
-
 module _ (ok : ℤ → Bool) (x : List ℕ) where
   entry-by : (y : Said) → codeOf x ≡ y → entryGood ok y ≡ true → EntryForm ok x
   unfolding entryGood
@@ -139,36 +128,15 @@ module _ (ok : ℤ → Bool) (x : List ℕ) where
   entry-of (unused r) = rw (code-blank-exactly x .1 r)
   entry-of (zero-entry f) = rw (code-exactly x (pos 0) .1 f, same-self (pos 0))
   entry-of (entry z f l) = rw (code-exactly x z .1 f, l) (or-true (eqZ z (pos 0)))
-    where
-      or-true : (c : Bool) → c || true ≡ true
-      or-true true = refl
-      or-true false = refl
-
--- each of n subfields of w bytes
-pub data Entries (ok : ℤ → Bool) (w : ℕ) : ℕ → List ℕ → Type 0 where
-  done : {s : List ℕ} → Entries ok w 0 s
-  next : {n : ℕ} {s : List ℕ} → EntryForm ok (take w s) → Entries ok w n (drop w s) → Entries ok w (suc n) s
-
--- some of them says c
-pub data SomeSays (c : ℤ) (w : ℕ) : ℕ → List ℕ → Type 0 where
-  here : {n : ℕ} {s : List ℕ} → CodeForm (take w s) c → SomeSays c w (suc n) s
-  there : {n : ℕ} {s : List ℕ} → SomeSays c w n (drop w s) → SomeSays c w (suc n) s
-
-both-true : (a b : Bool) → a && b ≡ true → (a ≡ true) × (b ≡ true)
-both-true true b e = (refl, e)
-both-true false b e = holds-not e refl
-
-either-true : {A : Type 0} (a b : Bool) → a || b ≡ true → (a ≡ true → A) → (b ≡ true → A) → A
-either-true true b e f g = f refl
-either-true false b e f g = g e
 
 module _ (ok : ℤ → Bool) (w : ℕ) where
   entries-from : (n : ℕ) (s : List ℕ) → allEntries ok w n s ≡ true → Entries ok w n s
   unfolding allEntries
   entries-from zero s e = done
   entries-from (suc n) s e =
-      let p = both-true (entryGood ok (codeOf (take w s))) (allEntries ok w n (drop w s)) e in
-      next (entry-by ok (take w s) (codeOf (take w s)) refl (p .0)) (entries-from n (drop w s) (p .1))
+      let first = entryGood ok (codeOf (take w s)) in
+      let rest = allEntries ok w n (drop w s) in
+      next (entry-by ok (take w s) (codeOf (take w s)) refl (and-left first rest e)) (entries-from n (drop w s) (and-right first rest e))
 
   entries-to : {n : ℕ} {s : List ℕ} → Entries ok w n s → allEntries ok w n s ≡ true
   unfolding allEntries
@@ -190,21 +158,13 @@ module _ (c : ℤ) (w : ℕ) where
   unfolding someEntry
   some-from zero s e = holds-not e refl
   some-from (suc n) s e =
-      either-true (entryIs c (codeOf (take w s))) (someEntry c w n (drop w s)) e
-      (λ q. here (says-by (take w s) (codeOf (take w s)) refl q)) (λ q. there (some-from n (drop w s) q))
+      ⊎-elim (λ q. here (says-by (take w s) (codeOf (take w s)) refl q)) (λ q. there (some-from n (drop w s) q))
+      (either-true (entryIs c (codeOf (take w s))) (someEntry c w n (drop w s)) e)
 
   some-to : {n : ℕ} {s : List ℕ} → SomeSays c w n s → someEntry c w n s ≡ true
   unfolding someEntry
   some-to (here {s} f) = rw (says-of (take w s) f)
   some-to (there {n} {s} r) = rw (some-to r) (or-true (entryIs c (codeOf (take w s))))
-    where
-      or-true : (b : Bool) → b || true ≡ true
-      or-true true = refl
-      or-true false = refl
-
-or-true : (b : Bool) → b || true ≡ true
-or-true true = refl
-or-true false = refl
 
 pos-same : (c k : ℕ) → eqZ (pos c) (pos k) ≡ true → c ≡ k
 unfolding eqZ
@@ -232,9 +192,9 @@ module _ (f : ℤ → Bool) where
           → (isMember (passing f (suc c) n) (pos k) ≡ true → (suc c ≤ k) × (k < suc c + n) × (f (pos k) ≡ true))
           → (c ≤ k) × (k < c + suc n) × (f (pos k) ≡ true)
       go true p q ih =
-          either-true (eqZ (pos c) (pos k)) (isMember (passing f (suc c) n) (pos k)) q
-          (λ a. let w : c ≡ k = pos-same c k a in (omega arith, omega arith, rw w at p))
+          ⊎-elim (λ a. let w : c ≡ k = pos-same c k a in (omega arith, omega arith, rw w at p))
           (λ a. let r = ih a in (omega (arith, r .0), omega (arith, r .1), r .2))
+          (either-true (eqZ (pos c) (pos k)) (isMember (passing f (suc c) n) (pos k)) q)
       go false p q ih = let r = ih q in (omega (arith, r .0), omega (arith, r .1), r .2)
 
   pub passing-of : (n c k : ℕ) → c ≤ k → k < c + n → f (pos k) ≡ true → isMember (passing f c n) (pos k) ≡ true
@@ -251,16 +211,75 @@ module _ (f : ℤ → Bool) where
       go true r = rw r (or-true (eqZ (pos c) (pos k)))
       go false r = r
 
--- A SPREAD'S SET: a number is a member exactly when it has at most w digits, is above 0, and some subfield says it; the set rises
-module _ (w n : ℕ) (s : List ℕ) where
-  pub spread-has : (k : ℕ) → isMember (spreadSet w n s) (pos k) ≡ true → (1 ≤ k) × (k < 1 + (10 ^ w - 1)) × SomeSays (pos k) w n s
-  spread-has k e = let r = passing-has (λ c. someEntry c w n s) (10 ^ w - 1) 1 k e in (r .0, r .1, some-from (pos k) w n s (r .2))
+-- ---- a run of digits says less than ten to the count of its bytes
+code-few : (x : List ℕ) (k : ℕ) → CodeForm x (pos k) → k < 10 ^ length x
+code-few x k f =
+    let e : k ≡ f .size = same (f .is) in
+    let n : length x ≡ length (f .gap) + length (f .whole) = ap length (f .made) ∙ length-append (f .gap) (f .whole) in
+    let h : decimalFrom 0 (f .whole) + 1 ≤ (0 + 1) * 10 ^ length (f .whole) = decimal-room 0 (f .whole) (digits-only (f .said)) in
+    let l : 10 ^ length (f .whole) ≤ 10 ^ length x = pow-le-pow-right (lit< tt) (omega arith) in
+    omega (arith, digits-say (f .said))
+  where
+    same : {a b : ℕ} → pos a ≡ pos b → a ≡ b
+    same q = cc
 
-  pub has-spread : (k : ℕ) → 1 ≤ k → k < 1 + (10 ^ w - 1) → SomeSays (pos k) w n s → isMember (spreadSet w n s) (pos k) ≡ true
-  has-spread k a b r = passing-of (λ c. someEntry c w n s) (10 ^ w - 1) 1 k a b (some-to (pos k) w r)
+some-few : (k w : ℕ) {n : ℕ} {s : List ℕ} → SomeSays (pos k) w n s → k < 10 ^ w
+some-few k w (here {s} f) =
+    let l : 10 ^ length (take w s) ≤ 10 ^ w = pow-le-pow-right (lit< tt) (rw length-take (omega arith)) in
+    omega (arith, code-few (take w s) k f)
+some-few k w (there r) = some-few k w r
+
+module _ (w n : ℕ) (s : List ℕ) where
+  pub spread-has : (k : ℕ) → isMember (spreadSet w n s) (pos k) ≡ true → (1 ≤ k) × SomeSays (pos k) w n s
+  spread-has k e = let r = passing-has (λ c. someEntry c w n s) (10 ^ w - 1) 1 k e in (r .0, some-from (pos k) w n s (r .2))
+
+  pub has-spread : (k : ℕ) → 1 ≤ k → SomeSays (pos k) w n s → isMember (spreadSet w n s) (pos k) ≡ true
+  has-spread k a r = passing-of (λ c. someEntry c w n s) (10 ^ w - 1) 1 k a (omega (arith, some-few k w r)) (some-to (pos k) w r)
 
   pub spread-rises : risingFrom (pos 0) (spreadSet w n s) ≡ true
   spread-rises = passing-rises (λ c. someEntry c w n s) (10 ^ w - 1) 1 0 (omega arith)
+
+  pub spread-set-of : SpreadSet w n s (spreadSet w n s)
+  spread-set-of = record { rises = spread-rises; has = spread-has; all = has-spread }
+
+-- and there is one such set
+member-here : (b : ℕ) (ms : List ℤ) → isMember (pos b ∷ ms) (pos b) ≡ true
+unfolding isMember
+member-here b ms = rw (same-self (pos b))
+
+member-next : (k b : ℕ) (ms : List ℤ) → isMember ms (pos k) ≡ true → isMember (pos b ∷ ms) (pos k) ≡ true
+unfolding isMember
+member-next k b ms e = rw e (or-true (eqZ (pos b) (pos k)))
+
+rise-within : (top n a : ℕ) (ms : List ℤ) → a + n ≡ top → risingFrom (pos a) ms ≡ true → ((k : ℕ) → isMember ms (pos k) ≡ true → k ≤ top)
+    → Rising (suc a) n ms
+rise-within top n a [] q e h = rising-empty (suc a) n
+rise-within top n a (negsuc b ∷ ms) q e h = holds-not (rises-here (pos a) (negsuc b) ms e) refl
+rise-within top zero a (pos b ∷ ms) q e h =
+    let x : a < b = ltb-true a b (rises-here (pos a) (pos b) ms e) in
+    let y : b ≤ top = h b (member-here b ms) in
+    absurd (omega arith)
+rise-within top (suc n) a (pos b ∷ ms) q e h =
+    let later : risingFrom (pos b) ms ≡ true = rises-next (pos a) (pos b) ms e in
+    ⊎-elim
+    (λ s. rw (← s) (keep (rise-within top n (suc a) ms (omega arith) (rw s later) (λ k m. h k (member-next k b ms m)))))
+    (λ s. skip (rise-within top n (suc a) (pos b ∷ ms) (omega arith) (rises-both (pos (suc a)) (pos b) ms (lt-ltb (suc a) b s) later) h))
+    (eq-or-lt-of-le (ltb-true a b (rises-here (pos a) (pos b) ms e)))
+
+both-ways : (a b : Bool) → (a ≡ true → b ≡ true) → (b ≡ true → a ≡ true) → a ≡ b
+both-ways true b f g = sym (f refl)
+both-ways false true f g = g refl
+both-ways false false f g = refl
+
+module _ (w n : ℕ) (s : List ℕ) (ms : List ℤ) where
+  pub spread-set-is : SpreadSet w n s ms → ms ≡ spreadSet w n s
+  spread-set-is h =
+      let few : (k : ℕ) → isMember ms (pos k) ≡ true → k ≤ 10 ^ w - 1 = λ k m. omega (arith, some-few k w (h .has k m .1)) in
+      let r : Rising 1 (10 ^ w - 1) ms = rise-within (10 ^ w - 1) (10 ^ w - 1) 0 ms (omega arith) (h .rises) few in
+      sym (members-back r)
+      ∙ passing-same (isMember ms) (λ c. someEntry c w n s) 1 (10 ^ w - 1)
+      (λ x l. both-ways (isMember ms (pos x)) (someEntry (pos x) w n s) (λ e. some-to (pos x) w (h .has x e .1))
+      (λ e. h .all x l (some-from (pos x) w n s e)))
 
 module _ (ok : ℤ → Bool) (w n : ℕ) (s : List ℕ) (ms : List ℤ) where
   spread-by : (c d : Bool) → allSpaces s ≡ c → allEntries ok w n s ≡ d

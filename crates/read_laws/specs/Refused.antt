@@ -1,5 +1,4 @@
--- A record is refused exactly when it is shorter than L, holds a byte below 32, or has an illegal field, given a well-formed table; and
--- the places are the first ones.
+-- What follows from rule/Refused.antt, and what the code keeps.
 use mathlib.Core.Path.{_≡_, refl, sym, ap, _∙_}
 use mathlib.Core.Logic.{⊎-elim}
 use mathlib.Core.Bool.{Bool, true, false, cond}
@@ -7,26 +6,22 @@ use mathlib.Core.List.{List}
 use Prim.Native.Nat.{ℕ, zero, suc, _+_, _≤_, _<_}
 use native.Mathlib.Nat.{eq-or-lt-of-le}
 use native.Mathlib.Omega.{arith}
-use borrow.Author.Tests.{le-leb, leb-true, lt-leb, le-ltb, ltb-false}
+use borrow.Author.Tests.{le-leb, leb-true, leb-false, lt-leb, le-ltb, ltb-false}
 use lib.Dec.{leb}
 use lib.IntN.{ℤ}
 use lib.ListN.{length, getD}
-use Rattle.sets.specs.Sets.{isIllegal}
-use Rattle.sound.specs.Sound.{wellFormed}
-use Rattle.sound.specs.Rows.{rowsOf, lengthOf}
-use Rattle.records.specs.First.{firstFrom, lowAt, badRow}
-use Rattle.records.specs.Value.{readingAt}
-use Rattle.records.specs.Verdict.{sound, refused, refusedAt, rowVerdict, byteVerdict, rowsVerdict, verdictOf}
+use Rattle.sets.specs.rule.Sets.{isIllegal}
+use Rattle.sound.specs.rule.Sound.{wellFormed}
+use Rattle.sound.specs.rule.Rows.{rowsOf, lengthOf}
+use Rattle.lows.specs.rule.Lows.{lowAt}
+use Rattle.records.specs.rule.First.{firstFrom, badRow}
+use Rattle.records.specs.rule.Value.{readingAt}
+use Rattle.records.specs.rule.Verdict.{Verdict, sound, refused, lowByte, badField, rowVerdict, byteVerdict, rowsVerdict}
+use Rattle.records.specs.rule.Verdict.{verdictOf, RecordJudged}
 use Rattle.records.specs.declared.Found.{Found}
 use Rattle.records.specs.declared.Found.the-variants.{At, Nothing}
-
--- ---- the first of the n numbers from i on
--- k is the first: it passes, and none before it does
-pub record IsFirst (f : ℕ → Bool) (i n k : ℕ) : Type 0 where
-  pub from : i ≤ k
-  pub below : k < i + n
-  pub passes : f k ≡ true
-  pub none : (j : ℕ) → i ≤ j → j < k → f j ≡ false
+use Rattle.read_laws.specs.rule.Refused.{IsFirst, NoLow, RecordOutcome, not-formed, too-short, low-byte, bad-field, no-fault}
+use Rattle.read_laws.specs.Refused.{Passes}
 
 module _ (f : ℕ → Bool) where
   pub none-found : (n i : ℕ) → firstFrom f i n ≡ Nothing → (j : ℕ) → i ≤ j → j < i + n → f j ≡ false
@@ -118,7 +113,7 @@ module _ (t : List ℤ) (good : wellFormed t ≡ true) (bytes : List ℕ) where
 
   module _ (long : lengthOf t ≤ length bytes) where
     -- 23 with the first byte below 32
-    pub low-refused : (p : ℕ) → firstFrom (lowAt bytes) 0 (length bytes) ≡ At p → verdictOf t bytes ≡ refusedAt 23 p
+    pub low-refused : (p : ℕ) → firstFrom (lowAt bytes) 0 (length bytes) ≡ At p → verdictOf t bytes ≡ lowByte p
     unfolding verdictOf rowsVerdict byteVerdict
     low-refused p e = rw (good, le-leb _ _ long, e)
 
@@ -127,9 +122,73 @@ module _ (t : List ℤ) (good : wellFormed t ≡ true) (bytes : List ℕ) where
 
     -- 24 with the lowest illegal row, where no byte is below 32
     pub row-refused : (i : ℕ) → firstFrom (lowAt bytes) 0 (length bytes) ≡ Nothing
-        → firstFrom (badRow t (rowsOf t) bytes) 0 (rowsOf t) ≡ At i → verdictOf t bytes ≡ refusedAt 24 i
+        → firstFrom (badRow t (rowsOf t) bytes) 0 (rowsOf t) ≡ At i → verdictOf t bytes ≡ badField i
     unfolding verdictOf rowsVerdict byteVerdict rowVerdict
     row-refused i q e = rw (good, le-leb _ _ long, q, e)
 
     pub row-first : (i : ℕ) → firstFrom (badRow t (rowsOf t) bytes) 0 (rowsOf t) ≡ At i → IsFirst (badRow t (rowsOf t) bytes) 0 (rowsOf t) i
     row-first i e = first-is (badRow t (rowsOf t) bytes) (rowsOf t) 0 i e
+
+-- ---- EXACTLY WHEN, as one theorem: what is judged of a record, each verdict with what it says
+-- the first number that passes is found
+pub first-found : (f : ℕ → Bool) (n i k : ℕ) → IsFirst f i n k → firstFrom f i n ≡ At k
+unfolding firstFrom
+first-found f zero i k h = absurd (omega (arith, h .from, h .below))
+first-found f (suc n) i k h =
+    ⊎-elim (λ e. let p : f i ≡ true = ap f e ∙ h .passes in rw p (ap At e))
+    (λ l. rw (h .none i (omega arith) l)
+    (first-found f n (suc i) k
+    (record { from = l; below = omega (arith, h .below); passes = h .passes; none = λ j a b. h .none j (omega arith) b })))
+    (eq-or-lt-of-le (h .from))
+
+module _ (t : List ℤ) (bytes : List ℕ) where
+  none-low : NoLow bytes → firstFrom (lowAt bytes) 0 (length bytes) ≡ Nothing
+  none-low h = nothing-found (lowAt bytes) (length bytes) 0 (λ j a b. h j (omega arith))
+
+  -- what is so has its verdict
+  pub record-only : {v : Verdict} → RecordOutcome t bytes v → RecordJudged t bytes v
+  unfolding verdictOf
+  record-only (not-formed e) = record { says = rw e }
+  record-only (too-short g l) = record { says = sym (short-refused t g bytes l) }
+  record-only (low-byte {p} g l f) = record { says = sym (low-refused t g bytes l p (first-found (lowAt bytes) (length bytes) 0 p f)) }
+  record-only (bad-field {i} g l n f) = record {
+    says = sym (row-refused t g bytes l i (none-low n) (first-found (badRow t (rowsOf t) bytes) (rowsOf t) 0 i f));
+  }
+  record-only (no-fault g p) = record { says = sym (passes-sound t g bytes p) }
+
+  -- and the verdict names what is so
+  verdict-named : RecordOutcome t bytes (verdictOf t bytes)
+  unfolding verdictOf rowsVerdict byteVerdict rowVerdict
+  verdict-named = formed (wellFormed t) refl
+    where
+      lows : Found
+      lows = firstFrom (lowAt bytes) 0 (length bytes)
+
+      rows : Found
+      rows = firstFrom (badRow t (rowsOf t) bytes) 0 (rowsOf t)
+
+      rowed : wellFormed t ≡ true → lengthOf t ≤ length bytes → lows ≡ Nothing → (x : Found) → rows ≡ x
+          → RecordOutcome t bytes (rowVerdict x)
+      rowed g l q (At i) e =
+          bad-field g l (λ p h. none-found (lowAt bytes) (length bytes) 0 q p (omega arith) (omega arith))
+          (first-is (badRow t (rowsOf t) bytes) (rowsOf t) 0 i e)
+      rowed g l q Nothing e = no-fault g (by-rows t g bytes l q Nothing e refl)
+
+      byted : wellFormed t ≡ true → lengthOf t ≤ length bytes → (x : Found) → lows ≡ x
+          → RecordOutcome t bytes (byteVerdict x (rowVerdict rows))
+      byted g l (At p) e = low-byte g l (first-is (lowAt bytes) (length bytes) 0 p e)
+      byted g l Nothing e = rowed g l e rows refl
+
+      longer : wellFormed t ≡ true → (b : Bool) → leb (lengthOf t) (length bytes) ≡ b
+          → RecordOutcome t bytes (cond b (byteVerdict lows (rowVerdict rows)) (refused 22))
+      longer g true e = byted g (leb-true (lengthOf t) (length bytes) e) lows refl
+      longer g false e = too-short g (leb-false (lengthOf t) (length bytes) e)
+
+      formed : (b : Bool) → wellFormed t ≡ b
+          → RecordOutcome t bytes
+          (cond b (cond (leb (lengthOf t) (length bytes)) (byteVerdict lows (rowVerdict rows)) (refused 22)) (refused 20))
+      formed true g = longer g (leb (lengthOf t) (length bytes)) refl
+      formed false g = not-formed g
+
+  pub record-named : {v : Verdict} → RecordJudged t bytes v → RecordOutcome t bytes v
+  record-named w = rw (w .says) verdict-named

@@ -7,9 +7,9 @@ use lib.Dec.{eqb}
 use lib.IntN.{ℤ}
 use Rattle.readings.specs.declared.Answer.{Answer}
 use Rattle.readings.specs.declared.Answer.the-variants as answer
-use Rattle.records.specs.Value.{Outcome, nothing, numberIs, setOf, textAt, truthIs, refused, said, ValueRead}
-use Rattle.records.specs.Verdict as verdict
-use Rattle.records.specs.Verdict.{Verdict, sound, refusedAt, judgedAs, verdictOf}
+use Rattle.records.specs.rule.Value.{Outcome, nothing, numberIs, setOf, textAt, truthIs, refused, said, ValueRead}
+use Rattle.records.specs.rule.Verdict as verdict
+use Rattle.records.specs.rule.Verdict.{Verdict, sound, lowByte, badField, judgedAs, RecordJudged}
 use Rattle.records.specs.declared.Judged.{Judged}
 use Rattle.records.specs.declared.Judged.the-variants as judged
 
@@ -42,15 +42,19 @@ pub said-one : (a b : Answer) → said a ≡ said b → a ≡ b
 said-one a b e = sym (said-back a) ∙ ap unsaid e ∙ said-back b
 
 -- READING ONE ROW: one answer and one list
-pub value-settled : (t : List ℤ) (i : ℕ) (bytes : List ℕ) (list list₁ list₂ : List ℤ) (r₁ r₂ : Answer)
-    → ValueRead t i bytes list list₁ r₁ → ValueRead t i bytes list list₂ r₂ → (r₁ ≡ r₂) × (list₁ ≡ list₂)
-value-settled t i bytes list list₁ list₂ r₁ r₂ a b =
-    (said-one r₁ r₂ (a .says ∙ sym (b .says)), a .leaves ∙ sym (b .leaves))
+pub value-one : {t : List ℤ} {i : ℕ} {bytes : List ℕ} {list list₁ list₂ : List ℤ} {o₁ o₂ : Outcome}
+    → ValueRead t i bytes list list₁ o₁ → ValueRead t i bytes list list₂ o₂ → (o₁ ≡ o₂) × (list₁ ≡ list₂)
+value-one a b = (a .says ∙ sym (b .says), a .leaves ∙ sym (b .leaves))
+
+pub value-settled : {t : List ℤ} {i : ℕ} {bytes : List ℕ} {list list₁ list₂ : List ℤ} (r₁ r₂ : Answer)
+    → ValueRead t i bytes list list₁ (said r₁) → ValueRead t i bytes list list₂ (said r₂) → (r₁ ≡ r₂) × (list₁ ≡ list₂)
+value-settled r₁ r₂ a b = let e = value-one a b in (said-one r₁ r₂ (e .0), e .1)
 
 abbrev unjudged : Verdict → Judged
 unjudged sound = judged.Sound
 unjudged (verdict.refused n) = cond (eqb n 20) judged.BadTable judged.ShortRecord
-unjudged (refusedAt n p) = cond (eqb n 23) (judged.LowByte p) (judged.Illegal p)
+unjudged (lowByte p) = judged.LowByte p
+unjudged (badField i) = judged.Illegal i
 
 judged-back : (a : Judged) → unjudged (judgedAs a) ≡ a
 unfolding judgedAs
@@ -64,6 +68,9 @@ pub judged-one : (a b : Judged) → judgedAs a ≡ judgedAs b → a ≡ b
 judged-one a b e = sym (judged-back a) ∙ ap unjudged e ∙ judged-back b
 
 -- JUDGING A RECORD: one answer
-pub verdict-settled : (t : List ℤ) (bytes : List ℕ) (r₁ r₂ : Judged) → judgedAs r₁ ≡ verdictOf t bytes
-    → judgedAs r₂ ≡ verdictOf t bytes → r₁ ≡ r₂
-verdict-settled t bytes r₁ r₂ a b = judged-one r₁ r₂ (a ∙ sym b)
+pub verdict-one : {t : List ℤ} {bytes : List ℕ} {v₁ v₂ : Verdict} → RecordJudged t bytes v₁ → RecordJudged t bytes v₂ → v₁ ≡ v₂
+verdict-one a b = a .says ∙ sym (b .says)
+
+pub verdict-settled : {t : List ℤ} {bytes : List ℕ} (r₁ r₂ : Judged) → RecordJudged t bytes (judgedAs r₁)
+    → RecordJudged t bytes (judgedAs r₂) → r₁ ≡ r₂
+verdict-settled r₁ r₂ a b = judged-one r₁ r₂ (verdict-one a b)

@@ -5,31 +5,31 @@ use mathlib.Core.Bool.{Bool, true, false, cond, _&&_}
 use mathlib.Core.List.{List, [], _∷_}
 use Prim.Native.Nat.{ℕ, zero, suc, _+_, _-_, _≤_}
 use native.Mathlib.Omega.{arith}
-use borrow.Author.Tests.{le-leb, ltb-false, ne-eqb}
+use borrow.Author.Tests.{le-leb, ltb-false}
 use lib.Dec.{leb, eqb}
 use lib.IntN.{ℤ, pos}
 use lib.ListN.{length, getD, take, drop}
 use Rattle.below.specs.Below.{holds-not}
-use Rattle.cells.specs.Cell.{cell, countOf, eqZ}
-use Rattle.layout.specs.Layout.{rowBase, columnsAt}
-use Rattle.layout.specs.Row.{spreadOf, kindOf, rowOf, rowAt}
+use Rattle.cells.specs.rule.Cell.{eqZ}
 use Rattle.layout.specs.declared.Format.{Format}
 use Rattle.layout.specs.declared.Spread.the-variants.{Bits, Fields}
-use Rattle.layout.specs.declared.Kind.{Kind}
 use Rattle.layout.specs.declared.Kind.the-variants.{Single, Multiple, Quantity, Character, Logical}
 use Rattle.layout.specs.declared.Row.{Row}
-use Rattle.places.specs.Places.{pick, run}
+use Rattle.places.specs.rule.Places.{pick, run}
 use Rattle.places.specs.Laws.{pick-run}
-use Rattle.fields.specs.Legal.{legal}
-use Rattle.fields.specs.Number.{Said, blank, says, wrong, codeOf, quantityOf, allSpaces}
-use Rattle.fields.specs.Field.{Field, holds, illegal, missing, number, members, text, truth, numberField, singleSays, singleField, quantitySays, quantityField, allBits, setBits, bitsField, allEntries, spreadSet, spreadField, allPlain, unended, textField, truthField}
-use Rattle.fields.specs.Row.{categories, bitPlaces, spreadPlaces, placesBy, fieldBy, readingOf}
+use Rattle.fields.specs.rule.Legal.{legal}
+use Rattle.fields.specs.rule.Number.{Said, blank, says, wrong, codeOf, quantityOf, allSpaces}
+use Rattle.fields.specs.rule.Field.{Field, holds, illegal, missing, number, members, text, truth, numberField, singleSays, singleField}
+use Rattle.fields.specs.rule.Field.{quantitySays, quantityField, allBits, setBits, bitsField, allEntries, spreadSet, spreadField}
+use Rattle.fields.specs.rule.Field.{allPlain, unended, textField, truthField}
+use Rattle.fields.specs.rule.Row.{categories, bitPlaces, spreadPlaces, placesBy, fieldBy, readingOf}
 use Rattle.letters.specs.Letters.{textSaid, truthSaid}
 use Rattle.letters.specs.declared.Text.the-variants as t
 use Rattle.letters.specs.declared.Truth.the-variants as b
 use Rattle.sets.specs.declared.SetRead.{SetRead}
 use Rattle.sets.specs.declared.SetRead.the-variants as set
-use Rattle.sets.specs.Sets.{setAnswer, listAfter, ReadSet, isIllegal}
+use Rattle.sets.specs.Sets.{setAnswer, ReadSet}
+use Rattle.sets.specs.rule.Sets.{listAfter, isIllegal}
 use Rattle.readings.specs.Answer.{answerOf, numeralField, setSaid, illegalAnswer, SetAnswered, RowRead}
 use Rattle.readings.specs.Ready.{Plain}
 use Rattle.readings.specs.declared.Answer.{Answer}
@@ -60,45 +60,6 @@ module _ (tab : List ℤ) (v : ℕ) (r : Row) (bytes : List ℕ) where
   pub as-truth : r .kind ≡ Logical → readingOf tab v r bytes ≡ truthField (getD bytes (r .finish - 1) 0 ∷ [])
   unfolding readingOf fieldBy placesBy
   as-truth e = rw e
-
--- ---- the kind of a row by its numbers
-module _ (n w : ℕ) (k : Kind) (e : k ≡ Multiple (spreadOf n w)) where
-  pub bits-kind : n ≡ 0 → k ≡ Multiple Bits
-  unfolding spreadOf
-  bits-kind z = let q : eqb n 0 ≡ true = rw z in e ∙ ap (λ (c : Bool). Multiple (cond c Bits (Fields n w))) q
-
-  pub fields-kind : (n ≡ 0 → ⊥) → k ≡ Multiple (Fields n w)
-  unfolding spreadOf
-  fields-kind z = e ∙ ap (λ (c : Bool). Multiple (cond c Bits (Fields n w))) (ne-eqb n 0 z)
-
-module _ (tab : List ℤ) (i k : ℕ) (e : k ≡ countOf (cell tab (rowBase i + 1))) where
-  pub row-single : k ≡ 1 → rowAt tab i .kind ≡ Single
-  unfolding rowOf columnsAt kindOf
-  row-single z = rw (← e, z)
-
-  pub row-multiple : {n w : ℕ} → k ≡ 2 → n ≡ countOf (cell tab (rowBase i + 7)) → w ≡ countOf (cell tab (rowBase i + 8)) → rowAt tab i .kind ≡ Multiple (spreadOf n w)
-  unfolding rowOf columnsAt kindOf
-  row-multiple z a b = rw (← e, z, a, b)
-
-  pub row-quantity : {d p : ℕ} → k ≡ 3 → d ≡ countOf (cell tab (rowBase i + 5)) → p ≡ countOf (cell tab (rowBase i + 6)) → rowAt tab i .kind ≡ Quantity (record { decimals = d; point = p })
-  unfolding rowOf columnsAt kindOf
-  row-quantity z a b = rw (← e, z, a, b)
-
-  pub row-text : k ≡ 4 → rowAt tab i .kind ≡ Character
-  unfolding rowOf columnsAt kindOf
-  row-text z = rw (← e, z)
-
-  pub row-truth : (k ≡ 1 → ⊥) → (k ≡ 2 → ⊥) → (k ≡ 3 → ⊥) → (k ≡ 4 → ⊥) → rowAt tab i .kind ≡ Logical
-  unfolding rowOf columnsAt kindOf
-  row-truth a b c d = rw (← e, ne-eqb k 1 a, ne-eqb k 2 b, ne-eqb k 3 c, ne-eqb k 4 d)
-
--- a number of row i, whose numbers start at `at`
-pub at-row : (tab : List ℤ) (i off : ℕ) {at k : ℕ} → at ≡ rowBase i → k ≡ countOf (cell tab (at + off)) → k ≡ countOf (cell tab (rowBase i + off))
-at-row tab i off e h = h ∙ ap (λ (x : ℕ). countOf (cell tab (x + off))) e
-
-pub row-finish : (tab : List ℤ) (i : ℕ) → rowAt tab i .finish ≡ countOf (cell tab (rowBase i + 3))
-unfolding rowOf columnsAt
-row-finish tab i = refl
 
 -- ---- a text without a byte below 32 is legal
 plain-run : (bytes : List ℕ) (a w : ℕ) → Plain bytes → a + w ≤ length bytes → allPlain (pick bytes (run a w)) ≡ true

@@ -6,9 +6,9 @@ use Prim.Native.Nat.{ℕ}
 use lib.Dec.{leb}
 use lib.IntN.{ℤ}
 use lib.ListN.{length}
-use Rattle.fields.specs.Field.{missing, number, members, text, truth, Field, holds, illegal, singleSays, quantitySays}
-use Rattle.fields.specs.Number.{Said}
-use Rattle.sets.specs.Sets.{listAfter}
+use Rattle.fields.specs.rule.Field.{missing, number, members, text, truth, Field, holds, illegal, singleSays, quantitySays}
+use Rattle.fields.specs.rule.Number.{Said}
+use Rattle.sets.specs.rule.Sets.{listAfter}
 use Rattle.sets.specs.declared.SetRead.{SetRead}
 use Rattle.sets.specs.declared.SetRead.the-variants as set
 use Rattle.readings.specs.declared.Answer.{Answer}

@@ -10,7 +10,7 @@ use Rattle.layout.specs.declared.Format.{Format}
 use Rattle.layout.specs.declared.Spread.the-variants.{Bits, Fields}
 use Rattle.layout.specs.declared.Kind.{Kind}
 use Rattle.layout.specs.declared.Kind.the-variants.{Single, Multiple, Quantity, Character}
-use Rattle.numbers.specs.Numeral.{FormatFacts}
+use Rattle.numbers.specs.rule.Format.{FormatFacts}
 use Rattle.sets.specs.Sets.{BitsFacts, FieldsFacts}
 use lib.Dec.{ltb}
 use lib.IntN.{ℤ}

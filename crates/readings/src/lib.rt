@@ -4,16 +4,17 @@ ghost use mathlib.Core.Path.{_≡_};
 ghost use mathlib.Core.List.{[], _∷_};
 ghost use Prim.Native.Nat.{ℕ, _+_, _-_, _≤_, _<_};
 ghost use lib.ListN.{length};
-ghost use Rattle.layout.specs.Layout.{rowSize, rowBase, mostRows};
-ghost use Rattle.layout.specs.Row.{spreadOf, rowAt};
-ghost use Rattle.layout.specs.declared.Kind.the-variants.{Multiple};
-ghost use Rattle.places.specs.Places.{pick, run};
-ghost use Rattle.fields.specs.Legal.{legal};
+ghost use Rattle.layout.specs.rule.Layout.{rowSize, rowBase, mostRows};
+ghost use Rattle.layout.specs.rule.Row.{rowAt};
+ghost use Rattle.places.specs.rule.Places.{pick, run};
+ghost use Rattle.fields.specs.rule.Legal.{legal};
 ghost use Rattle.fields.specs.Facts.{LineFacts};
-ghost use Rattle.fields.specs.Field.{numberField, singleField, quantityField, bitsField, spreadField, textField, truthField};
-ghost use Rattle.fields.specs.Row.{categories, bitPlaces, spreadPlaces, readingOf};
-ghost use Rattle.numbers.specs.Numeral.{FormatFacts, saidOf};
-ghost use Rattle.sets.specs.Sets.{BitsFacts, FieldsFacts, isIllegal};
+ghost use Rattle.fields.specs.rule.Field.{numberField, singleField, quantityField, bitsField, spreadField, textField, truthField};
+ghost use Rattle.fields.specs.rule.Row.{categories, bitPlaces, spreadPlaces, readingOf};
+ghost use Rattle.numbers.specs.rule.Format.{FormatFacts};
+ghost use Rattle.numbers.specs.Numeral.{saidOf};
+ghost use Rattle.sets.specs.Sets.{BitsFacts, FieldsFacts};
+ghost use Rattle.sets.specs.rule.Sets.{isIllegal};
 ghost use Rattle.readings.specs.Answer.{answerOf, numeralField, setSaid, illegalAnswer, SetAnswered, RowRead};
 ghost use Rattle.readings.specs.Ready.{NumberFacts, RowReady, Plain};
 use layout::Format;
@@ -208,29 +209,33 @@ fn quantity_illegal(t: &[i64], rows: usize, row: Row, f: Format, bytes: &[u8]) -
     is_illegal(numeral_answer(t, rows, row, said, false))
 }
 
-// Whether a MULTIPLE is illegal, a spread or a bitstring by its subfields.
-fn set_illegal(
-    t: &[i64],
-    rows: usize,
-    row: Row,
-    n: usize,
-    b: usize,
-    bytes: &[u8],
-    scratch: &mut [u8],
-) -> bool
+// Whether a row is illegal in a record that is long enough and has no byte below 32, by its kind. The scratch is room for marks.
+fn field_illegal(t: &[i64], rows: usize, row: Row, bytes: &[u8], scratch: &mut [u8]) -> bool
     requires { ⌜ RowReady (now t) rows row (length (now bytes)) ⌝ }
-    requires { ⌜ row .kind ≡ Multiple (spreadOf n b) ⌝ }
+    requires { ⌜ Plain (now bytes) ⌝ }
     requires { ⌜ length (now scratch) ≤ 10000 ⌝ }
     ensures { λ r. ⌜ r ≡ isIllegal (readingOf (now (t .entry)) rows row (now (bytes .entry))) ⌝ }
 {
-    if n == 0 {
-        return sets::bits_illegal(t, rows, row, bytes);
+    let kind = row.kind;
+    match kind {
+        Kind::Single => is_illegal(single(t, rows, row, bytes)),
+        Kind::Multiple(s) => match s {
+            Spread::Bits => sets::bits_illegal(t, rows, row, bytes),
+            Spread::Fields { count, width } => {
+                sets::spread_illegal(t, rows, row, count, width, bytes, scratch)
+            }
+        },
+        Kind::Quantity(f) => quantity_illegal(t, rows, row, f, bytes),
+        // Only a byte below 32 makes a text illegal.
+        Kind::Character => false,
+        Kind::Logical => {
+            let last = row.finish - 1;
+            is_illegal(truth(bytes[last]))
+        }
     }
-    sets::spread_illegal(t, rows, row, n, b, bytes, scratch)
 }
 
-// Whether row i is illegal in a record that is long enough and has no byte below 32. Its type comes first, so that of its other numbers
-// only those are read that its kind needs. The scratch is room for marks.
+// The same of row i of a table. Of its numbers the compiler reads only those that its kind needs.
 pub fn row_illegal(t: &[i64], rows: usize, i: usize, bytes: &[u8], scratch: &mut [u8]) -> bool
     requires { ⌜ (i ≤ mostRows) × (rowBase i + rowSize ≤ length (now t)) ⌝ }
     requires { ⌜ RowReady (now t) rows (rowAt (now t) i) (length (now bytes)) ⌝ }
@@ -238,25 +243,5 @@ pub fn row_illegal(t: &[i64], rows: usize, i: usize, bytes: &[u8], scratch: &mut
     requires { ⌜ length (now scratch) ≤ 10000 ⌝ }
     ensures { λ r. ⌜ r ≡ isIllegal (readingOf (now (t .entry)) rows (rowAt (now (t .entry)) i) (now (bytes .entry))) ⌝ }
 {
-    let at = Row::base(i);
-    let kind = cells::count_at(t, at + Row::TYPE);
-    match kind {
-        1 => is_illegal(single(t, rows, Row::read(t, i), bytes)),
-        2 => {
-            let n = cells::count_at(t, at + Row::SUBFIELDS);
-            let b = cells::count_at(t, at + Row::SUBWIDTH);
-            set_illegal(t, rows, Row::read(t, i), n, b, bytes, scratch)
-        }
-        3 => {
-            let decimals = cells::count_at(t, at + Row::DECIMALS);
-            let point = cells::count_at(t, at + Row::POINT);
-            quantity_illegal(t, rows, Row::read(t, i), Format { decimals, point }, bytes)
-        }
-        // Only a byte below 32 makes a text illegal.
-        4 => false,
-        _ => {
-            let last = cells::count_at(t, at + Row::FINISH) - 1;
-            is_illegal(truth(bytes[last]))
-        }
-    }
+    field_illegal(t, rows, Row::read(t, i), bytes, scratch)
 }

@@ -11,20 +11,22 @@ use borrow.Author.Tests.{lt-ltb, le-ltb, le-leb, lt-leb}
 use lib.IntN.{ℤ}
 use lib.ListN.{length}
 use native.Mathlib.Nat.{eq-or-lt-of-le, sub-eq-zero-of-le}
-use Rattle.layout.specs.Layout.{headerOf}
-use Rattle.layout.specs.Row.{rowAt}
+use Rattle.layout.specs.rule.Layout.{headerOf}
+use Rattle.layout.specs.rule.Row.{rowAt}
 use Rattle.layout.specs.declared.Header.{Header}
 use Rattle.layout.specs.declared.Row.{Row}
-use Rattle.fields.specs.Row.{readingOf}
+use Rattle.fields.specs.rule.Row.{readingOf}
 use Rattle.readings.specs.Answer.{RowRead}
 use Rattle.readings.specs.Ready.{RowReady, Plain}
 use Rattle.readings.specs.declared.Answer.{Answer}
 use Rattle.readings.specs.declared.Answer.the-variants as answer
-use Rattle.sound.specs.Sound.{wellFormed}
-use Rattle.sound.specs.Rows.{rowsOf, lengthOf}
-use Rattle.records.specs.First.{firstFrom, lowAt}
-use Rattle.records.specs.Value.{said, readAs, listAs, readingAt, ValueRead, said-answer}
-use Rattle.records.specs.Verdict.{rowsVerdict, verdictOf, refused}
+use Rattle.sound.specs.rule.Sound.{wellFormed}
+use Rattle.sound.specs.rule.Rows.{rowsOf, lengthOf}
+use Rattle.lows.specs.rule.Lows.{lowAt}
+use Rattle.records.specs.rule.First.{firstFrom}
+use Rattle.records.specs.rule.Value.{said, readAs, listAs, readingAt, ValueRead}
+use Rattle.records.specs.Value.{said-answer}
+use Rattle.records.specs.rule.Verdict.{Verdict, rowsVerdict, verdictOf, refused, RecordJudged}
 use Rattle.records.specs.Tables.{TableReady, table-ready}
 use Rattle.records.specs.declared.Found.the-variants.{At, Nothing}
 
@@ -79,12 +81,12 @@ first-of-plain bytes h =
 
 -- ---- reading one row
 module _ (t : List ℤ) (i : ℕ) (bytes : List ℕ) (list : List ℤ) where
-  pub value-table : wellFormed t ≡ false → ValueRead t i bytes list list answer.BadTable
+  pub value-table : wellFormed t ≡ false → ValueRead t i bytes list list (said answer.BadTable)
   unfolding said readAs listAs
   value-table e = record { says = rw e; leaves = rw e }
 
   module _ (good : wellFormed t ≡ true) (h : Header) (head : h ≡ headerOf t) where
-    pub value-row : h .rows ≤ i → ValueRead t i bytes list list answer.NoRow
+    pub value-row : h .rows ≤ i → ValueRead t i bytes list list (said answer.NoRow)
     unfolding said readAs listAs
     value-row l = let k : rowsOf t ≤ i = rw head at l in record { says = rw (good, le-ltb _ _ k); leaves = rw (good, le-ltb _ _ k) }
 
@@ -92,7 +94,7 @@ module _ (t : List ℤ) (i : ℕ) (bytes : List ℕ) (list : List ℤ) where
       low-is : i < rowsOf t
       low-is = rw head at low
 
-      pub value-short : length bytes < h .length → ValueRead t i bytes list list answer.ShortRecord
+      pub value-short : length bytes < h .length → ValueRead t i bytes list list (said answer.ShortRecord)
       unfolding said readAs listAs
       value-short l =
           let k : length bytes < lengthOf t = rw head at l in
@@ -105,7 +107,7 @@ module _ (t : List ℤ) (i : ℕ) (bytes : List ℕ) (list : List ℤ) where
         pub row-ready : RowReady t (h .rows) row (length bytes)
         row-ready = rw (head, is) (table-ready t good (length bytes) long-is .row i low-is)
 
-        pub value-read : (list′ : List ℤ) (r : Answer) → RowRead (row .start - 1) (readingOf t (h .rows) row bytes) list list′ r → ValueRead t i bytes list list′ r
+        pub value-read : (list′ : List ℤ) (r : Answer) → RowRead (row .start - 1) (readingOf t (h .rows) row bytes) list list′ r → ValueRead t i bytes list list′ (said r)
         unfolding readAs listAs
         value-read list′ r a =
             let b : RowRead (rowAt t i .start - 1) (readingAt t i bytes) list list′ r = rw (head, is) at a in
@@ -116,14 +118,14 @@ module _ (t : List ℤ) (i : ℕ) (bytes : List ℕ) (list : List ℤ) where
 
 -- ---- judging a record
 module _ (t : List ℤ) (bytes : List ℕ) where
-  pub verdict-table : wellFormed t ≡ false → refused 20 ≡ verdictOf t bytes
+  pub verdict-table : wellFormed t ≡ false → RecordJudged t bytes (refused 20)
   unfolding verdictOf
-  verdict-table e = rw e
+  verdict-table e = record { says = rw e }
 
   module _ (good : wellFormed t ≡ true) (h : Header) (head : h ≡ headerOf t) where
-    pub verdict-short : length bytes < h .length → refused 22 ≡ verdictOf t bytes
+    pub verdict-short : length bytes < h .length → RecordJudged t bytes (refused 22)
     unfolding verdictOf
-    verdict-short l = let k : length bytes < lengthOf t = rw head at l in rw (good, lt-leb _ _ k)
+    verdict-short l = let k : length bytes < lengthOf t = rw head at l in record { says = rw (good, lt-leb _ _ k) }
 
     module _ (long : h .length ≤ length bytes) where
       reaches : lengthOf t ≤ length bytes
@@ -132,6 +134,6 @@ module _ (t : List ℤ) (bytes : List ℕ) where
       pub rows-ready : TableReady t (h .rows) (length bytes)
       rows-ready = rw head (table-ready t good (length bytes) reaches)
 
-      pub verdict-rows : rowsVerdict t (h .rows) bytes ≡ verdictOf t bytes
+      pub verdict-rows : {v : Verdict} → v ≡ rowsVerdict t (h .rows) bytes → RecordJudged t bytes v
       unfolding verdictOf
-      verdict-rows = rw (head, good, le-leb _ _ reaches)
+      verdict-rows e = record { says = e ∙ rw (head, good, le-leb _ _ reaches) }

@@ -1,4 +1,3 @@
-pub mod First
+pub mod rule
 pub mod Value
-pub mod Verdict
 pub mod Tables

@@ -6,11 +6,12 @@ use Prim.Native.Nat.{ℕ, _≤_, _<_}
 use native.Mathlib.Omega.{arith}
 use lib.IntN.{ℤ}
 use lib.ListN.{length}
-use Rattle.layout.specs.Layout.{mostRows, linesBase}
-use Rattle.layout.specs.Row.{rowAt}
+use Rattle.layout.specs.rule.Layout.{mostRows, linesBase}
+use Rattle.layout.specs.rule.Row.{rowAt}
 use Rattle.readings.specs.Ready.{RowReady, ready-of}
-use Rattle.sound.specs.Sound.{wellFormed}
-use Rattle.sound.specs.Rows.{rowsOf, lengthOf, parts, row-facts}
+use Rattle.sound.specs.rule.Sound.{wellFormed}
+use Rattle.sound.specs.rule.Rows.{rowsOf, lengthOf}
+use Rattle.sound.specs.Rows.{parts, row-facts}
 
 pub record TableReady (t : List ℤ) (v size : ℕ) : Type 0 where
   pub few : v ≤ mostRows

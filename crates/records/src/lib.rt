@@ -4,9 +4,10 @@ ghost use mathlib.Core.Path.{_≡_};
 ghost use Prim.Native.Nat.{_-_, _≤_, _<_};
 ghost use lib.ListN.{length};
 ghost use Rattle.readings.specs.Ready.{Plain};
-ghost use Rattle.records.specs.First.{firstFrom, lowAt, badRow};
-ghost use Rattle.records.specs.Value.{ValueRead};
-ghost use Rattle.records.specs.Verdict.{judgedAs, rowsVerdict, verdictOf};
+ghost use Rattle.lows.specs.rule.Lows.{lowAt};
+ghost use Rattle.records.specs.rule.First.{firstFrom, badRow};
+ghost use Rattle.records.specs.rule.Value.{said, ValueRead};
+ghost use Rattle.records.specs.rule.Verdict.{judgedAs, rowsVerdict, RecordJudged};
 ghost use Rattle.records.specs.Tables.{TableReady};
 use layout::Header;
 use layout::Row;
@@ -84,7 +85,7 @@ pub fn judge_rows(t: &[i64], rows: usize, bytes: &[u8], scratch: &mut [u8]) -> J
 
 // Judges a whole record by a table.
 pub fn judge_record(t: &[i64], bytes: &[u8]) -> Judged
-    ensures { λ r. ⌜ judgedAs r ≡ verdictOf (now (t .entry)) (now (bytes .entry)) ⌝ }
+    ensures { λ r. ⌜ RecordJudged (now (t .entry)) (now (bytes .entry)) (judgedAs r) ⌝ }
 {
     if sound::well_formed(t) {
         let h = Header::read(t);
@@ -104,7 +105,7 @@ pub fn judge_record(t: &[i64], bytes: &[u8]) -> Judged
 
 // Reads row i of a record by a table. A set fills the start of the list; on every other answer the list is as it was.
 pub fn read_value(t: &[i64], i: usize, bytes: &[u8], list: &mut [i64]) -> Answer
-    ensures { λ r. ⌜ ValueRead (now (t .entry)) i (now (bytes .entry)) (now (list .entry)) (now (list .exit)) r ⌝ }
+    ensures { λ r. ⌜ ValueRead (now (t .entry)) i (now (bytes .entry)) (now (list .entry)) (now (list .exit)) (said r) ⌝ }
 {
     if sound::well_formed(t) {
         let h = Header::read(t);

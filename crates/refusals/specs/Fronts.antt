@@ -11,7 +11,7 @@ use Rattle.tokens.specs.declared.Choice.the-variants.{Taken, Left}
 use Rattle.tokens.specs.declared.Quoted.{Quoted}
 use Rattle.tokens.specs.Gap.{left}
 use Rattle.tokens.specs.Token.{choiceOf, wordHere, wordOn, stringOn, pastString}
-use Rattle.statements.specs.Words.{DATE, TIME, ORIGIN, USER, STANDARD, NAMES, SURVEY, TITLE}
+use Rattle.statements.specs.rule.Words.{DATE, TIME, ORIGIN, USER, STANDARD, NAMES, SURVEY, TITLE}
 use Rattle.statements.specs.Opening.{openingOf}
 use Rattle.statements.specs.Note.{notesOn}
 use Rattle.heading.specs.declared.Heading.{Heading}

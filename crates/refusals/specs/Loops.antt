@@ -1,6 +1,6 @@
 -- What each step of a loop keeps, the loop keeps.
 use Prim.Native.Nat.{ℕ, zero, suc}
-use Rattle.scan.specs.Loop.{Next, Again, Done, onNext, loopOf}
+use Rattle.scan.specs.rule.Loop.{Next, Again, Done, onNext, loopOf}
 
 -- of a step: P where it goes on, Q where it is done
 abbrev pub Onward : {S A : Type 0} → (S → Type 0) → (A → Type 0) → Next S A → Type 0

@@ -1,5 +1,5 @@
 -- Every refusal of a definition has a number of the table, 1 to 10, and its place lies in the text or is its length.
-use mathlib.Core.Path.{_≡_}
+use mathlib.Core.Path.{_≡_, refl}
 use mathlib.Core.List.{List, [], _∷_, _++_}
 use Prim.Native.Nat.{ℕ, zero, suc, _+_, _-_, _≤_, _<_}
 use native.Mathlib.Omega.{arith}
@@ -9,19 +9,22 @@ use Rattle.tokens.specs.declared.Reading.{Reading}
 use Rattle.tokens.specs.declared.Reading.the-variants.{At, Refused}
 use Rattle.tokens.specs.declared.Choice.{Choice}
 use Rattle.tokens.specs.declared.Choice.the-variants.{Taken, Left}
-use Rattle.tokens.specs.Gap.{fault}
+use Rattle.tokens.specs.rule.Gap.{fault}
 use Rattle.tokens.specs.Token.{choiceOf, wordOn}
-use Rattle.statements.specs.Words.{END, RECORD, SURVEY, SSS}
+use Rattle.statements.specs.rule.Words.{END, RECORD, SURVEY, SSS}
 use Rattle.statements.specs.Note.{notesOn, statementOn}
 use Rattle.heading.specs.Heading.{frontOn}
-use Rattle.names.specs.Standard.{nameFault}
-use Rattle.survey.specs.Survey.{Variable, linesAll, identMet, tableOf}
+use Rattle.names.specs.rule.Standard.{nameFault}
+use Rattle.measures.specs.Survey.{Variable, linesAll, identMet, tableOf}
 use Rattle.entries.specs.Entry.{Entry, entryOf}
 use Rattle.entries.specs.Entry as entry
-use Rattle.definition.specs.Definition.{Variables, Course, course, endOr, entered, variableStep, variablesFrom, endsOn}
-use Rattle.definition.specs.Definition.{Read, Whole, Faulty, ended, closed, surveyOf, namesOf, quoteAt}
-use Rattle.definition.specs.Definition.{Outcome, Built, Refusal, fitting, named, judged, outcomeOf, answerOf}
-use Rattle.definition.specs.Definition as variables
+use Rattle.definition.specs.Books.{Variables, Course, course, endOr, entered, variableStep, variablesFrom, endsOn}
+use Rattle.definition.specs.Books.{Read, Whole, Faulty, ended, closed, surveyOf, namesOf, quoteAt}
+use Rattle.definition.specs.Books.{Outcome, Built, Refusal, fitting, named, judged, outcomeIn}
+use Rattle.definition.specs.rule.Definition as rule
+use Rattle.definition.proofs.Bridge.{SameOutcome, outcome-same}
+use Rattle.definition.proofs.Bridge as bridge
+use Rattle.definition.specs.Books as variables
 use Rattle.definition.specs.declared.Answer.the-variants as answer
 use Rattle.refusals.specs.Loops.{Onward, loop-keeps}
 use Rattle.refusals.specs.Scanned.{either}
@@ -135,13 +138,21 @@ module _ (d : List ℕ) where
         (either RefusalStands (ltb i (length l)) (omega arith) (fitting-stands l)) (fitting-stands l)
     judged-stands (Faulty f) h = omega arith
 
-    outcome-stands : RefusalStands (outcomeOf d n)
-    unfolding outcomeOf
+    outcome-stands : RefusalStands (outcomeIn d n)
+    unfolding outcomeIn
     outcome-stands = either RefusalStands (ltb 1048576 (length d)) (omega arith) (judged-stands (surveyOf d) survey-of)
 
-    module _ (k p : ℕ) (refused : outcomeOf d n ≡ Refusal k p) where
+    -- a refusal of the rule is one of the code's books
+    module _ (k p : ℕ) (refused : rule.outcomeOf d n ≡ rule.Refusal k p) where
       stands : RefusalStands (Refusal k p)
-      stands = rw refused at outcome-stands
+      stands = by refl refused (outcome-same d n) where
+        by : {o : Outcome} {q : rule.Outcome} → outcomeIn d n ≡ o → q ≡ rule.Refusal k p → SameOutcome d o q → RefusalStands (Refusal k p)
+        by i j (bridge.built s) = let z : _≡_ {A = ℕ} 0 1 = cc in absurd (omega arith)
+        by i j (bridge.refused {k = a} {p = b}) =
+            let u : a ≡ k = cc in
+            let v : b ≡ p = cc in
+            let h : RefusalStands (Refusal a b) = rw i at outcome-stands in
+            rw (u, v) at h
 
       pub refusal-named : (1 ≤ k) × (k ≤ 10)
       refusal-named = (stands .0, stands .1)
@@ -150,9 +161,9 @@ module _ (d : List ℕ) where
       refusal-placed = stands .2
 
 -- what the call answers as refused is such a refusal
-pub answered : (d : List ℕ) (n k p : ℕ) → answerOf (outcomeOf d n) ≡ answer.Refused k p → outcomeOf d n ≡ Refusal k p
-unfolding answerOf
-answered d n k p = by (outcomeOf d n) where
-  by : (o : Outcome) → answerOf o ≡ answer.Refused k p → o ≡ Refusal k p
-  by (Built l) e = let z : _≡_ {A = ℕ} 0 1 = cc in absurd (omega arith)
-  by (Refusal number place) e = cc
+pub answered : (d : List ℕ) (n k p : ℕ) → rule.answerOf (rule.outcomeOf d n) ≡ answer.Refused k p → rule.outcomeOf d n ≡ rule.Refusal k p
+unfolding rule.answerOf
+answered d n k p = by (rule.outcomeOf d n) where
+  by : (o : rule.Outcome) → rule.answerOf o ≡ answer.Refused k p → o ≡ rule.Refusal k p
+  by (rule.Built l) e = let z : _≡_ {A = ℕ} 0 1 = cc in absurd (omega arith)
+  by (rule.Refusal number place) e = cc

@@ -5,10 +5,10 @@ use Prim.Native.Nat.{ℕ, _+_, _-_, _≤_, _<_}
 use native.Mathlib.Omega.{arith}
 use lib.Dec.{eqb, ltb}
 use lib.ListN.{length, drop, length-drop}
-use Rattle.ascii.specs.Class.{classOf, upperOf}
-use Rattle.scan.specs.Text.{Text, stop, sign, kept, text, placeOf}
-use Rattle.scan.specs.Number.{runOf}
-use Rattle.scan.specs.Word.{wordOf, wordAt}
+use Rattle.ascii.specs.rule.Class.{classOf, upperOf}
+use Rattle.scan.specs.rule.Text.{Text, stop, sign, kept, text, placeOf}
+use Rattle.scan.specs.rule.Number.{runOf}
+use Rattle.scan.specs.rule.Word.{wordOf, wordAt}
 use Rattle.scan.specs.declared.Word.{Word}
 use Rattle.scan.specs.declared.Word.the-variants.{Matched, Not}
 use Rattle.marks.specs.declared.Inside.{Inside}
@@ -17,7 +17,7 @@ use Rattle.marks.specs.declared.Move.{Move}
 use Rattle.marks.specs.declared.Move.the-variants.{Go, Closed, Wrong}
 use Rattle.marks.specs.declared.Skip.{Skip}
 use Rattle.marks.specs.declared.Skip.the-variants.{Past, Unclosed, Bad}
-use Rattle.marks.specs.Marks.{isHex, insideOf, moved, stringOf, Mode, between, within-string, levelsOf, commentOf}
+use Rattle.marks.specs.rule.Marks.{isHex, insideOf, moved, stringOf, Mode, between, within-string, levelsOf, commentOf}
 
 -- what holds of both holds of either
 pub either : {A : Type 0} (P : A → Type 0) (b : Bool) {x y : A} → P x → P y → P (cond b x y)

@@ -4,9 +4,9 @@ use Prim.Native.Nat.{ℕ, suc, _≤_, _%_}
 use native.Mathlib.Omega.{arith}
 use lib.Dec.{eqb, ltb}
 use lib.ListN.{length}
-use Rattle.scan.specs.Text.{text, placeOf}
-use Rattle.scan.specs.Number.{isValue, runOf}
-use Rattle.scan.specs.Word.{wordAt}
+use Rattle.scan.specs.rule.Text.{text, placeOf}
+use Rattle.scan.specs.rule.Number.{isValue, runOf}
+use Rattle.scan.specs.rule.Word.{wordAt}
 use Rattle.scan.specs.declared.Word.{Word}
 use Rattle.scan.specs.declared.Word.the-variants.{Matched, Not}
 use Rattle.tokens.specs.declared.Reading.{Reading}
@@ -24,8 +24,8 @@ use Rattle.statements.specs.declared.Stated.{Stated}
 use Rattle.statements.specs.declared.Stated.the-variants as stated
 use Rattle.statements.specs.declared.Spreading.{Spreading}
 use Rattle.statements.specs.declared.Spreading.the-variants as spreading
-use Rattle.statements.specs.Words.{SSS, VERSION, ONE-ONE, RECORD, NOTE, TYPE, SINGLE, MULTIPLE, QUANTITY, CHARACTER, LOGICAL}
-use Rattle.statements.specs.Words.{POSITION, TO, OF, SIZE}
+use Rattle.statements.specs.rule.Words.{SSS, VERSION, ONE-ONE, RECORD, NOTE, TYPE, SINGLE, MULTIPLE, QUANTITY, CHARACTER, LOGICAL}
+use Rattle.statements.specs.rule.Words.{POSITION, TO, OF, SIZE}
 use Rattle.statements.specs.Note.{pastNote, noteStep, notesHere, notesOn, statementOn, textOn}
 use Rattle.statements.specs.Opening.{whole, versionHere, openingOf, recordOn}
 use Rattle.statements.specs.Kinds.{or, last, typeHere, typeOn}

@@ -5,18 +5,19 @@ use Prim.Native.Nat.{ℕ, suc, _-_, _≤_, _<_}
 use native.Mathlib.Omega.{arith}
 use lib.Dec.{eqb}
 use lib.ListN.{length}
-use Rattle.ascii.specs.Class.{classOf}
-use Rattle.scan.specs.Text.{Text, stop, sign, text}
-use Rattle.scan.specs.Number.{isSpace, isDigit, isValue, runOf, digitsFrom}
-use Rattle.scan.specs.Word.{wordAt}
-use Rattle.scan.specs.Loop.{Next}
+use Rattle.ascii.specs.rule.Class.{classOf}
+use Rattle.scan.specs.rule.Text.{Text, stop, sign, text}
+use Rattle.scan.specs.rule.Number.{isSpace, isDigit, isValue, runOf}
+use Rattle.scan.specs.Number.{digitsFrom}
+use Rattle.scan.specs.rule.Word.{wordAt}
+use Rattle.scan.specs.rule.Loop.{Next}
 use Rattle.scan.specs.declared.Word.{Word}
 use Rattle.scan.specs.declared.Word.the-variants.{Matched, Not}
 use Rattle.scan.specs.declared.Digits.{Digits}
 use Rattle.marks.specs.declared.Inside.the-variants.{Plain}
 use Rattle.marks.specs.declared.Skip.{Skip}
 use Rattle.marks.specs.declared.Skip.the-variants.{Past, Unclosed, Bad}
-use Rattle.marks.specs.Marks.{stringOf, commentOf}
+use Rattle.marks.specs.rule.Marks.{stringOf, commentOf}
 use Rattle.tokens.specs.declared.Fault.{Fault}
 use Rattle.tokens.specs.declared.Reading.{Reading}
 use Rattle.tokens.specs.declared.Reading.the-variants.{At, Refused}
@@ -30,7 +31,8 @@ use Rattle.tokens.specs.declared.Amount.{Amount}
 use Rattle.tokens.specs.declared.Amount.the-variants as amount
 use Rattle.tokens.specs.declared.Phrase.{Phrase}
 use Rattle.tokens.specs.declared.Phrase.the-variants as phrase
-use Rattle.tokens.specs.Gap.{gapSkip, gapStep, gapAt, then, gapOn, spacesOn}
+use Rattle.tokens.specs.rule.Gap.{gapSkip, gapStep, gapAt}
+use Rattle.tokens.specs.Gap.{then, gapOn, spacesOn}
 use Rattle.tokens.specs.Token.{ofWord, wordHere, wordOn, ofChoice, choiceOf, ofDigits, numberHere, numberOn, pastNumber}
 use Rattle.tokens.specs.Token.{markOf, valueAt, ofValue, valueHere, valueOn, pastValue}
 use Rattle.tokens.specs.Token.{ofSkip, stringIn, phraseOn, stringOn, pastString, letterIn, letterOn}

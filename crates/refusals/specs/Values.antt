@@ -18,9 +18,10 @@ use Rattle.tokens.specs.declared.Amount.{Amount}
 use Rattle.tokens.specs.declared.Amount.the-variants as amount
 use Rattle.tokens.specs.declared.Phrase.{Phrase}
 use Rattle.tokens.specs.declared.Phrase.the-variants as phrase
-use Rattle.tokens.specs.Gap.{fault, gapOn}
+use Rattle.tokens.specs.rule.Gap.{fault}
+use Rattle.tokens.specs.Gap.{gapOn}
 use Rattle.tokens.specs.Token.{choiceOf, wordHere, wordOn, valueHere, valueOn, pastValue, stringOn, pastString}
-use Rattle.statements.specs.Words.{VALUES, TO, END, WITH, SPECIAL}
+use Rattle.statements.specs.rule.Words.{VALUES, TO, END, WITH, SPECIAL}
 use Rattle.statements.specs.Note.{notesOn, statementOn}
 use Rattle.values.specs.declared.Block.{Block}
 use Rattle.values.specs.declared.Said.{Said}

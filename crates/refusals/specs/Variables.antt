@@ -15,7 +15,7 @@ use Rattle.tokens.specs.declared.Number.{Number}
 use Rattle.tokens.specs.declared.Number.the-variants as number
 use Rattle.tokens.specs.declared.Phrase.{Phrase}
 use Rattle.tokens.specs.declared.Phrase.the-variants as phrase
-use Rattle.tokens.specs.Gap.{fault}
+use Rattle.tokens.specs.rule.Gap.{fault}
 use Rattle.tokens.specs.Token.{choiceOf, numberOn, pastNumber, pastString}
 use Rattle.statements.specs.declared.Typed.{Typed}
 use Rattle.statements.specs.declared.Typed.the-variants as typed
@@ -23,7 +23,7 @@ use Rattle.statements.specs.declared.Stated.{Stated}
 use Rattle.statements.specs.declared.Stated.the-variants as stated
 use Rattle.statements.specs.declared.Spreading.{Spreading}
 use Rattle.statements.specs.declared.Spreading.the-variants as spreading
-use Rattle.statements.specs.Words.{VARIABLE, NAME, LABEL, SPREAD, END}
+use Rattle.statements.specs.rule.Words.{VARIABLE, NAME, LABEL, SPREAD, END}
 use Rattle.statements.specs.Note.{notesOn, statementOn, textOn}
 use Rattle.statements.specs.Kinds.{typeOn}
 use Rattle.statements.specs.Position.{positionOn}
@@ -37,9 +37,10 @@ use Rattle.variables.specs.declared.Headed.{Headed}
 use Rattle.variables.specs.declared.Headed.the-variants as headed
 use Rattle.variables.specs.Ident.{wrongIdent, judgeIdent, identOn}
 use Rattle.variables.specs.Head.{pastType, joinTitles, joinHead, headOn}
-use Rattle.variables.specs.Rest.{Telling, Told, joinValues, valuesRest, joinSize, joinNothing, spreadOr, optional, spreadThen, restOf}
+use Rattle.variables.specs.Rest.{Telling, Told, joinValues, valuesRest, joinSize, joinNothing, spreadOr, optional, spreadThen}
+use Rattle.variables.specs.Rest.{restOf}
 use Rattle.variables.specs.Rest as told
-use Rattle.survey.specs.Survey.{Variable, holdsIn}
+use Rattle.measures.specs.Survey.{Variable, holdsIn}
 use Rattle.entries.specs.Entry.{Entry, variable, endVariable, ended, toldThen, heldBy, restThen, headThen, entryOf}
 use Rattle.entries.specs.Entry as entry
 use Rattle.refusals.specs.Scanned.{either}

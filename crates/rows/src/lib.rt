@@ -3,9 +3,10 @@
 ghost use mathlib.Core.Path.{_≡_};
 ghost use Prim.Native.Nat.{_+_, _≤_};
 ghost use lib.ListN.{length};
-ghost use Rattle.cells.specs.Cell.{pasted};
-ghost use Rattle.layout.specs.Layout.{rowSize, headerSize};
-ghost use Rattle.rows.specs.Cells.{SmallRow, SmallHeader, rowCells, headerCells};
+ghost use Rattle.cells.specs.rule.Cell.{pasted};
+ghost use Rattle.layout.specs.rule.Layout.{rowSize, headerSize};
+ghost use Rattle.rows.specs.Cells.{SmallRow, SmallHeader};
+ghost use Rattle.rows.specs.rule.Cells.{rowCells, headerCells};
 use layout::Columns;
 use layout::Header;
 use layout::Row;

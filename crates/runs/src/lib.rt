@@ -2,8 +2,8 @@
 ghost use mathlib.Core.Path.{_≡_};
 ghost use Prim.Native.Nat.{_+_, _≤_};
 ghost use lib.ListN.{length, take};
-ghost use Rattle.places.specs.Places.{put, run};
-ghost use Rattle.fields.specs.Field.{spaces};
+ghost use Rattle.places.specs.rule.Places.{put, run};
+ghost use Rattle.fields.specs.rule.Field.{spaces};
 
 // The first k bytes of a source, from the place at on.
 pub fn copy_in(out: &mut [u8], at: usize, src: &[u8], k: usize)

@@ -6,21 +6,20 @@ use Prim.Native.Nat.{_+_}
 use lib.Dec.{eqb, leb}
 use lib.IntN.{ℤ, pos, negsuc}
 use lib.ListN.{length, set, take}
-use Rattle.ascii.specs.Tens.{countFrom, digitsOf}
-use Rattle.below.specs.Below.{_and_, allBelow, sumBelow, maxBelow}
-use Rattle.cells.specs.Cell.{countOf, signedOf, eqZ}
-use Rattle.layout.specs.Layout.{headerOf, columnsAt, lineAt}
-use Rattle.layout.specs.Row.{rowOf, rowAt, kindOf, spreadOf}
+use Rattle.ascii.specs.rule.Tens.{countFrom, digitsOf}
+use Rattle.below.specs.rule.Below.{_and_, allBelow, sumBelow, maxBelow}
+use Rattle.cells.specs.rule.Cell.{countOf, signedOf, eqZ}
+use Rattle.layout.specs.rule.Layout.{headerOf, columnsAt, lineAt}
+use Rattle.layout.specs.rule.Row.{rowOf, rowAt, kindOf, spreadOf}
 use Rattle.layout.specs.declared.Columns.{Columns}
 use Rattle.layout.specs.declared.Row.{Row}
-use Rattle.widths.specs.Width.{need, tailOf, wholeDigits, quantityWidth, lowest, highest}
-use Rattle.strides.specs.Stride.{numberNew, allDiffer}
-use Rattle.sound.specs.Sound.{headCounts, headSums, typeKnown, decimalsFew, flagsPlain, lackedZero}
-use Rattle.sound.specs.Sound.{pointGiven, valuesGiven, identGood, positionGood, subfieldsGood, textsGood}
-use Rattle.sound.specs.Sound.{rangeLacked, rangeGood, linesPlain, valuesFit, valueAt, rangeWidth, widest}
-use Rattle.sound.specs.Sound.{widthGood, roomGood, linesGood, valuesGood, widthsGood, countsGood}
-use Rattle.sound.specs.Sound.{placesGood, columnsGood, rowGood, columnsOf, linesBefore, highestFinish, identsDiffer, rowsGood}
-use Rattle.sound.specs.Sound.{wellFormed}
+use Rattle.widths.specs.rule.Width.{need, tailOf, wholeDigits, quantityWidth, lowest, highest}
+use Rattle.strides.specs.rule.Stride.{numberNew, allDiffer}
+use Rattle.sound.specs.rule.Sound.{headCounts, headSums, typeKnown, decimalsFew, flagsPlain, lackedZero, pointGiven, valuesGiven}
+use Rattle.sound.specs.rule.Sound.{identGood, positionGood, subfieldsGood, textsGood, rangeLacked, rangeGood, linesPlain, valuesFit}
+use Rattle.sound.specs.rule.Sound.{valueAt, rangeWidth, widest, widthGood, roomGood, linesGood, valuesGood, widthsGood, countsGood}
+use Rattle.sound.specs.rule.Sound.{placesGood, columnsGood, rowGood, columnsOf, linesBefore, highestFinish, identsDiffer, rowsGood}
+use Rattle.sound.specs.rule.Sound.{wellFormed}
 
 -- ---- a sound table: a SINGLE from 1 to 12; a bitstring of 1, 2 and 4; a spread of two subfields of three bytes, from 1 to 9; a quantity
 -- from -1.0 to 99.5 with 999.0 on a line; a text of ten bytes; a truth

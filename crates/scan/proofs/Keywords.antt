@@ -7,11 +7,12 @@ use Prim.Native.Nat.{ℕ, _+_, _-_, _≤_}
 use native.Mathlib.Omega.{arith}
 use lib.Dec.{ltb, leb, eqb}
 use Rattle.below.specs.Below.{holds-not}
-use Rattle.ascii.specs.Class.{upperOf}
+use Rattle.ascii.specs.rule.Class.{upperOf}
 use borrow.Author.Tests.{lt-ltb, le-ltb, le-leb, ltb-true, ltb-false, leb-true, leb-false, eqb-true, eq-eqb}
-use Rattle.scan.specs.Text.{Text, stop, sign, text}
+use Rattle.scan.specs.rule.Text.{Text, stop, sign, text}
 use Rattle.scan.specs.declared.Word.the-variants.{Matched, Not}
-use Rattle.scan.specs.Word.{wordOf, wordAt, Either, capital, small, Written, none, one, capitals}
+use Rattle.scan.specs.rule.Word.{wordOf, wordAt}
+use Rattle.scan.specs.Word.{Either, capital, small, Written, none, one, capitals}
 
 record Capital (x : ℕ) (w : List ℕ) : Type 0 where
   low : 65 ≤ x

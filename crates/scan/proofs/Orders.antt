@@ -8,14 +8,15 @@ use lib.Dec.{ltb, leb, eqb}
 use lib.ListN.{length}
 use borrow.Author.Tests.{lt-ltb, le-ltb, ltb-true, ltb-false, eqb-true, eqb-false, eq-eqb, ne-eqb, le-leb, lt-leb, leb-true, leb-false}
 use Rattle.below.specs.Below.{holds-not}
-use Rattle.ascii.specs.Class.{classOf, within}
-use Rattle.scan.specs.Text.{Text, stop, sign, text}
+use Rattle.ascii.specs.rule.Class.{classOf, within}
+use Rattle.scan.specs.rule.Text.{Text, stop, sign, text}
 use Rattle.scan.specs.declared.Figure.{Figure}
 use Rattle.scan.specs.declared.Figure.the-variants.{One, Nothing}
 use Rattle.scan.specs.declared.Order.{Order}
 use Rattle.scan.specs.declared.Order.the-variants.{Less, Same, More}
-use Rattle.scan.specs.Number.{isDigit, runOf, bytesOf, decimalOf}
-use Rattle.scan.specs.Order.{digitsTo, valueOf, figureOf, stripped, orderThen, isLess, lessOf}
+use Rattle.scan.specs.rule.Number.{isDigit, runOf, bytesOf, decimalOf}
+use Rattle.scan.specs.Order.{digitsTo, valueOf}
+use Rattle.scan.specs.Order.{figureOf, stripped, orderThen, isLess, lessOf}
 use Rattle.scan.proofs.Texts.{From, at-stop, at-sign, from-text}
 
 -- a list of digits

@@ -7,9 +7,11 @@ use native.Mathlib.Omega.{arith}
 use lib.Dec.{ltb}
 use lib.ListN.{length}
 use borrow.Author.Tests.{lt-ltb, le-ltb, ltb-true, ltb-false}
-use Rattle.scan.specs.Text.{Text, stop, sign}
+use Rattle.scan.specs.rule.Text.{Text, stop, sign}
 use Rattle.scan.specs.declared.Digits.{Digits}
-use Rattle.scan.specs.Number.{runOf, bytesOf, decimalOf, capped, isDigit, pushOf, digitsFrom}
+use Rattle.scan.specs.rule.Number.{runOf, bytesOf, decimalOf, isDigit}
+use Rattle.scan.specs.Number.{capped, digitsFrom}
+use Rattle.scan.specs.Number.{pushOf}
 
 module _ (f : ℕ → Bool) (n : ℕ) {t : Text} where
   pub run-next : {p b : ℕ} {u : Text} → t ≡ sign p b u → f b ≡ true → runOf f n t ≡ runOf f (p + 1) u

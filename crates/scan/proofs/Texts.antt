@@ -9,8 +9,9 @@ use lib.Dec.{eqb}
 use lib.ListN.{length, getD, drop, drop-of-length-le}
 use lib.Seq.{drop-cons, drop-nil}
 use borrow.Author.Tests.{eq-eqb, ne-eqb, eqb-false, lt-ltb, le-ltb}
-use Rattle.ascii.specs.Class.{classOf, within}
-use Rattle.scan.specs.Text.{Text, stop, sign, kept, text, stepOf, placeOf}
+use Rattle.ascii.specs.rule.Class.{classOf, within}
+use Rattle.scan.specs.rule.Text.{Text, stop, sign, kept, text, placeOf}
+use Rattle.scan.specs.Text.{stepOf}
 use Rattle.scan.specs.declared.Step.{Step}
 use Rattle.scan.specs.declared.Step.the-variants.{Byte, End}
 

@@ -9,9 +9,9 @@ use lib.Dec.{eqb, ltb, leb}
 use lib.ListN.{length, getD, drop, drop-of-length-le}
 use lib.Seq.{drop-cons}
 use borrow.Author.Tests.{eq-eqb, ne-eqb, eqb-true, ltb-false, leb-true}
-use Rattle.scan.specs.Text.{Text, stop, sign, text}
-use Rattle.scan.specs.Word.{wordOf}
-use Rattle.ascii.specs.Class.{upperOf}
+use Rattle.scan.specs.rule.Text.{Text, stop, sign, text}
+use Rattle.scan.specs.rule.Word.{wordOf}
+use Rattle.ascii.specs.rule.Class.{upperOf}
 use Rattle.below.specs.Below.{and-left, and-right}
 use Rattle.scan.specs.declared.Word.the-variants.{Matched, Not}
 use Rattle.scan.proofs.Texts.{text-kept, kept-byte}

@@ -1,5 +1,5 @@
+pub mod rule
 pub mod Text
 pub mod Word
 pub mod Number
 pub mod Order
-pub mod Loop

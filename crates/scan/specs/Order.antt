@@ -1,10 +1,11 @@
+-- THE CODE'S BOOKS, which contracts inside the library name; crate `bridge` proves them equal to the rule of crate `reading`.
 -- Which of two numbers is the smaller, by the digits that they are written with and without a limit to their length.
-use Prim.Native.Nat.{ℕ, _+_, _-_}
-use mathlib.Core.Bool.{Bool, true, false, cond}
+use Prim.Native.Nat.{ℕ, _+_}
+use mathlib.Core.Bool.{cond, Bool, true, false}
 use mathlib.Core.List.{List, [], _∷_}
-use lib.Dec.{ltb, leb, eqb}
-use Rattle.scan.specs.Text.{Text, stop, sign, text}
-use Rattle.scan.specs.Number.{isDigit, decimalOf}
+use lib.Dec.{leb, ltb, eqb}
+use Rattle.scan.specs.rule.Text.{Text, stop, sign, text}
+use Rattle.scan.specs.rule.Number.{isDigit, decimalOf}
 use Rattle.scan.specs.declared.Figure.{Figure}
 use Rattle.scan.specs.declared.Figure.the-variants.{One, Nothing}
 use Rattle.scan.specs.declared.Order.{Order}
@@ -13,7 +14,7 @@ use Rattle.scan.specs.declared.Order.the-variants.{Less, Same, More}
 -- the digits of a text that stand before the place `end`, a sign and a point left out
 unfoldable pub digitsTo : ℕ → Text → List ℕ
 digitsTo end (stop p) = []
-digitsTo end (sign p b t) = cond (leb end p) [] (cond (isDigit b) (b ∷ digitsTo end t) (digitsTo end t))
+digitsTo end (sign p b t) = let rest = digitsTo end t in cond (leb end p) [] (cond (isDigit b) (b ∷ rest) rest)
 
 -- the number that the digits of the file d from `at` to `end` say
 unfoldable pub valueOf : List ℕ → ℕ → ℕ → ℕ

@@ -5,11 +5,16 @@ ghost use mathlib.Core.Bool.{true};
 ghost use Prim.Native.Nat.{_+_, _-_, _≤_};
 ghost use lib.ListN.{length};
 ghost use lib.Dec.{ltb};
-ghost use Rattle.ascii.specs.Class.{Classes, upperOf};
-ghost use Rattle.scan.specs.Text.{text, stepOf, placeOf};
-ghost use Rattle.scan.specs.Word.{wordAt};
-ghost use Rattle.scan.specs.Number.{isSpace, isDigit, isValue, runOf, pushOf, digitsFrom};
-ghost use Rattle.scan.specs.Order.{figureOf, digitsTo, stripped, orderThen, isLess, valueOf};
+ghost use Rattle.ascii.specs.Class.{Classes};
+ghost use Rattle.ascii.specs.rule.Class.{upperOf};
+ghost use Rattle.scan.specs.rule.Text.{text, placeOf};
+ghost use Rattle.scan.specs.Text.{stepOf};
+ghost use Rattle.scan.specs.rule.Word.{wordAt};
+ghost use Rattle.scan.specs.rule.Number.{isSpace, isDigit, isValue, runOf};
+ghost use Rattle.scan.specs.Number.{digitsFrom};
+ghost use Rattle.scan.specs.Number.{pushOf};
+ghost use Rattle.scan.specs.Order.{figureOf, stripped, orderThen, isLess};
+ghost use Rattle.scan.specs.Order.{digitsTo, valueOf};
 
 // The next byte that is not dropped, with its place and the place after it; or the end.
 pub enum Step {

@@ -8,15 +8,16 @@ use native.Mathlib.Numerals.{add-one}
 use lib.IntN.{ℤ, pos}
 use lib.ListN.{length, getD, set, drop, drop-of-length-le}
 use lib.Seq.{drop-cons, set-set}
-use Rattle.places.specs.Places.{put, run, Apart}
+use Rattle.places.specs.rule.Places.{put, run, Apart}
 use Rattle.places.specs.Laws.{length-run, out-run, commute}
-use Rattle.fields.specs.Legal.{legal}
-use Rattle.fields.specs.Field.{spaces, isMember, bitBytes}
+use Rattle.fields.specs.rule.Legal.{legal}
+use Rattle.fields.specs.rule.Field.{spaces, isMember, bitBytes}
 use Rattle.fieldlaws.specs.RisingLaws.{Rising, none, skip, keep, not-below}
 use Rattle.fieldlaws.specs.KeptLaws.{other-member}
-use Rattle.cells.specs.Cell.{countOf, same-self}
+use Rattle.cells.specs.rule.Cell.{countOf}
+use Rattle.cells.specs.Cell.{same-self}
 use Rattle.setbytes.specs.Sets.{withMembers}
-use Rattle.fields.specs.Row.{defined, bitPlaces}
+use Rattle.fields.specs.rule.Row.{defined, bitPlaces}
 use Rattle.layout.specs.declared.Row.{Row}
 use Rattle.sets.specs.Full.{hasAll, always, all-defined}
 

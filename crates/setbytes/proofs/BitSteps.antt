@@ -9,9 +9,9 @@ use lib.IntN.{ℤ, pos}
 use lib.ListN.{length, set, drop}
 use lib.Seq.{drop-drop}
 use Rattle.cells.specs.Cell.{same-self}
-use Rattle.places.specs.Places.{put}
-use Rattle.fields.specs.Field.{spaces, isMember, bitBytes}
-use Rattle.fields.specs.Row.{defined, bitPlaces}
+use Rattle.places.specs.rule.Places.{put}
+use Rattle.fields.specs.rule.Field.{spaces, isMember, bitBytes}
+use Rattle.fields.specs.rule.Row.{defined, bitPlaces}
 use Rattle.fieldlaws.specs.Tests.{counts-differ}
 use Rattle.fieldlaws.specs.RisingLaws.{Rising, none, skip, keep, not-below}
 use Rattle.fieldlaws.specs.KeptLaws.{other-member}

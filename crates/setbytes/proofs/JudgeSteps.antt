@@ -11,8 +11,8 @@ use lib.ListN.{length, drop, drop-of-length-le}
 use lib.Seq.{drop-cons}
 use lib.Signed.{leZ, ltZ}
 use Rattle.below.specs.Below.{holds-not}
-use Rattle.cells.specs.Cell.{cell}
-use Rattle.fields.specs.Field.{risingFrom, allLegal, setFits}
+use Rattle.cells.specs.rule.Cell.{cell}
+use Rattle.fields.specs.rule.Field.{risingFrom, allLegal, setFits}
 
 not-rising : (a b : ℤ) → leZ b a ≡ true → ltZ a b ≡ false
 not-rising (pos a) (pos b) e = le-ltb a b (leb-true b a e)

@@ -7,11 +7,11 @@ use native.Mathlib.Omega.{arith}
 use lib.IntN.{ℤ, pos}
 use lib.ListN.{length, getD, drop, length-append}
 use lib.Seq.{getD-drop, drop-drop}
-use Rattle.places.specs.Places.{put, run}
+use Rattle.places.specs.rule.Places.{put, run}
 use Rattle.places.specs.Laws.{put-append, length-run}
-use Rattle.fields.specs.Number.{codeBytes}
-use Rattle.fields.specs.Field.{spaces, spreadBytes}
-use Rattle.fields.specs.Row.{spreadPlaces}
+use Rattle.fields.specs.rule.Number.{codeBytes}
+use Rattle.fields.specs.rule.Field.{spaces, spreadBytes}
+use Rattle.fields.specs.rule.Row.{spreadPlaces}
 use Rattle.fieldlaws.specs.NumberLaws.{length-code}
 use Rattle.fieldlaws.specs.TextLaws.{length-spaces}
 

@@ -4,8 +4,8 @@ use mathlib.Core.Bool.{Bool, false}
 use mathlib.Core.List.{List, [], _∷_}
 use lib.IntN.{ℤ, pos}
 use lib.ListN.{getD, set}
-use Rattle.cells.specs.Cell.{countOf, eqZ}
-use Rattle.widths.specs.Width.{sizeOf}
+use Rattle.cells.specs.rule.Cell.{countOf, eqZ}
+use Rattle.widths.specs.rule.Width.{sizeOf}
 
 -- n subfields of b bytes lie in a record of len, and each holds w bytes
 pub record Subfields (len start b w n : ℕ) : Type 0 where

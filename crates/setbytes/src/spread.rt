@@ -2,10 +2,10 @@
 ghost use mathlib.Core.Path.{_≡_};
 ghost use Prim.Native.Nat.{_+_, _*_, _≤_};
 ghost use lib.ListN.{length};
-ghost use Rattle.places.specs.Places.{put};
-ghost use Rattle.ascii.specs.Tens.{Tens};
-ghost use Rattle.fields.specs.Field.{spaces, spreadBytes};
-ghost use Rattle.fields.specs.Row.{spreadPlaces};
+ghost use Rattle.places.specs.rule.Places.{put};
+ghost use Rattle.ascii.specs.rule.Tens.{Tens};
+ghost use Rattle.fields.specs.rule.Field.{spaces, spreadBytes};
+ghost use Rattle.fields.specs.rule.Row.{spreadPlaces};
 ghost use Rattle.setbytes.specs.Sets.{Subfields, Small};
 
 // The members in rising order, zeros in the subfields that are left.

@@ -12,15 +12,17 @@ use lib.Dec.{eqb, leb}
 use lib.IntN.{ℤ, pos, negsuc}
 use lib.ListN.{getD}
 use lib.Signed.{leZ}
-use Rattle.below.specs.Below.{allBelow, same-bool, holds-not, and-true, and-left, and-right, all-at, all-of, any-some, any-holds, either-true, or-true}
-use Rattle.cells.specs.Cell.{countOf, eqZ}
+use Rattle.below.specs.rule.Below.{allBelow}
+use Rattle.below.specs.Below.{same-bool, holds-not, and-true, and-left, and-right, all-at, all-of, any-some, any-holds, either-true}
+use Rattle.below.specs.Below.{or-true}
+use Rattle.cells.specs.rule.Cell.{countOf, eqZ}
 use Rattle.cells.specs.Order.{le-join}
 use Rattle.layout.specs.declared.Row.{Row}
-use Rattle.places.specs.Places.{pick}
-use Rattle.fields.specs.Legal.{lineValue, inRange, onLine, legal}
-use Rattle.fields.specs.Number.{allSpaces}
-use Rattle.fields.specs.Field.{allBits}
-use Rattle.fields.specs.Row.{defined, bitPlaces}
+use Rattle.places.specs.rule.Places.{pick}
+use Rattle.fields.specs.rule.Legal.{lineValue, inRange, onLine, legal}
+use Rattle.fields.specs.rule.Number.{allSpaces}
+use Rattle.fields.specs.rule.Field.{allBits}
+use Rattle.fields.specs.rule.Row.{defined, bitPlaces}
 use Rattle.sets.specs.Alike.{oneOf, allOf, allAt, FirstOf, LastOf}
 use Rattle.sets.proofs.MarkLaws.{counts}
 

@@ -11,9 +11,9 @@ use borrow.Author.Tests.{eq-eqb, ne-eqb, eqb-true, eqb-false}
 use lib.Dec.{eqb}
 use lib.IntN.{ℤ, pos}
 use lib.ListN.{length, getD}
-use Rattle.places.specs.Places.{pick}
-use Rattle.fields.specs.Field.{setBits}
-use Rattle.fields.specs.Row.{defined, bitPlaces}
+use Rattle.places.specs.rule.Places.{pick}
+use Rattle.fields.specs.rule.Field.{setBits}
+use Rattle.fields.specs.rule.Row.{defined, bitPlaces}
 
 -- the categories, their bytes and the members from byte i on
 abbrev pub restOf : (ℤ → Bool) → ℕ → ℕ → List ℕ

@@ -7,9 +7,11 @@ use Prim.Native.Nat.{ℕ, _-_, _≤_, _<_}
 use borrow.Author.Tests.{le-leb, lt-leb}
 use lib.IntN.{ℤ}
 use lib.ListN.{length}
-use Rattle.fields.specs.Number.{allSpaces}
-use Rattle.fields.specs.Field.{Field, holds, illegal, missing, members, allBits, setBits, bitsField, allEntries, spreadSet, spreadField}
-use Rattle.sets.specs.Sets.{filledOf, setAnswer, listAfter, ReadSet, isIllegal}
+use Rattle.fields.specs.rule.Number.{allSpaces}
+use Rattle.fields.specs.rule.Field.{Field, holds, illegal, missing, members, allBits, setBits, bitsField, allEntries, spreadSet}
+use Rattle.fields.specs.rule.Field.{spreadField}
+use Rattle.sets.specs.rule.Sets.{filledOf, listAfter, isIllegal}
+use Rattle.sets.specs.Sets.{setAnswer, ReadSet}
 use Rattle.sets.specs.declared.SetRead.the-variants.{Missing, Count, Illegal, Short}
 
 -- ---- answers

@@ -6,8 +6,8 @@ use Prim.Native.Nat.{ℕ, _≤_}
 use lib.Dec.{eqb, leb}
 use lib.IntN.{ℤ, pos}
 use lib.Signed.{leZ}
-use Rattle.places.specs.Places.{pick}
-use Rattle.fields.specs.Row.{defined, bitPlaces}
+use Rattle.places.specs.rule.Places.{pick}
+use Rattle.fields.specs.rule.Row.{defined, bitPlaces}
 
 abbrev pub oneOf : ℕ → ℕ → ℕ → Bool
 oneOf x y b = eqb b x || eqb b y

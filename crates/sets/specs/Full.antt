@@ -9,8 +9,8 @@ use lib.Signed.{leZ}
 use borrow.Author.Tests.{le-leb}
 use Rattle.below.specs.Below.{and-true, and-left, and-right}
 use Rattle.cells.specs.Order.{le-join}
-use Rattle.fields.specs.Legal.{inRange, legal}
-use Rattle.fields.specs.Row.{defined}
+use Rattle.fields.specs.rule.Legal.{inRange, legal}
+use Rattle.fields.specs.rule.Row.{defined}
 use Rattle.layout.specs.declared.Row.{Row}
 
 -- whether the row's range has every category from 1 to w

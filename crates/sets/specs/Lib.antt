@@ -1,3 +1,4 @@
+pub mod rule
 pub mod Marks
 pub mod Sets
 pub mod Few

@@ -1,20 +1,17 @@
--- Reading a set: what was found, the number of members, and the list that they fill.
+-- What follows from rule/Sets.antt, and what the code keeps.
 use mathlib.Core.Path.{_≡_}
-use mathlib.Core.Bool.{Bool, true, false, cond}
-use mathlib.Core.List.{List, _++_}
+use mathlib.Core.Bool.{cond}
+use mathlib.Core.List.{List}
 use Prim.Native.Nat.{ℕ, _+_, _*_, _≤_}
 use lib.Dec.{leb}
 use lib.IntN.{ℤ}
-use lib.ListN.{length, drop}
-use Rattle.fields.specs.Field.{missing, number, members, text, truth, Field, holds, illegal}
+use lib.ListN.{length}
+use Rattle.fields.specs.rule.Field.{missing, number, members, text, truth, Field, holds, illegal}
 use Rattle.fields.specs.Facts.{LineFacts}
 use Rattle.layout.specs.declared.Row.{Row}
 use Rattle.sets.specs.declared.SetRead.{SetRead}
 use Rattle.sets.specs.declared.SetRead.the-variants.{Missing, Count, Illegal, Short}
-
--- "a set fills the start of a lent list; the rest is kept"
-unfoldable pub filledOf : List ℤ → List ℤ → List ℤ
-filledOf ms list = ms ++ drop (length ms) list
+use Rattle.sets.specs.rule.Sets.{listAfter}
 
 -- a set's answer, and the list after it: a set longer than the list is refused and keeps it
 unfoldable pub setAnswer : Field → List ℤ → SetRead
@@ -25,22 +22,9 @@ setAnswer (holds (text s)) list = Illegal
 setAnswer (holds (truth b)) list = Illegal
 setAnswer illegal list = Illegal
 
-unfoldable pub listAfter : Field → List ℤ → List ℤ
-listAfter (holds (members ms)) list = cond (leb (length ms) (length list)) (filledOf ms list) list
-listAfter (holds missing) list = list
-listAfter (holds (number z)) list = list
-listAfter (holds (text s)) list = list
-listAfter (holds (truth b)) list = list
-listAfter illegal list = list
-
 pub record ReadSet (f : Field) (list list′ : List ℤ) (r : SetRead) : Type 0 where
   pub answer : r ≡ setAnswer f list
   pub leaves : list′ ≡ listAfter f list
-
--- whether a field is illegal
-unfoldable pub isIllegal : Field → Bool
-isIllegal (holds v) = false
-isIllegal illegal = true
 
 -- w bytes from a place on lie in a record of so many
 pub record BitsRoom (at w len : ℕ) : Type 0 where

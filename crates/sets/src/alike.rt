@@ -3,9 +3,9 @@
 ghost use mathlib.Core.Path.{_≡_};
 ghost use Prim.Native.Nat.{_+_, _≤_};
 ghost use lib.ListN.{length, getD};
-ghost use Rattle.below.specs.Below.{allBelow};
-ghost use Rattle.cells.specs.Cell.{eqZ};
-ghost use Rattle.fields.specs.Legal.{inRange, onLine, legal};
+ghost use Rattle.below.specs.rule.Below.{allBelow};
+ghost use Rattle.cells.specs.rule.Cell.{eqZ};
+ghost use Rattle.fields.specs.rule.Legal.{inRange, onLine, legal};
 ghost use Rattle.fields.specs.Facts.{LineFacts};
 ghost use Rattle.sets.specs.Alike.{oneOf, allAt, FirstOf, LastOf};
 ghost use Rattle.sets.specs.Sets.{BitsRoom};

@@ -3,11 +3,12 @@
 ghost use mathlib.Core.Path.{_≡_};
 ghost use Prim.Native.Nat.{_-_, _^_, _≤_};
 ghost use lib.ListN.{length};
-ghost use Rattle.places.specs.Places.{pick};
-ghost use Rattle.fields.specs.Legal.{legal};
-ghost use Rattle.fields.specs.Field.{bitsField, spreadField};
-ghost use Rattle.fields.specs.Row.{categories, bitPlaces, spreadPlaces};
-ghost use Rattle.sets.specs.Sets.{ReadSet, isIllegal, BitsFacts, FieldsFacts};
+ghost use Rattle.places.specs.rule.Places.{pick};
+ghost use Rattle.fields.specs.rule.Legal.{legal};
+ghost use Rattle.fields.specs.rule.Field.{bitsField, spreadField};
+ghost use Rattle.fields.specs.rule.Row.{categories, bitPlaces, spreadPlaces};
+ghost use Rattle.sets.specs.Sets.{ReadSet, BitsFacts, FieldsFacts};
+ghost use Rattle.sets.specs.rule.Sets.{isIllegal};
 use layout::Row;
 
 mod alike;

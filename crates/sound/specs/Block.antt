@@ -10,23 +10,25 @@ use borrow.Author.Tests.{leb-true}
 use lib.IntN.{ℤ, pos, negsuc}
 use lib.ListN.{length}
 use lib.Signed.{leZ}
-use Rattle.below.specs.Below.{_and_, both-and, all-none, all-at, all-of}
-use Rattle.below.specs.Below.{maxBelow, max-none, max-at, max-least, same-bool, holds-not, and-true, and-left}
+use Rattle.below.specs.rule.Below.{_and_, maxBelow}
+use Rattle.below.specs.Below.{both-and, all-none, all-at, all-of}
+use Rattle.below.specs.Below.{max-none, max-at, max-least, same-bool, holds-not, and-true, and-left}
 use Rattle.below.specs.Below.{and-right}
-use Rattle.cells.specs.Cell.{signedOf}
+use Rattle.cells.specs.rule.Cell.{signedOf}
 use Rattle.ascii.specs.Tens.{digits-few}
 use Rattle.cells.specs.Order.{le-join}
-use Rattle.layout.specs.Layout.{mostRows, mostLines, headerSize, rowSize, lineSize, lineBase}
+use Rattle.layout.specs.rule.Layout.{mostRows, mostLines, headerSize, rowSize, lineSize, lineBase}
 use Rattle.layout.specs.declared.Row.{Row}
 use Rattle.layout.specs.declared.Spread.the-variants.{Bits, Fields}
 use Rattle.layout.specs.declared.Kind.{Kind}
 use Rattle.layout.specs.declared.Kind.the-variants.{Single, Multiple, Quantity, Character, Logical}
-use Rattle.widths.specs.Width.{need, need-between, fitsKind, lowest, highest, sizeOf}
-use Rattle.widths.specs.Width.{size-small, FewDecimals, quantityWidth, wholeDigits, decimalsOf, tail-few}
-use Rattle.sound.specs.Sound.{valuesFit, linesPlain, linesGood}
-use Rattle.sound.specs.Sound.{valueAt, rangeGood, rangeWidth, widest}
+use Rattle.widths.specs.rule.Width.{need, fitsKind, lowest, highest, sizeOf, quantityWidth, wholeDigits}
+use Rattle.widths.specs.Width.{need-between}
+use Rattle.widths.specs.Width.{size-small, FewDecimals, decimalsOf, tail-few}
+use Rattle.sound.specs.rule.Sound.{valuesFit, linesPlain, linesGood, valueAt, rangeGood, rangeWidth, widest}
 use Rattle.strides.specs.declared.Hull.{Hull}
-use Rattle.strides.specs.Stride.{Strided, allDiffer}
+use Rattle.strides.specs.Stride.{Strided}
+use Rattle.strides.specs.rule.Stride.{allDiffer}
 use Rattle.strides.specs.Hull.{Hulled}
 
 -- subfields are some, and have a width

@@ -9,14 +9,16 @@ use borrow.Author.Tests.{eqb-true, eqb-false, leb-true, ne-eqb}
 use lib.Dec.{eqb, leb}
 use lib.IntN.{ℤ}
 use lib.ListN.{length}
-use Rattle.below.specs.Below.{_and_, and-both, both-and, and-no, and-nor, and-yes, and-left, and-right, either-true, holds-not}
-use Rattle.layout.specs.Layout.{mark, headerSize, mostRows, mostLines, linesBase, lineBase, headerOf}
+use Rattle.below.specs.rule.Below.{_and_}
+use Rattle.below.specs.Below.{and-both, both-and, and-no, and-nor, and-yes, and-left, and-right, either-true, holds-not}
+use Rattle.layout.specs.rule.Layout.{mark, headerSize, mostRows, mostLines, linesBase, lineBase, headerOf}
 use Rattle.layout.specs.declared.Header.{Header}
-use Rattle.layout.specs.Row.{kindOf, kind-cases}
+use Rattle.layout.specs.rule.Row.{kindOf}
+use Rattle.layout.specs.Row.{kind-cases}
 use Rattle.layout.specs.declared.Columns.{Columns}
 use Rattle.widths.specs.Width.{FewDecimals, decimalsOf}
-use Rattle.sound.specs.Sound.{countsGood, subfieldsGood, placesGood}
-use Rattle.sound.specs.Sound.{columnsGood, rowGood, headCounts, headSums, rowsGood, identsDiffer, wellFormed}
+use Rattle.sound.specs.rule.Sound.{countsGood, subfieldsGood, placesGood}
+use Rattle.sound.specs.rule.Sound.{columnsGood, rowGood, headCounts, headSums, rowsGood, identsDiffer, wellFormed}
 use Rattle.sound.specs.Block.{Standing}
 
 -- the clauses of a row's columns that the values of a row lean on

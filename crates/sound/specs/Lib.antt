@@ -1,4 +1,4 @@
-pub mod Sound
+pub mod rule
 pub mod Types
 pub mod Block
 pub mod Given

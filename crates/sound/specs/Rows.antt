@@ -1,4 +1,4 @@
--- WHAT THE TEST GIVES: of every row of a well-formed table the facts that the calls on records lean on, proved here once.
+-- What follows from rule/Rows.antt, and what the code keeps.
 use mathlib.Core.Path.{_≡_, refl, sym, ap, _∙_}
 use mathlib.Core.Logic.{_⊎_, inl, inr, ⊎-elim}
 use mathlib.Core.Bool.{Bool, true, false, cond, not, _&&_, _||_}
@@ -11,26 +11,31 @@ use lib.Dec.{eqb, leb}
 use lib.IntN.{ℤ, pos}
 use lib.ListN.{length}
 use lib.Signed.{leZ}
-use Rattle.below.specs.Below.{_and_, and-both, and-left, and-right, either-true, holds-not}
-use Rattle.below.specs.Below.{all-at, any-some, sum-rises, sum-more, maxBelow, max-at, max-least}
-use Rattle.cells.specs.Cell.{cell, eqZ, same-true}
+use Rattle.below.specs.rule.Below.{_and_, maxBelow}
+use Rattle.below.specs.Below.{and-both, and-left, and-right, either-true, holds-not}
+use Rattle.below.specs.Below.{all-at, any-some, sum-rises, sum-more, max-at, max-least}
+use Rattle.cells.specs.rule.Cell.{cell, eqZ}
+use Rattle.cells.specs.Cell.{same-true}
 use Rattle.cells.specs.Order.{le-join}
-use Rattle.layout.specs.Layout.{mostRows, mostLines, lineSize, lineBase, headerOf}
-use Rattle.layout.specs.Row.{rowOf, rowAt, kindOf, kind-cases}
+use Rattle.layout.specs.rule.Layout.{mostRows, mostLines, lineSize, lineBase, headerOf}
+use Rattle.layout.specs.rule.Row.{rowOf, rowAt, kindOf}
+use Rattle.layout.specs.Row.{kind-cases}
 use Rattle.layout.specs.declared.Columns.{Columns}
 use Rattle.layout.specs.declared.Row.{Row}
 use Rattle.layout.specs.declared.Spread.the-variants.{Bits, Fields}
 use Rattle.layout.specs.declared.Kind.{Kind}
 use Rattle.layout.specs.declared.Kind.the-variants.{Single, Multiple, Quantity, Character, Logical}
-use Rattle.widths.specs.Width.{need, need-between, need-most, need-some, Valued, mostWidth}
-use Rattle.widths.specs.Width.{fitsKind, lowest, highest, decimalsOf, sizeOf, size-small, FewDecimals}
-use Rattle.fields.specs.Legal.{legal, inRange, onLine, lineValue}
+use Rattle.widths.specs.rule.Width.{need, fitsKind, lowest, highest, sizeOf}
+use Rattle.widths.specs.Width.{need-between, need-most, need-some, Valued, mostWidth}
+use Rattle.widths.specs.Width.{decimalsOf, size-small, FewDecimals}
+use Rattle.fields.specs.rule.Legal.{legal, inRange, onLine, lineValue}
 use Rattle.fields.specs.Facts.{LineFacts, PositionFacts, WidthFacts, SpreadFacts, QuantityFacts, KindFacts, RowFacts}
-use Rattle.sound.specs.Sound.{valueAt, rangeGood, valuesFit, linesGood, valuesGood, rangeWidth}
-use Rattle.sound.specs.Sound.{widest, widthGood, roomGood, holdsWidth, widthsGood, columnsGood}
-use Rattle.sound.specs.Sound.{rowGood, columnsOf, finishAt, highestFinish, linesBefore, goodAt, rowsGood, wellFormed}
+use Rattle.sound.specs.rule.Sound.{valueAt, rangeGood, valuesFit, linesGood, valuesGood, rangeWidth}
+use Rattle.sound.specs.rule.Sound.{widest, widthGood, roomGood, holdsWidth, widthsGood, columnsGood}
+use Rattle.sound.specs.rule.Sound.{rowGood, columnsOf, finishAt, highestFinish, linesBefore, goodAt, rowsGood, wellFormed}
 use Rattle.sound.specs.Block.{Standing}
 use Rattle.sound.specs.Given.{ColumnFacts, column-facts, sub-some, few-decimals, head-standing, head-some}
+use Rattle.sound.specs.rule.Rows.{rowsOf, lengthOf}
 
 -- ---- a row's numbers, for any kind k in place of its own
 module _ (t : List ℤ) (v : ℕ) (r : Row) where
@@ -250,13 +255,6 @@ width-holds (Multiple (Fields n b)) w m z e h = omega (arith, eqb-true w m e)
 width-holds (Quantity f) w m z e h = omega (arith, eqb-true w m e)
 width-holds Character w m z e h = omega arith
 width-holds Logical w m z e h = omega arith
-
--- ---- THE FACTS of row i of a well-formed table
-abbrev pub rowsOf : List ℤ → ℕ
-rowsOf t = headerOf t .rows
-
-abbrev pub lengthOf : List ℤ → ℕ
-lengthOf t = headerOf t .length
 
 module _ (t : List ℤ) (g : wellFormed t ≡ true) where
   pub record Parts : Type 0 where

@@ -8,11 +8,12 @@ use native.Mathlib.Omega.{arith}
 use borrow.Author.Tests.{eqb-true, eqb-false, leb-true, le-leb, lt-leb, ne-eqb}
 use lib.Dec.{eqb, leb}
 use lib.IntN.{pos}
-use Rattle.below.specs.Below.{_and_, and-both, both-and, and-left, and-right, and-true, same-bool, either-true, or-true, holds-not}
-use Rattle.cells.specs.Cell.{eqZ}
+use Rattle.below.specs.rule.Below.{_and_}
+use Rattle.below.specs.Below.{and-both, both-and, and-left, and-right, and-true, same-bool, either-true, or-true, holds-not}
+use Rattle.cells.specs.rule.Cell.{eqZ}
 use Rattle.layout.specs.declared.Columns.{Columns}
-use Rattle.sound.specs.Sound.{typeKnown, decimalsFew, lackedZero, rangeLacked, pointGiven, valuesGiven, countsGood}
-use Rattle.sound.specs.Sound.{identGood, positionGood, subfieldsGood, textsGood, placesGood, columnsGood}
+use Rattle.sound.specs.rule.Sound.{typeKnown, decimalsFew, lackedZero, rangeLacked, pointGiven, valuesGiven, countsGood}
+use Rattle.sound.specs.rule.Sound.{identGood, positionGood, subfieldsGood, textsGood, placesGood, columnsGood}
 
 -- no decimals and no point; no subfields; a point with few decimals, or neither
 abbrev pub wholeIs : Columns → Bool

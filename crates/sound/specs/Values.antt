@@ -11,24 +11,27 @@ use borrow.Author.Tests.{eq-eqb}
 use lib.Dec.{eqb}
 use lib.IntN.{ℤ, pos}
 use lib.Signed.{leZ}
-use Rattle.ascii.specs.Tens.{digitsOf, digits-some, digits-least}
-use Rattle.below.specs.Below.{_and_, and-both, both-and, and-no, and-nor, and-yes, and-left, and-right, and-true, same-bool}
-use Rattle.cells.specs.Cell.{signedOf}
+use Rattle.ascii.specs.rule.Tens.{digitsOf}
+use Rattle.ascii.specs.Tens.{digits-some, digits-least}
+use Rattle.below.specs.rule.Below.{_and_}
+use Rattle.below.specs.Below.{and-both, both-and, and-no, and-nor, and-yes, and-left, and-right, and-true, same-bool}
+use Rattle.cells.specs.rule.Cell.{signedOf}
 use Rattle.cells.specs.Order.{le-self, le-join, le-else}
-use Rattle.layout.specs.Row.{rowOf, kindOf, spreadOf}
+use Rattle.layout.specs.rule.Row.{rowOf, kindOf, spreadOf}
 use Rattle.layout.specs.declared.Columns.{Columns}
 use Rattle.layout.specs.declared.Row.{Row}
 use Rattle.layout.specs.declared.Kind.{Kind}
 use Rattle.layout.specs.declared.Spread.{Spread}
 use Rattle.layout.specs.declared.Spread.the-variants.{Bits, Fields}
 use Rattle.layout.specs.declared.Kind.the-variants.{Single, Multiple, Quantity, Character, Logical}
-use Rattle.widths.specs.Width.{need, need-between, fitsKind, lowest, highest, sizeOf, Valued}
+use Rattle.widths.specs.rule.Width.{need, fitsKind, lowest, highest, sizeOf}
+use Rattle.widths.specs.Width.{need-between, Valued}
 use Rattle.strides.specs.declared.Hull.{Hull}
-use Rattle.strides.specs.Stride.{allDiffer}
+use Rattle.strides.specs.rule.Stride.{allDiffer}
 use Rattle.strides.specs.Hull.{Hulled, Blocked, hullFrom}
 use Rattle.strides.specs.declared.Block.{Block}
-use Rattle.sound.specs.Sound.{valueAt, linesPlain, linesGood, valuesGood, rangeWidth, widest}
-use Rattle.sound.specs.Sound.{widthGood, roomGood, widthsGood, rowGood}
+use Rattle.sound.specs.rule.Sound.{valueAt, linesPlain, linesGood, valuesGood, rangeWidth, widest}
+use Rattle.sound.specs.rule.Sound.{widthGood, roomGood, widthsGood, rowGood}
 use Rattle.sound.specs.Types.{sharedGood, typeGood, columns-shared}
 use Rattle.sound.specs.Block.{hullFits, hullWidth, hull-fits, widest-hull, widest-none, lines-none, fits-small}
 use Rattle.sound.specs.Given.{ColumnFacts, column-facts}

@@ -5,15 +5,17 @@ ghost use Prim.Native.Nat.{_+_, _*_, _≤_, _<_, max};
 ghost use lib.Dec.{leb};
 ghost use lib.ListN.{length};
 ghost use mathlib.Core.Bool.{true};
-ghost use Rattle.ascii.specs.Tens.{Tens, digitsOf};
-ghost use Rattle.below.specs.Below.{_and_};
-ghost use Rattle.widths.specs.Width.{need, sizeOf, FewDecimals};
-ghost use Rattle.sound.specs.Sound.{headCounts, headSums, textsGood, subfieldsGood, linePlain, linesPlain, rangeWidth, holdsWidth, roomGood, rowGood, rowsGood, valueAt, identsDiffer, wellFormed};
+ghost use Rattle.ascii.specs.rule.Tens.{Tens, digitsOf};
+ghost use Rattle.below.specs.rule.Below.{_and_};
+ghost use Rattle.widths.specs.rule.Width.{need, sizeOf};
+ghost use Rattle.widths.specs.Width.{FewDecimals};
+ghost use Rattle.sound.specs.rule.Sound.{headCounts, headSums, textsGood, subfieldsGood, linePlain, linesPlain, rangeWidth};
+ghost use Rattle.sound.specs.rule.Sound.{holdsWidth, roomGood, rowGood, rowsGood, valueAt, identsDiffer, TableTested};
 ghost use Rattle.sound.specs.Types.{wholeIs, undividedIs, formatGood, unrangedIs, valuedIs, valuelessIs, typeGood, sharedGood, Sited};
 ghost use Rattle.strides.specs.Hull.{Blocked};
 ghost use Rattle.sound.specs.Block.{Standing, hullWidth, Placed};
 ghost use Rattle.sound.specs.Values.{rangeWithin, numbersWithin, bottomOf, topOf, endsWidth, valuedBy, spreadBy, multipleOf, quantityOf, valuesBy, rangeBlock, BlockTold};
-ghost use Rattle.layout.specs.Row.{kindOf, rowOf};
+ghost use Rattle.layout.specs.rule.Row.{kindOf, rowOf};
 ghost use Rattle.layout.specs.declared.Kind.the-variants.{Single};
 ghost use Rattle.layout.specs.declared.Spread.the-variants.{Bits, Fields};
 use layout::Columns;
@@ -499,7 +501,7 @@ fn idents_differ(t: &[i64], v: usize) -> bool
 
 // Is the table well formed?
 pub fn well_formed(t: &[i64]) -> bool
-    ensures { λ r. ⌜ r ≡ wellFormed (now (t .entry)) ⌝ }
+    ensures { λ r. ⌜ TableTested (now (t .entry)) r ⌝ }
 {
     let h = Header::read(t);
     if !head_counts(h) {

@@ -3,7 +3,7 @@ use mathlib.Core.Path.{_≡_, refl, _∙_, sym}
 use mathlib.Core.List.{List, [], _∷_}
 use Prim.Native.Nat.{ℕ, zero, suc, _<_, _≤_}
 use native.Mathlib.Omega.{arith}
-use Rattle.scan.specs.Loop.{Next, Again, Done, loopOf}
+use Rattle.scan.specs.rule.Loop.{Next, Again, Done, loopOf}
 use Rattle.scan.proofs.Loops.{loop-again, loop-done}
 use Rattle.tokens.specs.declared.Reading.{Reading}
 use Rattle.tokens.specs.declared.Reading.the-variants.{At, Refused}
@@ -12,7 +12,7 @@ use Rattle.tokens.specs.declared.Choice.the-variants.{Taken, Left}
 use Rattle.tokens.specs.Gap.{left, gapOn}
 use Rattle.tokens.specs.Token.{choiceOf, stringOn, pastString}
 use Rattle.tokens.proofs.Aheads.{taken-less, gap-left, string-left}
-use Rattle.statements.specs.Words.{NOTE}
+use Rattle.statements.specs.rule.Words.{NOTE}
 use Rattle.statements.specs.Note.{pastNote, noteStep, notesHere, notesOn}
 
 module _ (d : List ℕ) where

@@ -1,3 +1,4 @@
+-- THE CODE'S BOOKS, which contracts inside the library name; crate `bridge` proves them equal to the rule of crate `reading`.
 -- TYPE and one of five words: 1 SINGLE, 2 MULTIPLE, 3 QUANTITY, 4 CHARACTER, 5 LOGICAL.
 use Prim.Native.Nat.{ℕ}
 use mathlib.Core.List.{List}
@@ -7,7 +8,7 @@ use Rattle.tokens.specs.declared.Choice.{Choice}
 use Rattle.tokens.specs.declared.Choice.the-variants.{Taken, Left}
 use Rattle.tokens.specs.Gap.{gapOn}
 use Rattle.tokens.specs.Token.{choiceOf, wordHere}
-use Rattle.statements.specs.Words.{TYPE, SINGLE, MULTIPLE, QUANTITY, CHARACTER, LOGICAL}
+use Rattle.statements.specs.rule.Words.{TYPE, SINGLE, MULTIPLE, QUANTITY, CHARACTER, LOGICAL}
 use Rattle.statements.specs.Note.{statementOn}
 use Rattle.statements.specs.declared.Typed.{Typed}
 use Rattle.statements.specs.declared.Typed.the-variants.{Is, Not}

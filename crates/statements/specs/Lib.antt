@@ -1,7 +1,7 @@
-pub mod Words
+pub mod rule
+pub mod Kinds
 pub mod Note
 pub mod Opening
-pub mod Kinds
 pub mod Position
-pub mod Spread
 pub mod Size
+pub mod Spread

@@ -1,8 +1,9 @@
+-- THE CODE'S BOOKS, which contracts inside the library name; crate `bridge` proves them equal to the rule of crate `reading`.
 -- NOTE and a string may stand, any number of times, before a statement. A statement begins with its word; a text statement is a word
 -- and a string.
 use Prim.Native.Nat.{ℕ, suc}
 use mathlib.Core.List.{List}
-use Rattle.scan.specs.Loop.{Next, Again, Done, loopOf}
+use Rattle.scan.specs.rule.Loop.{Next, Again, Done, loopOf}
 use Rattle.tokens.specs.declared.Reading.{Reading}
 use Rattle.tokens.specs.declared.Reading.the-variants.{At}
 use Rattle.tokens.specs.declared.Choice.{Choice}
@@ -10,7 +11,7 @@ use Rattle.tokens.specs.declared.Choice.the-variants.{Taken, Left}
 use Rattle.tokens.specs.declared.Phrase.{Phrase}
 use Rattle.tokens.specs.Gap.{left, gapOn}
 use Rattle.tokens.specs.Token.{choiceOf, wordHere, stringOn, pastString}
-use Rattle.statements.specs.Words.{NOTE}
+use Rattle.statements.specs.rule.Words.{NOTE}
 
 -- a note behind its word, and the gap after it
 unfoldable pub pastNote : List ℕ → ℕ → Reading

@@ -1,19 +1,21 @@
+-- THE CODE'S BOOKS, which contracts inside the library name; crate `bridge` proves them equal to the rule of crate `reading`.
 -- SSS comes first, with no space before it, then VERSION 1.1: spaces alone stand between. A version that is not 1.1 as text is 4.
 -- RECORD is followed by one letter.
 use Prim.Native.Nat.{ℕ}
 use mathlib.Core.Bool.{cond}
 use mathlib.Core.List.{List}
 use lib.Dec.{eqb}
-use Rattle.scan.specs.Text.{text, placeOf}
-use Rattle.scan.specs.Number.{isValue, runOf}
-use Rattle.scan.specs.Word.{wordAt}
+use Rattle.scan.specs.rule.Text.{text, placeOf}
+use Rattle.scan.specs.rule.Number.{isValue, runOf}
+use Rattle.scan.specs.rule.Word.{wordAt}
 use Rattle.scan.specs.declared.Word.{Word}
 use Rattle.scan.specs.declared.Word.the-variants.{Matched, Not}
 use Rattle.tokens.specs.declared.Reading.{Reading}
 use Rattle.tokens.specs.declared.Reading.the-variants.{At, Refused}
-use Rattle.tokens.specs.Gap.{fault, then, spacesOn}
+use Rattle.tokens.specs.rule.Gap.{fault}
+use Rattle.tokens.specs.Gap.{then, spacesOn}
 use Rattle.tokens.specs.Token.{wordHere, letterOn}
-use Rattle.statements.specs.Words.{SSS, VERSION, ONE-ONE, RECORD}
+use Rattle.statements.specs.rule.Words.{SSS, VERSION, ONE-ONE, RECORD}
 use Rattle.statements.specs.Note.{statementOn}
 
 -- the text 1.1, which must be the whole run that ends at `end`

@@ -1,3 +1,4 @@
+-- THE CODE'S BOOKS, which contracts inside the library name; crate `bridge` proves them equal to the rule of crate `reading`.
 -- POSITION a [TO b]. It is judged once read: 7 where the start is 0, or the finish below the start by their true values; then 8
 -- where one lies above 16,384.
 use Prim.Native.Nat.{ℕ}
@@ -5,7 +6,6 @@ use mathlib.Core.Bool.{cond}
 use mathlib.Core.List.{List}
 use lib.Dec.{eqb, ltb}
 use Rattle.scan.specs.Order.{valueOf}
-use Rattle.tokens.specs.declared.Fault.{Fault}
 use Rattle.tokens.specs.declared.Reading.{Reading}
 use Rattle.tokens.specs.declared.Reading.the-variants.{At, Refused}
 use Rattle.tokens.specs.declared.Choice.{Choice}
@@ -13,11 +13,11 @@ use Rattle.tokens.specs.declared.Choice.the-variants.{Taken, Left}
 use Rattle.tokens.specs.declared.Figures.{Figures}
 use Rattle.tokens.specs.declared.Number.{Number}
 use Rattle.tokens.specs.declared.Number.the-variants as number
-use Rattle.tokens.specs.Gap.{fault, gapOn}
+use Rattle.tokens.specs.rule.Gap.{fault}
+use Rattle.tokens.specs.Gap.{gapOn}
 use Rattle.tokens.specs.Token.{choiceOf, numberOn, pastNumber}
-use Rattle.statements.specs.Words.{POSITION, TO}
+use Rattle.statements.specs.rule.Words.{POSITION, TO}
 use Rattle.statements.specs.Note.{statementOn}
-use Rattle.statements.specs.declared.Position.{Position}
 use Rattle.statements.specs.declared.Stated.{Stated}
 use Rattle.statements.specs.declared.Stated.the-variants.{Is, Not}
 

@@ -1,15 +1,15 @@
+-- THE CODE'S BOOKS, which contracts inside the library name; crate `bridge` proves them equal to the rule of crate `reading`.
 -- SIZE n: 7 where it is 0, 8 above 4,096.
 use Prim.Native.Nat.{ℕ}
 use mathlib.Core.Bool.{cond}
 use mathlib.Core.List.{List}
 use lib.Dec.{eqb, ltb}
 use Rattle.tokens.specs.declared.Reading.{Reading}
-use Rattle.tokens.specs.declared.Figures.{Figures}
 use Rattle.tokens.specs.declared.Number.{Number}
 use Rattle.tokens.specs.declared.Number.the-variants.{Is, Not}
-use Rattle.tokens.specs.Gap.{fault}
+use Rattle.tokens.specs.rule.Gap.{fault}
 use Rattle.tokens.specs.Token.{numberOn}
-use Rattle.statements.specs.Words.{SIZE}
+use Rattle.statements.specs.rule.Words.{SIZE}
 use Rattle.statements.specs.Note.{statementOn}
 
 unfoldable pub judgeSize : Number → Number

@@ -10,7 +10,7 @@ use tokens::Reading;
 ghost use mathlib.Core.Path.{_≡_};
 ghost use Rattle.ascii.specs.Class.{Classes};
 ghost use Rattle.tokens.specs.Token.{choiceOf};
-ghost use Rattle.statements.specs.Words.{NOTE};
+ghost use Rattle.statements.specs.rule.Words.{NOTE};
 ghost use Rattle.statements.specs.Note.{notesOn, statementOn, textOn};
 ghost use Rattle.statements.specs.Opening.{versionHere, openingOf, recordOn};
 ghost use Rattle.statements.specs.Kinds.{typeHere, typeOn};

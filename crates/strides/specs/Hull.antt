@@ -7,11 +7,12 @@ use native.Mathlib.Nat.{eq-or-lt-of-le}
 use native.Mathlib.Omega.{arith}
 use lib.IntN.{ℤ, pos}
 use lib.Signed.{leZ}
-use Rattle.cells.specs.Cell.{countOf}
+use Rattle.cells.specs.rule.Cell.{countOf}
 use Rattle.cells.specs.Order.{le-self, le-join, le-else}
 use Rattle.strides.specs.declared.Hull.{Hull}
 use Rattle.strides.specs.declared.Block.{Block}
-use Rattle.strides.specs.Stride.{allRise, allDiffer, rise-le, count-within}
+use Rattle.strides.specs.Stride.{allRise, rise-le, count-within}
+use Rattle.strides.specs.rule.Stride.{allDiffer}
 
 -- the least and the most of the first n, which are among them
 pub record Hulled (f : ℕ → ℤ) (n : ℕ) (h : Hull) : Type 0 where

@@ -1,4 +1,4 @@
--- Numbers of a table at equal steps: that they stand in it, that each rises above the one before it, that no two are equal.
+-- What follows from rule/Stride.antt, and what the code keeps.
 use mathlib.Core.Path.{_≡_, refl, sym, ap, _∙_}
 use mathlib.Core.Logic.{_⊎_, ⊎-elim}
 use mathlib.Core.Bool.{Bool, true, false, not, _||_}
@@ -12,13 +12,12 @@ use lib.Dec.{eqb}
 use lib.IntN.{ℤ, pos, negsuc}
 use lib.ListN.{length, getD, set}
 use lib.Signed.{leZ}
-use Rattle.below.specs.Below.{allBelow, all-none, all-more, all-at, all-of, holds-not, or-true}
-use Rattle.cells.specs.Cell.{cell, countOf, eqZ, same-true, signedOf}
+use Rattle.below.specs.rule.Below.{allBelow}
+use Rattle.below.specs.Below.{all-none, all-more, all-at, all-of, holds-not, or-true}
+use Rattle.cells.specs.rule.Cell.{countOf, eqZ, signedOf}
+use Rattle.cells.specs.Cell.{same-true}
 use Rattle.cells.specs.Order.{le-self, le-join, le-else}
-
--- number k of those that stand from `at` on, `step` apart
-abbrev pub strideAt : List ℤ → ℕ → ℕ → ℕ → ℤ
-strideAt t at step k = cell t (at + step * k)
+use Rattle.strides.specs.rule.Stride.{unlike, numberNew, allDiffer}
 
 -- n such numbers stand in the table
 pub record Strided (t : List ℤ) (at step n : ℕ) : Type 0 where
@@ -36,17 +35,6 @@ risesAt f k = eqb k 0 || above f k
 
 unfoldable pub allRise : (ℕ → ℤ) → ℕ → Bool
 allRise f n = allBelow n (risesAt f)
-
--- the number at k is none of those before it
-abbrev pub unlike : (ℕ → ℤ) → ℕ → ℕ → Bool
-unlike f k j = not (eqZ (f k) (f j))
-
-unfoldable pub numberNew : (ℕ → ℤ) → ℕ → Bool
-numberNew f k = allBelow k (unlike f k)
-
--- no two of the first n are equal
-unfoldable pub allDiffer : (ℕ → ℤ) → ℕ → Bool
-allDiffer f n = allBelow n (numberNew f)
 
 -- where a number leaves its mark
 unfoldable pub markOf : ℤ → ℕ

@@ -5,8 +5,9 @@ ghost use mathlib.Core.Bool.{cond, true};
 ghost use Prim.Native.Nat.{ℕ, _+_, _*_, _≤_, _<_};
 ghost use lib.ListN.{length};
 ghost use lib.Signed.{leZ};
-ghost use Rattle.cells.specs.Cell.{countOf};
-ghost use Rattle.strides.specs.Stride.{Strided, strideAt, above, allRise, numberNew, allDiffer, markOf};
+ghost use Rattle.cells.specs.rule.Cell.{countOf};
+ghost use Rattle.strides.specs.Stride.{Strided, above, allRise, markOf};
+ghost use Rattle.strides.specs.rule.Stride.{strideAt, numberNew, allDiffer};
 ghost use Rattle.strides.specs.Hull.{hullWith, Hulled, Blocked};
 
 // The least and the most of some numbers.

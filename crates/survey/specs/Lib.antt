@@ -1,3 +1,1 @@
-pub mod Width
-pub mod Survey
-pub mod Good
+pub mod rule

@@ -6,21 +6,21 @@ use Prim.Native.Nat.{ℕ, zero, suc, _+_, _-_, _≤_, _<_}
 use native.Mathlib.Omega.{arith}
 use lib.Dec.{eqb}
 use lib.ListN.{length}
-use Rattle.ascii.specs.Class.{upperOf}
-use Rattle.scan.specs.Text.{Text, stop, sign, text, placeOf}
-use Rattle.scan.specs.Loop.{Next, Again, Done}
+use Rattle.ascii.specs.rule.Class.{upperOf}
+use Rattle.scan.specs.rule.Text.{Text, stop, sign, text, placeOf}
+use Rattle.scan.specs.rule.Loop.{Next, Again, Done}
 use Rattle.scan.specs.declared.Word.{Word}
 use Rattle.scan.specs.declared.Word.the-variants.{Matched, Not}
-use Rattle.scan.specs.Word.{wordOf, wordAt}
+use Rattle.scan.specs.rule.Word.{wordOf, wordAt}
 use Rattle.scan.proofs.Texts.{From, at-stop, at-sign, from-text, place-from}
-use Rattle.scan.specs.Number.{isSpace}
+use Rattle.scan.specs.rule.Number.{isSpace}
 use Rattle.marks.specs.declared.Skip.{Skip}
 use Rattle.marks.specs.declared.Skip.the-variants.{Past, Unclosed, Bad}
 use Rattle.marks.specs.declared.Inside.{Inside}
 use Rattle.marks.specs.declared.Inside.the-variants.{Plain}
 use Rattle.marks.specs.declared.Move.{Move}
 use Rattle.marks.specs.declared.Move.the-variants.{Go, Closed, Wrong}
-use Rattle.marks.specs.Marks.{commentOf, insideOf, moved, stringOf}
+use Rattle.marks.specs.rule.Marks.{commentOf, insideOf, moved, stringOf}
 use Rattle.marks.proofs.Levels.{Ahead, by-past, by-none, by-bad, string-ahead}
 use Rattle.tokens.specs.declared.Fault.{Fault}
 use Rattle.tokens.specs.declared.Reading.{Reading}
@@ -30,7 +30,8 @@ use Rattle.tokens.specs.declared.Choice.the-variants.{Taken, Left}
 use Rattle.tokens.specs.declared.Quoted.{Quoted}
 use Rattle.tokens.specs.declared.Phrase.{Phrase}
 use Rattle.tokens.specs.declared.Phrase.the-variants as phrase
-use Rattle.tokens.specs.Gap.{fault, gapSkip, gapStep, gapAt, gapOn, left}
+use Rattle.tokens.specs.rule.Gap.{fault, gapSkip, gapStep, gapAt}
+use Rattle.tokens.specs.Gap.{gapOn, left}
 use Rattle.tokens.specs.Token.{ofWord, wordHere, wordOn, ofChoice, choiceOf, ofSkip, phraseOn, stringIn, stringOn, pastString}
 use Rattle.tokens.proofs.Gaps.{gap-less, gap-again, gap-done}
 

@@ -6,19 +6,20 @@ use Prim.Native.Nat.{ℕ, _+_, _-_, _≤_, _<_}
 use native.Mathlib.Omega.{arith}
 use lib.Dec.{eqb}
 use lib.ListN.{length}
-use Rattle.scan.specs.Text.{Text, stop, sign, text}
-use Rattle.scan.specs.Number.{isSpace}
-use Rattle.scan.specs.Loop.{Next, Again, Done, loopOf}
+use Rattle.scan.specs.rule.Text.{Text, stop, sign, text}
+use Rattle.scan.specs.rule.Number.{isSpace}
+use Rattle.scan.specs.rule.Loop.{Next, Again, Done, loopOf}
 use Rattle.scan.proofs.Texts.{From, at-stop, at-sign, from-text}
 use Rattle.scan.proofs.Loops.{loop-again, loop-done}
 use Rattle.marks.specs.declared.Skip.{Skip}
 use Rattle.marks.specs.declared.Skip.the-variants.{Past, Unclosed, Bad}
-use Rattle.marks.specs.Marks.{commentOf}
+use Rattle.marks.specs.rule.Marks.{commentOf}
 use Rattle.marks.proofs.Levels.{Ahead, by-past, by-none, by-bad, comment-ahead}
 use Rattle.tokens.specs.declared.Reading.{Reading}
 use Rattle.tokens.specs.declared.Reading.the-variants.{At, Refused}
 use Rattle.tokens.specs.declared.Pace.the-variants.{On, Over}
-use Rattle.tokens.specs.Gap.{gapSkip, gapStep, paceOf, gapAt}
+use Rattle.tokens.specs.rule.Gap.{gapSkip, gapStep, gapAt}
+use Rattle.tokens.specs.Gap.{paceOf}
 
 -- what the code's step says of the step
 pub pace-on : {s : Next ℕ Reading} {n : ℕ} → paceOf s ≡ On n → s ≡ Again n

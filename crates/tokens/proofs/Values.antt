@@ -6,9 +6,10 @@ use Prim.Native.Nat.{ℕ, _+_, _*_, _-_, _≤_, _<_}
 use native.Mathlib.Omega.{arith}
 use lib.Dec.{eqb, leb}
 use borrow.Author.Tests.{eqb-true, lt-leb, le-leb}
-use Rattle.ascii.specs.Class.{classOf}
-use Rattle.scan.specs.Text.{Text, stop, sign, text}
-use Rattle.scan.specs.Number.{isDigit, runOf, bytesOf, decimalOf, capped, digitsFrom}
+use Rattle.ascii.specs.rule.Class.{classOf}
+use Rattle.scan.specs.rule.Text.{Text, stop, sign, text}
+use Rattle.scan.specs.rule.Number.{isDigit, runOf, bytesOf, decimalOf}
+use Rattle.scan.specs.Number.{capped, digitsFrom}
 use Rattle.scan.specs.Order.{digitsTo, valueOf}
 use Rattle.scan.proofs.Texts.{From, at-stop, at-sign, from-text}
 use Rattle.scan.proofs.Runs.{held, digits-held}

@@ -1,43 +1,15 @@
--- What may stand before a token: spaces, and after the VERSION statement comments. A token is named by its first byte behind them,
--- and by the file's length where nothing is left. A comment that does not close is refused at the outermost mark.
-use Prim.Native.Nat.{ℕ, suc, _+_, _-_}
-use mathlib.Core.Bool.{cond}
+-- THE CODE'S BOOKS, which contracts inside the library name; crate `bridge` proves them equal to the rule of crate `reading`.
+use Prim.Native.Nat.{ℕ, suc, _-_}
 use mathlib.Core.List.{List}
-use lib.Dec.{eqb}
 use lib.ListN.{length}
-use Rattle.scan.specs.Text.{Text, stop, sign, text, placeOf}
-use Rattle.scan.specs.Number.{isSpace, runOf}
-use Rattle.scan.specs.Loop.{Next, Again, Done, loopOf}
-use Rattle.marks.specs.declared.Skip.{Skip}
-use Rattle.marks.specs.declared.Skip.the-variants.{Past, Unclosed, Bad}
-use Rattle.marks.specs.Marks.{commentOf}
-use Rattle.tokens.specs.declared.Fault.{Fault}
+use Rattle.scan.specs.rule.Text.{text, placeOf}
+use Rattle.scan.specs.rule.Number.{isSpace, runOf}
+use Rattle.scan.specs.rule.Loop.{Next, Again, Done}
 use Rattle.tokens.specs.declared.Reading.{Reading}
 use Rattle.tokens.specs.declared.Reading.the-variants.{At, Refused}
 use Rattle.tokens.specs.declared.Pace.{Pace}
 use Rattle.tokens.specs.declared.Pace.the-variants.{On, Over}
-
-abbrev pub fault : ℕ → ℕ → Fault
-fault n p = record { number = n; place = p }
-
--- a comment that opened at p
-abbrev pub gapSkip : ℕ → Skip → Next ℕ Reading
-gapSkip p (Past n) = Again n
-gapSkip p Unclosed = Done (Refused (fault 3 p))
-gapSkip p (Bad q) = Done (Refused (fault 3 q))
-
-unfoldable pub gapStep : Text → Next ℕ Reading
-gapStep (stop p) = Done (At p)
-gapStep (sign p b t) = cond (isSpace b) (Again (p + 1)) (cond (eqb b 60) (gapSkip p (commentOf 1 t)) (Done (At p)))
-
--- the same step as the code answers it
-unfoldable pub paceOf : Next ℕ Reading → Pace
-paceOf (Again n) = On n
-paceOf (Done r) = Over r
-
--- spaces and comments from `at` on, as long as there are any: the place of the token behind them
-unfoldable pub gapAt : List ℕ → ℕ → Reading
-gapAt d at = loopOf (λ n. gapStep (text d n)) (At 0) (suc (length d - at)) at
+use Rattle.tokens.specs.rule.Gap.{gapAt}
 
 -- what follows where reading stands; a refusal stays as it is
 abbrev pub then : Reading → (ℕ → Reading) → Reading
@@ -54,3 +26,8 @@ spacesOn d t = then t λ n. At (placeOf (text d (runOf isSpace n (text d n))))
 unfoldable pub left : List ℕ → Reading → ℕ
 left d (At n) = suc (length d - n)
 left d (Refused f) = 0
+
+-- the same step as the code answers it
+unfoldable pub paceOf : Next ℕ Reading → Pace
+paceOf (Again n) = On n
+paceOf (Done r) = Over r

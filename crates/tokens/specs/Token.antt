@@ -1,37 +1,37 @@
+-- THE CODE'S BOOKS, which contracts inside the library name; crate `bridge` proves them equal to the rule of crate `reading`.
 -- The tokens: words, numbers, values, strings, a letter, each behind its spaces and comments. A token that is due and does not stand
 -- there is refusal 2 at the place of what does; a string that does not close is 3 at its opening quote, a bad brace form 3 at its
 -- brace.
 use Prim.Native.Nat.{ℕ, _+_, _-_}
-use mathlib.Core.Bool.{Bool, true, false, cond, _&&_, _||_}
+use mathlib.Core.Bool.{true, false, cond, _&&_, _||_}
 use mathlib.Core.List.{List}
 use lib.Dec.{eqb, ltb}
-use Rattle.ascii.specs.Class.{classOf}
-use Rattle.scan.specs.Text.{Text, stop, sign, text}
+use Rattle.ascii.specs.rule.Class.{classOf}
+use Rattle.scan.specs.rule.Text.{Text, stop, sign, text}
 use Rattle.scan.specs.declared.Word.{Word}
 use Rattle.scan.specs.declared.Word.the-variants.{Matched, Not}
 use Rattle.scan.specs.declared.Digits.{Digits}
-use Rattle.scan.specs.Word.{wordAt}
-use Rattle.scan.specs.Number.{digitsFrom, runOf, isValue}
+use Rattle.scan.specs.rule.Word.{wordAt}
+use Rattle.scan.specs.Number.{digitsFrom}
+use Rattle.scan.specs.rule.Number.{runOf, isValue}
 use Rattle.marks.specs.declared.Inside.the-variants.{Plain}
 use Rattle.marks.specs.declared.Skip.{Skip}
 use Rattle.marks.specs.declared.Skip.the-variants.{Past, Unclosed, Bad}
-use Rattle.marks.specs.Marks.{stringOf}
-use Rattle.tokens.specs.declared.Fault.{Fault}
+use Rattle.marks.specs.rule.Marks.{stringOf}
 use Rattle.tokens.specs.declared.Reading.{Reading}
 use Rattle.tokens.specs.declared.Reading.the-variants.{At, Refused}
 use Rattle.tokens.specs.declared.Choice.{Choice}
 use Rattle.tokens.specs.declared.Choice.the-variants.{Taken, Left}
-use Rattle.tokens.specs.declared.Figures.{Figures}
 use Rattle.tokens.specs.declared.Number.{Number}
 use Rattle.tokens.specs.declared.Number.the-variants as number
 use Rattle.tokens.specs.declared.Mark.{Mark}
 use Rattle.tokens.specs.declared.Value.{Value}
 use Rattle.tokens.specs.declared.Amount.{Amount}
 use Rattle.tokens.specs.declared.Amount.the-variants as amount
-use Rattle.tokens.specs.declared.Quoted.{Quoted}
 use Rattle.tokens.specs.declared.Phrase.{Phrase}
 use Rattle.tokens.specs.declared.Phrase.the-variants as phrase
-use Rattle.tokens.specs.Gap.{fault, then, gapOn}
+use Rattle.tokens.specs.rule.Gap.{fault}
+use Rattle.tokens.specs.Gap.{then, gapOn}
 
 -- ---- words
 abbrev pub ofWord : ℕ → Word → Reading

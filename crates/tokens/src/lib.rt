@@ -5,9 +5,12 @@ use scan::Step;
 use scan::Word;
 ghost use mathlib.Core.Path.{_≡_};
 ghost use Rattle.ascii.specs.Class.{Classes};
-ghost use Rattle.scan.specs.Text.{text};
-ghost use Rattle.tokens.specs.Gap.{gapStep, paceOf, gapAt, gapOn, spacesOn};
-ghost use Rattle.tokens.specs.Token.{wordHere, wordOn, choiceOf, numberHere, numberOn, pastNumber, markOf, valueAt, valueHere, valueOn, pastValue, stringIn, stringOn, pastString, letterIn, letterOn};
+ghost use Rattle.scan.specs.rule.Text.{text};
+ghost use Rattle.tokens.specs.rule.Gap.{gapStep, gapAt};
+ghost use Rattle.tokens.specs.Gap.{gapOn, spacesOn};
+ghost use Rattle.tokens.specs.Gap.{paceOf};
+ghost use Rattle.tokens.specs.Token.{wordHere, wordOn, choiceOf, numberHere, numberOn, pastNumber, markOf, valueAt, valueHere};
+ghost use Rattle.tokens.specs.Token.{valueOn, pastValue, stringIn, stringOn, pastString, letterIn, letterOn};
 
 // A refusal: its number, and the place of the token at fault.
 pub struct Fault {

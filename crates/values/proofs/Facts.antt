@@ -13,9 +13,10 @@ use lib.ListN.{length, getD, set}
 use lib.Seq.{getD-set-same, getD-set-other}
 use borrow.Author.Tests.{ltb-true, ltb-false, lt-ltb, le-ltb, le-leb, eqb-true, eqb-false}
 use Rattle.below.specs.Below.{same-bool, holds-not, any-none, any-next, any-fails, any-holds, any-some}
-use Rattle.cells.specs.Cell.{cell, numberOf, signedOf, eqZ, same-true}
-use Rattle.scan.specs.Text.{Text, stop, sign, text}
-use Rattle.scan.specs.Number.{decimalOf}
+use Rattle.cells.specs.rule.Cell.{cell, numberOf, signedOf, eqZ}
+use Rattle.cells.specs.Cell.{same-true}
+use Rattle.scan.specs.rule.Text.{Text, stop, sign, text}
+use Rattle.scan.specs.rule.Number.{decimalOf}
 use Rattle.scan.specs.Order.{digitsTo, valueOf}
 use Rattle.tokens.specs.declared.Value.{Value}
 use Rattle.values.specs.declared.Block.{Block}

@@ -12,11 +12,12 @@ use lib.ListN.{length}
 use lib.Signed.{leZ, ltZ}
 use borrow.Author.Tests.{ltb-true, ltb-false, le-leb, not-true}
 use Rattle.below.specs.Below.{holds-not, and-left, and-right, any-holds}
-use Rattle.cells.specs.Cell.{numberOf, eqZ}
-use Rattle.scan.specs.Text.{Text, stop, sign, text}
-use Rattle.scan.specs.Number.{isDigit, runOf, bytesOf, capped, digitsFrom}
+use Rattle.cells.specs.rule.Cell.{numberOf, eqZ}
+use Rattle.scan.specs.rule.Text.{Text, stop, sign, text}
+use Rattle.scan.specs.rule.Number.{isDigit, runOf, bytesOf}
+use Rattle.scan.specs.Number.{capped, digitsFrom}
 use Rattle.scan.specs.Order.{valueOf}
-use Rattle.scan.specs.Loop.{Next, Again, Done, onNext, loopOf}
+use Rattle.scan.specs.rule.Loop.{Next, Again, Done, onNext, loopOf}
 use Rattle.scan.proofs.Texts.{From, at-stop, at-sign, from-text}
 use Rattle.tokens.specs.declared.Fault.{Fault}
 use Rattle.tokens.specs.declared.Reading.{Reading}
@@ -27,10 +28,11 @@ use Rattle.tokens.specs.declared.Mark.{Mark}
 use Rattle.tokens.specs.declared.Value.{Value}
 use Rattle.tokens.specs.declared.Amount.{Amount}
 use Rattle.tokens.specs.declared.Amount.the-variants as amount
-use Rattle.tokens.specs.Gap.{fault, gapOn}
+use Rattle.tokens.specs.rule.Gap.{fault}
+use Rattle.tokens.specs.Gap.{gapOn}
 use Rattle.tokens.specs.Token.{choiceOf, wordHere, wordOn, markOf, valueAt, ofValue, valueHere, valueOn, pastValue}
 use Rattle.tokens.proofs.Values.{value-true}
-use Rattle.statements.specs.Words.{VALUES, TO, END, WITH}
+use Rattle.statements.specs.rule.Words.{VALUES, TO, END, WITH}
 use Rattle.statements.specs.Note.{notesOn, statementOn}
 use Rattle.values.specs.declared.Block.{Block}
 use Rattle.values.specs.declared.Said.{Said}
@@ -46,7 +48,8 @@ use Rattle.values.specs.declared.Turn.{Turn}
 use Rattle.values.specs.declared.Turn.the-variants as turn
 use Rattle.values.specs.Value.{formOf, largeOf, trueOf, scaledOf, pointOf}
 use Rattle.values.specs.Range.{limitRange, judgeRange, settled, rangedOf, withOr, rangeRest}
-use Rattle.values.specs.Line.{Given, Is, Not, lineRest, numberOn, numberAt, repeatedIn, lineFault, judgeLine, grownBy, endOf, endOr, moreOf, Listing, stateOf, after, judgedStep, readStep, lineStep, linesFrom}
+use Rattle.values.specs.Line.{Given, Is, Not, lineRest, numberOn, numberAt, repeatedIn, lineFault, judgeLine, grownBy, endOf}
+use Rattle.values.specs.Line.{endOr, moreOf, Listing, stateOf, after, judgedStep, readStep, lineStep, linesFrom}
 use Rattle.values.specs.Block.{emptyBlock, closedBy, rangeThen, toOr, valuesOn}
 use Rattle.values.specs.Good.{least, most, Limited, GoodBlock, GoodLine, EachGood, none, more, GoodLines, GoodValues}
 use Rattle.values.proofs.Facts.{or-none, or-neither, sound-value}

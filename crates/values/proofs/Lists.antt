@@ -9,8 +9,9 @@ use lib.Dec.{leb, eqb}
 use lib.IntN.{ℤ}
 use lib.ListN.{length, set, length-set}
 use borrow.Author.Tests.{leb-false, eqb-true}
-use Rattle.cells.specs.Cell.{cell, pasted, paste-more, paste-none}
-use Rattle.scan.specs.Loop.{Next, Again, Done}
+use Rattle.cells.specs.rule.Cell.{cell, pasted}
+use Rattle.cells.specs.Cell.{paste-more, paste-none}
+use Rattle.scan.specs.rule.Loop.{Next, Again, Done}
 use Rattle.scan.proofs.Loops.{loop-again, loop-done}
 use Rattle.tokens.specs.declared.Fault.{Fault}
 use Rattle.tokens.specs.declared.Reading.{Reading}
@@ -23,10 +24,11 @@ use Rattle.tokens.specs.declared.Amount.{Amount}
 use Rattle.tokens.specs.declared.Amount.the-variants as amount
 use Rattle.tokens.specs.declared.Phrase.{Phrase}
 use Rattle.tokens.specs.declared.Phrase.the-variants as phrase
-use Rattle.tokens.specs.Gap.{fault, gapOn}
+use Rattle.tokens.specs.rule.Gap.{fault}
+use Rattle.tokens.specs.Gap.{gapOn}
 use Rattle.tokens.specs.Token.{choiceOf, pastValue, stringOn, pastString}
 use Rattle.tokens.proofs.Aheads.{quoted-within}
-use Rattle.statements.specs.Words.{SPECIAL}
+use Rattle.statements.specs.rule.Words.{SPECIAL}
 use Rattle.values.specs.Value.{scaledOf}
 use Rattle.values.specs.declared.Block.{Block}
 use Rattle.values.specs.declared.Said.{Said}
@@ -38,7 +40,10 @@ use Rattle.values.specs.declared.Turn.{Turn}
 use Rattle.values.specs.declared.Turn.the-variants as turn
 use Rattle.values.specs.declared.Listed.{Listed}
 use Rattle.values.specs.declared.Listed.the-variants as listed
-use Rattle.values.specs.Line.{Given, Is, Not, saidOf, specialOr, lineRest, numberOn, numberAt, repeatedIn, lineFault, judgeLine, grownBy, lineCells, cellsOf, moreOf, Listing, stateOf, after, judgedStep, readStep, lineStep, linesFrom, listedOf, Stored}
+use Rattle.values.specs.Line.{Given, Is, Not, saidOf, specialOr, lineRest, numberOn, numberAt, repeatedIn, lineFault}
+use Rattle.values.specs.Line.{judgeLine, grownBy, lineCells, cellsOf, moreOf, Listing, stateOf, after, judgedStep, readStep}
+use Rattle.values.specs.Line.{lineStep, linesFrom}
+use Rattle.values.specs.Line.{listedOf, Stored}
 use Rattle.values.specs.Block.{closedBy}
 use Rattle.values.specs.Room.{roomAt, slotOf, Marked, storable, judgedTurn, judgedRoom, judgedMarks, Standing, standAt, judgedAt, readTurn, readRoom, readMarks, turnOf, roomAfter, marksAfter}
 use Rattle.values.specs.Good.{GoodLine}
@@ -222,7 +227,7 @@ module _ (d : List ℕ) (quantity : Bool) (first : ℕ) where
   abbrev left : Listing → ℕ
   left l = 4096 - (first + length (l .lines))
 
-  falls : (l m : Listing) → lineStep d quantity first l ≡ Again m → left m < left l
+  pub falls : (l m : Listing) → lineStep d quantity first l ≡ Again m → left m < left l
   unfolding lineStep
   falls l m = by (lineRest d (l .amount)) where
     on : (s : Said) (t : Turn) → first + length (l .lines) < 4096 → after (l .lines ++ s ∷ []) t ≡ Again m → left m < left l

@@ -11,19 +11,20 @@ use lib.IntN.{ℤ}
 use lib.ListN.{length}
 use borrow.Author.Tests.{ltb-true, leb-true, eqb-true, not-true, not-false}
 use Rattle.below.specs.Below.{holds-not, either-true, and-left, and-right, any-fails, any-none}
-use Rattle.cells.specs.Cell.{numberOf, eqZ, same-true}
+use Rattle.cells.specs.rule.Cell.{numberOf, eqZ}
+use Rattle.cells.specs.Cell.{same-true}
 use Rattle.scan.specs.Number.{capped}
 use Rattle.scan.specs.Order.{valueOf}
-use Rattle.scan.specs.Loop.{Next, Again, Done, onNext, loopOf}
+use Rattle.scan.specs.rule.Loop.{Next, Again, Done, onNext, loopOf}
 use Rattle.tokens.specs.declared.Reading.{Reading}
 use Rattle.tokens.specs.declared.Reading.the-variants.{At, Refused}
 use Rattle.tokens.specs.declared.Choice.{Choice}
 use Rattle.tokens.specs.declared.Choice.the-variants.{Taken, Left}
 use Rattle.tokens.specs.declared.Value.{Value}
 use Rattle.tokens.specs.declared.Amount.the-variants as amount
-use Rattle.tokens.specs.Gap.{fault}
+use Rattle.tokens.specs.rule.Gap.{fault}
 use Rattle.tokens.specs.Token.{choiceOf, valueHere, wordOn}
-use Rattle.statements.specs.Words.{END, VALUES}
+use Rattle.statements.specs.rule.Words.{END, VALUES}
 use Rattle.statements.specs.Note.{notesOn}
 use Rattle.values.specs.declared.Block.{Block}
 use Rattle.values.specs.declared.Said.{Said}
@@ -32,8 +33,8 @@ use Rattle.values.specs.declared.Lined.the-variants as lined
 use Rattle.values.specs.declared.Verdict.{Verdict}
 use Rattle.values.specs.declared.Verdict.the-variants.{Good, Bad}
 use Rattle.values.specs.Value.{formOf, largeOf, trueOf, scaledOf}
-use Rattle.values.specs.Line.{Given, Not, Listing, stateOf, lineRest, numberOn, numbers, numberAt, repeatedIn, lineFault, judgeLine}
-use Rattle.values.specs.Line.{grownBy, endOf, endOr, moreOf, after, judgedStep, readStep, lineStep, linesFrom}
+use Rattle.values.specs.Line.{Given, Not, Listing, stateOf, lineRest, numberOn, numbers, numberAt, repeatedIn, lineFault}
+use Rattle.values.specs.Line.{judgeLine, grownBy, endOf, endOr, moreOf, after, judgedStep, readStep, lineStep, linesFrom}
 use Rattle.values.specs.Block.{emptyBlock}
 use Rattle.values.specs.Good.{Limited}
 use Rattle.values.specs.Order.{trues, trueAt, paperLine, paperRead, paperStep, paperFrom, Reached, alone, behind, next}

@@ -6,7 +6,7 @@ use native.Mathlib.Omega.{arith}
 use lib.IntN.{ℤ, pos}
 use lib.ListN.{length, take, drop, getD, length-append, length-take, length-drop, List·getD-append}
 use lib.Seq.{length-take-le, drop-append-seam, getD-append-add, getD-at}
-use Rattle.cells.specs.Cell.{cell, pasted}
+use Rattle.cells.specs.rule.Cell.{cell, pasted}
 use Rattle.values.specs.declared.Said.{Said}
 use Rattle.values.specs.Line.{numberOn, numbers, numberAt, lineCells, cellsOf}
 

@@ -1,7 +1,8 @@
+-- THE CODE'S BOOKS, which contracts inside the library name; crate `bridge` proves them equal to the rule of crate `reading`.
 -- VALUES: a range, followed by WITH exactly when lines follow; or lines, at least one; and END VALUES. Notes may stand before a range,
 -- a line or END.
 use Prim.Native.Nat.{ℕ}
-use mathlib.Core.Bool.{Bool, true, false, cond}
+use mathlib.Core.Bool.{Bool, false, cond}
 use mathlib.Core.List.{List, []}
 use lib.IntN.{pos}
 use Rattle.tokens.specs.declared.Reading.{Reading}
@@ -11,7 +12,7 @@ use Rattle.tokens.specs.declared.Choice.the-variants.{Taken, Left}
 use Rattle.tokens.specs.declared.Amount.{Amount}
 use Rattle.tokens.specs.Gap.{gapOn}
 use Rattle.tokens.specs.Token.{choiceOf, wordHere, wordOn, valueHere, pastValue}
-use Rattle.statements.specs.Words.{VALUES, TO, END}
+use Rattle.statements.specs.rule.Words.{VALUES, TO, END}
 use Rattle.statements.specs.Note.{notesOn, statementOn}
 use Rattle.values.specs.declared.Block.{Block}
 use Rattle.values.specs.declared.Ranged.{Ranged}

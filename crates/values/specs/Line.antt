@@ -1,17 +1,16 @@
+-- THE CODE'S BOOKS, which contracts inside the library name; crate `bridge` proves them equal to the rule of crate `reading`.
 -- A line is a value, a string, and SPECIAL or not. 6 where its form is wrong, its decimals differ from those before it in the block,
 -- or an earlier line of the block says its number; 8 beyond its limit, or where 4,096 lines were read. Then follow notes, and another
 -- line or END VALUES.
-use Prim.Native.Nat.{ℕ, suc, _+_, _*_, _-_}
-use mathlib.Core.Path.{_≡_}
-use mathlib.Core.Bool.{Bool, true, false, cond, not, _&&_, _||_}
+use Prim.Native.Nat.{ℕ, suc, _+_, _-_, _*_}
+use mathlib.Core.Bool.{Bool, true, cond, not, _&&_, _||_}
 use mathlib.Core.List.{List, [], _∷_, _++_}
 use lib.Dec.{eqb, ltb, leb}
 use lib.IntN.{ℤ, pos}
 use lib.ListN.{length}
-use Rattle.below.specs.Below.{anyBelow}
-use Rattle.cells.specs.Cell.{cell, eqZ, pasted}
-use Rattle.scan.specs.Loop.{Next, Again, Done, loopOf}
-use Rattle.layout.specs.Layout.{lineSize}
+use Rattle.below.specs.rule.Below.{anyBelow}
+use Rattle.cells.specs.rule.Cell.{cell, eqZ, pasted}
+use Rattle.scan.specs.rule.Loop.{Next, Again, Done, loopOf}
 use Rattle.tokens.specs.declared.Fault.{Fault}
 use Rattle.tokens.specs.declared.Reading.{Reading}
 use Rattle.tokens.specs.declared.Reading.the-variants.{At, Refused}
@@ -23,9 +22,10 @@ use Rattle.tokens.specs.declared.Amount.{Amount}
 use Rattle.tokens.specs.declared.Amount.the-variants as amount
 use Rattle.tokens.specs.declared.Phrase.{Phrase}
 use Rattle.tokens.specs.declared.Phrase.the-variants as phrase
-use Rattle.tokens.specs.Gap.{fault, gapOn}
+use Rattle.tokens.specs.rule.Gap.{fault}
+use Rattle.tokens.specs.Gap.{gapOn}
 use Rattle.tokens.specs.Token.{choiceOf, wordOn, valueHere, pastValue, stringOn, pastString}
-use Rattle.statements.specs.Words.{SPECIAL, END, VALUES}
+use Rattle.statements.specs.rule.Words.{SPECIAL, END, VALUES}
 use Rattle.statements.specs.Note.{notesOn}
 use Rattle.values.specs.Value.{formOf, largeOf, scaledOf, pointOf}
 use Rattle.values.specs.declared.Block.{Block}
@@ -36,6 +36,8 @@ use Rattle.values.specs.declared.Verdict.{Verdict}
 use Rattle.values.specs.declared.Verdict.the-variants.{Good, Bad}
 use Rattle.values.specs.declared.Turn.{Turn}
 use Rattle.values.specs.declared.Turn.the-variants as turn
+use mathlib.Core.Path.{_≡_}
+use Rattle.layout.specs.rule.Layout.{lineSize}
 use Rattle.values.specs.declared.Listed.{Listed}
 use Rattle.values.specs.declared.Listed.the-variants as listed
 

@@ -9,12 +9,12 @@ use mathlib.Core.List.{List, [], _∷_}
 use lib.Dec.{eqb, leb}
 use lib.IntN.{ℤ}
 use lib.ListN.{length}
-use Rattle.cells.specs.Cell.{cell}
-use Rattle.scan.specs.Loop.{Next, Again, Done, loopOf}
+use Rattle.cells.specs.rule.Cell.{cell}
+use Rattle.scan.specs.rule.Loop.{Next, Again, Done, loopOf}
 use Rattle.tokens.specs.declared.Reading.{Reading}
 use Rattle.tokens.specs.declared.Reading.the-variants.{At}
 use Rattle.tokens.specs.declared.Value.{Value}
-use Rattle.tokens.specs.Gap.{fault}
+use Rattle.tokens.specs.rule.Gap.{fault}
 use Rattle.tokens.specs.Token.{valueHere}
 use Rattle.statements.specs.Note.{notesOn}
 use Rattle.values.specs.declared.Block.{Block}

@@ -1,3 +1,4 @@
+-- THE CODE'S BOOKS, which contracts inside the library name; crate `bridge` proves them equal to the rule of crate `reading`.
 -- A range `a TO b`, with WITH where lines follow. 6 stands at each value of wrong form; where both have form, at the second if the
 -- decimals differ or the range is reversed by the true values; then 8 at each beyond its limit.
 use Prim.Native.Nat.{ℕ}
@@ -5,7 +6,6 @@ use mathlib.Core.Bool.{Bool, true, false, cond, _||_}
 use mathlib.Core.List.{List}
 use lib.Dec.{eqb}
 use lib.Signed.{ltZ}
-use Rattle.tokens.specs.declared.Fault.{Fault}
 use Rattle.tokens.specs.declared.Reading.{Reading}
 use Rattle.tokens.specs.declared.Reading.the-variants.{At, Refused}
 use Rattle.tokens.specs.declared.Choice.{Choice}
@@ -13,11 +13,11 @@ use Rattle.tokens.specs.declared.Choice.the-variants.{Taken, Left}
 use Rattle.tokens.specs.declared.Value.{Value}
 use Rattle.tokens.specs.declared.Amount.{Amount}
 use Rattle.tokens.specs.declared.Amount.the-variants as amount
-use Rattle.tokens.specs.Gap.{fault, gapOn}
+use Rattle.tokens.specs.rule.Gap.{fault}
+use Rattle.tokens.specs.Gap.{gapOn}
 use Rattle.tokens.specs.Token.{choiceOf, valueOn, pastValue}
-use Rattle.statements.specs.Words.{WITH}
+use Rattle.statements.specs.rule.Words.{WITH}
 use Rattle.values.specs.Value.{formOf, largeOf, trueOf, scaledOf, pointOf}
-use Rattle.values.specs.declared.Block.{Block}
 use Rattle.values.specs.declared.Judged.{Judged}
 use Rattle.values.specs.declared.Judged.the-variants.{Good, Bad}
 use Rattle.values.specs.declared.Ranged.{Ranged}

@@ -6,8 +6,8 @@ use mathlib.Core.Bool.{Bool}
 use mathlib.Core.List.{List}
 use lib.IntN.{ℤ}
 use lib.ListN.{getD, set}
-use Rattle.cells.specs.Cell.{cell, signedOf, pasted}
-use Rattle.layout.specs.Layout.{lineSize}
+use Rattle.cells.specs.rule.Cell.{cell, signedOf, pasted}
+use Rattle.layout.specs.rule.Layout.{lineSize}
 use Rattle.tokens.specs.declared.Amount.{Amount}
 use Rattle.values.specs.declared.Block.{Block}
 use Rattle.values.specs.declared.Said.{Said}

@@ -1,12 +1,13 @@
+-- THE CODE'S BOOKS, which contracts inside the library name; crate `bridge` proves them equal to the rule of crate `reading`.
 -- A value by its type. Categories are digits, above 0, up to 9,999. Quantities have an optional minus, digits, an optional point, at
 -- least one digit in all; their digits, the point left out, say the scaled number, of at most 15 digits, with at most 9 decimals.
 use Prim.Native.Nat.{ℕ}
-use mathlib.Core.Bool.{Bool, true, false, cond, not, _&&_, _||_}
+use mathlib.Core.Bool.{Bool, cond, not, _&&_, _||_}
 use mathlib.Core.List.{List}
 use lib.Dec.{ltb}
 use lib.IntN.{ℤ}
 use Rattle.scan.specs.Order.{valueOf}
-use Rattle.cells.specs.Cell.{numberOf}
+use Rattle.cells.specs.rule.Cell.{numberOf}
 use Rattle.tokens.specs.declared.Value.{Value}
 
 unfoldable pub formOf : Bool → Value → Bool

@@ -16,11 +16,13 @@ ghost use Prim.Native.Nat.{_+_, _*_, _-_, _≤_, _<_};
 ghost use lib.ListN.{length, set};
 ghost use lib.Signed.{ltZ};
 ghost use Rattle.ascii.specs.Class.{Classes};
-ghost use Rattle.cells.specs.Cell.{pasted};
-ghost use Rattle.layout.specs.Layout.{lineSize, mostLines};
+ghost use Rattle.cells.specs.rule.Cell.{pasted};
+ghost use Rattle.layout.specs.rule.Layout.{lineSize, mostLines};
 ghost use Rattle.values.specs.Value.{formOf, largeOf, trueOf, scaledOf, pointOf};
 ghost use Rattle.values.specs.Range.{limitRange, judgeRange, settled, rangedOf, rangeRest};
-ghost use Rattle.values.specs.Line.{saidOf, lineRest, numberOn, repeatedIn, lineFault, judgeLine, grownBy, lineCells, endOf, moreOf, stateOf, linesFrom, listedOf, Stored};
+ghost use Rattle.values.specs.Line.{saidOf, lineRest, numberOn, repeatedIn, lineFault, judgeLine, grownBy, lineCells, endOf};
+ghost use Rattle.values.specs.Line.{moreOf, stateOf, linesFrom};
+ghost use Rattle.values.specs.Line.{listedOf, Stored};
 ghost use Rattle.values.specs.Room.{roomAt, slotOf, Marked, storable, judgedTurn, judgedRoom, judgedMarks, standAt, turnOf, roomAfter, marksAfter};
 ghost use Rattle.values.specs.Block.{emptyBlock, closedBy, rangeThen, valuesOn};
 

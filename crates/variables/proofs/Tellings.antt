@@ -5,7 +5,8 @@ use Prim.Native.Nat.{ℕ, _+_, _*_}
 use native.Mathlib.Omega.{arith}
 use lib.IntN.{ℤ}
 use lib.ListN.{length}
-use Rattle.cells.specs.Cell.{pasted, paste-none}
+use Rattle.cells.specs.rule.Cell.{pasted}
+use Rattle.cells.specs.Cell.{paste-none}
 use Rattle.tokens.specs.declared.Fault.{Fault}
 use Rattle.tokens.specs.declared.Reading.{Reading}
 use Rattle.tokens.specs.declared.Reading.the-variants.{At, Refused}
@@ -16,13 +17,15 @@ use Rattle.values.specs.declared.Block.{Block}
 use Rattle.values.specs.declared.Said.{Said}
 use Rattle.values.specs.declared.Listed.{Listed}
 use Rattle.values.specs.declared.Listed.the-variants as listed
-use Rattle.values.specs.Line.{Given, cellsOf, listedOf}
+use Rattle.values.specs.Line.{Given, cellsOf}
+use Rattle.values.specs.Line.{listedOf}
 use Rattle.values.specs.Line as given
 use Rattle.values.specs.Block.{emptyBlock}
 use Rattle.variables.specs.declared.Rest.{Rest}
 use Rattle.variables.specs.declared.Rested.{Rested}
 use Rattle.variables.specs.declared.Rested.the-variants as rested
-use Rattle.variables.specs.Rest.{Telling, Told, Is, Not, joinValues, joinSize, joinNothing, restedOf, Stored}
+use Rattle.variables.specs.Rest.{Telling, Told, Is, Not, joinValues, joinSize, joinNothing}
+use Rattle.variables.specs.Rest.{restedOf, Stored}
 
 abbrev rest : Block → ℕ → ℕ → ℕ → ℕ → ℕ → Rest
 rest b last count width size n = record { block = b; last = last; subfields = count; subwidth = width; size = size; next = n }

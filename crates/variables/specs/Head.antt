@@ -1,29 +1,24 @@
+-- THE CODE'S BOOKS, which contracts inside the library name; crate `bridge` proves them equal to the rule of crate `reading`.
 -- A variable is VARIABLE id, NAME, LABEL, TYPE, POSITION a [TO b], then what its type has.
 use Prim.Native.Nat.{ℕ}
 use mathlib.Core.List.{List}
-use Rattle.tokens.specs.declared.Fault.{Fault}
 use Rattle.tokens.specs.declared.Reading.{Reading}
 use Rattle.tokens.specs.declared.Reading.the-variants.{At, Refused}
-use Rattle.tokens.specs.declared.Figures.{Figures}
 use Rattle.tokens.specs.declared.Number.{Number}
 use Rattle.tokens.specs.declared.Number.the-variants as number
-use Rattle.tokens.specs.declared.Quoted.{Quoted}
 use Rattle.tokens.specs.declared.Phrase.{Phrase}
 use Rattle.tokens.specs.declared.Phrase.the-variants as phrase
 use Rattle.tokens.specs.Token.{pastNumber, pastString}
 use Rattle.statements.specs.declared.Typed.{Typed}
 use Rattle.statements.specs.declared.Typed.the-variants as typed
-use Rattle.statements.specs.declared.Position.{Position}
 use Rattle.statements.specs.declared.Stated.{Stated}
 use Rattle.statements.specs.declared.Stated.the-variants as stated
-use Rattle.statements.specs.Words.{NAME, LABEL}
+use Rattle.statements.specs.rule.Words.{NAME, LABEL}
 use Rattle.statements.specs.Note.{textOn}
 use Rattle.statements.specs.Kinds.{typeOn}
 use Rattle.statements.specs.Position.{positionOn}
-use Rattle.variables.specs.declared.Titles.{Titles}
 use Rattle.variables.specs.declared.Titled.{Titled}
 use Rattle.variables.specs.declared.Titled.the-variants as titled
-use Rattle.variables.specs.declared.Head.{Head}
 use Rattle.variables.specs.declared.Headed.{Headed}
 use Rattle.variables.specs.declared.Headed.the-variants.{Is, Not}
 

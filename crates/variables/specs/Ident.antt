@@ -1,18 +1,19 @@
+-- THE CODE'S BOOKS, which contracts inside the library name; crate `bridge` proves them equal to the rule of crate `reading`.
 -- VARIABLE and its ident: 5 where it is 0, has over four digits as written, or is repeated; then 8 at a 513th variable. The idents met
 -- before are marked by a 1 in a list of 10,000.
 use Prim.Native.Nat.{ℕ}
-use mathlib.Core.Bool.{Bool, true, false, cond, _||_}
+use mathlib.Core.Bool.{Bool, true, cond, _||_}
 use mathlib.Core.List.{List}
 use lib.Dec.{eqb, ltb, leb}
-use lib.ListN.{getD}
 use Rattle.tokens.specs.declared.Reading.{Reading}
 use Rattle.tokens.specs.declared.Figures.{Figures}
 use Rattle.tokens.specs.declared.Number.{Number}
 use Rattle.tokens.specs.declared.Number.the-variants.{Is, Not}
-use Rattle.tokens.specs.Gap.{fault}
+use Rattle.tokens.specs.rule.Gap.{fault}
 use Rattle.tokens.specs.Token.{numberOn}
-use Rattle.statements.specs.Words.{VARIABLE}
+use Rattle.statements.specs.rule.Words.{VARIABLE}
 use Rattle.statements.specs.Note.{statementOn}
+use lib.ListN.{getD}
 
 -- `met` says of a number whether an earlier variable has it as its ident
 unfoldable pub wrongIdent : (ℕ → Bool) → Figures → Bool

@@ -1,3 +1,3 @@
 pub mod Ident
-pub mod Head
 pub mod Rest
+pub mod Head

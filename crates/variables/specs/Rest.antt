@@ -1,26 +1,20 @@
+-- THE CODE'S BOOKS, which contracts inside the library name; crate `bridge` proves them equal to the rule of crate `reading`.
 -- By type: SINGLE and QUANTITY have VALUES; MULTIPLE an optional SPREAD, then VALUES; CHARACTER SIZE; LOGICAL nothing.
 use Prim.Native.Nat.{ℕ, _+_, _*_}
-use mathlib.Core.Path.{_≡_}
 use mathlib.Core.Bool.{Bool, true, false, cond}
 use mathlib.Core.List.{List, []}
 use lib.Dec.{eqb}
-use lib.IntN.{ℤ}
-use lib.ListN.{length}
-use Rattle.cells.specs.Cell.{pasted}
-use Rattle.layout.specs.Layout.{lineSize}
 use Rattle.tokens.specs.declared.Fault.{Fault}
 use Rattle.tokens.specs.declared.Reading.{Reading}
 use Rattle.tokens.specs.declared.Reading.the-variants.{At, Refused}
 use Rattle.tokens.specs.declared.Choice.{Choice}
 use Rattle.tokens.specs.declared.Choice.the-variants.{Taken, Left}
-use Rattle.tokens.specs.declared.Figures.{Figures}
 use Rattle.tokens.specs.declared.Number.{Number}
 use Rattle.tokens.specs.declared.Number.the-variants as number
 use Rattle.tokens.specs.Token.{choiceOf}
-use Rattle.statements.specs.declared.Subfields.{Subfields}
 use Rattle.statements.specs.declared.Spreading.{Spreading}
 use Rattle.statements.specs.declared.Spreading.the-variants as spreading
-use Rattle.statements.specs.Words.{SPREAD}
+use Rattle.statements.specs.rule.Words.{SPREAD}
 use Rattle.statements.specs.Note.{notesOn}
 use Rattle.statements.specs.Spread.{spreadRest}
 use Rattle.statements.specs.Size.{sizeOn}
@@ -29,7 +23,11 @@ use Rattle.values.specs.declared.Said.{Said}
 use Rattle.values.specs.Line.{Given, cellsOf}
 use Rattle.values.specs.Line as given
 use Rattle.values.specs.Block.{emptyBlock, valuesOn}
-use Rattle.variables.specs.declared.Rest.{Rest}
+use mathlib.Core.Path.{_≡_}
+use lib.IntN.{ℤ}
+use lib.ListN.{length}
+use Rattle.cells.specs.rule.Cell.{pasted}
+use Rattle.layout.specs.rule.Layout.{lineSize}
 use Rattle.variables.specs.declared.Rested.{Rested}
 use Rattle.variables.specs.declared.Rested.the-variants as rested
 

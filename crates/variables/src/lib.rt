@@ -16,10 +16,12 @@ ghost use mathlib.Core.Path.{_≡_};
 ghost use Prim.Native.Nat.{_*_, _≤_};
 ghost use lib.ListN.{length};
 ghost use Rattle.ascii.specs.Class.{Classes};
-ghost use Rattle.layout.specs.Layout.{lineSize, mostLines};
-ghost use Rattle.variables.specs.Ident.{marked, wrongIdent, judgeIdent, identOn};
+ghost use Rattle.layout.specs.rule.Layout.{lineSize, mostLines};
+ghost use Rattle.variables.specs.Ident.{marked};
+ghost use Rattle.variables.specs.Ident.{wrongIdent, judgeIdent, identOn};
 ghost use Rattle.variables.specs.Head.{pastType, joinTitles, joinHead, headOn};
-ghost use Rattle.variables.specs.Rest.{valuesRest, joinSize, joinNothing, spreadThen, restOf, restedOf, Stored};
+ghost use Rattle.variables.specs.Rest.{valuesRest, joinSize, joinNothing, spreadThen, restOf};
+ghost use Rattle.variables.specs.Rest.{restedOf, Stored};
 
 // Whether an ident has more than four digits, is 0, or was met before.
 fn wrong_ident(seen: &[u8], x: Figures) -> bool

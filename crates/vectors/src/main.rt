@@ -2,6 +2,9 @@
 // the answer is printed with the table, and whether every other number of the table holds what it held. `cases.py` beside this makes
 // the cases and the answers.
 use definition::Answer;
+use layout::Header;
+use layout::Line;
+use layout::Row;
 ghost use Prim.Native.Nat.{_≤_, _<_};
 ghost use lib.ListN.{length};
 
@@ -109,7 +112,9 @@ fn put_held(out: &mut [u8], at: usize, kept: bool) -> usize {
 
 // The numbers of a table with so many rows and lines, as far as there can be so many.
 fn table_size(rows: usize, lines: usize) -> usize {
-    6 + 18 * bounded(rows, 512) + 4 * bounded(lines, 4096)
+    Header::SIZE
+        + Row::SIZE * bounded(rows, Header::MOST_ROWS)
+        + Line::SIZE * bounded(lines, Header::MOST_LINES)
 }
 
 // ---- the cases

@@ -2,8 +2,9 @@
 // of a table and the reader of a definition, which both compute the value width w from it.
 ghost use mathlib.Core.Path.{_≡_};
 ghost use Prim.Native.Nat.{_≤_};
-ghost use Rattle.ascii.specs.Tens.{Tens};
-ghost use Rattle.widths.specs.Width.{tailOf, quantityWidth, need, lowest, highest, FewDecimals};
+ghost use Rattle.ascii.specs.rule.Tens.{Tens};
+ghost use Rattle.widths.specs.rule.Width.{tailOf, quantityWidth, need, lowest, highest};
+ghost use Rattle.widths.specs.Width.{FewDecimals};
 use layout::Format;
 use layout::Kind;
 use layout::Spread;

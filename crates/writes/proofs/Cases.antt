@@ -8,29 +8,30 @@ use borrow.Author.Tests.{leb-true}
 use lib.IntN.{ℤ, pos, negsuc}
 use lib.Signed.{leZ}
 use Rattle.below.specs.Below.{holds-not}
-use Rattle.cells.specs.Cell.{signedOf}
-use Rattle.widths.specs.Width.{sizeOf, lowest, highest, need, quantityWidth}
-use Rattle.fields.specs.Legal.{legal}
+use Rattle.cells.specs.rule.Cell.{signedOf}
+use Rattle.widths.specs.rule.Width.{sizeOf, lowest, highest, need, quantityWidth}
+use Rattle.fields.specs.rule.Legal.{legal}
 use Rattle.layout.specs.declared.Kind.the-variants.{Single, Multiple, Quantity, Character, Logical}
 use Rattle.layout.specs.declared.Spread.the-variants.{Bits, Fields}
 use Rattle.layout.specs.declared.Format.{Format}
 use Rattle.digits.specs.Room.{Wide}
 use lib.ListN.{length, getD, take, replicate, length-replicate}
 use lib.Seq.{length-take-le}
-use Rattle.places.specs.Places.{put, run}
+use Rattle.places.specs.rule.Places.{put, run}
 use Rattle.places.specs.Laws.{length-run}
 use Rattle.layout.specs.declared.Kind.{Kind}
 use Rattle.layout.specs.declared.Row.{Row}
-use Rattle.fields.specs.Field.{number, spaces, allLegal, setFits}
+use Rattle.fields.specs.rule.Field.{number, spaces, allLegal, setFits}
 use Rattle.fieldlaws.specs.BackLaws.{Limits, bits-members, quantity-few}
 use Rattle.fieldlaws.specs.RisingLaws.{Rising, legal-of, legal-here, legal-next}
 use Rattle.setbytes.specs.Sets.{Small}
-use Rattle.fields.specs.Row.{fits, otherType, notLegal, tooMany, legalFit, fitsBy, bytesBy, placesBy}
+use Rattle.fields.specs.rule.Row.{fits, otherType, notLegal, tooMany, legalFit, fitsBy, bytesBy, placesBy}
 use Rattle.writes.specs.declared.Wrote.the-variants.{Done, OtherType, NotLegal, TooMany}
 use Rattle.writes.specs.declared.Value.{Value}
 use Rattle.writes.specs.declared.Value.the-variants.{Missing, Number}
 use Rattle.writes.specs.declared.Wrote.{Wrote}
-use Rattle.writes.specs.Write.{valueOf, WrittenBy, Ready, takesNumbers, answerBy, leftBy}
+use Rattle.writes.specs.rule.Write.{valueOf}
+use Rattle.writes.specs.Write.{WrittenBy, Ready, takesNumbers, answerBy, leftBy}
 
 module _ {k : Kind} {t : List ℤ} {v : ℕ} {r : Row} {value : Value} {list : List ℤ} {text : List ℕ} {old : List ℕ} where
   pub accepted : {new : List ℕ} → fitsBy k t v r (valueOf value list text) ≡ fits

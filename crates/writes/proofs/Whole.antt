@@ -8,19 +8,21 @@ use borrow.Author.Tests.{le-leb, lt-leb, lt-ltb, le-ltb}
 use lib.Dec.{eqb}
 use lib.IntN.{ℤ}
 use lib.ListN.{length}
-use Rattle.layout.specs.Layout.{headerOf, mostRows, rowBase, rowSize}
-use Rattle.layout.specs.Row.{rowAt}
+use Rattle.layout.specs.rule.Layout.{headerOf, mostRows, rowBase, rowSize}
+use Rattle.layout.specs.rule.Row.{rowAt}
 use Rattle.layout.specs.declared.Header.{Header}
 use Rattle.layout.specs.declared.Row.{Row}
-use Rattle.fields.specs.Field as field
-use Rattle.fields.specs.Row.{Fit, fits, otherType, notLegal, tooMany, fitOf, writtenOf}
-use Rattle.sound.specs.Sound.{wellFormed}
-use Rattle.sound.specs.Rows.{rowsOf, lengthOf, row-facts}
+use Rattle.fields.specs.rule.Field as field
+use Rattle.fields.specs.rule.Row.{Fit, fits, otherType, notLegal, tooMany, fitOf, writtenOf}
+use Rattle.sound.specs.rule.Sound.{wellFormed}
+use Rattle.sound.specs.rule.Rows.{rowsOf, lengthOf}
+use Rattle.sound.specs.Rows.{row-facts}
 use Rattle.writes.specs.declared.Value.{Value}
 use Rattle.writes.specs.declared.Wrote.{Wrote}
 use Rattle.writes.specs.declared.Wrote.the-variants.{NotWellFormed, NoRow, TooShort}
-use Rattle.writes.specs.Write.{valueOf, WrittenBy, Ready, ready, answerBy, leftBy}
-use Rattle.writes.specs.Public.{numberOf, fitNumber, refusalOf, recordAfter, Written}
+use Rattle.writes.specs.rule.Write.{valueOf}
+use Rattle.writes.specs.Write.{WrittenBy, Ready, ready, answerBy, leftBy}
+use Rattle.writes.specs.rule.Public.{numberOf, fitNumber, refusalOf, recordAfter, Written}
 
 -- the number of an answer by the fit is the fit's, and the record is kept but where it is 0
 number-by : (f : Fit) → numberOf (answerBy f) ≡ fitNumber f
@@ -38,16 +40,16 @@ left-by notLegal new old = refl
 left-by tooMany new old = refl
 
 module _ (t : List ℤ) (i : ℕ) (x : field.Value) (old : List ℕ) where
-  pub not-formed : wellFormed t ≡ false → Written t i x old old NotWellFormed
+  pub not-formed : wellFormed t ≡ false → Written t i x old old (numberOf NotWellFormed)
   unfolding refusalOf recordAfter numberOf
   not-formed e = record { says = rw e; leaves = rw e }
 
   module _ (good : wellFormed t ≡ true) where
-    pub no-row : rowsOf t ≤ i → Written t i x old old NoRow
+    pub no-row : rowsOf t ≤ i → Written t i x old old (numberOf NoRow)
     unfolding refusalOf recordAfter numberOf
     no-row h = record { says = rw (good, le-leb (rowsOf t) i h); leaves = rw (good, le-leb (rowsOf t) i h) }
 
-    pub too-short : i < rowsOf t → length old < lengthOf t → Written t i x old old TooShort
+    pub too-short : i < rowsOf t → length old < lengthOf t → Written t i x old old (numberOf TooShort)
     unfolding refusalOf recordAfter numberOf
     too-short h l = record {
       says = rw (good, lt-leb (rowsOf t) i h, lt-ltb (length old) (lengthOf t) l);
@@ -75,7 +77,7 @@ module _ (t : List ℤ) (i : ℕ) (old : List ℕ) (good : wellFormed t ≡ true
     row-ready = rw (q, e) (ready (length old) (row-facts t good i below) long-enough)
 
     pub row-written : {value : Value} {list : List ℤ} {text : List ℕ} {new : List ℕ} {a : Wrote}
-        → WrittenBy (r .kind) t (h .rows) r value list text old new a → Written t i (valueOf value list text) old new a
+        → WrittenBy (r .kind) t (h .rows) r value list text old new a → Written t i (valueOf value list text) old new (numberOf a)
     unfolding recordAfter writtenOf
     row-written {value} {list} {text} {new} {a} w =
         let w′ : WrittenBy (rowAt t i .kind) t (rowsOf t) (rowAt t i) value list text old new a = rw (q, e) at w in

@@ -1,4 +1,4 @@
--- Writing one row's value: the value that is given, the answer, and the record afterwards, for a row of each kind.
+-- What follows from rule/Write.antt, and what the code keeps.
 use mathlib.Core.Path.{_≡_}
 use mathlib.Core.Bool.{Bool, true, false}
 use mathlib.Core.List.{List}
@@ -6,19 +6,18 @@ use Prim.Native.Nat.{ℕ, _≤_}
 use native.Mathlib.Omega.{arith}
 use lib.IntN.{ℤ}
 use lib.Signed.{leZ}
-use Rattle.places.specs.Places.{put}
+use Rattle.places.specs.rule.Places.{put}
 use Rattle.layout.specs.declared.Kind.{Kind}
 use Rattle.layout.specs.declared.Kind.the-variants.{Single, Multiple, Quantity, Character, Logical}
 use Rattle.layout.specs.declared.Row.{Row}
-use Rattle.widths.specs.Width.{need, lowest, highest}
-use Rattle.fields.specs.Legal.{legal}
-use Rattle.fields.specs.Field as field
-use Rattle.fields.specs.Row.{Fit, fits, otherType, notLegal, tooMany, fitsBy, bytesBy, placesBy}
+use Rattle.widths.specs.rule.Width.{need, lowest, highest}
+use Rattle.fields.specs.rule.Legal.{legal}
+use Rattle.fields.specs.rule.Row.{Fit, fits, otherType, notLegal, tooMany, fitsBy, bytesBy, placesBy}
 use Rattle.fields.specs.Facts.{LineFacts, KindFacts, RowFacts}
 use Rattle.writes.specs.declared.Value.{Value}
-use Rattle.writes.specs.declared.Value.the-variants.{Missing, Number, Set, Text, Truth}
 use Rattle.writes.specs.declared.Wrote.{Wrote}
 use Rattle.writes.specs.declared.Wrote.the-variants.{Done, OtherType, NotLegal, TooMany}
+use Rattle.writes.specs.rule.Write.{valueOf}
 
 -- whether a row of the kind takes numbers
 abbrev pub takesNumbers : Kind → Bool
@@ -27,14 +26,6 @@ takesNumbers (Multiple s) = false
 takesNumbers (Quantity f) = true
 takesNumbers Character = false
 takesNumbers Logical = false
-
--- what is given: a set is the list beside it, a text the bytes beside it
-unfoldable pub valueOf : Value → List ℤ → List ℕ → field.Value
-valueOf Missing list bytes = field.missing
-valueOf (Number z) list bytes = field.number z
-valueOf Set list bytes = field.members list
-valueOf Text list bytes = field.text bytes
-valueOf (Truth b) list bytes = field.truth b
 
 -- the answer by whether the value fits
 unfoldable pub answerBy : Fit → Wrote

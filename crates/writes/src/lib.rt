@@ -1,9 +1,10 @@
 // One row's value written into a record: which values fit a row of each kind, and the bytes that they give at its value places.
 // Above it stand the face for C and Rust, and the lists of corrections.
 ghost use lib.ListN.{length};
-ghost use Rattle.ascii.specs.Tens.{Tens};
-ghost use Rattle.writes.specs.Write.{WrittenBy, Ready, valueOf};
-ghost use Rattle.writes.specs.Public.{Written};
+ghost use Rattle.ascii.specs.rule.Tens.{Tens};
+ghost use Rattle.writes.specs.Write.{WrittenBy, Ready};
+ghost use Rattle.writes.specs.rule.Write.{valueOf};
+ghost use Rattle.writes.specs.rule.Public.{numberOf, Written};
 use layout::Header;
 use layout::Row;
 
@@ -65,7 +66,7 @@ pub fn write_value(
     text: &[u8],
     bytes: &mut [u8],
 ) -> Wrote
-    ensures { λ r. ⌜ Written (now (table .entry)) row (valueOf value (now (list .entry)) (now (text .entry))) (now (bytes .entry)) (now (bytes .exit)) r ⌝ }
+    ensures { λ r. ⌜ Written (now (table .entry)) row (valueOf value (now (list .entry)) (now (text .entry))) (now (bytes .entry)) (now (bytes .exit)) (numberOf r) ⌝ }
 {
     if !sound::well_formed(table) {
         return Wrote::NotWellFormed;

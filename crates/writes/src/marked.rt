@@ -3,7 +3,7 @@
 ghost use mathlib.Core.List.{[]};
 ghost use Prim.Native.Nat.{_≤_};
 ghost use lib.ListN.{length};
-ghost use Rattle.ascii.specs.Tens.{Tens};
+ghost use Rattle.ascii.specs.rule.Tens.{Tens};
 ghost use Rattle.layout.specs.declared.Kind.the-variants as kind;
 ghost use Rattle.layout.specs.declared.Spread.the-variants as spread;
 ghost use Rattle.writes.specs.declared.Value.the-variants as given;

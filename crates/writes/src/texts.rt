@@ -2,8 +2,8 @@
 ghost use mathlib.Core.Path.{_≡_};
 ghost use Prim.Native.Nat.{_+_, _≤_};
 ghost use lib.ListN.{length};
-ghost use Rattle.places.specs.Places.{put, run};
-ghost use Rattle.fields.specs.Field.{textFits, textBytes};
+ghost use Rattle.places.specs.rule.Places.{put, run};
+ghost use Rattle.fields.specs.rule.Field.{textFits, textBytes};
 
 pub fn text_fits(w: usize, text: &[u8]) -> bool
     ensures { λ r. ⌜ r ≡ textFits w (now (text .entry)) ⌝ }

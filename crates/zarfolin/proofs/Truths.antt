@@ -5,14 +5,15 @@ use mathlib.Core.List.{List}
 use Prim.Native.Nat.{ℕ, _≤_, _<_}
 use borrow.Author.Tests.{le-leb, lt-leb, lt-ltb, le-ltb}
 use lib.IntN.{ℤ}
-use Rattle.layout.specs.Layout.{headerOf}
-use Rattle.layout.specs.Row.{rowAt}
+use Rattle.layout.specs.rule.Layout.{headerOf}
+use Rattle.layout.specs.rule.Row.{rowAt}
 use Rattle.layout.specs.declared.Header.{Header}
 use Rattle.layout.specs.declared.Row.{Row}
-use Rattle.sound.specs.Sound.{wellFormed}
-use Rattle.sound.specs.Rows.{rowsOf, lengthOf}
-use Rattle.writes.specs.Public.{refusalOf}
-use Rattle.zarfolin.specs.Truth.{noTruth, badTruth, kindNumber, kind-number}
+use Rattle.sound.specs.rule.Sound.{wellFormed}
+use Rattle.sound.specs.rule.Rows.{rowsOf, lengthOf}
+use Rattle.writes.specs.rule.Public.{refusalOf}
+use Rattle.zarfolin.specs.rule.Truth.{noTruth, badTruth}
+use Rattle.zarfolin.specs.Truth.{kindNumber, kind-number}
 
 module _ (t : List ℤ) (i n : ℕ) where
   pub bad-table : wellFormed t ≡ false → 20 ≡ badTruth t i n

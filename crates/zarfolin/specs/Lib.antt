@@ -1,3 +1,6 @@
 -- The definitions that the face's contracts cite.
-pub mod Face
+pub mod rule
 pub mod Truth
+pub mod Version
+pub mod Settled
+pub mod Whole

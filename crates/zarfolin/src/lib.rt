@@ -3,25 +3,29 @@
 // include/zarfolin.h has them.
 ghost use mathlib.Core.Path.{_≡_};
 ghost use lib.IntN.{pos};
-ghost use lib.ListN.{length};
-ghost use Rattle.definition.specs.Definition.{outcomeOf, answerOf, tableAfter};
-ghost use Rattle.fields.specs.Field as field;
-ghost use Rattle.fields.specs.Field.{missing, members};
-ghost use Rattle.records.specs.Verdict.{judgedAs, verdictOf};
-ghost use Rattle.records.specs.Value.{said};
-ghost use Rattle.files.specs.File.{fileSaid, fileVerdict};
-ghost use Rattle.cuts.specs.Cut.{nextOf};
-ghost use Rattle.writes.specs.Public.{numberOf};
-ghost use Rattle.zarfolin.specs.Face.{cellOf, flagOf, Telling, ValueTold, WriteTold};
-ghost use Rattle.zarfolin.specs.Face.{verdictCells, outcomeCells, faultCells, fileCells, nextCells, definitionCells};
-ghost use Rattle.zarfolin.specs.Face as face;
-ghost use Rattle.zarfolin.specs.Truth.{badTruth, kindNumber, TruthTold};
+ghost use Rattle.fields.specs.rule.Field as field;
+ghost use Rattle.fields.specs.rule.Field.{missing, members};
+ghost use Rattle.records.specs.rule.Verdict.{judgedAs};
+ghost use Rattle.records.specs.rule.Value.{said};
+ghost use Rattle.files.specs.rule.File.{fileSaid};
+ghost use Rattle.writes.specs.rule.Public.{numberOf, Written};
+ghost use Rattle.zarfolin.specs.rule.Face.{cellOf, flagOf, Telling};
+ghost use Rattle.zarfolin.specs.rule.Face.{RecordTold, ValueTold, FileTold, DefinitionTold, NextTold};
+ghost use Rattle.zarfolin.specs.rule.Face.{verdictCells, outcomeCells, faultCells, fileCells, nextCells, definitionCells};
+ghost use Rattle.zarfolin.specs.rule.Face as face;
+ghost use Rattle.zarfolin.specs.rule.Truth.{badTruth, TruthTold};
+ghost use Rattle.zarfolin.specs.rule.Whole.{wholeCells, WholeTold};
+ghost use Rattle.zarfolin.specs.Truth.{kindNumber};
+
+mod version;
+
 use cuts::Next;
 use files::Judgement;
 use layout::Header;
 use layout::Kind;
 use layout::Row;
 use readings::Answer;
+use record_values::Whole;
 use records::Judged;
 use writes::Value;
 use writes::Wrote;
@@ -245,7 +249,7 @@ fn bad_truth(t: &[i64], i: usize, n: usize) -> u64
 // Judges a whole record.
 #[no_mangle]
 pub extern "C" fn zarfolin_judge_record(table: &[i64], bytes: &[u8], answer: &mut [i64; 4]) -> u64
-    ensures { λ r. ⌜ Telling (verdictCells (verdictOf (now (table .entry)) (now (bytes .entry)))) (now (answer .exit)) r ⌝ }
+    ensures { λ r. ⌜ RecordTold (now (table .entry)) (now (bytes .entry)) (now (answer .exit)) r ⌝ }
 {
     tell(answer, verdict_cells(records::judge_record(table, bytes)))
 }
@@ -270,7 +274,7 @@ pub extern "C" fn zarfolin_read_value(
 // Judges a whole data file.
 #[no_mangle]
 pub extern "C" fn zarfolin_judge_file(table: &[i64], d: &[u8], answer: &mut [i64; 4]) -> u64
-    ensures { λ r. ⌜ Telling (fileCells (fileVerdict (now (table .entry)) (now (d .entry)))) (now (answer .exit)) r ⌝ }
+    ensures { λ r. ⌜ FileTold (now (table .entry)) (now (d .entry)) (now (answer .exit)) r ⌝ }
 {
     tell(answer, file_cells(files::judge_file(table, d)))
 }
@@ -282,8 +286,7 @@ pub extern "C" fn zarfolin_read_definition(
     table: &mut [i64],
     answer: &mut [i64; 4],
 ) -> u64
-    ensures { λ r. ⌜ Telling (definitionCells (answerOf (outcomeOf (now (d .entry)) (length (now (table .entry)))))) (now (answer .exit)) r ⌝ }
-    ensures { λ r. ⌜ now (table .exit) ≡ tableAfter (outcomeOf (now (d .entry)) (length (now (table .entry)))) (now (table .entry)) ⌝ }
+    ensures { λ r. ⌜ DefinitionTold (now (d .entry)) (now (table .entry)) (now (table .exit)) (now (answer .exit)) r ⌝ }
 {
     tell(
         answer,
@@ -294,7 +297,7 @@ pub extern "C" fn zarfolin_read_definition(
 // Finds the record that starts at a place of a data file.
 #[no_mangle]
 pub extern "C" fn zarfolin_next_record(d: &[u8], from: u64, answer: &mut [i64; 4]) -> u64
-    ensures { λ r. ⌜ Telling (nextCells (nextOf (now (d .entry)) from)) (now (answer .exit)) r ⌝ }
+    ensures { λ r. ⌜ NextTold (now (d .entry)) from (now (answer .exit)) r ⌝ }
 {
     tell(answer, next_cells(cuts::next_record(d, from as usize)))
 }
@@ -302,7 +305,7 @@ pub extern "C" fn zarfolin_next_record(d: &[u8], from: u64, answer: &mut [i64; 4
 // Writes missing into a row of a record. Here and below a list or a text that the value has no use for is not looked at.
 #[no_mangle]
 pub extern "C" fn zarfolin_write_missing(table: &[i64], row: u64, bytes: &mut [u8]) -> u64
-    ensures { λ r. ⌜ WriteTold (now (table .entry)) row missing (now (bytes .entry)) (now (bytes .exit)) r ⌝ }
+    ensures { λ r. ⌜ Written (now (table .entry)) row missing (now (bytes .entry)) (now (bytes .exit)) r ⌝ }
 {
     let text = [0u8; 1];
     number_of(writes::write_value(table, row as usize, Value::Missing, table, &text, bytes))
@@ -316,7 +319,7 @@ pub extern "C" fn zarfolin_write_number(
     number: i64,
     bytes: &mut [u8],
 ) -> u64
-    ensures { λ r. ⌜ WriteTold (now (table .entry)) row (field.number number) (now (bytes .entry)) (now (bytes .exit)) r ⌝ }
+    ensures { λ r. ⌜ Written (now (table .entry)) row (field.number number) (now (bytes .entry)) (now (bytes .exit)) r ⌝ }
 {
     let text = [0u8; 1];
     number_of(writes::write_value(
@@ -352,7 +355,7 @@ pub extern "C" fn zarfolin_write_truth(table: &[i64], row: u64, truth: u8, bytes
 // Writes a set.
 #[no_mangle]
 pub extern "C" fn zarfolin_write_set(table: &[i64], row: u64, list: &[i64], bytes: &mut [u8]) -> u64
-    ensures { λ r. ⌜ WriteTold (now (table .entry)) row (members (now (list .entry))) (now (bytes .entry)) (now (bytes .exit)) r ⌝ }
+    ensures { λ r. ⌜ Written (now (table .entry)) row (members (now (list .entry))) (now (bytes .entry)) (now (bytes .exit)) r ⌝ }
 {
     let text = [0u8; 1];
     number_of(writes::write_value(table, row as usize, Value::Set, list, &text, bytes))
@@ -361,7 +364,40 @@ pub extern "C" fn zarfolin_write_set(table: &[i64], row: u64, list: &[i64], byte
 // Writes a text.
 #[no_mangle]
 pub extern "C" fn zarfolin_write_text(table: &[i64], row: u64, text: &[u8], bytes: &mut [u8]) -> u64
-    ensures { λ r. ⌜ WriteTold (now (table .entry)) row (field.text (now (text .entry))) (now (bytes .entry)) (now (bytes .exit)) r ⌝ }
+    ensures { λ r. ⌜ Written (now (table .entry)) row (field.text (now (text .entry))) (now (bytes .entry)) (now (bytes .exit)) r ⌝ }
 {
     number_of(writes::write_value(table, row as usize, Value::Text, table, text, bytes))
+}
+
+fn whole_cells(w: Whole) -> Told
+    ensures { λ r. ⌜ r ≡ wholeCells w ⌝ }
+{
+    match w {
+        Whole::Read(members, refused) => Told {
+            number: 0,
+            first: cell(members),
+            second: cell(refused),
+            third: 0,
+        },
+        Whole::BadTable => bare(20),
+        Whole::ShortRecord => bare(22),
+        Whole::ShortRoom => bare(25),
+    }
+}
+
+// Reads all rows of a record.
+#[no_mangle]
+pub extern "C" fn zarfolin_read_record(
+    table: &[i64],
+    bytes: &[u8],
+    out: &mut [i64],
+    list: &mut [i64],
+    answer: &mut [i64; 4],
+) -> u64
+    ensures { λ r. ⌜ WholeTold (now (table .entry)) (now (bytes .entry)) (now (out .entry)) (now (out .exit)) (now (list .entry)) (now (list .exit)) (now (answer .exit)) r ⌝ }
+{
+    tell(
+        answer,
+        whole_cells(record_values::read_record(table, bytes, out, list)),
+    )
 }

@@ -3,6 +3,7 @@
 use crate::inputs::*;
 use std::hint::black_box;
 use zarfolin_compare::face::{Face, Plain};
+use zarfolin_compare::shape::row_at;
 
 type Step = Box<dyn FnMut(&dyn Face) -> u64>;
 
@@ -16,15 +17,14 @@ pub struct Case {
 /// A case's name, and how it is made: only when its turn comes.
 pub type Maker = (String, Box<dyn FnOnce() -> Case>);
 
-/// All cases; those that read a definition only where the library can.
-pub fn cases(with_definitions: bool) -> Vec<Maker> {
+/// All cases.
+pub fn cases() -> Vec<Maker> {
     let mut cases = vec![];
-    if with_definitions {
-        definitions(&mut cases);
-        odd_definitions(&mut cases);
-    }
+    definitions(&mut cases);
+    odd_definitions(&mut cases);
     tables(&mut cases);
     readings(&mut cases);
+    whole_records(&mut cases);
     judgements(&mut cases);
     writes(&mut cases);
     files(&mut cases);
@@ -153,6 +153,19 @@ fn readings(cases: &mut Vec<Maker>) {
     }
 }
 
+/// All rows of a record: in one call, which tests the table once; and row by row, which tests it for each.
+fn whole_records(cases: &mut Vec<Maker>) {
+    for (rows, table) in [(5, short as fn() -> Vec<i64>), (60, sixty), (512, long)] {
+        add(cases, &format!("all rows of a record, {rows} rows"), move || whole(table(), 10_000));
+        add(cases, &format!("all rows of a record, {rows} rows, the list just fits"), move || whole(table(), 0));
+        add(cases, &format!("all rows of a record, {rows} rows, one by one"), move || one_by_one(table()));
+    }
+    for (name, table) in [("bitstring of 9,999", bits as fn() -> Vec<i64>), ("spread of 4,000", spread)] {
+        add(cases, &format!("all rows of a record, {name}"), move || whole_set(table(), 10_000));
+        add(cases, &format!("all rows of a record, {name}, the list just fits"), move || whole_set(table(), 0));
+    }
+}
+
 /// Judging a record.
 fn judgements(cases: &mut Vec<Maker>) {
     add(cases, "judge record, 5 rows", || judge(short(), 0, Fault::None));
@@ -238,6 +251,48 @@ fn read_set(table: Vec<i64>) -> Case {
     read(table, 0, record, bytes)
 }
 
+fn sixty() -> Vec<i64> {
+    Survey { variables: 60, ..small() }.table()
+}
+
+/// All rows, with so much room in the list, or just enough for 0.
+fn whole(table: Vec<i64>, room: usize) -> Case {
+    let record = record(&table, 7);
+    whole_of(table, record, room)
+}
+
+fn whole_set(table: Vec<i64>, room: usize) -> Case {
+    let mut record = vec![b'x'; table[3] as usize];
+    assert_eq!(Plain.write_set(&table, 0, &evens(), &mut record), 0);
+    whole_of(table, record, room)
+}
+
+fn whole_of(table: Vec<i64>, record: Vec<u8>, room: usize) -> Case {
+    let mut out = vec![0i64; 4 * table[1] as usize];
+    let mut list = vec![0i64; 10_000];
+    let mut answer = [0; 4];
+    assert_eq!(Plain.read_record(&table, &record, &mut out, &mut list, &mut answer), 0);
+    list.truncate(if room == 0 { answer[1] as usize } else { room });
+    let bytes = record.len();
+    let step: Step =
+        Box::new(move |face| face.read_record(black_box(&table), black_box(&record), &mut out, &mut list, &mut answer));
+    Case { bytes, number: 0, step }
+}
+
+fn one_by_one(table: Vec<i64>) -> Case {
+    let record = record(&table, 7);
+    let mut list = vec![0i64; 10_000];
+    let mut answer = [0; 4];
+    let bytes = record.len();
+    let step: Step = Box::new(move |face| {
+        (0..table[1] as u64)
+            .map(|row| face.read_value(black_box(&table), row, black_box(&record), &mut list, &mut answer))
+            .max()
+            .unwrap()
+    });
+    Case { bytes, number: 0, step }
+}
+
 /// What is wrong with a record that is judged.
 #[derive(Clone, Copy)]
 enum Fault {
@@ -258,7 +313,7 @@ fn judge(table: Vec<i64>, more: usize, fault: Fault) -> Case {
             23
         }
         Fault::Row(row) => {
-            record[table[6 + 18 * row + 3] as usize - 1] = b'?';
+            record[table[row_at(row) + 3] as usize - 1] = b'?';
             24
         }
     };

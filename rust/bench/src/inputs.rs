@@ -2,6 +2,7 @@
 
 use zarfolin_compare::face::{Face, Plain};
 use zarfolin_compare::rng::Rng;
+use zarfolin_compare::shape::{ROW, length, row_at};
 
 /// A survey of this many variables of all types in turn, with lines and texts of these sizes.
 pub struct Survey {
@@ -76,7 +77,7 @@ pub fn table(def: &[u8]) -> Vec<i64> {
         answer[1],
         String::from_utf8_lossy(&def[answer[1] as usize..][..40.min(def.len() - answer[1] as usize)])
     );
-    table.truncate((6 + 18 * answer[2] + 4 * answer[3]) as usize);
+    table.truncate(length(answer[2] as usize, answer[3] as usize));
     table
 }
 
@@ -85,7 +86,7 @@ pub fn record(table: &[i64], seed: u64) -> Vec<u8> {
     let mut r = Rng::new(seed);
     let mut record = vec![b'x'; table[3] as usize];
     for row in 0..table[1] as u64 {
-        let cells = &table[6 + 18 * row as usize..][..18];
+        let cells = &table[row_at(row as usize)..][..ROW];
         let number = match cells[1] {
             1 => Plain.write_number(table, row, r.range(1, cells[13]), &mut record),
             2 => {

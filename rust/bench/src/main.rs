@@ -15,9 +15,6 @@ use std::hint::black_box;
 use std::process::Command;
 use zarfolin_compare::face::{Face, Plain, measured};
 
-/// What the stand-in for a missing reader of definitions answers (rust/bench/run): no number of the paper.
-const NO_READER: u64 = 99;
-
 fn main() {
     let args: Vec<String> = std::env::args().skip(1).collect();
     if args.first().is_some_and(|a| a == "--one") {
@@ -28,10 +25,9 @@ fn main() {
     let counter = if asked("--time") || asked("--callgrind") { None } else { Counter::new() };
     let parts: Vec<&String> = args.iter().filter(|a| !a.starts_with("--")).collect();
     let other = measured();
-    let with_definitions = other.read_definition(b"", &mut [], &mut [0; 4]) != NO_READER;
-    headline(other.name(), counter.is_some() || asked("--callgrind"), with_definitions);
+    headline(other.name(), counter.is_some() || asked("--callgrind"));
     let mut worst = (0.0, String::new());
-    for (name, make) in cases(with_definitions) {
+    for (name, make) in cases() {
         if !parts.is_empty() && !parts.iter().any(|p| name.contains(*p)) {
             continue;
         }
@@ -69,11 +65,8 @@ fn speed(bytes: f64, figure: f64, counted: bool) -> String {
     }
 }
 
-fn headline(ours: &str, counted: bool, with_definitions: bool) {
+fn headline(ours: &str, counted: bool) {
     println!("ours: {ours}    plain: {}", Plain.name());
-    if !with_definitions {
-        println!("the library has no zarfolin_read_definition yet: NOT measured: definitions");
-    }
     println!(
         "buffers: the same for both, warm; calls interleaved in one run, pair by pair; medians, the ratio's too\n"
     );
@@ -98,7 +91,7 @@ pub extern "C" fn zarfolin_bench_measured(case: *mut std::ffi::c_void, other_sid
 }
 
 fn one(name: &str, other_side: bool) {
-    let (_, make) = cases(true).into_iter().find(|(n, _)| n == name).expect("a case of this name");
+    let (_, make) = cases().into_iter().find(|(n, _)| n == name).expect("a case of this name");
     let mut case = make();
     // Once before, so that what is set up at the first call doesn't count.
     black_box(if other_side { (case.step)(&measured()) } else { (case.step)(&Plain) });

@@ -26,6 +26,7 @@ struct Inputs<'a> {
     list: &'a [i64],
     bytes: &'a [u8],
     text: &'a [u8],
+    out: &'a [i64],
 }
 
 impl Bridge {
@@ -47,9 +48,8 @@ impl Bridge {
         let mut pipes = self.0.lock().unwrap();
         let Pipes { child, to, from, request, reply } = &mut *pipes;
         request.clear();
-        let lengths = [inputs.table.len(), inputs.list.len(), inputs.bytes.len(), inputs.text.len()];
-        let head =
-            [call as u64, inputs.row, inputs.number as u64].into_iter().chain(lengths.map(|n| n as u64)).chain([0]);
+        let lengths = [inputs.table.len(), inputs.list.len(), inputs.bytes.len(), inputs.text.len(), inputs.out.len()];
+        let head = [call as u64, inputs.row, inputs.number as u64].into_iter().chain(lengths.map(|n| n as u64));
         for number in head {
             request.extend(number.to_le_bytes());
         }
@@ -58,6 +58,9 @@ impl Bridge {
         }
         request.extend(inputs.bytes);
         request.extend(inputs.text);
+        for number in inputs.out {
+            request.extend(number.to_le_bytes());
+        }
         reply.resize(48 + lent, 0);
         let done = to.write_all(request).and_then(|()| to.flush()).and_then(|()| from.read_exact(reply));
         if let Err(e) = done {
@@ -144,5 +147,16 @@ impl Face for Bridge {
     fn next_record(&self, data: &[u8], from: u64, answer: &mut [i64; 4]) -> u64 {
         let inputs = Inputs { bytes: data, row: from, ..Inputs::default() };
         self.call(Call::NextRecord, inputs, answer, 0, |_| {})
+    }
+
+    fn read_record(&self, t: &[i64], record: &[u8], out: &mut [i64], list: &mut [i64], answer: &mut [i64; 4]) -> u64 {
+        let (out_copy, list_copy) = (out.to_vec(), list.to_vec());
+        let inputs = Inputs { table: t, bytes: record, list: &list_copy, out: &out_copy, ..Inputs::default() };
+        let lent = 8 * (out_copy.len() + list_copy.len());
+        self.call(Call::ReadRecord, inputs, answer, lent, |changed| {
+            let (changed_list, changed_out) = changed.split_at(8 * list.len());
+            numbers(list, changed_list);
+            numbers(out, changed_out);
+        })
     }
 }

@@ -1,6 +1,7 @@
 //! One call with its inputs, what two implementations leave behind, and how a case that differs is cut down.
 
 use crate::face::Face;
+use crate::shape::{HEADER, ROW};
 use std::time::{Duration, Instant};
 
 /// The calls, in the order in which the bridge numbers them.
@@ -16,6 +17,7 @@ pub enum Call {
     WriteText,
     JudgeFile,
     NextRecord,
+    ReadRecord,
 }
 
 /// A call and its inputs; those that the call doesn't take are empty or 0.
@@ -29,11 +31,13 @@ pub struct Case {
     /// Definition, record or data.
     pub bytes: Vec<u8>,
     pub text: Vec<u8>,
+    /// A record's numbers.
+    pub out: Vec<i64>,
 }
 
 impl Case {
     pub fn new(call: Call) -> Case {
-        Case { call, table: vec![], row: 0, number: 0, list: vec![], bytes: vec![], text: vec![] }
+        Case { call, table: vec![], row: 0, number: 0, list: vec![], bytes: vec![], text: vec![], out: vec![] }
     }
 }
 
@@ -46,6 +50,7 @@ pub struct Outcome {
     pub list: Vec<i64>,
     pub bytes: Vec<u8>,
     pub text: Vec<u8>,
+    pub out: Vec<i64>,
 }
 
 const GUARD: usize = 8;
@@ -77,6 +82,7 @@ pub fn run(face: &dyn Face, case: &Case) -> Outcome {
     let mut list = Guarded::new(&case.list, -0x3c3c_3c3c);
     let mut bytes = Guarded::new(&case.bytes, 0x7e);
     let mut text = Guarded::new(&case.text, 0x31);
+    let mut out = Guarded::new(&case.out, -0x6b6b_6b6b);
     let mut answer = [ANSWER; 4];
     let (t, l, b, x) = (table.inner(), list.inner(), bytes.inner(), text.inner());
     let a = &mut answer;
@@ -91,8 +97,9 @@ pub fn run(face: &dyn Face, case: &Case) -> Outcome {
         Call::WriteText => face.write_text(t, case.row, x, b),
         Call::JudgeFile => face.judge_file(t, b, a),
         Call::NextRecord => face.next_record(b, case.row, a),
+        Call::ReadRecord => face.read_record(t, b, out.inner(), l, a),
     };
-    Outcome { number, answer, table: table.all, list: list.all, bytes: bytes.all, text: text.all }
+    Outcome { number, answer, table: table.all, list: list.all, bytes: bytes.all, text: text.all, out: out.all }
 }
 
 /// What a case may change, held against its inputs: a refusal changes nothing, and a call only what is lent to it.
@@ -104,20 +111,23 @@ pub fn keeps(case: &Case, outcome: &Outcome) -> bool {
     let list = same_numbers(&outcome.list, &case.list);
     let bytes = same(&outcome.bytes, &case.bytes);
     let text = same(&outcome.text, &case.text);
+    let out = same_numbers(&outcome.out, &case.out);
     let guards = outcome.table[..GUARD]
         .iter()
         .chain(&outcome.table[outcome.table.len() - GUARD..])
         .all(|&x| x == -0x5a5a_5a5a)
         && outcome.list[..GUARD].iter().chain(&outcome.list[outcome.list.len() - GUARD..]).all(|&x| x == -0x3c3c_3c3c)
         && outcome.bytes[..GUARD].iter().chain(&outcome.bytes[outcome.bytes.len() - GUARD..]).all(|&x| x == 0x7e)
-        && outcome.text[..GUARD].iter().chain(&outcome.text[outcome.text.len() - GUARD..]).all(|&x| x == 0x31);
+        && outcome.text[..GUARD].iter().chain(&outcome.text[outcome.text.len() - GUARD..]).all(|&x| x == 0x31)
+        && outcome.out[..GUARD].iter().chain(&outcome.out[outcome.out.len() - GUARD..]).all(|&x| x == -0x6b6b_6b6b);
     let (table_lent, list_lent, bytes_lent) = match case.call {
         Call::ReadDefinition => (!refused, false, false),
-        Call::ReadValue => (false, !refused, false),
+        Call::ReadValue | Call::ReadRecord => (false, !refused, false),
         Call::JudgeRecord | Call::JudgeFile | Call::NextRecord => (false, false, false),
         _ => (false, false, !refused),
     };
-    guards && text && (table || table_lent) && (list || list_lent) && (bytes || bytes_lent)
+    let out_lent = case.call == Call::ReadRecord && !refused;
+    guards && text && (table || table_lent) && (list || list_lent) && (bytes || bytes_lent) && (out || out_lent)
 }
 
 /// A difference: what tells it from others (the call and both numbers), and a report with the case cut down.
@@ -149,7 +159,7 @@ pub fn report(a: &dyn Face, b: &dyn Face, seed: u64, case: &Case) -> Difference 
         unlike +=
             &format!("  {}: {} {:?}\n  {}: {} {:?}\n", a.name(), x.number, x.answer, b.name(), y.number, y.answer);
     }
-    for (what, p, q) in [("table", &x.table, &y.table), ("list", &x.list, &y.list)] {
+    for (what, p, q) in [("table", &x.table, &y.table), ("list", &x.list, &y.list), ("out", &x.out, &y.out)] {
         if let Some(i) = (0..p.len()).find(|&i| p[i] != q[i]) {
             unlike += &format!(
                 "  {what}[{}]: {} has {}, {} has {}\n",
@@ -191,14 +201,17 @@ pub fn show(case: &Case) -> String {
         return text + &format!("  table: room for {} numbers", case.table.len());
     }
     if !case.table.is_empty() {
-        text += &format!("  table header {:?}\n", &case.table[..case.table.len().min(6)]);
+        text += &format!("  table header {:?}\n", &case.table[..case.table.len().min(HEADER)]);
         let rows = case.table.get(1).map_or(0, |&v| v.clamp(0, 512) as usize);
-        let rest = case.table.get(6..).unwrap_or(&[]);
-        for row in rest.chunks(18).take(rows.min(8)) {
+        let rest = case.table.get(HEADER..).unwrap_or(&[]);
+        for row in rest.chunks(ROW).take(rows.min(8)) {
             text += &format!("  row {row:?}\n");
         }
-        let lines = rest.get(18 * rows..).unwrap_or(&[]);
+        let lines = rest.get(ROW * rows..).unwrap_or(&[]);
         text += &format!("  lines {}\n", cut(format!("{:?}", lines)));
+    }
+    if !case.out.is_empty() {
+        text += &format!("  out: {} numbers\n", case.out.len());
     }
     text + &format!("  list {}", cut(format!("{:?}", case.list)))
 }
@@ -230,9 +243,9 @@ pub fn shrink(mut case: Case, tries: usize, differs: impl Fn(&Case) -> bool) -> 
     };
     loop {
         let mut changed = false;
-        for which in 0..4 {
+        for which in 0..5 {
             // Parts out, halves first.
-            let length = |c: &Case| [c.bytes.len(), c.text.len(), c.list.len(), c.table.len()][which];
+            let length = |c: &Case| [c.bytes.len(), c.text.len(), c.list.len(), c.table.len(), c.out.len()][which];
             let mut size = length(&case).next_power_of_two();
             while size > 0 {
                 let mut at = 0;
@@ -242,7 +255,8 @@ pub fn shrink(mut case: Case, tries: usize, differs: impl Fn(&Case) -> bool) -> 
                         0 => drop(next.bytes.drain(at..end)),
                         1 => drop(next.text.drain(at..end)),
                         2 => drop(next.list.drain(at..end)),
-                        _ => drop(next.table.drain(at..end)),
+                        3 => drop(next.table.drain(at..end)),
+                        _ => drop(next.out.drain(at..end)),
                     };
                     match attempt(&mut case, &change) {
                         None => return case,

@@ -1,6 +1,7 @@
 //! Definitions: sound ones with the table that they must give, and damaged ones.
 
 use crate::rng::Rng;
+use crate::shape::{LINE, MARK, ROW, line_at, row_at};
 
 /// A token of a definition.
 #[derive(Clone, Debug)]
@@ -197,8 +198,8 @@ pub fn sound(r: &mut Rng, style: Style, model: &Model) -> (Vec<u8>, Vec<i64>) {
 
 struct Maker {
     tokens: Vec<Token>,
-    rows: Vec<[i64; 18]>,
-    lines: Vec<[i64; 4]>,
+    rows: Vec<[i64; ROW]>,
+    lines: Vec<[i64; LINE]>,
     /// Row or line, its number, the column of the text's place.
     texts: Vec<(bool, usize, usize)>,
     notes: usize,
@@ -330,14 +331,14 @@ pub fn model(r: &mut Rng, size: Size) -> Model {
     m.word("SSS");
 
     let least = m.rows.iter().map(|row| row[3]).max().unwrap();
-    let lines_at = 6 + 18 * m.rows.len();
-    let mut table = vec![11, m.rows.len() as i64, m.lines.len() as i64, least, 6, lines_at as i64];
+    let rows = m.rows.len();
+    let mut table = vec![MARK, rows as i64, m.lines.len() as i64, least, row_at(0) as i64, row_at(rows) as i64];
     table.extend(m.rows.as_flattened());
     table.extend(m.lines.as_flattened());
     let texts = m
         .texts
         .iter()
-        .map(|&(line, number, column)| if line { lines_at + 4 * number + column } else { 6 + 18 * number + column })
+        .map(|&(line, number, column)| column + if line { line_at(rows, number) } else { row_at(number) })
         .collect();
     Model { tokens: m.tokens, table, texts, standard }
 }
@@ -370,7 +371,7 @@ fn name_body(r: &mut Rng, name: &str) -> Vec<u8> {
 }
 
 fn variable(m: &mut Maker, r: &mut Rng, size: Size, i: usize, ident: i64, standard: bool) {
-    let mut row = [0i64; 18];
+    let mut row = [0i64; ROW];
     row[0] = ident;
     row[12] = m.lines.len() as i64;
     m.note(r);

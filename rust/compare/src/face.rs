@@ -14,6 +14,7 @@ pub trait Face {
     fn write_text(&self, table: &[i64], row: u64, text: &[u8], record: &mut [u8]) -> u64;
     fn judge_file(&self, table: &[i64], data: &[u8], answer: &mut [i64; 4]) -> u64;
     fn next_record(&self, data: &[u8], from: u64, answer: &mut [i64; 4]) -> u64;
+    fn read_record(&self, t: &[i64], record: &[u8], out: &mut [i64], list: &mut [i64], answer: &mut [i64; 4]) -> u64;
 }
 
 /// The plain Rust implementation.
@@ -82,6 +83,14 @@ impl Face for Plain {
             plain::NextRecord::None => [0, 0, 0, 0],
             plain::NextRecord::Ended { start, end, next } => [1, start as i64, end as i64, next as i64],
             plain::NextRecord::NotEnded { start, end } => [2, start as i64, end as i64, end as i64],
+        };
+        give(answer, numbers)
+    }
+
+    fn read_record(&self, t: &[i64], record: &[u8], out: &mut [i64], list: &mut [i64], answer: &mut [i64; 4]) -> u64 {
+        let numbers = match plain::read_record(t, record, out, list) {
+            Ok((members, refused)) => [0, members as i64, refused as i64, 0],
+            Err(number) => [number as i64, 0, 0, 0],
         };
         give(answer, numbers)
     }
@@ -211,6 +220,22 @@ impl Face for Library {
 
     fn next_record(&self, data: &[u8], from: u64, answer: &mut [i64; 4]) -> u64 {
         unsafe { zarfolin::ffi::zarfolin_next_record(data.as_ptr(), data.len(), from, answer.as_mut_ptr()) }
+    }
+
+    fn read_record(&self, t: &[i64], record: &[u8], out: &mut [i64], list: &mut [i64], answer: &mut [i64; 4]) -> u64 {
+        unsafe {
+            zarfolin::ffi::zarfolin_read_record(
+                t.as_ptr(),
+                t.len(),
+                record.as_ptr(),
+                record.len(),
+                out.as_mut_ptr(),
+                out.len(),
+                list.as_mut_ptr(),
+                list.len(),
+                answer.as_mut_ptr(),
+            )
+        }
     }
 }
 

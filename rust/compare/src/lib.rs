@@ -1,5 +1,8 @@
 //! Seeded inputs for the calls of the face, and the comparison of two implementations call by call.
 
+/// The shape of a table: its sizes, named once, in the face's crate. `naive` and the plain Rust have their own, from the papers.
+pub use zarfolin::table as shape;
+
 pub mod bridge;
 pub mod case;
 pub mod definitions;

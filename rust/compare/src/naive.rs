@@ -6,6 +6,11 @@ use std::collections::{BTreeSet, HashSet};
 
 pub struct Naive;
 
+/// Numbers of the header, of a row, of a line: document 01's, said here once more and on purpose.
+const HEADER: usize = 6;
+const ROW: usize = 18;
+const LINE: usize = 4;
+
 /// A refusal: number and place.
 type Fault = (i64, usize);
 
@@ -352,7 +357,8 @@ fn read(def: &[u8], room: usize) -> Result<Vec<i64>, Fault> {
         }
     }
     let least = rows.iter().map(|row| row[3]).max().unwrap();
-    let mut table = vec![11, rows.len() as i64, lines.len() as i64, least, 6, 6 + 18 * rows.len() as i64];
+    let mut table =
+        vec![11, rows.len() as i64, lines.len() as i64, least, HEADER as i64, (HEADER + ROW * rows.len()) as i64];
     table.extend(rows.concat());
     table.extend(lines.concat());
     if room < table.len() { Err((10, 0)) } else { Ok(table) }
@@ -366,7 +372,7 @@ fn variable(r: &mut Reader, rows: &[Vec<i64>], lines: &mut Vec<Vec<i64>>) -> Res
         (id.is_empty() || ident.text.len() > 4 || repeated, 5, ident.place),
         (rows.len() == 512, 8, ident.place),
     ])?;
-    let mut row = vec![0i64; 18];
+    let mut row = vec![0i64; ROW];
     row[0] = id.parse().unwrap();
     row[12] = lines.len() as i64;
     for (word, column) in [("NAME", 14), ("LABEL", 16)] {
@@ -544,23 +550,23 @@ struct Table {
 }
 
 fn understood(t: &[i64]) -> Option<Table> {
-    if t.len() < 6 || !(1..=512).contains(&t[1]) || !(0..=4096).contains(&t[2]) {
+    if t.len() < HEADER || !(1..=512).contains(&t[1]) || !(0..=4096).contains(&t[2]) {
         return None;
     }
     let (v, e) = (t[1] as usize, t[2] as usize);
-    let all = 6 + 18 * v + 4 * e;
-    if t[0] != 11 || t[4] != 6 || t[5] != 6 + 18 * t[1] || t.len() < all {
+    let lines_at = HEADER + ROW * v;
+    if t[0] != 11 || t[4] != HEADER as i64 || t[5] != lines_at as i64 || t.len() < lines_at + LINE * e {
         return None;
     }
     let mut rows = vec![];
     let mut before = 0i64;
     for i in 0..v {
-        let cells = t[6 + 18 * i..6 + 18 * (i + 1)].to_vec();
+        let cells = t[HEADER + ROW * i..][..ROW].to_vec();
         if cells[12] != before || cells[13] < 0 || cells[13] > e as i64 - before {
             return None;
         }
-        let first = 6 + 18 * v + 4 * before as usize;
-        let lines = t[first..first + 4 * cells[13] as usize].chunks(4).map(<[i64]>::to_vec).collect();
+        let first = lines_at + LINE * before as usize;
+        let lines = t[first..first + LINE * cells[13] as usize].chunks(LINE).map(<[i64]>::to_vec).collect();
         before += cells[13];
         rows.push(Row { cells, lines });
     }
@@ -975,5 +981,37 @@ impl Face for Naive {
             (start, Some((end, next))) => give(answer, [1, start as i64, end as i64, next as i64]),
             (start, None) => give(answer, [2, start as i64, data.len() as i64, data.len() as i64]),
         }
+    }
+
+    fn read_record(&self, t: &[i64], record: &[u8], out: &mut [i64], list: &mut [i64], answer: &mut [i64; 4]) -> u64 {
+        let Some(t) = understood(t) else { return give(answer, [20, 0, 0, 0]) };
+        if record.len() < t.least {
+            return give(answer, [22, 0, 0, 0]);
+        }
+        let (mut all, mut members, mut refused) = (vec![], vec![], 0);
+        for row in &t.rows {
+            all.push(match row.value(record) {
+                None => {
+                    refused += 1;
+                    [24, 0, 0, 0]
+                }
+                Some(Value::Missing) => [0, 0, 0, 0],
+                Some(Value::Number(n)) => [0, 1, n, 0],
+                Some(Value::Text(place, length)) => [0, 3, place as i64, length as i64],
+                Some(Value::Truth(t)) => [0, 4, t, 0],
+                Some(Value::Set(set)) => {
+                    let start = members.len();
+                    members.extend(set);
+                    [0, 2, (members.len() - start) as i64, start as i64]
+                }
+            });
+        }
+        let all = all.concat();
+        if out.len() < all.len() || list.len() < members.len() {
+            return give(answer, [25, 0, 0, 0]);
+        }
+        out[..all.len()].copy_from_slice(&all);
+        list[..members.len()].copy_from_slice(&members);
+        give(answer, [0, members.len() as i64, refused, 0])
     }
 }

@@ -1,14 +1,15 @@
 //! Records, values and files for a table.
 
 use crate::rng::Rng;
+use crate::shape::{HEADER, ROW, line_at, row_at};
 
 fn rows(table: &[i64]) -> usize {
     let said = table.get(1).map_or(0, |&v| v.clamp(0, 512) as usize);
-    said.min(table.len().saturating_sub(6) / 18)
+    said.min(table.len().saturating_sub(HEADER) / ROW)
 }
 
 fn cell(table: &[i64], row: usize, column: usize) -> i64 {
-    table[6 + 18 * row + column]
+    table[row_at(row) + column]
 }
 
 /// A row number: most of the time one that is there.
@@ -24,7 +25,6 @@ pub fn row(r: &mut Rng, table: &[i64]) -> u64 {
 
 /// A number that the row's block may hold, or one near it.
 fn number(r: &mut Rng, table: &[i64], row: usize) -> i64 {
-    let lines_at = 6 + 18 * rows(table);
     let (before, count) = (cell(table, row, 12), cell(table, row, 13));
     let has_range = cell(table, row, 9) == 1;
     let v = if has_range && (count <= 0 || r.once_in(2)) {
@@ -36,7 +36,7 @@ fn number(r: &mut Rng, table: &[i64], row: usize) -> i64 {
             _ => from,
         }
     } else if count > 0 && count < 5000 && (0..5000).contains(&before) {
-        let at = lines_at + 4 * (before as usize + r.below(count as usize));
+        let at = line_at(rows(table), before as usize + r.below(count as usize));
         table.get(at).copied().unwrap_or(1)
     } else {
         1

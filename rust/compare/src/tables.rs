@@ -2,6 +2,7 @@
 
 use crate::definitions::{Size, Style, model, sound};
 use crate::rng::Rng;
+use crate::shape::{HEADER, ROW, line_at, row_at};
 
 const ODD: &[i64] = &[
     0,
@@ -69,7 +70,7 @@ pub fn sound_table(r: &mut Rng, size: Size) -> Vec<i64> {
 /// One cell or a few changed; then, half of the time, w and L mended, so that more of them stay well formed.
 pub fn changed(r: &mut Rng, table: &mut Vec<i64>) {
     let used = table.len();
-    if used < 24 {
+    if used < row_at(1) {
         return;
     }
     let rows = table[1].clamp(0, 512) as usize;
@@ -78,8 +79,8 @@ pub fn changed(r: &mut Rng, table: &mut Vec<i64>) {
             continue;
         }
         let at = match r.below(10) {
-            0 => r.below(6),
-            1..7 => 6 + 18 * r.below(rows) + r.below(18),
+            0 => r.below(HEADER),
+            1..7 => row_at(r.below(rows)) + r.below(ROW),
             _ => r.below(used),
         };
         let old = table[at];
@@ -94,11 +95,10 @@ pub fn changed(r: &mut Rng, table: &mut Vec<i64>) {
     }
     if r.once_in(8) {
         // Two lines of one row with the same value, or nearly.
-        let row = 6 + 18 * r.below(rows);
+        let row = row_at(r.below(rows));
         let (before, lines) = (table[row + 12], table[row + 13]);
-        let lines_at = 6 + 18 * rows;
         if (0..5000).contains(&before) && (2..5000).contains(&lines) {
-            let mut line = || lines_at + 4 * (before as usize + r.below(lines as usize));
+            let mut line = || line_at(rows, before as usize + r.below(lines as usize));
             let (a, b) = (line(), line());
             if a != b && a.max(b) < used {
                 table[a] = table[b].wrapping_add(if r.once_in(4) { 1 } else { 0 });
@@ -116,19 +116,18 @@ pub fn changed(r: &mut Rng, table: &mut Vec<i64>) {
 /// Sets w and L to what they would have to be, as far as the row can be understood.
 fn mend(r: &mut Rng, table: &mut [i64]) {
     let rows = table[1].clamp(0, 512) as usize;
-    if table.len() < 6 + 18 * rows {
+    if table.len() < row_at(rows) {
         return;
     }
-    let lines_at = 6 + 18 * rows;
     for i in 0..rows {
-        let at = 6 + 18 * i;
-        let row: [i64; 18] = table[at..at + 18].try_into().unwrap();
+        let at = row_at(i);
+        let row: [i64; ROW] = table[at..at + ROW].try_into().unwrap();
         let mut numbers = vec![];
         if row[9] == 1 {
             numbers.extend([row[10], row[11]]);
         }
         for line in row[12].clamp(0, 5000)..row[12].clamp(0, 5000) + row[13].clamp(0, 5000) {
-            if let Some(&v) = table.get(lines_at + 4 * line as usize) {
+            if let Some(&v) = table.get(line_at(rows, line as usize)) {
                 numbers.push(v);
             }
         }
@@ -149,5 +148,5 @@ fn mend(r: &mut Rng, table: &mut [i64]) {
             table[at + 3] = row[2].saturating_add(w) - r.below(2) as i64;
         }
     }
-    table[3] = (0..rows).map(|i| table[6 + 18 * i + 3]).max().unwrap_or(0);
+    table[3] = (0..rows).map(|i| table[row_at(i) + 3]).max().unwrap_or(0);
 }

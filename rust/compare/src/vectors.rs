@@ -2,6 +2,7 @@
 //! program there prints them.
 
 use crate::face::Face;
+use crate::shape;
 use std::fmt::Write;
 
 /// What every number of a lent table holds before the call.
@@ -28,7 +29,7 @@ pub fn answers(face: &dyn Face, mut cases: &[u8]) -> String {
         let mut answer = [0; 4];
         face.read_definition(definition, &mut table, &mut answer);
         let [refusal, place, variables, lines] = answer;
-        let used = if refusal == 0 { (6 + 18 * variables + 4 * lines) as usize } else { 0 };
+        let used = if refusal == 0 { shape::length(variables as usize, lines as usize) } else { 0 };
         let kept = if table[used..].iter().all(|&n| n == PATTERN) { "kept" } else { "touched" };
         if refusal == 0 {
             writeln!(out, "case {case}: read {variables} {lines} {kept}").unwrap();

@@ -1,14 +1,17 @@
 //! The plain Rust against the library: linked (feature `ffi`), or in a process of its own (the command ZARFOLIN_BRIDGE); or
 //! against the naive Rust where there is neither.
 //!
-//! ZARFOLIN_CASES=n runs n times as many seeds; ZARFOLIN_SEED=n runs that one seed alone in every test.
+//! ZARFOLIN_CASES=n runs n times as many seeds; ZARFOLIN_SEED=n runs that one seed alone in every test. ZARFOLIN_COUNTS=path has each
+//! test add a line to that file: how many cases it put, and to whom (rust/test sums them).
 
 use std::collections::BTreeMap;
+use std::io::Write;
 use zarfolin_compare::case::{Call, Case, Difference, Outcome, compare, report, run};
 use zarfolin_compare::definitions::{self, SMALL, Size, Style};
 use zarfolin_compare::face::{Face, Plain, other};
 use zarfolin_compare::records;
 use zarfolin_compare::rng::Rng;
+use zarfolin_compare::shape::{length, row_at};
 use zarfolin_compare::tables;
 
 /// The other implementation, and how often each number was met in a test.
@@ -47,6 +50,14 @@ impl Tally {
         assert!(reports.is_empty(), "{} kinds of difference, one of each:\n{}", reports.len(), reports.concat());
     }
 
+    /// Adds the tally to the file ZARFOLIN_COUNTS, one write a line: other tests add theirs at the same time.
+    fn count(&self, what: &str) {
+        if let Some(path) = std::env::var_os("ZARFOLIN_COUNTS") {
+            let mut file = std::fs::OpenOptions::new().append(true).create(true).open(path).unwrap();
+            file.write_all(format!("{}\t{}\t{what}\n", self.cases, self.other.name()).as_bytes()).unwrap();
+        }
+    }
+
     /// Prints the tally; every number of `wanted` must have been met, unless one seed alone was run.
     fn end(self, what: &str, least: u64, wanted: &[u64]) {
         println!(
@@ -55,6 +66,7 @@ impl Tally {
             self.other.name(),
             self.numbers
         );
+        self.count(what);
         self.fail();
         if std::env::var_os("ZARFOLIN_SEED").is_some() {
             return;
@@ -380,7 +392,7 @@ fn tables_with_cells_changed() {
 
 /// A write of some value to this row, mostly of the row's own kind.
 fn write_case(r: &mut Rng, table: Vec<i64>, row: u64, record: Vec<u8>) -> Case {
-    let kind = if row < 600 { table.get(6 + 18 * row as usize + 1).copied().unwrap_or(1) } else { 1 };
+    let kind = if row < 600 { table.get(row_at(row as usize) + 1).copied().unwrap_or(1) } else { 1 };
     let own = match kind {
         1 | 3 => Call::WriteNumber,
         2 => Call::WriteSet,
@@ -438,7 +450,7 @@ fn records_read_judged_and_written() {
                     Case { table: table.clone(), bytes, row, list: vec![-7; 10_000], ..Case::new(Call::ReadValue) };
                 let again = check(&mut tally, seed, &again);
                 let [_, kind, first, second] = again.answer;
-                let start = table[6 + 18 * row as usize + 2] - 1;
+                let start = table[row_at(row as usize) + 2] - 1;
                 let same = match case.call {
                     Call::WriteMissing => [kind, first, second] == [0, 0, 0],
                     Call::WriteNumber => [kind, first, second] == [1, case.number, 0],
@@ -454,6 +466,72 @@ fn records_read_judged_and_written() {
         }
     }
     tally.end("records", 100_000, &[0, 21, 22, 23, 24, 25, 26, 27, 28]);
+}
+
+/// All rows of a record: every length of both buffers around what is due, many faults at once, tables that are none. What is
+/// answered is held against the rows read one by one as well.
+#[test]
+fn whole_records() {
+    let mut tally = Tally::default();
+    for seed in seeds(20_000) {
+        let mut r = Rng::new(seed ^ 0x3ec0);
+        let size = match r.below(60) {
+            0 => Size { variables: 60, lines: 10, text: 1 },
+            1 => Size { variables: 3, lines: 400, text: 1 },
+            _ => Size { variables: 5, lines: 5, text: 1 },
+        };
+        let mut table = tables::sound_table(&mut r, size);
+        if r.once_in(20) {
+            tables::changed(&mut r, &mut table);
+        }
+        let mut record = records::record(&mut r, &table);
+        if r.once_in(3) && !record.is_empty() {
+            for _ in 0..r.below(6) {
+                let at = r.below(record.len());
+                record[at] = r.pick(&[b' ', b'0', b'1', b'x', 7]);
+            }
+        }
+        let rows = table.get(1).map_or(0, |&v| v.clamp(0, 600) as usize);
+        let whole = Case { table, bytes: record, out: vec![-9; 4 * rows + 3], ..Case::new(Call::ReadRecord) };
+        let outcome = check(&mut tally, seed, &Case { list: vec![-7; 40_000], ..whole.clone() });
+        let members = outcome.answer[1] as usize;
+        if outcome.number == 0 {
+            one_by_one(&mut r, &whole, &outcome);
+        }
+        // Just enough, one too few, some.
+        for list in [members, members.saturating_sub(1), r.below(members + 3)] {
+            check(&mut tally, seed, &Case { list: vec![-7; list], ..whole.clone() });
+        }
+        for out in [4 * rows, (4 * rows).saturating_sub(1), r.below(4 * rows + 1)] {
+            check(&mut tally, seed, &Case { out: vec![-9; out], list: vec![-7; members], ..whole.clone() });
+        }
+    }
+    tally.end("whole records", 100_000, &[0, 20, 22, 25]);
+}
+
+/// The rows of a record that was read whole, read one by one: the same four numbers, but for a set's start, and the same members.
+fn one_by_one(r: &mut Rng, whole: &Case, outcome: &Outcome) {
+    let rows = whole.table[1] as usize;
+    let (out, list) = (&outcome.out[8..8 + 4 * rows], &outcome.list[8..]);
+    let (mut used, mut refused) = (0, 0);
+    for (row, four) in out.chunks_exact(4).enumerate() {
+        let mut one = vec![-5; 10_000];
+        let mut answer = [0; 4];
+        let number = Plain.read_value(&whole.table, row as u64, &whole.bytes, &mut one, &mut answer);
+        refused += (number != 0) as i64;
+        if answer[1] == 2 {
+            let count = answer[2] as usize;
+            assert_eq!(four, [0, 2, count as i64, used as i64], "row {row} of {}", zarfolin_compare::case::show(whole));
+            assert_eq!(list[used..used + count], one[..count]);
+            used += count;
+        } else {
+            assert_eq!(four, answer, "row {row} of {}", zarfolin_compare::case::show(whole));
+        }
+    }
+    assert_eq!(outcome.answer, [0, used as i64, refused, 0]);
+    assert_eq!(list[used], -7, "the list beyond {used} is kept");
+    let beyond = 8 + 4 * rows + r.below(3);
+    assert_eq!(outcome.out[beyond], -9, "out beyond its rows is kept");
 }
 
 #[test]
@@ -503,7 +581,7 @@ mod planted {
                 0 if number == 10 => table.iter_mut().take(1).for_each(|x| *x += 1),
                 1 if number == 2 && answer[1] as usize == def.len() => answer[1] -= 1,
                 2 if number == 0 => {
-                    let used = (6 + 18 * answer[2] + 4 * answer[3]) as usize;
+                    let used = length(answer[2] as usize, answer[3] as usize);
                     table.iter_mut().skip(used).for_each(|x| *x = 0);
                 }
                 _ => {}
@@ -549,11 +627,25 @@ mod planted {
         fn next_record(&self, data: &[u8], from: u64, answer: &mut [i64; 4]) -> u64 {
             Plain.next_record(data, from, answer)
         }
+        fn read_record(
+            &self,
+            t: &[i64],
+            record: &[u8],
+            out: &mut [i64],
+            list: &mut [i64],
+            answer: &mut [i64; 4],
+        ) -> u64 {
+            let number = Plain.read_record(t, record, out, list, answer);
+            if self.0 == 6 && number == 0 && answer[1] > 0 {
+                out.chunks_exact_mut(4).take(t[1] as usize).filter(|four| four[1] == 2).for_each(|four| four[3] += 1);
+            }
+            number
+        }
     }
 
     #[test]
     fn faults_are_found() {
-        for fault in 0..6 {
+        for fault in 0..7 {
             let found = (0..2_000).any(|seed| {
                 let mut r = Rng::new(seed);
                 let model = definitions::model(&mut r, SMALL);
@@ -570,6 +662,10 @@ mod planted {
                     2 => definition(bytes, table.len() + 1),
                     3 => Case { table, bytes: record, row, list: vec![-7; 50], ..Case::new(Call::ReadValue) },
                     4 => write_case(&mut r, table, row, record),
+                    6 => {
+                        let out = vec![-9; 4 * table[1] as usize];
+                        Case { table, bytes: record, out, list: vec![-7; 50], ..Case::new(Call::ReadRecord) }
+                    }
                     _ => Case { bytes: records::file(&mut r, &table), table, ..Case::new(Call::JudgeFile) },
                 };
                 run(&Plain, &case) != run(&Wrong(fault), &case)

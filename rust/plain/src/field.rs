@@ -36,7 +36,69 @@ pub fn read_value(table: &[i64], row: u64, record: &[u8], list: &mut [i64]) -> R
         return Err(22);
     }
     let row = &t.rows[row as usize];
-    let lines = t.lines_of(row);
+    row_value(row, t.lines_of(row), record, list)
+}
+
+/// Reads all rows of a record, the table tested once: four numbers a row at the start of `out`, as for one row, but for a
+/// set its kind, its count and where its members start in the list, where the sets follow each other. Answers the members
+/// in the list and the rows refused; or 20, 22, 25 (`out` shorter than four numbers a row, or the list shorter than all sets
+/// together), which leave `out` and the list as they were.
+pub fn read_record(table: &[i64], record: &[u8], out: &mut [i64], list: &mut [i64]) -> Result<(usize, usize), u32> {
+    let Some(t) = view(table) else { return Err(20) };
+    if record.len() < t.least {
+        return Err(22);
+    }
+    let Some(out) = out.get_mut(..4 * t.rows.len()) else { return Err(25) };
+    // A set has at most a member for each byte of a bitstring, or for each subfield: mostly all of them fit.
+    let most: usize = t.rows.iter().map(most_members).sum();
+    if list.len() < most && list.len() < t.rows.iter().map(|row| count_members(row, t.lines_of(row), record)).sum() {
+        return Err(25);
+    }
+    let (mut used, mut refused) = (0, 0);
+    for (row, four) in t.rows.iter().zip(out.as_chunks_mut::<4>().0) {
+        *four = match row_value(row, t.lines_of(row), record, &mut list[used..]) {
+            Ok(Value::Missing) => [0, 0, 0, 0],
+            Ok(Value::Number(n)) => [0, 1, n, 0],
+            Ok(Value::Set(count)) => {
+                used += count;
+                [0, 2, count as i64, (used - count) as i64]
+            }
+            Ok(Value::Text(place, length)) => [0, 3, place as i64, length as i64],
+            Ok(Value::Truth(truth)) => [0, 4, truth as i64, 0],
+            Err(number) => {
+                refused += 1;
+                [number as i64, 0, 0, 0]
+            }
+        };
+    }
+    Ok((used, refused))
+}
+
+/// The most members that a row's set can have.
+#[inline]
+fn most_members(row: &Row) -> usize {
+    match (row[column::TYPE], row[column::SUBFIELDS]) {
+        (MULTIPLE, 0) => row[column::WIDTH] as usize,
+        (MULTIPLE, subfields) => subfields as usize,
+        _ => 0,
+    }
+}
+
+/// How many members the row's set has.
+fn count_members(row: &Row, lines: &[Line], record: &[u8]) -> usize {
+    if row[column::TYPE] != MULTIPLE {
+        return 0;
+    }
+    let mut members = vec![0; most_members(row)];
+    match row_value(row, lines, record, &mut members) {
+        Ok(Value::Set(count)) => count,
+        _ => 0,
+    }
+}
+
+/// The value of a row of a table that was tested, in a record that is long enough.
+#[inline]
+fn row_value(row: &Row, lines: &[Line], record: &[u8], list: &mut [i64]) -> Reading {
     match row[column::TYPE] {
         SINGLE => match category(last_bytes(row, record)) {
             Category::Blank | Category::Number(0) => Ok(Value::Missing),

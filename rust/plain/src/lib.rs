@@ -13,7 +13,7 @@ mod table;
 mod write;
 
 pub use definition::{Definition, read_definition};
-pub use field::{Judgement, Reading, Value, judge_record, read_value};
+pub use field::{Judgement, Reading, Value, judge_record, read_record, read_value};
 pub use file::{FileJudgement, NextRecord, judge_file, next_record};
 pub use table::well_formed;
 pub use write::{write_missing, write_number, write_set, write_text, write_truth};

@@ -5,14 +5,19 @@ use zarfolin_plain::*;
 const HEAD: &str = "SSS VERSION 1.1 SURVEY RECORD R ";
 const TAIL: &str = " END RECORD END SURVEY END SSS";
 
+/// The numbers of a table of so many rows and lines.
+fn size(rows: usize, lines: usize) -> usize {
+    HEADER + ROW * rows + LINE * lines
+}
+
 fn read(def: &[u8]) -> (Definition, Vec<i64>) {
-    let mut table = vec![-77; 6 + 18 * 512 + 4 * 4096 + 3];
+    let mut table = vec![-77; size(MAX_VARIABLES, MAX_LINES) + 3];
     let d = read_definition(def, &mut table);
     if d.number != 0 {
         assert!(table.iter().all(|&x| x == -77), "a refusal touched the table");
         assert_eq!((d.variables, d.lines), (0, 0));
     } else {
-        let used = 6 + 18 * d.variables + 4 * d.lines;
+        let used = size(d.variables, d.lines);
         assert!(table[used..].iter().all(|&x| x == -77), "numbers beyond the table were touched");
         assert!(well_formed(&table), "a table that was read is not well formed");
         assert!(well_formed(&table[..used]));
@@ -59,7 +64,7 @@ fn variable(text: &str) -> String {
 /// The first row of a definition with one variable.
 #[track_caller]
 fn row(text: &str) -> Vec<i64> {
-    good(&variable(text))[6..24].to_vec()
+    good(&variable(text))[size(0, 0)..size(1, 0)].to_vec()
 }
 
 pub const SAMPLE: &str = "SSS VERSION 1.1 SURVEY RECORD R
@@ -76,14 +81,15 @@ END RECORD END SURVEY END SSS
 fn the_sample() {
     let t = good(SAMPLE);
     let at = |s: &str| SAMPLE.find(s).unwrap() as i64 + 1;
-    assert_eq!(t[..6], [11, 3, 3, 11, 6, 60]);
+    assert_eq!(t[..HEADER], [11, 3, 3, 11, HEADER as i64, size(3, 0) as i64]);
+    let row = |r: usize| &t[size(r, 0)..][..=column::LABEL_LENGTH];
     let (n, l) = (at("\"desk"), at("\"Desk"));
-    assert_eq!(t[6..24], [1, 1, 1, 2, 2, 0, 0, 0, 0, 1, 1, 12, 0, 0, n, 4, l, 4]);
+    assert_eq!(*row(0), [1, 1, 1, 2, 2, 0, 0, 0, 0, 1, 1, 12, 0, 0, n, 4, l, 4]);
     let (n, l) = (at("\"seen"), at("\"Seen"));
-    assert_eq!(t[24..42], [2, 2, 3, 6, 4, 0, 0, 0, 0, 0, 0, 0, 0, 3, n, 4, l, 4]);
+    assert_eq!(*row(1), [2, 2, 3, 6, 4, 0, 0, 0, 0, 0, 0, 0, 0, 3, n, 4, l, 4]);
     let (n, l) = (at("\"wait"), at("\"Wait"));
-    assert_eq!(t[42..60], [3, 3, 7, 11, 4, 1, 1, 0, 0, 1, -10, 995, 3, 0, n, 4, l, 4]);
-    assert_eq!(t[60..], [1, 0, at("\"a\""), 1, 2, 0, at("\"b\""), 1, 4, 0, at("\"d\""), 1]);
+    assert_eq!(*row(2), [3, 3, 7, 11, 4, 1, 1, 0, 0, 1, -10, 995, 3, 0, n, 4, l, 4]);
+    assert_eq!(t[size(3, 0)..], [1, 0, at("\"a\""), 1, 2, 0, at("\"b\""), 1, 4, 0, at("\"d\""), 1]);
 
     // Exactly enough room, and one number less.
     let mut table = vec![5; t.len()];
@@ -182,13 +188,14 @@ fn the_example_of_003() {
     assert_eq!((d.number, d.place), (2, HOUSE.find("500 \"").unwrap()));
     let mended = HOUSE.replace("1 TO 499", "1 TO 499 WITH");
     let t = good(&mended);
-    assert_eq!(t[..6], [11, 6, 17, 46, 6, 114]);
-    assert_eq!(t[6 + 18..][..14], [2, 2, 2, 10, 9, 0, 0, 0, 0, 0, 0, 0, 3, 6]);
-    assert_eq!(t[6 + 2 * 18..][..14], [3, 4, 11, 40, 30, 0, 0, 0, 0, 0, 0, 0, 9, 0]);
-    assert_eq!(t[6 + 3 * 18..][..14], [4, 2, 41, 42, 1, 0, 0, 2, 1, 0, 0, 0, 9, 6]);
-    assert_eq!(t[6 + 4 * 18..][..14], [5, 3, 43, 45, 3, 0, 0, 0, 0, 1, 1, 499, 15, 2]);
-    assert_eq!(t[6 + 5 * 18..][..14], [6, 5, 46, 46, 1, 0, 0, 0, 0, 0, 0, 0, 17, 0]);
-    let last = &t[114 + 16 * 4..];
+    assert_eq!(t[..HEADER], [11, 6, 17, 46, 6, size(6, 0) as i64]);
+    let row = |r: usize| &t[size(r, 0)..][..14];
+    assert_eq!(*row(1), [2, 2, 2, 10, 9, 0, 0, 0, 0, 0, 0, 0, 3, 6]);
+    assert_eq!(*row(2), [3, 4, 11, 40, 30, 0, 0, 0, 0, 0, 0, 0, 9, 0]);
+    assert_eq!(*row(3), [4, 2, 41, 42, 1, 0, 0, 2, 1, 0, 0, 0, 9, 6]);
+    assert_eq!(*row(4), [5, 3, 43, 45, 3, 0, 0, 0, 0, 1, 1, 499, 15, 2]);
+    assert_eq!(*row(5), [6, 5, 46, 46, 1, 0, 0, 0, 0, 0, 0, 0, 17, 0]);
+    let last = &t[size(6, 16)..];
     assert_eq!(last[..2], [999, 1]);
 
     // Its three respondents.
@@ -224,7 +231,7 @@ fn dropped_bytes_and_case() {
     let (d, t) = read(&odd);
     assert_eq!((d.number, d.variables, d.lines), (0, 3, 3));
     for r in 0..3 {
-        let (a, b) = (&plain[6 + 18 * r..], &t[6 + 18 * r..]);
+        let (a, b) = (&plain[size(r, 0)..], &t[size(r, 0)..]);
         assert_eq!(a[..14], b[..14]);
         assert_eq!([a[14] * 2 - 1, a[15] * 2 + 1], b[14..16]);
     }
@@ -393,7 +400,7 @@ fn many_variables_and_lines() {
     };
     let t = good(&format!("{HEAD}{}{}{TAIL}", half(1, 1, 2048, ""), half(2, 1, 2048, "")));
     assert_eq!(t[1..3], [2, 4096]);
-    assert_eq!(t[24 + 12..24 + 14], [2048, 2048]);
+    assert_eq!(t[size(1, 0) + column::BEFORE..][..2], [2048, 2048]);
     refused_in_record(8, &format!("{}{}", half(1, 1, 2048, ""), half(2, 1, 2048, "^9999 \"x\"")));
     refused_in_record(6, &format!("{}{}", half(1, 1, 2048, ""), half(2, 1, 2048, "^17 \"x\"")));
     refused_in_record(6, &format!("{}{}", half(1, 1, 2048, ""), half(2, 1, 2048, "^1.7 \"x\"")));

@@ -7,7 +7,7 @@ fn table(variables: &str) -> Vec<i64> {
     let mut table = vec![0; 40_000];
     let d = read_definition(def.as_bytes(), &mut table);
     assert_eq!((d.number, d.place), (0, 0), "{def}");
-    table.truncate(6 + 18 * d.variables + 4 * d.lines);
+    table.truncate(HEADER + ROW * d.variables + LINE * d.lines);
     table
 }
 
@@ -326,8 +326,8 @@ fn well_formed_clauses() {
          VARIABLE 6 NAME \"\" LABEL \"\" TYPE MULTIPLE POSITION 1 TO 9 VALUES 7 \"\" END VALUES END VARIABLE",
     );
     assert!(well_formed(&t));
-    let row = |r: usize, c: usize| 6 + 18 * r + c;
-    let line = |l: usize, c: usize| 6 + 18 * 6 + 4 * l + c;
+    let row = |r: usize, c: usize| HEADER + ROW * r + c;
+    let line = |l: usize, c: usize| row(6, LINE * l + c);
     let with = |changes: &[(usize, i64)]| {
         let mut t = t.clone();
         for &(i, x) in changes {

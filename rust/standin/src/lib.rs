@@ -12,6 +12,11 @@ unsafe fn give(answer: *mut i64, numbers: [i64; 4]) -> Number {
 }
 
 #[unsafe(no_mangle)]
+pub extern "C" fn zarfolin_version() -> Number {
+    zarfolin::VERSION
+}
+
+#[unsafe(no_mangle)]
 pub unsafe extern "C" fn zarfolin_read_definition(
     def: *const u8,
     def_len: usize,
@@ -161,6 +166,29 @@ pub unsafe extern "C" fn zarfolin_next_record(data: *const u8, data_len: usize, 
             plain::NextRecord::None => [0, 0, 0, 0],
             plain::NextRecord::Ended { start, end, next } => [1, start as i64, end as i64, next as i64],
             plain::NextRecord::NotEnded { start, end } => [2, start as i64, end as i64, end as i64],
+        };
+        give(answer, numbers)
+    }
+}
+
+#[unsafe(no_mangle)]
+pub unsafe extern "C" fn zarfolin_read_record(
+    table: *const i64,
+    table_len: usize,
+    record: *const u8,
+    record_len: usize,
+    out: *mut i64,
+    out_len: usize,
+    list: *mut i64,
+    list_len: usize,
+    answer: *mut i64,
+) -> Number {
+    unsafe {
+        let (table, record) = (from_raw_parts(table, table_len), from_raw_parts(record, record_len));
+        let (out, list) = (from_raw_parts_mut(out, out_len), from_raw_parts_mut(list, list_len));
+        let numbers = match plain::read_record(table, record, out, list) {
+            Ok((members, refused)) => [0, members as i64, refused as i64, 0],
+            Err(number) => [number as i64, 0, 0, 0],
         };
         give(answer, numbers)
     }

@@ -1,26 +1,81 @@
-//! The safe wrappers.
+//! The calls over slices that the caller lends: nothing is allocated. [`Definition`](crate::Definition) stands above them.
+//!
+//! Each takes any input. A refusal leaves all lent memory as it was.
+//!
+//! ```
+//! use zarfolin::{Refusal, Value, calls, table::limit::MAX_TABLE};
+//! let definition = b"SSS VERSION 1.1 SURVEY RECORD R \
+//!     VARIABLE 1 NAME \"desk\" LABEL \"Desk\" TYPE SINGLE POSITION 1 TO 2 VALUES 1 TO 12 END VALUES END VARIABLE \
+//!     END RECORD END SURVEY END SSS";
+//! let mut table = [0; MAX_TABLE];
+//! let counts = calls::read_definition(definition, &mut table)?;
+//! let table = &table[..counts.table_length()];
+//! let mut record = *b" 7";
+//! assert_eq!(calls::read_value(table, 0, &record, &mut []), Ok(Value::Number(7)));
+//! calls::write_value(table, 0, Value::Number(12), &mut record).unwrap();
+//! assert_eq!(&record, b"12");
+//! assert_eq!(calls::write_value(table, 0, Value::Number(13), &mut record), Err(Refusal::Value));
+//! # Ok::<(), zarfolin::DefinitionError>(())
+//! ```
 
 use crate::ffi::*;
-use crate::{Counts, DefinitionRefused, FileFault, Record, RecordFault, Refused, Value};
+use crate::table::{self, next, value};
+use crate::{DefinitionError, FileFault, Number, RecordFault, Refusal, Value};
+
+/// How many rows and lines a definition was read into.
+#[derive(Clone, Copy, Debug, PartialEq, Eq)]
+pub struct Counts {
+    /// Rows, one a variable.
+    pub variables: usize,
+    /// Lines, one a value with a text.
+    pub lines: usize,
+}
+
+impl Counts {
+    /// The numbers at the start of the table that are in use.
+    pub const fn table_length(self) -> usize {
+        table::length(self.variables, self.lines)
+    }
+}
+
+/// Where a record stands in its data.
+#[derive(Clone, Copy, Debug, PartialEq, Eq)]
+pub struct Cut {
+    /// Its first byte.
+    pub start: usize,
+    /// Behind its last byte, where its terminator stands.
+    pub end: usize,
+    /// Where the next record starts.
+    pub next: usize,
+    /// Whether its terminator is there.
+    pub ended: bool,
+}
+
+/// The version of the archive that is linked: [`VERSION`](crate::VERSION), or the two don't belong together.
+pub fn version() -> u64 {
+    // SAFETY: it takes nothing.
+    unsafe { zarfolin_version() }
+}
 
 /// Reads a definition into the start of the table; the rest of the table is kept, and on a refusal all of it.
-pub fn read_definition(def: &[u8], table: &mut [i64]) -> Result<Counts, DefinitionRefused> {
+pub fn read_definition(def: &[u8], table: &mut [i64]) -> Result<Counts, DefinitionError> {
     let mut answer = [0i64; 4];
     // SAFETY: the pointers and lengths are those of live slices that don't overlap; answer has four numbers.
     let number = unsafe {
         zarfolin_read_definition(def.as_ptr(), def.len(), table.as_mut_ptr(), table.len(), answer.as_mut_ptr())
     };
-    match number {
-        0 => Ok(Counts { variables: answer[2] as usize, lines: answer[3] as usize }),
-        number => Err(DefinitionRefused { number, place: answer[1] as usize }),
+    match Refusal::of(number) {
+        None => Ok(Counts { variables: answer[2] as usize, lines: answer[3] as usize }),
+        Some(refusal) => Err(DefinitionError { refusal, place: answer[1] as usize }),
     }
 }
 
-/// Reads one row's value from a record. A set goes to the start of the list and is answered as a part of it.
-pub fn read_value<'a>(table: &[i64], row: u64, record: &'a [u8], list: &'a mut [i64]) -> Result<Value<'a>, Refused> {
+/// Reads one row's value from a record. A set goes to the start of the list and is answered as a part of it;
+/// with [`MAX_SET`](crate::table::limit::MAX_SET) numbers the list is long enough for any.
+pub fn read_value<'a>(table: &[i64], row: u64, record: &'a [u8], list: &'a mut [i64]) -> Result<Value<'a>, Refusal> {
     let mut answer = [0i64; 4];
     // SAFETY: as above.
-    let number = unsafe {
+    unsafe {
         zarfolin_read_value(
             table.as_ptr(),
             table.len(),
@@ -32,17 +87,51 @@ pub fn read_value<'a>(table: &[i64], row: u64, record: &'a [u8], list: &'a mut [
             answer.as_mut_ptr(),
         )
     };
-    if number != 0 {
-        return Err(Refused(number));
+    value_of(&answer, record, list)
+}
+
+/// What the four numbers of a value mean; a set stands at the start of the list.
+pub(crate) fn value_of<'a>(answer: &[i64; 4], record: &'a [u8], list: &'a [i64]) -> Result<Value<'a>, Refusal> {
+    let [number, kind, first, second] = *answer;
+    if let Some(refusal) = Refusal::of(number as Number) {
+        return Err(refusal);
     }
-    let [_, kind, first, second] = answer;
-    Ok(match kind {
-        1 => Value::Number(first),
-        2 => Value::Set(&list[..first as usize]),
-        3 => Value::Text(&record[first as usize..][..second as usize]),
-        4 => Value::Truth(first == 1),
-        _ => Value::Missing,
-    })
+    match kind {
+        value::MISSING => Ok(Value::Missing),
+        value::NUMBER => Ok(Value::Number(first)),
+        value::SET => Ok(Value::Set(&list[..first as usize])),
+        value::TEXT => Ok(Value::Text(&record[first as usize..][..second as usize])),
+        value::TRUTH => Ok(Value::Truth(first == 1)),
+        // No kind that a library of this version answers.
+        _ => Err(Refusal::Unknown(0)),
+    }
+}
+
+/// Reads all rows of a record, the table tested once. `out` gets four numbers a row: those of
+/// [`zarfolin_read_record`]. Answers how many members stand in the list, and how many rows were refused.
+pub fn read_record(
+    table: &[i64],
+    record: &[u8],
+    out: &mut [[i64; 4]],
+    list: &mut [i64],
+) -> Result<(usize, usize), Refusal> {
+    let out = out.as_flattened_mut();
+    let mut answer = [0i64; 4];
+    // SAFETY: as above.
+    let number = unsafe {
+        zarfolin_read_record(
+            table.as_ptr(),
+            table.len(),
+            record.as_ptr(),
+            record.len(),
+            out.as_mut_ptr(),
+            out.len(),
+            list.as_mut_ptr(),
+            list.len(),
+            answer.as_mut_ptr(),
+        )
+    };
+    Refusal::of(number).map_or(Ok((answer[1] as usize, answer[2] as usize)), Err)
 }
 
 /// Judges a whole record.
@@ -52,24 +141,20 @@ pub fn judge_record(table: &[i64], record: &[u8]) -> Result<(), RecordFault> {
     let number = unsafe {
         zarfolin_judge_record(table.as_ptr(), table.len(), record.as_ptr(), record.len(), answer.as_mut_ptr())
     };
-    match number {
-        0 => Ok(()),
-        number => Err(record_fault(number, answer[1])),
-    }
+    Refusal::of(number).map_or(Ok(()), |refusal| Err(record_fault(refusal, answer[1], answer[1])))
 }
 
-fn record_fault(number: crate::Number, at: i64) -> RecordFault {
-    match number {
-        20 => RecordFault::TableNotWellFormed,
-        22 => RecordFault::TooShort,
-        23 => RecordFault::LowByte(at as usize),
-        24 => RecordFault::Illegal(at as usize),
-        other => unreachable!("a record is never refused with {other}"),
+/// A fault with the row or the byte that comes with its number.
+fn record_fault(refusal: Refusal, row: i64, place: i64) -> RecordFault {
+    RecordFault {
+        refusal,
+        row: (refusal == Refusal::Field).then_some(row as usize),
+        place: (refusal == Refusal::LowByte).then_some(place as usize),
     }
 }
 
 /// Writes one row's value into a record. Nothing but the row's value places changes.
-pub fn write_value(table: &[i64], row: u64, value: Value, record: &mut [u8]) -> Result<(), Refused> {
+pub fn write_value(table: &[i64], row: u64, value: Value, record: &mut [u8]) -> Result<(), Refusal> {
     let (t, n) = (table.as_ptr(), table.len());
     let (r, length) = (record.as_mut_ptr(), record.len());
     // SAFETY: as above.
@@ -82,7 +167,7 @@ pub fn write_value(table: &[i64], row: u64, value: Value, record: &mut [u8]) -> 
             Value::Text(text) => zarfolin_write_text(t, n, row, text.as_ptr(), text.len(), r, length),
         }
     };
-    if number == 0 { Ok(()) } else { Err(Refused(number)) }
+    Refusal::of(number).map_or(Ok(()), Err)
 }
 
 /// Judges a whole data file: the count of its records, or the first fault.
@@ -93,34 +178,18 @@ pub fn judge_file(table: &[i64], data: &[u8]) -> Result<u64, FileFault> {
         unsafe { zarfolin_judge_file(table.as_ptr(), table.len(), data.as_ptr(), data.len(), answer.as_mut_ptr()) };
     let [_, record, row, place] = answer;
     let record = record as u64;
-    match number {
-        0 => Ok(record),
-        20 => Err(FileFault::TableNotWellFormed),
-        30 => Err(FileFault::NotEnded { record }),
-        31 => Err(FileFault::Length { record }),
-        number => {
-            let at = if number == 23 { place } else { row };
-            Err(FileFault::Record { record, fault: record_fault(number, at) })
-        }
+    match Refusal::of(number) {
+        None => Ok(record),
+        Some(refusal) => Err(FileFault { record, fault: record_fault(refusal, row, place) }),
     }
 }
 
-/// The record that starts at `from`, if the data reaches that far.
-pub fn next_record(data: &[u8], from: usize) -> Option<Record<'_>> {
+/// The record that starts at `from`, if the data reaches that far. The terminator is the one that the data's first CR or
+/// LF settles.
+pub fn next_record(data: &[u8], from: usize) -> Option<Cut> {
     let mut answer = [0i64; 4];
     // SAFETY: as above.
     let found = unsafe { zarfolin_next_record(data.as_ptr(), data.len(), from as u64, answer.as_mut_ptr()) };
-    let [_, start, end, next] = answer;
-    let record = || Record { bytes: &data[start as usize..end as usize], ended: found == 1, next: next as usize };
-    (found != 0).then(record)
-}
-
-/// All records of a data file in order.
-pub fn records(data: &[u8]) -> impl Iterator<Item = Record<'_>> {
-    let mut from = 0;
-    std::iter::from_fn(move || {
-        let record = next_record(data, from)?;
-        from = record.next;
-        Some(record)
-    })
+    let [_, start, end, next] = answer.map(|x| x as usize);
+    (found != next::NO_RECORD).then_some(Cut { start, end, next, ended: found == next::RECORD })
 }

@@ -1,9 +1,18 @@
-//! The face as it is exported: pointer and length for each slice, in this order. A pointer is never null, not even where
-//! the length is 0 (Rust's slices see to that), and no two of the buffers of a call overlap.
+//! The face as it is exported: pointer and length for each slice, in this order. `include/zarfolin.h` has the rules.
+//!
+//! # Safety
+//!
+//! A pointer is never null, not even where the length is 0, and aligned (Rust's slices see to both); it points to as many bytes or
+//! numbers as its length says, `answer` to four numbers. No two of the buffers of a call overlap, unless both are only read, and
+//! nobody else writes to one while the call runs.
 
 use crate::Number;
 
 unsafe extern "C" {
+    /// The version of the archive. [`calls::version`](crate::calls::version).
+    pub fn zarfolin_version() -> u64;
+
+    /// Reads a definition into a lent table. [`calls::read_definition`](crate::calls::read_definition).
     pub fn zarfolin_read_definition(
         def: *const u8,
         def_len: usize,
@@ -12,6 +21,7 @@ unsafe extern "C" {
         answer: *mut i64,
     ) -> Number;
 
+    /// Reads one row's value from a record. [`calls::read_value`](crate::calls::read_value).
     pub fn zarfolin_read_value(
         table: *const i64,
         table_len: usize,
@@ -23,6 +33,7 @@ unsafe extern "C" {
         answer: *mut i64,
     ) -> Number;
 
+    /// Judges a whole record. [`calls::judge_record`](crate::calls::judge_record).
     pub fn zarfolin_judge_record(
         table: *const i64,
         table_len: usize,
@@ -31,6 +42,7 @@ unsafe extern "C" {
         answer: *mut i64,
     ) -> Number;
 
+    /// Writes missing. [`calls::write_value`](crate::calls::write_value).
     pub fn zarfolin_write_missing(
         table: *const i64,
         table_len: usize,
@@ -39,6 +51,7 @@ unsafe extern "C" {
         record_len: usize,
     ) -> Number;
 
+    /// Writes a number. [`calls::write_value`](crate::calls::write_value).
     pub fn zarfolin_write_number(
         table: *const i64,
         table_len: usize,
@@ -48,6 +61,7 @@ unsafe extern "C" {
         record_len: usize,
     ) -> Number;
 
+    /// Writes a truth, 0 or 1. [`calls::write_value`](crate::calls::write_value).
     pub fn zarfolin_write_truth(
         table: *const i64,
         table_len: usize,
@@ -57,6 +71,7 @@ unsafe extern "C" {
         record_len: usize,
     ) -> Number;
 
+    /// Writes a set. [`calls::write_value`](crate::calls::write_value).
     pub fn zarfolin_write_set(
         table: *const i64,
         table_len: usize,
@@ -67,6 +82,7 @@ unsafe extern "C" {
         record_len: usize,
     ) -> Number;
 
+    /// Writes a text. [`calls::write_value`](crate::calls::write_value).
     pub fn zarfolin_write_text(
         table: *const i64,
         table_len: usize,
@@ -77,6 +93,7 @@ unsafe extern "C" {
         record_len: usize,
     ) -> Number;
 
+    /// Judges a whole data file. [`calls::judge_file`](crate::calls::judge_file).
     pub fn zarfolin_judge_file(
         table: *const i64,
         table_len: usize,
@@ -85,5 +102,19 @@ unsafe extern "C" {
         answer: *mut i64,
     ) -> Number;
 
+    /// Finds the record that starts at `from`. [`calls::next_record`](crate::calls::next_record).
     pub fn zarfolin_next_record(data: *const u8, data_len: usize, from: u64, answer: *mut i64) -> Number;
+
+    /// Reads all rows of a record. [`calls::read_record`](crate::calls::read_record).
+    pub fn zarfolin_read_record(
+        table: *const i64,
+        table_len: usize,
+        record: *const u8,
+        record_len: usize,
+        out: *mut i64,
+        out_len: usize,
+        list: *mut i64,
+        list_len: usize,
+        answer: *mut i64,
+    ) -> Number;
 }

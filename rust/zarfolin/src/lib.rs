@@ -1,41 +1,68 @@
-//! The verified library from Rust: the declarations of its face (`ffi`), and safe wrappers in Rust's own types.
+//! Zarfolin reads, judges and corrects Triple-S 1.1 survey files. The work is done by a library that is proved in full
+//! (`libzarfolin.a`, for Linux on x86-64); this crate is its face for Rust. What the library promises of each call stands in
+//! `include/zarfolin.h` and `docs/CONTRACTS.md` of its repository.
 //!
-//! Every call takes any input. A refusal leaves all lent memory as it was. See `include/zarfolin.h` for each call's promise.
+//! ```
+//! use zarfolin::{Definition, Value};
 //!
-//! The feature `ffi` links the static library; without it only the types below are there.
+//! let text = b"SSS VERSION 1.1 SURVEY RECORD R
+//!     VARIABLE 1 NAME \"desk\" LABEL \"Desk\" TYPE SINGLE POSITION 1 TO 2
+//!     VALUES 1 TO 12 END VALUES END VARIABLE
+//!     VARIABLE 2 NAME \"seen\" LABEL \"Seen\" TYPE MULTIPLE POSITION 3 TO 6
+//!     VALUES 1 \"a\" 2 \"b\" 4 \"d\" END VALUES END VARIABLE
+//!     END RECORD END SURVEY END SSS";
+//! let definition = Definition::read(text)?;
+//! for variable in definition.variables() {
+//!     println!("{} {:?} {} in columns {:?}", variable.ident(), variable.kind(), variable.name(), variable.columns());
+//! }
+//!
+//! let data = b" 710x1\n1300x0\n";
+//! for record in definition.records(data) {
+//!     for (variable, value) in record.values()?.iter() {
+//!         match value {
+//!             Ok(value) => println!("{} {} {value:?}", record.number(), variable.ident()),
+//!             Err(refusal) => println!("{} {} {refusal}", record.number(), variable.ident()),
+//!         }
+//!     }
+//! }
+//! let first = definition.records(data).next().unwrap();
+//! assert_eq!(first.values()?.get(1), Some(Ok(Value::Set(&[1, 4]))));
+//!
+//! let fault = definition.judge(data).unwrap_err();
+//! assert_eq!(fault.to_string(), "record 2, row 0: the field holds no legal value [24]");
+//! # Ok::<(), Box<dyn std::error::Error>>(())
+//! ```
+//!
+//! | module | has |
+//! |---|---|
+//! | here | [`Definition`] and what comes of it, in Rust's own types; [`Refusal`] |
+//! | [`calls`] | each call over lent slices, nothing allocated |
+//! | [`ffi`] | the calls as they are exported, `unsafe` |
+//! | [`table`] | the names of a table's numbers, and the limits |
+//!
+//! # Linking
+//!
+//! The feature `ffi`, on unless it is turned off, links `libzarfolin.a` from `target/staticlib` of the repository, where
+//! `rt staticlib zarfolin` puts it, or from the folder that `ZARFOLIN_LIB_DIR` names. When the crate is built it holds its
+//! [`VERSION`] against the header's and the archive's. Without the feature only [`table`], [`Refusal`] and [`Value`] are there.
 
-use std::fmt;
+#![no_std]
 
-/// The type that the library's calls return. The only place where it is said on the Rust side.
-pub type Number = u64;
+#[cfg(feature = "ffi")]
+extern crate alloc;
 
-/// The table of a definition needs at most this many numbers.
-pub const MAX_TABLE: usize = 6 + 18 * 512 + 4 * 4096;
+mod refusal;
+pub mod table;
 
-/// A refusal of a definition (1 to 10) and its place, 0 for 1 and 10.
-#[derive(Clone, Copy, Debug, PartialEq, Eq)]
-pub struct DefinitionRefused {
-    pub number: Number,
-    pub place: usize,
-}
+pub use refusal::{DefinitionError, FileFault, Number, RecordFault, Refusal};
 
-/// What a definition was read into.
-#[derive(Clone, Copy, Debug, PartialEq, Eq)]
-pub struct Counts {
-    pub variables: usize,
-    pub lines: usize,
-}
-
-impl Counts {
-    /// The numbers at the start of the table that are in use.
-    pub fn table_length(self) -> usize {
-        6 + 18 * self.variables + 4 * self.lines
-    }
-}
+/// The version of the face that this crate is written for.
+pub const VERSION: u64 = 1;
 
 /// A row's value: what was read from a record, or what is to be written.
 #[derive(Clone, Copy, Debug, PartialEq, Eq)]
 pub enum Value<'a> {
+    /// Nothing: spaces in the data, or a SINGLE's zero.
     Missing,
     /// A SINGLE's category, or a QUANTITY scaled by its decimals.
     Number(i64),
@@ -43,92 +70,42 @@ pub enum Value<'a> {
     Set(&'a [i64]),
     /// A CHARACTER's bytes without the spaces at the end.
     Text(&'a [u8]),
+    /// A LOGICAL's truth.
     Truth(bool),
 }
 
-/// A refusal of a call on one row: 20 to 28.
-#[derive(Clone, Copy, Debug, PartialEq, Eq)]
-pub struct Refused(pub Number);
-
-/// What is wrong with a record.
-#[derive(Clone, Copy, Debug, PartialEq, Eq)]
-pub enum RecordFault {
-    /// 20
-    TableNotWellFormed,
-    /// 22
-    TooShort,
-    /// 23: a byte below 32, at this place of the record.
-    LowByte(usize),
-    /// 24: the lowest row whose field is illegal.
-    Illegal(usize),
-}
-
-/// What is wrong with a data file. Records count from 1.
-#[derive(Clone, Copy, Debug, PartialEq, Eq)]
-pub enum FileFault {
-    /// 20
-    TableNotWellFormed,
-    /// 30: the last record has no terminator.
-    NotEnded { record: u64 },
-    /// 31: a length that differs from the first record's.
-    Length { record: u64 },
-    /// 22, 23 or 24 in this record.
-    Record { record: u64, fault: RecordFault },
-}
-
-/// One record of a data file.
-#[derive(Clone, Copy, Debug, PartialEq, Eq)]
-pub struct Record<'a> {
-    pub bytes: &'a [u8],
-    /// Whether its terminator is there.
-    pub ended: bool,
-    /// Where the next record starts.
-    pub next: usize,
-}
-
-impl fmt::Display for DefinitionRefused {
-    fn fmt(&self, f: &mut fmt::Formatter) -> fmt::Result {
-        write!(f, "definition refused: {} at {}", self.number, self.place)
-    }
-}
-
-impl fmt::Display for Refused {
-    fn fmt(&self, f: &mut fmt::Formatter) -> fmt::Result {
-        write!(f, "refused: {}", self.0)
-    }
-}
-
-impl fmt::Display for RecordFault {
-    fn fmt(&self, f: &mut fmt::Formatter) -> fmt::Result {
-        match self {
-            RecordFault::TableNotWellFormed => write!(f, "20: table not well formed"),
-            RecordFault::TooShort => write!(f, "22: record too short"),
-            RecordFault::LowByte(place) => write!(f, "23: byte below 32 at {place}"),
-            RecordFault::Illegal(row) => write!(f, "24: field of row {row} illegal"),
-        }
-    }
-}
-
-impl fmt::Display for FileFault {
-    fn fmt(&self, f: &mut fmt::Formatter) -> fmt::Result {
-        match self {
-            FileFault::TableNotWellFormed => write!(f, "20: table not well formed"),
-            FileFault::NotEnded { record } => write!(f, "record {record}: 30: no terminator"),
-            FileFault::Length { record } => write!(f, "record {record}: 31: length differs"),
-            FileFault::Record { record, fault } => write!(f, "record {record}: {fault}"),
-        }
-    }
-}
-
-impl std::error::Error for DefinitionRefused {}
-impl std::error::Error for Refused {}
-impl std::error::Error for RecordFault {}
-impl std::error::Error for FileFault {}
-
 #[cfg(feature = "ffi")]
-mod calls;
+pub mod calls;
 #[cfg(feature = "ffi")]
 pub mod ffi;
+#[cfg(feature = "ffi")]
+mod survey;
 
 #[cfg(feature = "ffi")]
-pub use calls::{judge_file, judge_record, next_record, read_definition, read_value, records, write_value};
+pub use survey::{Definition, Kind, Line, Lines, RawText, Record, Records, Values, Variable, Variables};
+
+#[cfg(all(zarfolin_other_machine, not(doc)))]
+compile_error!(
+    "libzarfolin.a is for x86-64 only: build with --target x86_64-unknown-linux-gnu, or without the feature `ffi`"
+);
+
+#[cfg(all(zarfolin_no_archive, not(doc)))]
+compile_error!(
+    "libzarfolin.a is not there: build it with `rt staticlib zarfolin`, name its folder in ZARFOLIN_LIB_DIR, or turn the feature `ffi` off"
+);
+
+/// Whether a version that build.rs found is this crate's; where it found none there is nothing to compare.
+const fn agrees(found: Option<&str>) -> bool {
+    let Some(text) = found else { return true };
+    let (digits, mut i, mut n) = (text.as_bytes(), 0, 0);
+    while i < digits.len() && digits[i].is_ascii_digit() {
+        n = n * 10 + (digits[i] - b'0') as u64;
+        i += 1;
+    }
+    i == digits.len() && i > 0 && n == VERSION
+}
+
+const _: () =
+    assert!(agrees(option_env!("ZARFOLIN_HEADER_VERSION")), "include/zarfolin.h has another version than this crate");
+const _: () =
+    assert!(agrees(option_env!("ZARFOLIN_ARCHIVE_VERSION")), "libzarfolin.a has another version than this crate");

@@ -1,6 +1,7 @@
-//! The safe wrappers over the linked library: document 01's sample, read, judged and written.
+//! The wrappers over the linked library: document 01's sample, and the counter's, read, judged and written.
 #![cfg(feature = "ffi")]
 
+use zarfolin::table::limit::{MAX_SET, MAX_TABLE};
 use zarfolin::*;
 
 const SAMPLE: &[u8] = b"SSS VERSION 1.1 SURVEY RECORD R
@@ -15,61 +16,206 @@ VARIABLE 5 NAME \"yes\" LABEL \"Yes\" TYPE LOGICAL POSITION 17 END VARIABLE
 END RECORD END SURVEY END SSS
 ";
 
+const SOUND: [Value; 5] =
+    [Value::Number(7), Value::Set(&[1, 4]), Value::Number(-10), Value::Text(b"ab"), Value::Truth(true)];
+
+#[test]
+fn versions() {
+    assert_eq!(calls::version(), VERSION);
+}
+
+/// Every call over slices.
 #[test]
 fn read_judge_write() {
     let mut table = vec![0; MAX_TABLE];
-    let counts = read_definition(SAMPLE, &mut table).unwrap();
-    assert_eq!(counts, Counts { variables: 5, lines: 3 });
+    let counts = calls::read_definition(SAMPLE, &mut table).unwrap();
+    assert_eq!((counts.variables, counts.lines), (5, 3));
     table.truncate(counts.table_length());
 
     let mut record = *b" 710x1x-1.0ab   1";
     let mut list = [0; 3];
-    let expected = [Value::Number(7), Value::Set(&[1, 4]), Value::Number(-10), Value::Text(b"ab"), Value::Truth(true)];
-    for (row, value) in expected.iter().enumerate() {
-        assert_eq!(read_value(&table, row as u64, &record, &mut list), Ok(*value));
+    for (row, value) in SOUND.iter().enumerate() {
+        assert_eq!(calls::read_value(&table, row as u64, &record, &mut list), Ok(*value));
     }
-    assert_eq!(read_value(&table, 1, &record, &mut [0]), Err(Refused(25)));
-    assert_eq!(read_value(&table, 5, &record, &mut list), Err(Refused(21)));
-    assert_eq!(judge_record(&table, &record), Ok(()));
-    assert_eq!(judge_record(&table, &record[1..]), Err(RecordFault::TooShort));
-    assert_eq!(judge_record(&table[1..], &record), Err(RecordFault::TableNotWellFormed));
+    assert_eq!(calls::read_value(&table, 1, &record, &mut [0]), Err(Refusal::ListRoom));
+    assert_eq!(calls::read_value(&table, 5, &record, &mut list), Err(Refusal::Row));
+    assert_eq!(calls::judge_record(&table, &record), Ok(()));
+    assert_eq!(calls::judge_record(&table, &record[1..]).unwrap_err().refusal, Refusal::Short);
+    assert_eq!(calls::judge_record(&table[1..], &record).unwrap_err().refusal, Refusal::Table);
 
     let written = [Value::Number(12), Value::Set(&[2]), Value::Number(995), Value::Text(b"c d"), Value::Truth(false)];
     for (row, value) in written.iter().enumerate() {
-        assert_eq!(write_value(&table, row as u64, *value, &mut record), Ok(()));
+        assert_eq!(calls::write_value(&table, row as u64, *value, &mut record), Ok(()));
     }
     assert_eq!(&record, b"1201x0x99.5c d  0");
     for (row, value) in written.iter().enumerate() {
-        assert_eq!(read_value(&table, row as u64, &record, &mut list), Ok(*value));
+        assert_eq!(calls::read_value(&table, row as u64, &record, &mut list), Ok(*value));
     }
-    assert_eq!(write_value(&table, 0, Value::Truth(true), &mut record), Err(Refused(26)));
-    assert_eq!(write_value(&table, 0, Value::Number(13), &mut record), Err(Refused(27)));
+    assert_eq!(calls::write_value(&table, 0, Value::Truth(true), &mut record), Err(Refusal::Type));
+    assert_eq!(calls::write_value(&table, 0, Value::Number(13), &mut record), Err(Refusal::Value));
     for row in 0..5 {
-        assert_eq!(write_value(&table, row, Value::Missing, &mut record), Ok(()));
-        assert_eq!(read_value(&table, row, &record, &mut list), Ok(Value::Missing));
+        assert_eq!(calls::write_value(&table, row, Value::Missing, &mut record), Ok(()));
+        assert_eq!(calls::read_value(&table, row, &record, &mut list), Ok(Value::Missing));
     }
     assert_eq!(&record, b"    x x          ");
 
-    let refused = read_definition(&SAMPLE[..39], &mut table).unwrap_err();
-    assert_eq!(refused, DefinitionRefused { number: 2, place: 32 });
+    let refused = calls::read_definition(&SAMPLE[..39], &mut table).unwrap_err();
+    assert_eq!((refused.refusal, refused.place), (Refusal::Token, 32));
+    assert_eq!(calls::read_definition(SAMPLE, &mut table[..20]).unwrap_err().refusal, Refusal::TableRoom);
 }
 
 #[test]
+fn variables() {
+    let definition = Definition::read(SAMPLE).unwrap();
+    assert_eq!(definition.table().len(), table::length(5, 3));
+    assert_eq!(definition.record_length(), 17);
+    assert_eq!(definition.text(), SAMPLE);
+    let told: Vec<_> =
+        definition.variables().map(|v| (v.row(), v.ident(), v.kind().word(), v.columns(), v.width())).collect();
+    let expected = [
+        (0, 1, "SINGLE", 1..=2, 2),
+        (1, 2, "MULTIPLE", 3..=6, 4),
+        (2, 3, "QUANTITY", 7..=11, 4),
+        (3, 4, "CHARACTER", 12..=16, 5),
+        (4, 5, "LOGICAL", 17..=17, 1),
+    ];
+    assert_eq!(told, expected);
+    assert_eq!(definition.variables().rev().map(|v| v.ident()).collect::<Vec<_>>(), [5, 4, 3, 2, 1]);
+    assert!(definition.variable(5).is_none());
+
+    let [desk, seen, wait] = [0, 1, 2].map(|row| definition.variable(row).unwrap());
+    assert_eq!((desk.kind(), desk.range(), desk.values().len()), (Kind::Single, Some(1..=12), 0));
+    assert_eq!((seen.kind(), seen.range(), seen.places()), (Kind::Bits, None, 2..6));
+    let lines: Vec<_> = seen.values().map(|line| (line.number, line.special, line.text.as_bytes())).collect();
+    assert_eq!(lines, [(1, false, &b"a"[..]), (2, false, b"b"), (4, false, b"d")]);
+    assert!(matches!(wait.kind(), Kind::Quantity { decimals: 1, point: true, .. }));
+    assert_eq!(wait.range(), Some(-10..=995));
+    assert_eq!((wait.name().as_bytes(), wait.label().as_bytes()), (&b"wait"[..], &b"Wait"[..]));
+    assert_eq!(format!("{} {:?}", wait.name(), wait.label()), "wait \"Wait\"");
+    assert!(format!("{definition:?}").contains("ident: 3, kind: Quantity"));
+}
+
+#[test]
+fn spread_and_texts() {
+    let text = SAMPLE_SPREAD.as_bytes();
+    let definition = Definition::read(text).unwrap();
+    let variable = definition.variable(0).unwrap();
+    assert!(matches!(variable.kind(), Kind::Spread { subfields: 2, width: 3, .. }));
+    // A name is handed on as it stands.
+    assert_eq!(variable.name().as_bytes(), b"a{41}{\"}");
+    assert_eq!(variable.label().to_string(), "\\xc3\\xa9");
+    let values = definition.records(b"004042\n042042\n000000\n").map(|r| r.values().unwrap()).collect::<Vec<_>>();
+    assert_eq!(values[0].get(0), Some(Ok(Value::Set(&[4, 42]))));
+    assert_eq!(values[1].get(0), Some(Ok(Value::Set(&[42]))));
+    assert_eq!(values[2].get(0), Some(Ok(Value::Set(&[]))));
+    assert_eq!(values[2].get(1), None);
+}
+
+const SAMPLE_SPREAD: &str =
+    "SSS VERSION 1.1 SURVEY RECORD R VARIABLE 7 NAME \"a{41}{\"}\" LABEL \"\u{e9}\" TYPE MULTIPLE POSITION 1 TO 6
+SPREAD 2 OF 3 VALUES 1 TO 999 END VALUES END VARIABLE END RECORD END SURVEY END SSS";
+
+#[test]
 fn files() {
-    let mut table = vec![0; MAX_TABLE];
-    read_definition(SAMPLE, &mut table).unwrap();
+    let definition = Definition::read(SAMPLE).unwrap();
     let good = " 710x1x-1.0ab   1\r\n".repeat(3);
-    assert_eq!(judge_file(&table, good.as_bytes()), Ok(3));
-    assert_eq!(judge_file(&table, b""), Ok(0));
-    assert_eq!(records(good.as_bytes()).count(), 3);
-    assert!(records(good.as_bytes()).all(|r| r.ended && r.bytes == b" 710x1x-1.0ab   1"));
-    let fault = |data: &str| judge_file(&table, data.as_bytes()).unwrap_err();
-    assert_eq!(fault(good.trim_end()), FileFault::NotEnded { record: 3 });
-    assert_eq!(fault(&format!("{good}x\r\n")), FileFault::Length { record: 4 });
-    let low = RecordFault::LowByte(14);
-    assert_eq!(fault(&format!("{good} 710x1x-1.0ab \t 1\r\n")), FileFault::Record { record: 4, fault: low });
-    let illegal = RecordFault::Illegal(4);
-    assert_eq!(fault(&format!("{good} 710x1x-1.0ab   2\r\n")), FileFault::Record { record: 4, fault: illegal });
-    assert_eq!(fault("\n"), FileFault::Record { record: 1, fault: RecordFault::TooShort });
-    assert_eq!(judge_file(&[], b""), Err(FileFault::TableNotWellFormed));
+    assert_eq!(definition.judge(good.as_bytes()), Ok(3));
+    assert_eq!(definition.judge(b""), Ok(0));
+    let records: Vec<_> = definition.records(good.as_bytes()).collect();
+    assert_eq!(records.iter().map(|r| (r.number(), r.place())).collect::<Vec<_>>(), [(1, 0), (2, 19), (3, 38)]);
+    assert!(records.iter().all(|r| r.is_ended() && r.bytes() == b" 710x1x-1.0ab   1" && r.judge() == Ok(())));
+    for record in &records {
+        let values = record.values().unwrap();
+        assert_eq!(values.len(), 5);
+        assert!(values.iter().map(|(_, value)| value.unwrap()).eq(SOUND));
+        assert_eq!(values.faults().count(), 0);
+    }
+    assert!(!definition.records(good.trim_end().as_bytes()).last().unwrap().is_ended());
+
+    let fault = |data: &str| definition.judge(data.as_bytes()).unwrap_err();
+    let said = |data: &str| fault(data).to_string();
+    assert_eq!(said(good.trim_end()), "record 3, the last record has no terminator [30]");
+    assert_eq!(said(&format!("{good}x\r\n")), "record 4, the record's length differs from the first record's [31]");
+    assert_eq!(
+        said(&format!("{good} 710x1x-1.0ab \t 1\r\n")),
+        "record 4, byte 14: the record has a byte below 32 [23]"
+    );
+    assert_eq!(said(&format!("{good} 710x1x-1.0ab   2\r\n")), "record 4, row 4: the field holds no legal value [24]");
+    assert_eq!(said("\n"), "record 1, the record is shorter than its definition needs [22]");
+    let low = fault(&format!("{good} 710x1x-1.0ab \t 1\r\n"));
+    assert_eq!((low.record, low.fault.row, low.fault.place), (4, None, Some(14)));
+    assert_eq!(calls::judge_file(&[], b"").unwrap_err().to_string(), "the table is not well formed [20]");
+}
+
+/// All faults of a record at once, each with its row.
+#[test]
+fn faults_of_a_record() {
+    let definition = Definition::read(SAMPLE).unwrap();
+    let data = b"99123x9.999ab   2\n";
+    let record = definition.records(data).next().unwrap();
+    assert_eq!(record.judge().unwrap_err().row, Some(0));
+    let values = record.values().unwrap();
+    let faults: Vec<_> = values.faults().map(|(variable, refusal)| (variable.ident(), refusal)).collect();
+    assert_eq!(faults, [1, 2, 3, 5].map(|ident| (ident, Refusal::Field)));
+    assert_eq!(values.get(3), Some(Ok(Value::Text(b"ab"))));
+    assert_eq!(definition.records(b"short\n").next().unwrap().values().unwrap_err(), Refusal::Short);
+}
+
+/// The largest set fits, and what `values` gives is what the call for one row gives.
+#[test]
+fn the_largest_set() {
+    let text = b"SSS VERSION 1.1 SURVEY RECORD R VARIABLE 1 NAME \"s\" LABEL \"\" TYPE MULTIPLE POSITION 1 TO 9999
+VALUES 1 TO 9999 END VALUES END VARIABLE VARIABLE 2 NAME \"t\" LABEL \"\" TYPE MULTIPLE POSITION 1 TO 5
+VALUES 1 TO 5 END VALUES END VARIABLE END RECORD END SURVEY END SSS";
+    let definition = Definition::read(text).unwrap();
+    let record = vec![b'1'; 9999];
+    let mut list = vec![0; MAX_SET];
+    let values = Values::read(&definition, &record).unwrap();
+    let all: Vec<i64> = (1..=9999).collect();
+    assert_eq!(values.get(0), Some(Ok(Value::Set(&all))));
+    assert_eq!(values.get(1), Some(Ok(Value::Set(&[1, 2, 3, 4, 5]))));
+    for row in 0..2 {
+        assert_eq!(values.get(row), Some(calls::read_value(definition.table(), row as u64, &record, &mut list)));
+    }
+    let mut out = [[0; 4]; 2];
+    assert_eq!(calls::read_record(definition.table(), &record, &mut out, &mut list), Err(Refusal::ListRoom));
+    list.resize(MAX_SET + 5, 0);
+    assert_eq!(calls::read_record(definition.table(), &record, &mut out, &mut list), Ok((10_004, 0)));
+    assert_eq!(out, [[0, 2, 9999, 0], [0, 2, 5, 9999]]);
+    assert_eq!(calls::read_record(definition.table(), &record, &mut out[..1], &mut list), Err(Refusal::ListRoom));
+    assert_eq!(calls::read_record(definition.table(), &record[1..], &mut out, &mut list), Err(Refusal::Short));
+}
+
+/// One definition shared by threads that judge at once, each on a stack of 128 KiB.
+#[test]
+fn threads() {
+    let definition = Definition::read(SAMPLE).unwrap();
+    let good = " 710x1x-1.0ab   1\r\n".repeat(500);
+    let bad = format!("{good}13\r\n");
+    std::thread::scope(|scope| {
+        for n in 0..8 {
+            let (definition, data) = (&definition, if n % 2 == 0 { &good } else { &bad });
+            let thread = std::thread::Builder::new().stack_size(128 << 10);
+            let judge = move || {
+                for _ in 0..20 {
+                    assert_eq!(definition.judge(data.as_bytes()).is_ok(), n % 2 == 0);
+                    assert_eq!(definition.records(data.as_bytes()).count(), 500 + n % 2);
+                }
+            };
+            thread.spawn_scoped(scope, judge).unwrap();
+        }
+    });
+}
+
+/// A refusal that this version doesn't know is a refusal, with its number, and no panic.
+#[test]
+fn unknown_refusals() {
+    for number in [11, 29, 40, 50, 241, u64::MAX] {
+        let refusal = Refusal::of(number).unwrap();
+        assert_eq!((refusal, refusal.number()), (Refusal::Unknown(number), number));
+        assert!(refusal.to_string().ends_with(&format!("[{number}]")));
+    }
+    for &refusal in Refusal::ALL {
+        assert_eq!(Refusal::of(refusal.number()), Some(refusal));
+    }
 }

@@ -1,6 +1,6 @@
 use borrow.Author.Needs.{needs}
 use Rattle.below.specs.Table.{table-at}
-use Rattle.ascii.specs.Class.{classOf}
+use Rattle.ascii.specs.rule.Class.{classOf}
 use Rattle.ascii.proofs.class_of.Statement.{statement}
 use Rattle.ascii.proofs.class_of.Tie as tie
 

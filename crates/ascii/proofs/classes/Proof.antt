@@ -1,7 +1,7 @@
 -- `ascii::classes` meets its contract: antt computes the 256 classes.
 use mathlib.Core.Path.{refl}
-use Rattle.below.specs.Table.{tableFrom}
-use Rattle.ascii.specs.Class.{classOf}
+use Rattle.below.specs.rule.Table.{tableFrom}
+use Rattle.ascii.specs.rule.Class.{classOf}
 use Rattle.ascii.proofs.classes.Statement.{statement}
 use Rattle.ascii.proofs.classes.Tie as tie
 

@@ -8,7 +8,7 @@ use native.Mathlib.Omega.{arith}
 use borrow.Author.Needs.{needs}
 use borrow.Author.Tests.{lt-ltb, le-ltb}
 use lib.Dec.{ltb}
-use Rattle.ascii.specs.Tens.{countFrom, digitsOf}
+use Rattle.ascii.specs.rule.Tens.{countFrom, digitsOf}
 use Rattle.ascii.proofs.digit_count.Statement.{statement}
 use Rattle.ascii.proofs.digit_count.Tie as tie
 

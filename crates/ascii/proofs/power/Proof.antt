@@ -1,6 +1,6 @@
 use borrow.Author.Needs.{needs}
 use Rattle.below.specs.Table.{table-at}
-use Rattle.ascii.specs.Tens.{tenTo}
+use Rattle.ascii.specs.rule.Tens.{tenTo}
 use Rattle.ascii.proofs.power.Statement.{statement}
 use Rattle.ascii.proofs.power.Tie as tie
 

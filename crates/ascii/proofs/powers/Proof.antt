@@ -1,6 +1,6 @@
 -- `ascii::powers` meets its contract: antt computes the sixteen powers.
 use mathlib.Core.Path.{refl}
-use Rattle.below.specs.Table.{tableFrom}
+use Rattle.below.specs.rule.Table.{tableFrom}
 use Rattle.ascii.proofs.powers.Statement.{statement}
 use Rattle.ascii.proofs.powers.Tie as tie
 

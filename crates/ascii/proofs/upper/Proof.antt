@@ -1,4 +1,4 @@
-use Rattle.ascii.specs.Class.{upperOf}
+use Rattle.ascii.specs.rule.Class.{upperOf}
 use borrow.Author.Tests.{lt-ltb, le-ltb, le-leb, lt-leb}
 use borrow.Author.Needs.{needs}
 use Rattle.ascii.proofs.upper.Statement.{statement}

@@ -1,6 +1,6 @@
 use mathlib.Core.Path.{ap, _∙_}
 use mir.Facts.{toZ-ofZ}
-use Rattle.cells.specs.Cell.{countOf}
+use Rattle.cells.specs.rule.Cell.{countOf}
 use borrow.Author.Needs.{needs, sfits-of}
 use Rattle.cells.proofs.count.Statement.{statement}
 use Rattle.cells.proofs.count.Tie as tie

@@ -1,7 +1,7 @@
 -- `cells::count_of` meets its contract: the test gives the sign, by which `countOf` goes.
 use native.Mathlib.Omega.{arith}
 use mir.Facts.{toZ-ofZ}
-use Rattle.cells.specs.Cell.{countOf}
+use Rattle.cells.specs.rule.Cell.{countOf}
 use Rattle.cells.proofs.Signs.{is-neg, is-pos, cast-pos, flipped, mag-small}
 use Rattle.cells.proofs.count_of.Statement.{statement}
 use Rattle.cells.proofs.count_of.Tie as tie

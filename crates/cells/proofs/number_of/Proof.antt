@@ -5,7 +5,7 @@ use native.Mathlib.Omega.{arith}
 use mir.Facts.{toZ-ofZ}
 use mir.ValLaws.{toZ-pos}
 use mir.Syntax.{w64}
-use Rattle.cells.specs.Cell.{numberOf}
+use Rattle.cells.specs.rule.Cell.{numberOf}
 use Rattle.cells.proofs.Signs.{zero-minus, zero-minus-fits}
 use Rattle.cells.proofs.number_of.Statement.{statement}
 use Rattle.cells.proofs.number_of.Tie as tie

@@ -7,7 +7,7 @@ use lib.IntN.{pos}
 use lib.ListN.{length, length-set}
 use lib.Seq as Seq
 use mir.Facts.{toZ-ofZ}
-use Rattle.cells.specs.Cell.{pasted}
+use Rattle.cells.specs.rule.Cell.{pasted}
 use Rattle.cells.proofs.paste.Statement.{statement}
 use Rattle.cells.proofs.paste.Tie as tie
 

@@ -2,7 +2,7 @@
 use native.Mathlib.Omega.{arith}
 use native.Mathlib.Numerals.{add-one}
 use mir.Facts.{toZ-ofZ}
-use Rattle.cells.specs.Cell.{signedOf}
+use Rattle.cells.specs.rule.Cell.{signedOf}
 use Rattle.cells.proofs.Signs.{is-neg, is-pos, cast-pos, flipped}
 use Rattle.cells.proofs.signed_of.Statement.{statement}
 use Rattle.cells.proofs.signed_of.Tie as tie

@@ -4,7 +4,8 @@ use borrow.Author.Needs.{needs}
 use mathlib.Core.Path.{_≡_, refl, sym, ap, _∙_}
 use Prim.Native.Nat.{_≤_, _-_}
 use lib.ListN.{length, drop}
-use Rattle.cuts.specs.Cut.{terminatorOf, at-few, found-cr, found-lf, found-on, found-none, found-clear}
+use Rattle.cuts.specs.rule.Cut.{terminatorOf}
+use Rattle.cuts.specs.Cut.{at-few, found-cr, found-lf, found-on, found-none, found-clear}
 use Rattle.cuts.proofs.find_terminator.Statement.{statement}
 use Rattle.cuts.proofs.find_terminator.Tie as tie
 

@@ -4,7 +4,8 @@ use borrow.Author.Needs.{needs}
 use mathlib.Core.Path.{_≡_, refl, sym, ap, _∙_}
 use Prim.Native.Nat.{_≤_, _-_}
 use lib.ListN.{length, drop}
-use Rattle.cuts.specs.Cut.{nextFrom, endFrom, next-none, next-some, end-here, end-on, end-none, end-unbroken}
+use Rattle.cuts.specs.rule.Cut.{nextFrom, endFrom}
+use Rattle.cuts.specs.Cut.{next-none, next-some, end-here, end-on, end-none, end-unbroken}
 use Rattle.cuts.proofs.next_from.Statement.{statement}
 use Rattle.cuts.proofs.next_from.Tie as tie
 

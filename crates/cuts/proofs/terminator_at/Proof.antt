@@ -1,6 +1,7 @@
 use borrow.Author.Needs.{needs}
 use borrow.Author.Tests.{eq-eqb, ne-eqb}
-use Rattle.cuts.specs.Cut.{terminatorAt, begins-here, begins-past}
+use Rattle.cuts.specs.rule.Cut.{terminatorAt}
+use Rattle.cuts.specs.Cut.{begins-here, begins-past}
 use Rattle.cuts.proofs.terminator_at.Statement.{statement}
 use Rattle.cuts.proofs.terminator_at.Tie as tie
 

@@ -1,6 +1,7 @@
 use borrow.Author.Needs.{needs}
 use borrow.Author.Tests.{eq-eqb, ne-eqb}
-use Rattle.cuts.specs.Cut.{wholeAt, begins-here, begins-past}
+use Rattle.cuts.specs.rule.Cut.{wholeAt}
+use Rattle.cuts.specs.Cut.{begins-here, begins-past}
 use Rattle.cuts.proofs.whole_at.Statement.{statement}
 use Rattle.cuts.proofs.whole_at.Tie as tie
 

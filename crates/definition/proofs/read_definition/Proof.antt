@@ -4,7 +4,9 @@ use lib.Dec.{ltb}
 use lib.ListN.{length}
 use borrow.Author.Needs.{needs}
 use borrow.Author.Tests.{lt-ltb, le-ltb}
-use Rattle.definition.specs.Definition.{outcomeOf, answerOf, tableAfter}
+use Rattle.definition.specs.rule.Definition.{outcomeOf, answerOf, tableAfter}
+use Rattle.definition.specs.Books.{outcomeIn}
+use Rattle.definition.proofs.Bridge.{answer-same, table-same}
 use Rattle.definition.specs.Code.{zeros}
 use Rattle.definition.proofs.read_definition.Statement.{statement}
 use Rattle.definition.proofs.read_definition.Tie as tie
@@ -13,17 +15,18 @@ returns : tie.Need-returns
 unfolding outcomeOf answerOf tableAfter
 returns c =
     let e : ltb 1048576 (length (c .before .before .args .d .now)) ≡ true = lt-ltb _ _ (c .if1 .taken) in
-    (rw e, rw e)
+    record { says = rw e; leaves = rw e }
 
 read-in-requires : tie.Need-read-in-requires
 unfolding zeros
 read-in-requires c κs = (c .before .before .before .before .before .before .before .before .classes .ensures, (c .before .before .before .before .before .before .before .powers .ensures, (c .before .before .before .before .before .before .before .before .before .if1 .left, ((refl, refl, refl), refl))))
 
 returns-2 : tie.Need-returns-2
-unfolding outcomeOf
+unfolding outcomeIn
 returns-2 c =
     let e : ltb 1048576 (length (c .before .before .before .before .before .before .before .before .before .before .before .before .before .before .before .before .before .args .d .now)) ≡ false = le-ltb _ _ (c .before .before .before .before .before .before .before .before .before .before .before .before .before .before .before .if1 .left) in
-    (rw e (c .before .before .before .before .before .read-in .ensures .0), rw e (c .before .before .before .before .before .read-in .ensures .1))
+    let q = c .before .before .before .before .before .read-in .ensures in
+    record { says = rw (← answer-same _ _) (rw e (q .0)); leaves = rw (← table-same _ _ _) (rw e (q .1)) }
 
 pub read-definition-spec : {M : Type 1} → statement M
 read-definition-spec =

@@ -1,5 +1,5 @@
 use mathlib.Core.Path.{_∙_, sym}
-use Rattle.definition.specs.Definition.{endsOn}
+use Rattle.definition.specs.Books.{endsOn}
 use borrow.Author.Needs.{needs}
 use Rattle.definition.proofs.read_ends.Statement.{statement}
 use Rattle.definition.proofs.read_ends.Tie as tie

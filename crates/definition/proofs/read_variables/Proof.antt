@@ -4,7 +4,7 @@ use Prim.Native.Nat.{_-_}
 use lib.ListN.{length}
 use native.Mathlib.Omega.{arith}
 use borrow.Author.Needs.{needs}
-use Rattle.survey.specs.Survey.{linesAll, highestIn}
+use Rattle.measures.specs.Survey.{linesAll, highestIn}
 use Rattle.definition.specs.Code.{tallyOf}
 use Rattle.definition.proofs.Rans.{Ran, zeros-long, ran-none, ran-few, Onward, ran-more, run-over, laid-over, run-not, laid-not}
 use Rattle.definition.proofs.read_variables.Statement.{statement}

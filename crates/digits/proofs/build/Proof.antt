@@ -6,8 +6,8 @@ use native.Mathlib.Numerals.{add-one}
 use native.Mathlib.Omega.{arith}
 use borrow.Author.Needs.{needs}
 use lib.ListN.{set}
-use Rattle.places.specs.Places.{put, run}
-use Rattle.fields.specs.Number.{padded}
+use Rattle.places.specs.rule.Places.{put, run}
+use Rattle.fields.specs.rule.Number.{padded}
 use Rattle.digits.proofs.build.Statement.{statement}
 use Rattle.digits.proofs.build.Tie as tie
 

@@ -3,7 +3,7 @@ use mathlib.Core.Path.{_≡_, ap, _∙_}
 use Prim.Native.Nat.{_-_}
 use borrow.Author.Needs.{needs}
 use mir.Facts.{toZ-ofZ}
-use Rattle.cells.specs.Cell.{signedOf}
+use Rattle.cells.specs.rule.Cell.{signedOf}
 use Rattle.digits.proofs.Built.{room-minus, room-none, built-minus, built-none}
 use Rattle.digits.proofs.build_quantity.Statement.{statement}
 use Rattle.digits.proofs.build_quantity.Tie as tie

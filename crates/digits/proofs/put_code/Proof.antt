@@ -2,8 +2,8 @@
 use mathlib.Core.Path.{_≡_, ap, _∙_}
 use borrow.Author.Needs.{needs}
 use mir.Facts.{toZ-ofZ}
-use Rattle.cells.specs.Cell.{signedOf}
-use Rattle.fields.specs.Number.{codeBytes}
+use Rattle.cells.specs.rule.Cell.{signedOf}
+use Rattle.fields.specs.rule.Number.{codeBytes}
 use Rattle.digits.proofs.put_code.Statement.{statement}
 use Rattle.digits.proofs.put_code.Tie as tie
 

@@ -2,7 +2,7 @@
 use mathlib.Core.Path.{sym, _∙_}
 use native.Mathlib.Omega.{arith}
 use borrow.Author.Needs.{needs}
-use Rattle.fields.specs.Number.{padded}
+use Rattle.fields.specs.rule.Number.{padded}
 use Rattle.fieldlaws.specs.NumberLaws.{length-padded}
 use Rattle.digits.proofs.Built.{Ready, kept, copied}
 use Rattle.digits.proofs.put_digits.Statement.{statement}

@@ -3,7 +3,7 @@ use mathlib.Core.Path.{sym, _∙_}
 use native.Mathlib.Omega.{arith}
 use borrow.Author.Needs.{needs}
 use mir.Facts.{toZ-ofZ}
-use Rattle.fields.specs.Number.{quantityBytes}
+use Rattle.fields.specs.rule.Number.{quantityBytes}
 use Rattle.fieldlaws.specs.NumberLaws.{quantity-length}
 use Rattle.digits.proofs.Built.{Ready, kept, copied}
 use Rattle.digits.proofs.put_quantity.Statement.{statement}

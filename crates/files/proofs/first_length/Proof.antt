@@ -1,5 +1,5 @@
 use borrow.Author.Tests.{eq-eqb, ne-eqb}
-use Rattle.files.specs.File.{firstLength}
+use Rattle.files.specs.rule.File.{firstLength}
 use Rattle.files.proofs.first_length.Statement.{statement}
 use Rattle.files.proofs.first_length.Tie as tie
 use Rattle.files.proofs.first_length.Reads as reads

@@ -1,4 +1,5 @@
-use Rattle.files.specs.File.{soundSoFar, fileSaid}
+use Rattle.files.specs.File.{soundSoFar}
+use Rattle.files.specs.rule.File.{fileSaid}
 use borrow.Author.Needs.{needs}
 use Rattle.files.proofs.goes_on.Statement.{statement}
 use Rattle.files.proofs.goes_on.Tie as tie

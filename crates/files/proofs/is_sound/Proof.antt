@@ -1,5 +1,5 @@
-use Rattle.records.specs.Verdict.{judgedAs}
-use Rattle.files.specs.File.{isSound}
+use Rattle.records.specs.rule.Verdict.{judgedAs}
+use Rattle.files.specs.rule.File.{isSound}
 use borrow.Author.Needs.{needs}
 use Rattle.files.proofs.is_sound.Statement.{statement}
 use Rattle.files.proofs.is_sound.Tie as tie

@@ -1,27 +1,27 @@
 -- `files::judge_file` meets its contract: the table, and then its records.
 use mathlib.Core.Path.{sym, _∙_}
 use borrow.Author.Needs.{needs}
-use Rattle.files.specs.File.{fileSaid, fileVerdict}
+use Rattle.files.specs.rule.File.{fileSaid, fileVerdict}
 use Rattle.files.proofs.judge_file.Statement.{statement}
 use Rattle.files.proofs.judge_file.Tie as tie
 
 judge-records-requires : tie.Need-judge-records-requires
-judge-records-requires c κs = (record { good = sym (c .before .before .before .before .before .before .well-formed .ensures) ∙ c .before .before .before .before .before .if1 .taken; head = c .before .before .before .before .read .ensures }, (c .before .before .before .find-terminator .ensures, search needs))
+judge-records-requires c κs = (record { good = sym (c .before .before .before .before .before .before .well-formed .ensures .says) ∙ c .before .before .before .before .before .if1 .taken; head = c .before .before .before .before .read .ensures }, (c .before .before .before .find-terminator .ensures, search needs))
 
 returns : tie.Need-returns
 unfolding fileVerdict
-returns c = c .before .judge-records .ensures ∙ rw (sym (c .before .before .before .before .before .before .before .before .well-formed .ensures) ∙ c .before .before .before .before .before .before .before .if1 .taken)
+returns c = record { says = c .before .judge-records .ensures ∙ rw (sym (c .before .before .before .before .before .before .before .before .well-formed .ensures .says) ∙ c .before .before .before .before .before .before .before .if1 .taken) }
 
 judge-records-requires-2 : tie.Need-judge-records-requires-2
-judge-records-requires-2 c κs = (record { good = sym (c .before .before .before .before .before .before .well-formed .ensures) ∙ c .before .before .before .before .before .if1 .taken; head = c .before .before .before .before .read .ensures }, (c .before .before .before .find-terminator .ensures, search needs))
+judge-records-requires-2 c κs = (record { good = sym (c .before .before .before .before .before .before .well-formed .ensures .says) ∙ c .before .before .before .before .before .if1 .taken; head = c .before .before .before .before .read .ensures }, (c .before .before .before .find-terminator .ensures, search needs))
 
 returns-2 : tie.Need-returns-2
 unfolding fileVerdict
-returns-2 c = c .before .judge-records2 .ensures ∙ rw (sym (c .before .before .before .before .before .before .before .before .well-formed .ensures) ∙ c .before .before .before .before .before .before .before .if1 .taken)
+returns-2 c = record { says = c .before .judge-records2 .ensures ∙ rw (sym (c .before .before .before .before .before .before .before .before .well-formed .ensures .says) ∙ c .before .before .before .before .before .before .before .if1 .taken) }
 
 returns-3 : tie.Need-returns-3
 unfolding fileVerdict fileSaid
-returns-3 c = rw (sym (c .before .well-formed .ensures) ∙ c .if1 .left)
+returns-3 c = record { says = rw (sym (c .before .well-formed .ensures .says) ∙ c .if1 .left) }
 
 pub judge-file-spec : {M : Type 1} → statement M
 judge-file-spec =

@@ -5,12 +5,14 @@ use Prim.Native.Nat.{_+_, _≤_, _<_}
 use native.Mathlib.Omega.{arith}
 use borrow.Author.Needs.{needs}
 use lib.ListN.{length}
-use Rattle.layout.specs.Layout.{headerOf}
-use Rattle.sound.specs.Rows.{lengthOf}
-use Rattle.records.specs.Verdict.{judgedAs, rowsVerdict}
+use Rattle.layout.specs.rule.Layout.{headerOf}
+use Rattle.sound.specs.rule.Rows.{lengthOf}
+use Rattle.records.specs.rule.Verdict.{judgedAs, rowsVerdict}
 use Rattle.records.specs.Tables.{TableReady, table-ready}
-use Rattle.files.specs.File.{fileSaid, goOn, isSound, recordVerdict, soundWith, go-sound, go-fault, verdict-other, verdict-short, verdict-rows}
-use Rattle.files.specs.Tested.{Tested, tested-rows, tested-length}
+use Rattle.files.specs.rule.File.{fileSaid, goOn, isSound, recordVerdict, soundWith}
+use Rattle.files.specs.File.{go-sound, go-fault, verdict-other, verdict-short, verdict-rows}
+use Rattle.files.specs.rule.Tested.{Tested}
+use Rattle.files.specs.Tested.{tested-rows, tested-length}
 use Rattle.files.proofs.judge_one.Statement.{statement}
 use Rattle.files.proofs.judge_one.Tie as tie
 

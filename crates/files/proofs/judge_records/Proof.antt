@@ -7,9 +7,11 @@ use native.Mathlib.Omega.{arith}
 use borrow.Author.Needs.{needs}
 use borrow.Author.Tests.{not-true, not-false}
 use lib.ListN.{length, take, drop, length-take, length-drop}
-use Rattle.cuts.specs.Cut.{nextFrom}
-use Rattle.cuts.specs.Records.{recordsOf, recordsFrom, part, EndedAt, UnendedAt, next-ended, next-unended, next-nothing, over-past}
-use Rattle.files.specs.File.{fileSaid, goOn, isSound, recordVerdict, firstLength, recordsVerdict, soundWith, soundSoFar, records-over, records-unended, records-next, so-far, go-sound, go-same}
+use Rattle.cuts.specs.rule.Cut.{nextFrom}
+use Rattle.cuts.specs.rule.Records.{recordsOf, recordsFrom}
+use Rattle.cuts.specs.Records.{part, EndedAt, UnendedAt, next-ended, next-unended, next-nothing, over-past}
+use Rattle.files.specs.rule.File.{fileSaid, goOn, isSound, recordVerdict, firstLength, recordsVerdict, soundWith}
+use Rattle.files.specs.File.{soundSoFar, records-over, records-unended, records-next, so-far, go-sound, go-same}
 use Rattle.files.specs.Passed.{sound-long}
 use Rattle.files.proofs.judge_records.Statement.{statement}
 use Rattle.files.proofs.judge_records.Tie as tie

@@ -1,5 +1,5 @@
 use borrow.Author.Tests.{ne-eqb}
-use Rattle.layout.specs.Row.{kindOf}
+use Rattle.layout.specs.rule.Row.{kindOf}
 use borrow.Author.Needs.{needs}
 use Rattle.layout.proofs.kind_of.Statement.{statement}
 use Rattle.layout.proofs.kind_of.Tie as tie

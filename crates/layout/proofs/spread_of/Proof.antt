@@ -1,5 +1,5 @@
 use borrow.Author.Tests.{eq-eqb, ne-eqb}
-use Rattle.layout.specs.Row.{spreadOf}
+use Rattle.layout.specs.rule.Row.{spreadOf}
 use Rattle.layout.proofs.spread_of.Statement.{statement}
 use Rattle.layout.proofs.spread_of.Tie as tie
 

@@ -1,4 +1,4 @@
-use Rattle.fields.specs.Legal.{inRange}
+use Rattle.fields.specs.rule.Legal.{inRange}
 use mathlib.Core.Path.{_≡_}
 use mir.Syntax.{w64}
 use mir.Val.{toZ, ofZ}

@@ -1,7 +1,7 @@
 -- `legal::is_legal` meets its contract: in the range, or else on a line.
 use borrow.Author.Needs.{needs}
 use mir.Facts.{toZ-ofZ}
-use Rattle.fields.specs.Legal.{legal}
+use Rattle.fields.specs.rule.Legal.{legal}
 use Rattle.legal.proofs.is_legal.Statement.{statement}
 use Rattle.legal.proofs.is_legal.Tie as tie
 

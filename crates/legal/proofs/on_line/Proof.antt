@@ -7,10 +7,11 @@ use borrow.Author.Needs.{needs, sfits-of}
 use mir.Syntax.{w64}
 use mir.Val.{toZ, ofZ}
 use mir.Facts.{toZ-ofZ}
-use Rattle.below.specs.Below.{anyBelow, any-none, any-next, any-holds}
-use Rattle.cells.specs.Cell.{cell, eqZ}
-use Rattle.layout.specs.Layout.{lineBase}
-use Rattle.fields.specs.Legal.{onLine}
+use Rattle.below.specs.rule.Below.{anyBelow}
+use Rattle.below.specs.Below.{any-none, any-next, any-holds}
+use Rattle.cells.specs.rule.Cell.{cell, eqZ}
+use Rattle.layout.specs.rule.Layout.{lineBase}
+use Rattle.fields.specs.rule.Legal.{onLine}
 use Rattle.legal.proofs.on_line.Statement.{statement}
 use Rattle.legal.proofs.on_line.Tie as tie
 

@@ -6,8 +6,8 @@ use native.Mathlib.Omega.{arith}
 use borrow.Author.Tests.{ne-eqb}
 use lib.ListN.{length, take}
 use lib.Dec.{eqb}
-use Rattle.fields.specs.Number.{allSpaces}
-use Rattle.fields.specs.Field.{unended}
+use Rattle.fields.specs.rule.Number.{allSpaces}
+use Rattle.fields.specs.rule.Field.{unended}
 use lib.Seq.{take-length}
 use Rattle.letters.proofs.Ends.{space-unended, space-all, other-unended, other-all}
 use Rattle.letters.proofs.kept_bytes.Statement.{statement}

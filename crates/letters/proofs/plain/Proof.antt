@@ -7,7 +7,7 @@ use native.Mathlib.Omega.{arith}
 use native.Mathlib.Numerals.{add-one}
 use borrow.Author.Tests.{le-leb, lt-leb}
 use lib.ListN.{length, getD, drop}
-use Rattle.fields.specs.Field.{allPlain}
+use Rattle.fields.specs.rule.Field.{allPlain}
 use lib.ListN.{drop-of-length-le}
 use lib.Seq.{drop-cons}
 use Rattle.letters.proofs.plain.Statement.{statement}

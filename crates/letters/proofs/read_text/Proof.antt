@@ -6,8 +6,8 @@ use Prim.Native.Nat.{ℕ, _-_, _≤_}
 use borrow.Author.Tests.{eq-eqb, ne-eqb}
 use lib.ListN.{length, take}
 use lib.Dec.{eqb}
-use Rattle.fields.specs.Number.{allSpaces}
-use Rattle.fields.specs.Field.{allPlain, unended, textField}
+use Rattle.fields.specs.rule.Number.{allSpaces}
+use Rattle.fields.specs.rule.Field.{allPlain, unended, textField}
 use Rattle.letters.specs.Letters.{textSaid}
 use lib.Seq.{length-take-le}
 use Rattle.letters.specs.declared.Text.the-variants as t

@@ -1,8 +1,8 @@
 -- `letters::read_truth` meets its contract: the byte by its value.
 use Prim.Native.Nat.{_-_}
 use borrow.Author.Tests.{ne-eqb}
-use Rattle.fields.specs.Number.{allSpaces}
-use Rattle.fields.specs.Field.{truthField}
+use Rattle.fields.specs.rule.Number.{allSpaces}
+use Rattle.fields.specs.rule.Field.{truthField}
 use Rattle.letters.specs.Letters.{truthSaid}
 use Rattle.letters.proofs.read_truth.Statement.{statement}
 use Rattle.letters.proofs.read_truth.Tie as tie

@@ -4,7 +4,7 @@ use Prim.Native.Nat.{_<_}
 use native.Mathlib.Omega.{arith}
 use borrow.Author.Needs.{needs, sfits-of}
 use mir.Facts.{toZ-ofZ}
-use Rattle.lines.specs.Text.{numberText}
+use Rattle.lines.specs.rule.Text.{numberText}
 use Rattle.lines.specs.Appended.{then, keeps-room, as-text}
 use Rattle.lines.specs.Lines.{codes-first, codes-none, code-ends}
 use Rattle.lines.proofs.append_codes.Statement.{statement}

@@ -1,7 +1,7 @@
 -- `lines::append_fault` meets its contract: one part behind the other.
 use native.Mathlib.Omega.{arith}
 use borrow.Author.Needs.{needs}
-use Rattle.lines.specs.Text.{faultText}
+use Rattle.lines.specs.rule.Text.{faultText}
 use Rattle.lines.specs.Appended.{then, room-after, room-count, room-spaced}
 use Rattle.lines.proofs.append_fault.Statement.{statement}
 use Rattle.lines.proofs.append_fault.Tie as tie

@@ -1,7 +1,7 @@
 -- `lines::append_line` meets its contract: one part behind the other.
 use native.Mathlib.Omega.{arith}
 use borrow.Author.Needs.{needs}
-use Rattle.lines.specs.Text.{lineText}
+use Rattle.lines.specs.rule.Text.{lineText}
 use Rattle.lines.specs.Appended.{then, keeps-room, room-count, room-spaced}
 use Rattle.lines.proofs.append_line.Statement.{statement}
 use Rattle.lines.proofs.append_line.Tie as tie

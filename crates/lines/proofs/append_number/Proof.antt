@@ -3,7 +3,7 @@ use mathlib.Core.Path.{_≡_, ap, _∙_}
 use native.Mathlib.Omega.{arith}
 use borrow.Author.Needs.{needs}
 use mir.Facts.{toZ-ofZ}
-use Rattle.cells.specs.Cell.{signedOf}
+use Rattle.cells.specs.rule.Cell.{signedOf}
 use Rattle.lines.specs.Appended.{keeps-room, then, as-text, number-minus, number-plain}
 use Rattle.lines.proofs.append_number.Statement.{statement}
 use Rattle.lines.proofs.append_number.Tie as tie

@@ -1,7 +1,7 @@
 -- `lines::append_ok` meets its contract: one part behind the other.
 use native.Mathlib.Omega.{arith}
 use borrow.Author.Needs.{needs}
-use Rattle.lines.specs.Text.{okText}
+use Rattle.lines.specs.rule.Text.{okText}
 use Rattle.lines.specs.Appended.{then, room-after, room-count}
 use Rattle.lines.proofs.append_ok.Statement.{statement}
 use Rattle.lines.proofs.append_ok.Tie as tie

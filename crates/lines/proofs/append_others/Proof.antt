@@ -5,7 +5,7 @@ use native.Mathlib.Omega.{arith}
 use borrow.Author.Needs.{needs, sfits-of}
 use mir.Facts.{toZ-ofZ}
 use lib.ListN.{length, take, drop}
-use Rattle.lines.specs.Text.{codesAfter}
+use Rattle.lines.specs.rule.Text.{codesAfter}
 use Rattle.lines.specs.Appended.{Left, all-left, none-left, left-as, keeps-room}
 use Rattle.lines.specs.Lines.{code-step, code-ends, codes-over}
 use Rattle.lines.proofs.append_others.Statement.{statement}

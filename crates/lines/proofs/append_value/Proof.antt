@@ -7,7 +7,7 @@ use borrow.Author.Needs.{needs}
 use mir.Syntax.{w64}
 use mir.Val.{toZ, ofZ}
 use lib.ListN.{drop, length-take}
-use Rattle.lines.specs.Text.{numberText}
+use Rattle.lines.specs.rule.Text.{numberText}
 use Rattle.lines.specs.Appended.{then, keeps-room, as-text, number-few}
 use Rattle.lines.specs.Lines.{Listable, number-listed, set-listed, text-listed, missing-text, number-text, set-text, text-text, truth-text}
 use Rattle.lines.proofs.append_value.Statement.{statement}

@@ -5,8 +5,9 @@ use native.Mathlib.Omega.{arith}
 use borrow.Author.Needs.{needs}
 use lib.ListN.{length}
 use lib.Seq.{length-take-le}
-use Rattle.lines.specs.Lines.{lineRoom}
-use Rattle.listing.specs.Places.{PlaceGood, turnsLeft, start-good, turn-room, on-inside, on-good, on-less, over-inside}
+use Rattle.lines.specs.rule.Lines.{lineRoom}
+use Rattle.listing.specs.rule.Places.{PlaceGood, turnsLeft}
+use Rattle.listing.specs.Places.{start-good, turn-room, on-inside, on-good, on-less, over-inside}
 use Rattle.lister.specs.Space.{spacious-from}
 use Rattle.lister.proofs.list_all.Statement.{statement}
 use Rattle.lister.proofs.list_all.Tie as tie

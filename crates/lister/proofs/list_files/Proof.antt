@@ -14,7 +14,7 @@ list-by-requires c κs = (c .before .before .before .before .before .before .bef
 append-definition-requires : tie.Need-append-definition-requires
 append-definition-requires c κs =
     let d = c .before .before .before .before .before .before .before .before .before .before .before .args .definition .now in
-    let refused = answered d _ _ _ (sym (c .before .before .before .before .before .before .read-definition .ensures .0) ∙ c .before .before .before .number .given .1) in
+    let refused = answered d _ _ _ (sym (c .before .before .before .before .before .before .read-definition .ensures .says) ∙ c .before .before .before .number .given .1) in
     let small = refusal-named d _ _ _ refused in
     let inside = refusal-placed d _ _ _ refused in
     (c .before .before .before .before .before .before .before .before .powers .ensures, (omega arith, omega (arith, c .before .before .before .before .before .before .before .before .before .before .before .pre), lit≤ tt))

@@ -1,8 +1,8 @@
 -- `listing::append_judged` meets its contract: the number of each case, and the ident of an illegal row.
 use native.Mathlib.Omega.{arith}
 use borrow.Author.Needs.{needs}
-use Rattle.records.specs.Verdict.{judgedAs}
-use Rattle.listing.specs.Listing.{faultOf}
+use Rattle.records.specs.rule.Verdict.{judgedAs}
+use Rattle.listing.specs.rule.Listing.{faultOf}
 use Rattle.listing.proofs.append_judged.Statement.{statement}
 use Rattle.listing.proofs.append_judged.Tie as tie
 

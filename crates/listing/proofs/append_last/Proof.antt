@@ -1,8 +1,8 @@
 -- `listing::append_last` meets its contract: the line of each case.
 use native.Mathlib.Omega.{arith}
 use borrow.Author.Needs.{needs}
-use Rattle.files.specs.File.{fileSaid}
-use Rattle.listing.specs.Listing.{faultOf, lastText}
+use Rattle.files.specs.rule.File.{fileSaid}
+use Rattle.listing.specs.rule.Listing.{faultOf, lastText}
 use Rattle.listing.specs.Turns.{countIn}
 use Rattle.listing.proofs.append_last.Statement.{statement}
 use Rattle.listing.proofs.append_last.Tie as tie

@@ -4,10 +4,11 @@ use Prim.Native.Nat.{_-_}
 use native.Mathlib.Omega.{arith}
 use borrow.Author.Needs.{needs}
 use lib.ListN.{drop}
-use Rattle.sound.specs.Rows.{lengthOf}
+use Rattle.sound.specs.rule.Rows.{lengthOf}
 use Rattle.records.specs.Tables.{table-ready}
-use Rattle.cuts.specs.Records.{recordsFrom, EndedAt, next-ended, next-unended, next-nothing, over-past}
-use Rattle.files.specs.File.{fileSaid}
+use Rattle.cuts.specs.rule.Records.{recordsFrom}
+use Rattle.cuts.specs.Records.{EndedAt, next-ended, next-unended, next-nothing, over-past}
+use Rattle.files.specs.rule.File.{fileSaid}
 use Rattle.listing.specs.Turns.{countIn}
 use Rattle.listing.specs.Places.{listed-record, listed-unended, listed-over}
 use Rattle.listing.proofs.list_on.Statement.{statement}

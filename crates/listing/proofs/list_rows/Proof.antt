@@ -6,8 +6,10 @@ use native.Mathlib.Nat.{eq-or-lt-of-le}
 use native.Mathlib.Omega.{arith}
 use lib.ListN.{length}
 use Rattle.files.specs.Tested.{tested-rows}
-use Rattle.lines.specs.Appended.{Appended, as-text, then, keeps-room, nothing-more}
-use Rattle.listing.specs.Listing.{rowsText, rows-more, rows-none}
+use Rattle.lines.specs.rule.Appended.{Appended}
+use Rattle.lines.specs.Appended.{as-text, then, keeps-room, nothing-more}
+use Rattle.listing.specs.rule.Listing.{rowsText}
+use Rattle.listing.specs.Listing.{rows-more, rows-none}
 use Rattle.listing.proofs.list_rows.Statement.{statement}
 use Rattle.listing.proofs.list_rows.Tie as tie
 

@@ -2,9 +2,10 @@
 use mathlib.Core.Path.{_≡_, sym, ap, _∙_}
 use native.Mathlib.Omega.{arith}
 use borrow.Author.Needs.{needs}
-use Rattle.files.specs.File.{recordVerdict, isSound, soundSoFar, so-far}
+use Rattle.files.specs.rule.File.{recordVerdict, isSound}
+use Rattle.files.specs.File.{soundSoFar, so-far}
 use Rattle.files.specs.Tested.{tested-length}
-use Rattle.listing.specs.Listing.{lastText}
+use Rattle.listing.specs.rule.Listing.{lastText}
 use Rattle.listing.specs.Turns.{countIn, sound-long, taken-first, taken-fault, taken-more, taken-short, count-on}
 use Rattle.lines.specs.Appended.{as-text}
 use Rattle.listing.proofs.take_record.Statement.{statement}

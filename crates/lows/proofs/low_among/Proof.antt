@@ -3,7 +3,8 @@ use mathlib.Core.Path.{_≡_, sym, ap, _∙_}
 use Prim.Native.Nat.{_≤_, _-_}
 use native.Mathlib.Omega.{arith}
 use borrow.Author.Needs.{needs}
-use Rattle.lows.specs.Lows.{lowAt, lowAmong, among-none, among-more}
+use Rattle.lows.specs.rule.Lows.{lowAt}
+use Rattle.lows.specs.Lows.{lowAmong, among-none, among-more}
 use Rattle.lows.proofs.low_among.Statement.{statement}
 use Rattle.lows.proofs.low_among.Tie as tie
 

@@ -1,7 +1,7 @@
 use native.Mathlib.Omega.{arith}
 use borrow.Author.Tests.{eq-eqb, ne-eqb}
 use borrow.Author.Needs.{needs}
-use Rattle.marks.specs.Spelling.{givesOf}
+use Rattle.marks.specs.rule.Spelling.{givesOf}
 use Rattle.marks.proofs.Parts.{ready-both}
 use Rattle.marks.proofs.completed.Statement.{statement}
 use Rattle.marks.proofs.completed.Tie as tie

@@ -3,7 +3,7 @@ use mathlib.Core.Bool.{true, false}
 use native.Mathlib.Omega.{arith}
 use borrow.Author.Tests.{eq-eqb, ne-eqb}
 use borrow.Author.Needs.{needs}
-use Rattle.scan.specs.Number.{isDigit}
+use Rattle.scan.specs.rule.Number.{isDigit}
 use Rattle.scan.proofs.Orders.{digit-bounds}
 use Rattle.marks.proofs.Parts.{hex-letter}
 use Rattle.marks.proofs.hex_value.Statement.{statement}

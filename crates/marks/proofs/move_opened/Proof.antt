@@ -1,6 +1,6 @@
 use mathlib.Core.Path.{_∙_, sym}
 use borrow.Author.Tests.{eq-eqb, ne-eqb}
-use Rattle.marks.specs.Marks.{insideOf}
+use Rattle.marks.specs.rule.Marks.{insideOf}
 use borrow.Author.Needs.{needs}
 use Rattle.marks.proofs.move_opened.Statement.{statement}
 use Rattle.marks.proofs.move_opened.Tie as tie

@@ -1,5 +1,5 @@
 use borrow.Author.Tests.{eq-eqb, ne-eqb}
-use Rattle.marks.specs.Marks.{insideOf}
+use Rattle.marks.specs.rule.Marks.{insideOf}
 use Rattle.marks.proofs.move_plain.Statement.{statement}
 use Rattle.marks.proofs.move_plain.Tie as tie
 

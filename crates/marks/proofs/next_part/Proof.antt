@@ -3,7 +3,7 @@ use mathlib.Core.Path.{_≡_, refl, _∙_, sym, ap}
 use mathlib.Core.Bool.{true}
 use Prim.Native.Nat.{_-_, _+_}
 use lib.ListN.{length}
-use Rattle.scan.specs.Text.{text}
+use Rattle.scan.specs.rule.Text.{text}
 use Rattle.scan.proofs.Texts.{stepped, ended}
 use Rattle.marks.specs.Spelling.{givenList, partFrom}
 use Rattle.marks.proofs.Parts.{half, idle-half, go-half, go-ready, part-gives, part-on, part-closed, part-wrong, part-end}

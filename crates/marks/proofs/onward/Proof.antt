@@ -1,8 +1,8 @@
 -- `marks::onward` meets its contract.
 use mathlib.Core.Path.{_≡_, refl, _∙_, sym, ap}
 use Prim.Native.Nat.{_≤_}
-use Rattle.scan.specs.Text.{text}
-use Rattle.marks.specs.Marks.{stringOf}
+use Rattle.scan.specs.rule.Text.{text}
+use Rattle.marks.specs.rule.Marks.{stringOf}
 use Rattle.marks.proofs.Strings.{string-past}
 use borrow.Author.Needs.{needs}
 use native.Mathlib.Omega.{arith}

@@ -1,10 +1,10 @@
 use mathlib.Core.Path.{_≡_, refl, _∙_, sym, ap}
 use Prim.Native.Nat.{_-_}
 use lib.ListN.{length}
-use Rattle.scan.specs.Text.{text}
+use Rattle.scan.specs.rule.Text.{text}
 use Rattle.scan.proofs.Texts.{stepped, ended}
 use Rattle.marks.specs.declared.Inside.the-variants.{Plain}
-use Rattle.marks.specs.Marks.{stringOf}
+use Rattle.marks.specs.rule.Marks.{stringOf}
 use Rattle.marks.proofs.Strings.{string-next, string-end}
 use borrow.Author.Needs.{needs}
 use native.Mathlib.Omega.{arith}

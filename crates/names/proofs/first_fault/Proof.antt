@@ -7,7 +7,7 @@ use native.Mathlib.Omega.{arith}
 use lib.Dec.{eqb}
 use lib.ListN.{getD, length, length-set}
 use borrow.Author.Needs.{needs}
-use Rattle.below.specs.Below.{anyBelow}
+use Rattle.below.specs.rule.Below.{anyBelow}
 use Rattle.names.specs.Clash.{faultFrom, faultOf}
 use Rattle.names.proofs.Clashes.{fault-here, fault-on, fault-none, wrong-zero, wrong-pair, wrong-not, none-more, placeOf, Marked, held, marked-more}
 use Rattle.names.proofs.first_fault.Statement.{statement}

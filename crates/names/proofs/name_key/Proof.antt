@@ -5,9 +5,10 @@ use Prim.Native.Nat.{_+_, _-_, _^_, _≤_, _<_}
 use native.Mathlib.Omega.{arith}
 use borrow.Author.Needs.{needs}
 use borrow.Author.Tests.{not-true, not-false}
-use Rattle.scan.specs.Text.{text}
+use Rattle.scan.specs.rule.Text.{text}
 use Rattle.marks.specs.declared.Inside.the-variants.{Plain}
-use Rattle.marks.specs.Spelling.{decodeOf, idle}
+use Rattle.marks.specs.rule.Spelling.{decodeOf}
+use Rattle.marks.specs.Spelling.{idle}
 use Rattle.marks.proofs.Parts.{part-said, part-over}
 use Rattle.names.specs.Name.{keyOf}
 use Rattle.names.proofs.Keys.{key-bad, key-long, key-next, key-done, key-room}

@@ -6,8 +6,9 @@ use borrow.Author.Needs.{needs, sfits-of}
 use lib.ListN.{length, take, length-take}
 use lib.Seq.{length-take-le}
 use mir.Facts.{toZ-ofZ}
-use Rattle.widths.specs.Width.{tailOf, tail-point}
-use Rattle.fields.specs.Number.{says}
+use Rattle.widths.specs.rule.Width.{tailOf}
+use Rattle.widths.specs.Width.{tail-point}
+use Rattle.fields.specs.rule.Number.{says}
 use Rattle.numbers.specs.Numeral.{saidOf, decimalsRead}
 use Rattle.numbers.proofs.Laws.{rest-is, few-digits, value-small, amount-short, amount-bad, amount-plain, amount-pointless, amount-decimals, decimals-room}
 use Rattle.numbers.proofs.amount.Statement.{statement}

@@ -5,8 +5,8 @@ use native.Mathlib.Omega.{arith}
 use borrow.Author.Needs.{needs, sfits-of}
 use lib.ListN.{drop, length-drop}
 use mir.Facts.{toZ-ofZ}
-use Rattle.cells.specs.Cell.{numberOf}
-use Rattle.fields.specs.Number.{says}
+use Rattle.cells.specs.rule.Cell.{numberOf}
+use Rattle.fields.specs.rule.Number.{says}
 use Rattle.numbers.specs.Numeral.{saidOf, digitsRead}
 use Rattle.numbers.proofs.Laws.{rest-is, few-rest, value-small, code-none, code-says, code-wrong}
 use Rattle.numbers.proofs.code.Statement.{statement}

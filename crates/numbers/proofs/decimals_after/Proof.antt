@@ -4,7 +4,7 @@ use Prim.Native.Nat.{_-_}
 use native.Mathlib.Omega.{arith}
 use borrow.Author.Needs.{needs, sfits-of}
 use mir.Facts.{toZ-ofZ}
-use Rattle.fields.specs.Number.{says}
+use Rattle.fields.specs.rule.Number.{says}
 use Rattle.numbers.specs.Numeral.{saidOf, decimalsRead}
 use Rattle.numbers.proofs.Laws.{value-room, value-only, value-is, wrong-only}
 use Rattle.numbers.proofs.decimals_after.Statement.{statement}

@@ -10,8 +10,8 @@ use borrow.Author.Tests.{le-leb, lt-leb}
 use lib.Dec.{leb}
 use lib.ListN.{length, getD, drop, drop-of-length-le}
 use lib.Seq.{drop-cons}
-use Rattle.ascii.specs.Class.{within}
-use Rattle.fields.specs.Number.{digitsOnly, decimalFrom}
+use Rattle.ascii.specs.rule.Class.{within}
+use Rattle.fields.specs.rule.Number.{digitsOnly, decimalFrom}
 use Rattle.numbers.specs.Numeral.{digitsRead}
 use Rattle.numbers.specs.Room.{step-room, room-small}
 use Rattle.numbers.specs.declared.Digits.the-variants as digits

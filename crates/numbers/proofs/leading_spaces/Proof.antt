@@ -6,7 +6,7 @@ use native.Mathlib.Numerals.{add-one}
 use borrow.Author.Tests.{eq-eqb, ne-eqb}
 use lib.ListN.{length, getD, drop, drop-of-length-le}
 use lib.Seq.{drop-cons}
-use Rattle.fields.specs.Number.{unspaced}
+use Rattle.fields.specs.rule.Number.{unspaced}
 use native.Mathlib.Omega.{arith}
 use Rattle.numbers.proofs.leading_spaces.Statement.{statement}
 use Rattle.numbers.proofs.leading_spaces.Tie as tie

@@ -4,7 +4,7 @@ use mathlib.Core.Bool.{true, false}
 use Prim.Native.Nat.{_+_, _-_}
 use native.Mathlib.Omega.{arith}
 use borrow.Author.Needs.{needs}
-use Rattle.fields.specs.Number.{amountOf}
+use Rattle.fields.specs.rule.Number.{amountOf}
 use Rattle.numbers.specs.Numeral.{saidOf}
 use Rattle.numbers.proofs.Laws.{rest-is, short-rest, quantity-none, quantity-minus, quantity-plain}
 use Rattle.numbers.proofs.quantity.Statement.{statement}

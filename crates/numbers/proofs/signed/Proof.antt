@@ -3,7 +3,7 @@ use mathlib.Core.Path.{_∙_}
 use mir.Facts.{toZ-ofZ}
 use mir.ValLaws.{toZ-pos}
 use mir.Syntax.{w64}
-use Rattle.cells.specs.Cell.{numberOf}
+use Rattle.cells.specs.rule.Cell.{numberOf}
 use Rattle.cells.proofs.Signs.{zero-minus, zero-minus-fits}
 use native.Mathlib.Omega.{arith}
 use borrow.Author.Needs.{needs}

@@ -3,7 +3,7 @@ use mathlib.Core.Path.{_≡_, sym, ap, _∙_}
 use Prim.Native.Nat.{_-_}
 use borrow.Author.Needs.{needs}
 use mir.Facts.{toZ-ofZ}
-use Rattle.fields.specs.Legal.{legal}
+use Rattle.fields.specs.rule.Legal.{legal}
 use Rattle.readings.specs.declared.Answer.the-variants.{Number}
 use Rattle.readings.proofs.Laws.{number-said, number-not}
 use Rattle.readings.proofs.number_answer.Statement.{statement}

@@ -5,9 +5,9 @@ use borrow.Author.Needs.{needs}
 use lib.IntN.{ℤ, pos}
 use mir.Syntax.{w64}
 use mir.Val.{toZ, ofZ}
-use Rattle.cells.specs.Cell.{eqZ}
-use Rattle.fields.specs.Legal.{legal}
-use Rattle.fields.specs.Field.{numberField}
+use Rattle.cells.specs.rule.Cell.{eqZ}
+use Rattle.fields.specs.rule.Legal.{legal}
+use Rattle.fields.specs.rule.Field.{numberField}
 use Rattle.numbers.specs.Numeral.{saidOf}
 use Rattle.readings.specs.Answer.{answerOf}
 use Rattle.readings.proofs.Laws.{numeral-missing, numeral-wrong, numeral-zero, numeral-number}

@@ -4,8 +4,8 @@ use mathlib.Core.List.{List}
 use Prim.Native.Nat.{ℕ, _-_}
 use native.Mathlib.Omega.{arith}
 use borrow.Author.Needs.{needs}
-use Rattle.places.specs.Places.{pick, run}
-use Rattle.fields.specs.Field.{textField}
+use Rattle.places.specs.rule.Places.{pick, run}
+use Rattle.fields.specs.rule.Field.{textField}
 use Rattle.letters.specs.Letters.{textSaid}
 use Rattle.readings.proofs.Laws.{text-missing, text-length, text-wrong, first-bytes}
 use Rattle.readings.proofs.text.Statement.{statement}

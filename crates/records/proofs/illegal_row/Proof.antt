@@ -4,7 +4,7 @@ use Prim.Native.Nat.{_-_, _≤_}
 use native.Mathlib.Omega.{arith}
 use lib.ListN.{length}
 use native.Mathlib.Nat.{sub-zero}
-use Rattle.records.specs.First.{firstFrom, badRow}
+use Rattle.records.specs.rule.First.{firstFrom, badRow}
 use Rattle.records.proofs.Laws.{first-here, first-on, first-none}
 use Rattle.records.proofs.illegal_row.Statement.{statement}
 use Rattle.records.proofs.illegal_row.Tie as tie

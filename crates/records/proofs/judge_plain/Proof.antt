@@ -1,7 +1,7 @@
 -- `records::judge_plain` meets its contract: no byte below 32 is found, so the verdict is that on the rows.
 use Prim.Native.Nat.{_-_}
 use borrow.Author.Needs.{needs}
-use Rattle.records.specs.Verdict.{judgedAs, rowsVerdict, rowVerdict, byteVerdict}
+use Rattle.records.specs.rule.Verdict.{judgedAs, rowsVerdict, rowVerdict, byteVerdict}
 use Rattle.records.proofs.Laws.{first-of-plain}
 use Rattle.records.proofs.judge_plain.Statement.{statement}
 use Rattle.records.proofs.judge_plain.Tie as tie

@@ -2,7 +2,7 @@
 use mathlib.Core.Path.{sym, _∙_}
 use Prim.Native.Nat.{_-_}
 use borrow.Author.Needs.{needs}
-use Rattle.records.specs.Verdict.{judgedAs, rowsVerdict, byteVerdict}
+use Rattle.records.specs.rule.Verdict.{judgedAs, rowsVerdict, byteVerdict}
 use Rattle.records.proofs.Laws.{plain-found}
 use Rattle.records.proofs.judge_rows.Statement.{statement}
 use Rattle.records.proofs.judge_rows.Tie as tie

@@ -4,7 +4,8 @@ use Prim.Native.Nat.{_-_, _≤_}
 use native.Mathlib.Omega.{arith}
 use borrow.Author.Tests.{lt-ltb, le-ltb}
 use lib.ListN.{length}
-use Rattle.records.specs.First.{firstFrom, lowAt}
+use Rattle.lows.specs.rule.Lows.{lowAt}
+use Rattle.records.specs.rule.First.{firstFrom}
 use Rattle.records.proofs.Laws.{first-here, first-on, first-none, first-clear}
 use Rattle.records.proofs.low_byte.Statement.{statement}
 use Rattle.records.proofs.low_byte.Tie as tie

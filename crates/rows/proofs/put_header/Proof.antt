@@ -1,6 +1,6 @@
 use mathlib.Core.Path.{_∙_}
 use borrow.Author.Needs.{needs}
-use Rattle.rows.specs.Cells.{headerCells}
+use Rattle.rows.specs.rule.Cells.{headerCells}
 use Rattle.rows.proofs.Backs.{back}
 use Rattle.rows.proofs.put_header.Statement.{statement}
 use Rattle.rows.proofs.put_header.Tie as tie

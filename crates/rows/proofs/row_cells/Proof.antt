@@ -2,7 +2,7 @@ use mathlib.Core.Path.{_≡_}
 use mir.Syntax.{w64}
 use mir.Val.{toZ, ofZ}
 use borrow.Author.Needs.{needs}
-use Rattle.rows.specs.Cells.{rowCells}
+use Rattle.rows.specs.rule.Cells.{rowCells}
 use Rattle.rows.proofs.Backs.{back}
 use Rattle.rows.proofs.row_cells.Statement.{statement}
 use Rattle.rows.proofs.row_cells.Tie as tie

@@ -5,8 +5,8 @@ use Prim.Native.Nat.{ℕ, suc, _+_, _-_, _≤_}
 use native.Mathlib.Numerals.{add-one}
 use native.Mathlib.Omega.{arith}
 use lib.ListN.{length, set, length-set}
-use Rattle.places.specs.Places.{put, run}
-use Rattle.fields.specs.Field.{spaces}
+use Rattle.places.specs.rule.Places.{put, run}
+use Rattle.fields.specs.rule.Field.{spaces}
 use Rattle.runs.proofs.blank.Statement.{statement}
 use Rattle.runs.proofs.blank.Tie as tie
 

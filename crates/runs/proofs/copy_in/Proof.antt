@@ -7,7 +7,7 @@ use native.Mathlib.Numerals.{add-one}
 use native.Mathlib.Omega.{arith}
 use lib.ListN.{length, getD, set, take, drop, length-set}
 use lib.Seq.{drop-cons}
-use Rattle.places.specs.Places.{put, run}
+use Rattle.places.specs.rule.Places.{put, run}
 use Rattle.runs.proofs.copy_in.Statement.{statement}
 use Rattle.runs.proofs.copy_in.Tie as tie
 

@@ -3,8 +3,9 @@ use mathlib.Core.Path.{_≡_, refl, _∙_, sym}
 use Prim.Native.Nat.{_-_}
 use lib.Dec.{ltb}
 use lib.ListN.{length}
-use Rattle.scan.specs.Text.{text}
-use Rattle.scan.specs.Order.{digitsTo, valueOf, lessOf}
+use Rattle.scan.specs.rule.Text.{text}
+use Rattle.scan.specs.Order.{digitsTo, valueOf}
+use Rattle.scan.specs.Order.{lessOf}
 use Rattle.scan.proofs.Orders.{figure-one, figure-none, less-exactly, less-both, less-longer, less-shorter, less-even}
 use borrow.Author.Needs.{needs}
 use native.Mathlib.Omega.{arith}

@@ -1,8 +1,8 @@
 use mathlib.Core.Path.{_≡_, refl, _∙_, sym, ap}
 use Prim.Native.Nat.{_-_, _+_}
 use lib.ListN.{length, drop}
-use Rattle.scan.specs.Text.{text}
-use Rattle.scan.specs.Word.{wordOf, wordAt}
+use Rattle.scan.specs.rule.Text.{text}
+use Rattle.scan.specs.rule.Word.{wordOf, wordAt}
 use Rattle.scan.specs.declared.Word.the-variants.{Matched, Not}
 use Rattle.scan.proofs.Texts.{stepped, ended}
 use Rattle.scan.proofs.Words.{word-next, word-not, word-short, word-whole}

@@ -2,7 +2,7 @@ use mathlib.Core.Path.{refl}
 use Rattle.below.specs.Below.{holds-not}
 use borrow.Author.Needs.{needs}
 use native.Mathlib.Omega.{arith}
-use Rattle.scan.specs.Word.{wordAt}
+use Rattle.scan.specs.rule.Word.{wordAt}
 use Rattle.scan.proofs.Words.{word-missed, word-short}
 use Rattle.scan.proofs.Texts.{text-end}
 use Rattle.scan.proofs.misses.Statement.{statement}

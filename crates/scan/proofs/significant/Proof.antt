@@ -2,8 +2,9 @@
 use mathlib.Core.Path.{_≡_, refl, _∙_, sym}
 use Prim.Native.Nat.{_-_}
 use lib.ListN.{length}
-use Rattle.scan.specs.Text.{text}
-use Rattle.scan.specs.Order.{digitsTo, stripped}
+use Rattle.scan.specs.rule.Text.{text}
+use Rattle.scan.specs.Order.{digitsTo}
+use Rattle.scan.specs.Order.{stripped}
 use Rattle.scan.proofs.Orders.{figure-one, figure-none, strip-zero, strip-first, strip-none}
 use borrow.Author.Needs.{needs}
 use native.Mathlib.Omega.{arith}

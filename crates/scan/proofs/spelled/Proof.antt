@@ -5,8 +5,8 @@ use Prim.Native.Nat.{_+_, _-_, _≤_}
 use lib.ListN.{length, drop}
 use native.Mathlib.Omega.{arith}
 use Rattle.below.specs.Below.{and-left, and-right}
-use Rattle.scan.specs.Text.{text}
-use Rattle.scan.specs.Word.{wordOf, wordAt}
+use Rattle.scan.specs.rule.Text.{text}
+use Rattle.scan.specs.rule.Word.{wordOf, wordAt}
 use Rattle.scan.specs.declared.Word.the-variants.{Matched}
 use Rattle.scan.proofs.Words.{word-letter, word-whole}
 use Rattle.scan.proofs.spelled.Statement.{statement}

@@ -7,9 +7,9 @@ use borrow.Author.Needs.{needs}
 use borrow.Author.Tests.{not-true, not-false}
 use lib.ListN.{length}
 use lib.Seq.{length-take-le}
-use Rattle.places.specs.Places.{pick}
-use Rattle.fields.specs.Field.{holds, members, setBits, bitsField}
-use Rattle.fields.specs.Row.{categories, bitPlaces}
+use Rattle.places.specs.rule.Places.{pick}
+use Rattle.fields.specs.rule.Field.{holds, members, setBits, bitsField}
+use Rattle.fields.specs.rule.Row.{categories, bitPlaces}
 use Rattle.sets.specs.Sets.{BitsRoom}
 use Rattle.sets.proofs.AlikeLaws.{spaces-alike, bits-alike}
 use Rattle.sets.proofs.SetLaws.{read-missing, read-illegal, bits-missing, bits-members, bits-wrong}

@@ -4,7 +4,7 @@ use Prim.Native.Nat.{_-_}
 use native.Mathlib.Omega.{arith}
 use borrow.Author.Needs.{needs}
 use lib.ListN.{length}
-use Rattle.fields.specs.Field.{holds}
+use Rattle.fields.specs.rule.Field.{holds}
 use Rattle.sets.specs.Sets.{SpreadRoom}
 use Rattle.sets.proofs.SetLaws.{read-missing, read-illegal, as-read, spread-missing, spread-wrong}
 use Rattle.sets.proofs.FewLaws.{gathered-small, gathered-set}

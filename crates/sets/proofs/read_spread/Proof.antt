@@ -5,7 +5,7 @@ use native.Mathlib.Omega.{arith}
 use borrow.Author.Needs.{needs}
 use lib.ListN.{length}
 use lib.Seq.{length-take-le}
-use Rattle.fields.specs.Field.{holds}
+use Rattle.fields.specs.rule.Field.{holds}
 use Rattle.sets.specs.Sets.{SpreadRoom}
 use Rattle.sets.proofs.SetLaws.{read-missing, spread-missing}
 use Rattle.sets.proofs.read_spread.Statement.{statement}

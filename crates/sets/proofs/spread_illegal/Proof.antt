@@ -4,7 +4,7 @@ use Prim.Native.Nat.{_-_, _^_, _≤_}
 use native.Mathlib.Omega.{arith}
 use borrow.Author.Needs.{needs}
 use lib.ListN.{length}
-use Rattle.fields.specs.Field.{holds}
+use Rattle.fields.specs.rule.Field.{holds}
 use Rattle.sets.specs.Sets.{SpreadRoom}
 use lib.Seq.{length-take-le}
 use native.Mathlib.Nat.{pow-le-pow-right}

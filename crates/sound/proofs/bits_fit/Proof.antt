@@ -1,9 +1,9 @@
 use mir.Facts.{toZ-ofZ}
 use borrow.Author.Needs.{needs, sfits-of}
-use Rattle.below.specs.Below.{_and_}
-use Rattle.layout.specs.Row.{rowOf}
-use Rattle.widths.specs.Width.{need}
-use Rattle.sound.specs.Sound.{widthGood, roomGood}
+use Rattle.below.specs.rule.Below.{_and_}
+use Rattle.layout.specs.rule.Row.{rowOf}
+use Rattle.widths.specs.rule.Width.{need}
+use Rattle.sound.specs.rule.Sound.{widthGood, roomGood}
 use Rattle.sound.specs.Values.{endsWidth}
 use Rattle.sound.proofs.bits_fit.Statement.{statement}
 use Rattle.sound.proofs.bits_fit.Tie as tie

@@ -2,10 +2,10 @@ use mathlib.Core.Path.{refl}
 use borrow.Author.Needs.{needs}
 use native.Mathlib.Omega.{arith}
 use borrow.Author.Tests.{eq-eqb, ne-eqb}
-use Rattle.below.specs.Below.{_and_}
-use Rattle.layout.specs.Row.{rowOf}
-use Rattle.widths.specs.Width.{need}
-use Rattle.sound.specs.Sound.{widthGood, roomGood}
+use Rattle.below.specs.rule.Below.{_and_}
+use Rattle.layout.specs.rule.Row.{rowOf}
+use Rattle.widths.specs.rule.Width.{need}
+use Rattle.sound.specs.rule.Sound.{widthGood, roomGood}
 use Rattle.sound.specs.Values.{endsWidth}
 use Rattle.sound.proofs.fields_fit.Statement.{statement}
 use Rattle.sound.proofs.fields_fit.Tie as tie

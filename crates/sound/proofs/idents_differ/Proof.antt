@@ -1,4 +1,4 @@
-use Rattle.sound.specs.Sound.{identsDiffer}
+use Rattle.sound.specs.rule.Sound.{identsDiffer}
 use Rattle.sound.specs.Block.{rows-strided}
 use Rattle.sound.proofs.idents_differ.Statement.{statement}
 use Rattle.sound.proofs.idents_differ.Tie as tie

@@ -2,8 +2,9 @@ use borrow.Author.Tests.{not-true, not-false}
 use mathlib.Core.Path.{_≡_, sym, _∙_}
 use mathlib.Core.Bool.{true}
 use Prim.Native.Nat.{_≤_, _-_}
-use Rattle.below.specs.Below.{allBelow, all-none, all-more, all-fails}
-use Rattle.sound.specs.Sound.{plainAt, linesPlain}
+use Rattle.below.specs.rule.Below.{allBelow}
+use Rattle.below.specs.Below.{all-none, all-more, all-fails}
+use Rattle.sound.specs.rule.Sound.{plainAt, linesPlain}
 use borrow.Author.Needs.{needs}
 use native.Mathlib.Omega.{arith}
 use Rattle.sound.proofs.lines_plain.Statement.{statement}

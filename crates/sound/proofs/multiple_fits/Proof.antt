@@ -2,8 +2,8 @@ use mathlib.Core.Path.{sym, _∙_}
 use borrow.Author.Needs.{needs}
 use borrow.Author.Tests.{not-true, not-false, eq-eqb, ne-eqb}
 use Rattle.below.specs.Below.{and-no, and-yes}
-use Rattle.layout.specs.Row.{spreadOf}
-use Rattle.widths.specs.Width.{lowest, highest}
+use Rattle.layout.specs.rule.Row.{spreadOf}
+use Rattle.widths.specs.rule.Width.{lowest, highest}
 use Rattle.sound.specs.Given.{paired-some}
 use Rattle.sound.specs.Values.{valuedBy}
 use Rattle.sound.proofs.multiple_fits.Statement.{statement}

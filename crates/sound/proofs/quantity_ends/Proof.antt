@@ -1,7 +1,7 @@
 use mathlib.Core.Path.{_∙_}
 use mir.Facts.{toZ-ofZ}
 use borrow.Author.Needs.{needs, sfits-of}
-use Rattle.widths.specs.Width.{need}
+use Rattle.widths.specs.rule.Width.{need}
 use Rattle.sound.specs.Values.{endsWidth}
 use Rattle.sound.proofs.quantity_ends.Statement.{statement}
 use Rattle.sound.proofs.quantity_ends.Tie as tie

@@ -4,7 +4,7 @@ use mir.Syntax.{w64}
 use mir.Val.{toZ, ofZ}
 use borrow.Author.Needs.{needs}
 use borrow.Author.Tests.{ne-eqb}
-use Rattle.layout.specs.Row.{rowOf}
+use Rattle.layout.specs.rule.Row.{rowOf}
 use Rattle.sound.proofs.range_fits.Statement.{statement}
 use Rattle.sound.proofs.range_fits.Tie as tie
 

@@ -2,7 +2,7 @@ use mathlib.Core.Path.{_≡_, _∙_}
 use mir.Syntax.{w64}
 use mir.Val.{toZ, ofZ}
 use borrow.Author.Needs.{needs}
-use Rattle.sound.specs.Sound.{rangeWidth}
+use Rattle.sound.specs.rule.Sound.{rangeWidth}
 use Rattle.sound.proofs.range_width.Statement.{statement}
 use Rattle.sound.proofs.range_width.Tie as tie
 

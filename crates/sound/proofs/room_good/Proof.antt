@@ -1,5 +1,5 @@
 use native.Mathlib.Omega.{arith}
-use Rattle.sound.specs.Sound.{roomGood}
+use Rattle.sound.specs.rule.Sound.{roomGood}
 use borrow.Author.Needs.{needs}
 use Rattle.sound.proofs.room_good.Statement.{statement}
 use Rattle.sound.proofs.room_good.Tie as tie

@@ -6,9 +6,10 @@ use Prim.Native.Nat.{_+_, _≤_, _<_, _-_, max}
 use native.Mathlib.Omega.{arith}
 use borrow.Author.Needs.{needs}
 use borrow.Author.Tests.{not-true, not-false}
-use Rattle.below.specs.Below.{_and_, and-no, and-yes, allBelow, all-none, all-more, all-fails, sum-none, sum-more, max-none, max-more}
-use Rattle.layout.specs.Layout.{columnsAt}
-use Rattle.sound.specs.Sound.{columnsOf, linesAt, finishAt, linesBefore, highestFinish, goodAt, rowGood, rowsGood}
+use Rattle.below.specs.rule.Below.{_and_, allBelow}
+use Rattle.below.specs.Below.{and-no, and-yes, all-none, all-more, all-fails, sum-none, sum-more, max-none, max-more}
+use Rattle.layout.specs.rule.Layout.{columnsAt}
+use Rattle.sound.specs.rule.Sound.{columnsOf, linesAt, finishAt, linesBefore, highestFinish, goodAt, rowGood, rowsGood}
 use Rattle.sound.specs.Given.{row-within}
 use Rattle.sound.proofs.rows_good.Statement.{statement}
 use Rattle.sound.proofs.rows_good.Tie as tie

@@ -4,7 +4,8 @@ use native.Mathlib.Omega.{arith}
 use borrow.Author.Needs.{needs}
 use borrow.Author.Tests.{le-leb, leb-true}
 use lib.Dec.{leb}
-use Rattle.below.specs.Below.{_and_, same-bool}
+use Rattle.below.specs.rule.Below.{_and_}
+use Rattle.below.specs.Below.{same-bool}
 use Rattle.sound.specs.Types.{sharedGood}
 use Rattle.sound.proofs.shared_good.Statement.{statement}
 use Rattle.sound.proofs.shared_good.Tie as tie

@@ -4,7 +4,7 @@ use mir.Syntax.{w64}
 use mir.Val.{toZ, ofZ}
 use borrow.Author.Needs.{needs, sfits-of}
 use borrow.Author.Tests.{ne-eqb}
-use Rattle.layout.specs.Row.{rowOf}
+use Rattle.layout.specs.rule.Row.{rowOf}
 use Rattle.sound.specs.Values.{topOf}
 use Rattle.sound.proofs.top_of.Statement.{statement}
 use Rattle.sound.proofs.top_of.Tie as tie

@@ -1,9 +1,9 @@
 use mathlib.Core.Path.{_∙_}
 use borrow.Author.Needs.{needs}
 use borrow.Author.Tests.{ne-eqb}
-use Rattle.below.specs.Below.{_and_}
-use Rattle.layout.specs.Row.{kindOf, rowOf}
-use Rattle.sound.specs.Sound.{widthGood, roomGood}
+use Rattle.below.specs.rule.Below.{_and_}
+use Rattle.layout.specs.rule.Row.{kindOf, rowOf}
+use Rattle.sound.specs.rule.Sound.{widthGood, roomGood}
 use Rattle.sound.specs.Types.{type-decimals, type-subfields}
 use Rattle.sound.specs.Values.{valuesBy}
 use Rattle.sound.proofs.values_good.Statement.{statement}

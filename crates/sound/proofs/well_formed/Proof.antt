@@ -4,15 +4,15 @@ use mathlib.Core.Bool.{true}
 use lib.ListN.{length}
 use borrow.Author.Needs.{needs}
 use borrow.Author.Tests.{not-true, not-false}
-use Rattle.layout.specs.Layout.{headerOf}
-use Rattle.sound.specs.Sound.{headCounts, headSums}
+use Rattle.layout.specs.rule.Layout.{headerOf}
+use Rattle.sound.specs.rule.Sound.{headCounts, headSums}
 use Rattle.sound.specs.Block.{Standing}
 use Rattle.sound.specs.Given.{head-few, head-standing, standing-rows, form-counts, form-sums, form-rows, form-idents}
 use Rattle.sound.proofs.well_formed.Statement.{statement}
 use Rattle.sound.proofs.well_formed.Tie as tie
 
 returns : tie.Need-returns
-returns c = sym (form-counts _ (rw (← c .before .before .read .ensures) (sym (c .before .head-counts .ensures) ∙ not-true _ (c .if1 .taken))))
+returns c = record { says = sym (form-counts _ (rw (← c .before .before .read .ensures) (sym (c .before .head-counts .ensures) ∙ not-true _ (c .if1 .taken)))) }
 
 -- what the tests passed so far showed of the header read
 counts : (c : tie.Else1) → headCounts (c .before .before .read .result) ≡ true
@@ -28,25 +28,27 @@ head-sums-requires : tie.Need-head-sums-requires
 head-sums-requires c κs = head-few (c .before .before .read .result) (counts c)
 
 returns-2 : tie.Need-returns-2
-returns-2 c = sym (form-sums _ (rw (← c .before .before .before .before .read .ensures) (sym (c .before .head-sums .ensures) ∙ not-true _ (c .if2 .taken))))
+returns-2 c = record { says = sym (form-sums _ (rw (← c .before .before .before .before .read .ensures) (sym (c .before .head-sums .ensures) ∙ not-true _ (c .if2 .taken)))) }
 
 rows-good-requires : tie.Need-rows-good-requires
 rows-good-requires c κs = (search needs, standing (c .before .before))
 
 returns-3 : tie.Need-returns-3
-returns-3 c = sym (form-rows _ (rw (← c .before .before .before .before .before .before .before .before .read .ensures) (sym (c .before .rows-good .ensures) ∙ not-true _ (c .if3 .taken))))
+returns-3 c = record { says = sym (form-rows _ (rw (← c .before .before .before .before .before .before .before .before .read .ensures) (sym (c .before .rows-good .ensures) ∙ not-true _ (c .if3 .taken)))) }
 
 idents-differ-requires : tie.Need-idents-differ-requires
 idents-differ-requires c κs = standing-rows (standing (c .before .before .before .before))
 
 returns-4 : tie.Need-returns-4
-returns-4 c =
-    c .idents-differ .ensures
-    ∙ rw (c .before .before .before .before .before .before .before .before .before .read .ensures)
-    (sym (form-idents (c .before .before .before .before .before .before .before .before .before .before .args .t .now)
-    (rw (c .before .before .before .before .before .before .before .before .before .read .ensures) at (counts (c .before .before .before .before .before .before .before)))
-    (rw (c .before .before .before .before .before .before .before .before .before .read .ensures) at (sums (c .before .before .before .before .before)))
-    (rw (← c .before .before .before .before .before .before .before .before .before .read .ensures) (sym (c .before .before .rows-good .ensures) ∙ not-false _ (c .before .if3 .left)))))
+returns-4 c = record {
+  says =
+      c .idents-differ .ensures
+      ∙ rw (c .before .before .before .before .before .before .before .before .before .read .ensures)
+      (sym (form-idents (c .before .before .before .before .before .before .before .before .before .before .args .t .now)
+      (rw (c .before .before .before .before .before .before .before .before .before .read .ensures) at (counts (c .before .before .before .before .before .before .before)))
+      (rw (c .before .before .before .before .before .before .before .before .before .read .ensures) at (sums (c .before .before .before .before .before)))
+      (rw (← c .before .before .before .before .before .before .before .before .before .read .ensures) (sym (c .before .before .rows-good .ensures) ∙ not-false _ (c .before .if3 .left)))));
+}
 
 pub well-formed-spec : {M : Type 1} → statement M
 well-formed-spec =

@@ -4,7 +4,7 @@ use native.Mathlib.Omega.{arith}
 use borrow.Author.Tests.{le-leb, leb-true}
 use lib.Dec.{leb}
 use Rattle.below.specs.Below.{same-bool}
-use Rattle.layout.specs.Row.{rowOf}
+use Rattle.layout.specs.rule.Row.{rowOf}
 use Rattle.sound.proofs.width_held.Statement.{statement}
 use Rattle.sound.proofs.width_held.Tie as tie
 

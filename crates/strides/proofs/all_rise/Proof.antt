@@ -5,8 +5,9 @@ use Prim.Native.Nat.{ℕ, _≤_, _<_, _-_, max}
 use native.Mathlib.Omega.{arith}
 use borrow.Author.Needs.{needs}
 use borrow.Author.Tests.{not-true, not-false}
-use Rattle.below.specs.Below.{allBelow, all-none, all-more, all-fails, all-down}
-use Rattle.strides.specs.Stride.{strideAt}
+use Rattle.below.specs.rule.Below.{allBelow}
+use Rattle.below.specs.Below.{all-none, all-more, all-fails, all-down}
+use Rattle.strides.specs.rule.Stride.{strideAt}
 use Rattle.strides.specs.Stride.{risesAt, allRise, rises-first, rises-here, rises-not}
 use Rattle.strides.proofs.all_rise.Statement.{statement}
 use Rattle.strides.proofs.all_rise.Tie as tie

@@ -2,7 +2,7 @@
 use mathlib.Core.Path.{sym, _∙_}
 use mir.Facts.{toZ-ofZ}
 use borrow.Author.Needs.{needs, sfits-of}
-use Rattle.strides.specs.Stride.{strideAt}
+use Rattle.strides.specs.rule.Stride.{strideAt}
 use Rattle.strides.specs.Stride.{rise-differ}
 use Rattle.strides.specs.Hull.{rise-hulled}
 use Rattle.strides.proofs.block_of.Statement.{statement}

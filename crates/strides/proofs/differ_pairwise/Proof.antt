@@ -5,8 +5,9 @@ use Prim.Native.Nat.{_≤_, _-_}
 use native.Mathlib.Omega.{arith}
 use borrow.Author.Needs.{needs}
 use borrow.Author.Tests.{not-true, not-false}
-use Rattle.below.specs.Below.{allBelow, all-none, all-more, all-fails}
-use Rattle.strides.specs.Stride.{strideAt, numberNew, allDiffer}
+use Rattle.below.specs.rule.Below.{allBelow}
+use Rattle.below.specs.Below.{all-none, all-more, all-fails}
+use Rattle.strides.specs.rule.Stride.{strideAt, numberNew, allDiffer}
 use Rattle.strides.proofs.differ_pairwise.Statement.{statement}
 use Rattle.strides.proofs.differ_pairwise.Tie as tie
 

@@ -7,9 +7,11 @@ use mir.Facts.{toZ-ofZ}
 use borrow.Author.Needs.{needs, sfits-of}
 use borrow.Author.Tests.{not-true, not-false}
 use lib.ListN.{length, length-set}
-use Rattle.below.specs.Below.{allBelow, all-none, all-more, all-fails}
-use Rattle.cells.specs.Cell.{countOf}
-use Rattle.strides.specs.Stride.{strideAt, numberNew, allDiffer, Left, new-unmarked, left-more}
+use Rattle.below.specs.rule.Below.{allBelow}
+use Rattle.below.specs.Below.{all-none, all-more, all-fails}
+use Rattle.cells.specs.rule.Cell.{countOf}
+use Rattle.strides.specs.rule.Stride.{strideAt, numberNew, allDiffer}
+use Rattle.strides.specs.Stride.{Left, new-unmarked, left-more}
 use Rattle.strides.proofs.differ_placed.Statement.{statement}
 use Rattle.strides.proofs.differ_placed.Tie as tie
 

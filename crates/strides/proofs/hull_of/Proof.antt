@@ -4,7 +4,7 @@ use Prim.Native.Nat.{_+_, _≤_, _-_}
 use native.Mathlib.Omega.{arith}
 use mir.Facts.{toZ-ofZ}
 use borrow.Author.Needs.{needs, sfits-of}
-use Rattle.strides.specs.Stride.{strideAt}
+use Rattle.strides.specs.rule.Stride.{strideAt}
 use Rattle.strides.specs.Hull.{Hulled, hullWith, hulled-one, hulled-more}
 use Rattle.strides.proofs.hull_of.Statement.{statement}
 use Rattle.strides.proofs.hull_of.Tie as tie

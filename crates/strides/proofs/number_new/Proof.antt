@@ -5,9 +5,10 @@ use Prim.Native.Nat.{_≤_, _-_}
 use native.Mathlib.Omega.{arith}
 use mir.Facts.{toZ-ofZ}
 use borrow.Author.Needs.{needs, sfits-of}
-use Rattle.below.specs.Below.{allBelow, all-none, all-more, all-fails}
-use Rattle.cells.specs.Cell.{eqZ}
-use Rattle.strides.specs.Stride.{strideAt, unlike, numberNew}
+use Rattle.below.specs.rule.Below.{allBelow}
+use Rattle.below.specs.Below.{all-none, all-more, all-fails}
+use Rattle.cells.specs.rule.Cell.{eqZ}
+use Rattle.strides.specs.rule.Stride.{strideAt, unlike, numberNew}
 use Rattle.strides.proofs.number_new.Statement.{statement}
 use Rattle.strides.proofs.number_new.Tie as tie
 

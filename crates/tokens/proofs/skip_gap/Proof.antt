@@ -4,7 +4,7 @@ use Prim.Native.Nat.{_-_}
 use lib.ListN.{length}
 use borrow.Author.Needs.{needs}
 use Rattle.scan.proofs.Texts.{from-text}
-use Rattle.tokens.specs.Gap.{gapAt}
+use Rattle.tokens.specs.rule.Gap.{gapAt}
 use Rattle.tokens.proofs.Gaps.{gap-less, gap-again, gap-done, pace-on, pace-over}
 use Rattle.tokens.proofs.skip_gap.Statement.{statement}
 use Rattle.tokens.proofs.skip_gap.Tie as tie

@@ -2,9 +2,10 @@
 use mathlib.Core.Path.{_∙_, sym}
 use borrow.Author.Needs.{needs}
 use borrow.Author.Tests.{eq-eqb, ne-eqb}
-use Rattle.scan.specs.Number.{isSpace}
+use Rattle.scan.specs.rule.Number.{isSpace}
 use Rattle.scan.proofs.Texts.{stepped, ended}
-use Rattle.tokens.specs.Gap.{gapStep, paceOf}
+use Rattle.tokens.specs.rule.Gap.{gapStep}
+use Rattle.tokens.specs.Gap.{paceOf}
 use Rattle.tokens.proofs.step_gap.Statement.{statement}
 use Rattle.tokens.proofs.step_gap.Tie as tie
 

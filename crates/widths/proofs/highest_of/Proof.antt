@@ -1,4 +1,4 @@
-use Rattle.widths.specs.Width.{highest}
+use Rattle.widths.specs.rule.Width.{highest}
 use borrow.Author.Needs.{needs}
 use Rattle.widths.proofs.highest_of.Statement.{statement}
 use Rattle.widths.proofs.highest_of.Tie as tie

@@ -1,4 +1,4 @@
-use Rattle.widths.specs.Width.{lowest}
+use Rattle.widths.specs.rule.Width.{lowest}
 use borrow.Author.Needs.{needs}
 use Rattle.widths.proofs.lowest_of.Statement.{statement}
 use Rattle.widths.proofs.lowest_of.Tie as tie

@@ -5,9 +5,11 @@ use Prim.Native.Nat.{ℕ, _≤_, _+_, _/_, _^_}
 use native.Mathlib.Omega.{arith}
 use borrow.Author.Needs.{needs}
 use mir.Facts.{toZ-ofZ}
-use Rattle.cells.specs.Cell.{signedOf}
-use Rattle.ascii.specs.Tens.{digitsOf, digits-few}
-use Rattle.widths.specs.Width.{wholeDigits, tail-few, ten-some, width-parts}
+use Rattle.cells.specs.rule.Cell.{signedOf}
+use Rattle.ascii.specs.rule.Tens.{digitsOf}
+use Rattle.ascii.specs.Tens.{digits-few}
+use Rattle.widths.specs.rule.Width.{wholeDigits}
+use Rattle.widths.specs.Width.{tail-few, ten-some, width-parts}
 use Rattle.widths.proofs.quantity_width.Statement.{statement}
 use Rattle.widths.proofs.quantity_width.Tie as tie
 

@@ -1,5 +1,5 @@
 use borrow.Author.Tests.{eq-eqb, ne-eqb}
-use Rattle.widths.specs.Width.{tailOf}
+use Rattle.widths.specs.rule.Width.{tailOf}
 use borrow.Author.Needs.{needs}
 use Rattle.widths.proofs.tail.Statement.{statement}
 use Rattle.widths.proofs.tail.Tie as tie

@@ -3,7 +3,7 @@ use mathlib.Core.Path.{_≡_}
 use borrow.Author.Needs.{needs}
 use mir.Syntax.{w64}
 use mir.Val.{toZ, ofZ}
-use Rattle.writes.specs.Write.{valueOf}
+use Rattle.writes.specs.rule.Write.{valueOf}
 use Rattle.writes.proofs.Cases.{as-given}
 use Rattle.writes.proofs.write_row.Statement.{statement}
 use Rattle.writes.proofs.write_row.Tie as tie

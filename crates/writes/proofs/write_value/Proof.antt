@@ -3,17 +3,17 @@ use mathlib.Core.Path.{_≡_, sym, _∙_}
 use mathlib.Core.Bool.{true}
 use borrow.Author.Needs.{needs}
 use borrow.Author.Tests.{not-true, not-false}
-use Rattle.sound.specs.Sound.{wellFormed}
+use Rattle.sound.specs.rule.Sound.{wellFormed}
 use Rattle.writes.proofs.Whole.{not-formed, no-row, too-short, row-stands, row-ready, row-written}
 use Rattle.writes.proofs.write_value.Statement.{statement}
 use Rattle.writes.proofs.write_value.Tie as tie
 
 returns : tie.Need-returns
-returns c = not-formed _ _ _ _ (sym (c .before .well-formed .ensures) ∙ not-true _ (c .if1 .taken))
+returns c = not-formed _ _ _ _ (sym (c .before .well-formed .ensures .says) ∙ not-true _ (c .if1 .taken))
 
 -- the table is well formed
 good : (c : tie.After-read) → wellFormed (c .before .before .before .before .before .args .table .now) ≡ true
-good c = sym (c .before .before .well-formed .ensures) ∙ not-false _ (c .before .if1 .left)
+good c = sym (c .before .before .well-formed .ensures .says) ∙ not-false _ (c .before .if1 .left)
 
 returns-2 : tie.Need-returns-2
 returns-2 c = no-row _ _ _ _ (good (c .before)) (rw (c .before .read .ensures) at (c .if2 .taken))

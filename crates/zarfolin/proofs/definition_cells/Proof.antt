@@ -1,7 +1,7 @@
 -- `zarfolin::definition_cells` meets its contract, case by case.
 use borrow.Author.Needs.{needs, sfits-of}
 use mir.Facts.{toZ-ofZ}
-use Rattle.zarfolin.specs.Face.{definitionCells}
+use Rattle.zarfolin.specs.rule.Face.{definitionCells}
 use Rattle.zarfolin.proofs.definition_cells.Statement.{statement}
 use Rattle.zarfolin.proofs.definition_cells.Tie as tie
 

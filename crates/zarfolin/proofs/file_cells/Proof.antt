@@ -2,13 +2,14 @@
 use mathlib.Core.Path.{sym}
 use borrow.Author.Needs.{needs, sfits-of}
 use mir.Facts.{toZ-ofZ}
-use Rattle.zarfolin.specs.Face.{faultCells, fileCells}
-use Rattle.files.specs.File.{fileSaid}
+use Rattle.zarfolin.specs.rule.Face.{faultCells, fileCells}
+use Rattle.records.specs.rule.Verdict.{verdictNumber}
+use Rattle.files.specs.rule.File.{fileSaid}
 use Rattle.zarfolin.proofs.file_cells.Statement.{statement}
 use Rattle.zarfolin.proofs.file_cells.Tie as tie
 
 pub file-cells-spec : {M : Type 1} → statement M
-unfolding fileCells fileSaid faultCells
+unfolding fileCells fileSaid faultCells verdictNumber
 file-cells-spec =
     tie.close
     (tie.spec

@@ -2,7 +2,7 @@
 use mathlib.Core.Path.{sym}
 use borrow.Author.Needs.{needs, sfits-of}
 use mir.Facts.{toZ-ofZ}
-use Rattle.zarfolin.specs.Face.{nextCells}
+use Rattle.zarfolin.specs.rule.Face.{nextCells}
 use Rattle.zarfolin.proofs.next_cells.Statement.{statement}
 use Rattle.zarfolin.proofs.next_cells.Tie as tie
 

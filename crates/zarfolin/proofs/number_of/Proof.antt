@@ -1,6 +1,6 @@
 -- `zarfolin::number_of` meets its contract, case by case.
 use borrow.Author.Needs.{needs}
-use Rattle.writes.specs.Public.{numberOf}
+use Rattle.writes.specs.rule.Public.{numberOf}
 use Rattle.zarfolin.proofs.number_of.Statement.{statement}
 use Rattle.zarfolin.proofs.number_of.Tie as tie
 

@@ -4,8 +4,8 @@ use mir.Syntax.{w64}
 use mir.Val.{toZ, ofZ}
 use borrow.Author.Needs.{needs, sfits-of}
 use mir.Facts.{toZ-ofZ}
-use Rattle.zarfolin.specs.Face.{outcomeCells}
-use Rattle.records.specs.Value.{said}
+use Rattle.zarfolin.specs.rule.Face.{outcomeCells}
+use Rattle.records.specs.rule.Value.{said}
 use Rattle.zarfolin.proofs.outcome_cells.Statement.{statement}
 use Rattle.zarfolin.proofs.outcome_cells.Tie as tie
 

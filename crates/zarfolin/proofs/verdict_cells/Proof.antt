@@ -2,13 +2,13 @@
 use mathlib.Core.Path.{sym}
 use borrow.Author.Needs.{needs, sfits-of}
 use mir.Facts.{toZ-ofZ}
-use Rattle.zarfolin.specs.Face.{verdictCells}
-use Rattle.records.specs.Verdict.{judgedAs}
+use Rattle.zarfolin.specs.rule.Face.{verdictCells}
+use Rattle.records.specs.rule.Verdict.{judgedAs, verdictNumber}
 use Rattle.zarfolin.proofs.verdict_cells.Statement.{statement}
 use Rattle.zarfolin.proofs.verdict_cells.Tie as tie
 
 pub verdict-cells-spec : {M : Type 1} → statement M
-unfolding verdictCells judgedAs
+unfolding verdictCells judgedAs verdictNumber
 verdict-cells-spec =
     tie.close
     (tie.spec

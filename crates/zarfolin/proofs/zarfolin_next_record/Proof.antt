@@ -4,7 +4,7 @@ use Rattle.zarfolin.proofs.zarfolin_next_record.Statement.{statement}
 use Rattle.zarfolin.proofs.zarfolin_next_record.Tie as tie
 
 returns : tie.Need-returns
-returns c = rw (← (c .before .before .next-record .ensures), ← (c .before .next-cells .ensures)) (c .tell .ensures)
+returns c = record { outcome = _; promise = c .before .before .next-record .ensures; tells = rw (← (c .before .next-cells .ensures)) (c .tell .ensures) }
 
 pub zarfolin-next-record-spec : {M : Type 1} → statement M
 zarfolin-next-record-spec =

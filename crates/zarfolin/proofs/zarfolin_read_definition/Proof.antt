@@ -5,7 +5,7 @@ use Rattle.zarfolin.proofs.zarfolin_read_definition.Tie as tie
 
 returns : tie.Need-returns
 returns c =
-    (rw (← (c .before .before .before .read-definition .ensures .0), ← (c .before .definition-cells .ensures)) (c .tell .ensures), c .before .before .before .read-definition .ensures .1)
+    record { outcome = _; promise = c .before .before .before .read-definition .ensures; tells = rw (← (c .before .definition-cells .ensures)) (c .tell .ensures) }
 
 pub zarfolin-read-definition-spec : {M : Type 1} → statement M
 zarfolin-read-definition-spec =

@@ -5,8 +5,9 @@ use Rattle.zarfolin.proofs.zarfolin_read_value.Tie as tie
 
 returns : tie.Need-returns
 returns c = record {
-  tells = rw (← (c .before .before .before .read-value .ensures .says), ← (c .before .outcome-cells .ensures)) (c .tell .ensures);
-  leaves = c .before .before .before .read-value .ensures .leaves;
+  outcome = _;
+  promise = c .before .before .before .read-value .ensures;
+  tells = rw (← (c .before .outcome-cells .ensures)) (c .tell .ensures);
 }
 
 pub zarfolin-read-value-spec : {M : Type 1} → statement M

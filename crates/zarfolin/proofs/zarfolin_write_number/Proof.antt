@@ -1,7 +1,6 @@
 -- `zarfolin::zarfolin_write_number` meets its contract.
-use mathlib.Core.Path.{_∙_}
 use mir.Facts.{toZ-ofZ}
-use Rattle.writes.specs.Write.{valueOf}
+use Rattle.writes.specs.rule.Write.{valueOf}
 use borrow.Author.Needs.{needs}
 use Rattle.zarfolin.proofs.zarfolin_write_number.Statement.{statement}
 use Rattle.zarfolin.proofs.zarfolin_write_number.Tie as tie
@@ -10,7 +9,7 @@ returns : tie.Need-returns
 unfolding valueOf
 returns c =
     let w = rw (toZ-ofZ (c .before .before .before .before .before .before .before .fits .number)) at (c .before .before .before .write-value .ensures) in
-    record { gives = c .number-of .ensures ∙ w .says; leaves = w .leaves }
+    rw (c .number-of .ensures) w
 
 pub zarfolin-write-number-spec : {M : Type 1} → statement M
 zarfolin-write-number-spec =

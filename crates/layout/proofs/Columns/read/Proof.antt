@@ -1,4 +1,4 @@
-use Rattle.layout.specs.Layout.{columnsAt}
+use Rattle.layout.specs.rule.Layout.{columnsAt}
 use mir.Facts.{toZ-ofZ}
 use borrow.Author.Needs.{needs, sfits-of}
 use Rattle.layout.proofs.Columns.read.Statement.{statement}

@@ -1,4 +1,4 @@
-use Rattle.layout.specs.Layout.{headerOf}
+use Rattle.layout.specs.rule.Layout.{headerOf}
 use borrow.Author.Needs.{needs}
 use Rattle.layout.proofs.Header.read.Statement.{statement}
 use Rattle.layout.proofs.Header.read.Tie as tie

@@ -1,4 +1,4 @@
-use Rattle.layout.specs.Layout.{lineAt}
+use Rattle.layout.specs.rule.Layout.{lineAt}
 use mir.Facts.{toZ-ofZ}
 use borrow.Author.Needs.{needs, sfits-of}
 use Rattle.layout.proofs.Line.read.Statement.{statement}

@@ -1,7 +1,7 @@
 use mathlib.Core.Path.{_≡_}
 use mir.Syntax.{w64}
 use mir.Val.{toZ, ofZ}
-use Rattle.layout.specs.Row.{rowOf}
+use Rattle.layout.specs.rule.Row.{rowOf}
 use borrow.Author.Needs.{needs}
 use Rattle.layout.proofs.Row.of.Statement.{statement}
 use Rattle.layout.proofs.Row.of.Tie as tie

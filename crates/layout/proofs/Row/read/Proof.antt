@@ -1,6 +1,6 @@
 use mathlib.Core.Path.{ap, _∙_}
-use Rattle.layout.specs.Layout.{columnsAt}
-use Rattle.layout.specs.Row.{rowOf}
+use Rattle.layout.specs.rule.Layout.{columnsAt}
+use Rattle.layout.specs.rule.Row.{rowOf}
 use borrow.Author.Needs.{needs}
 use Rattle.layout.proofs.Row.read.Statement.{statement}
 use Rattle.layout.proofs.Row.read.Tie as tie

@@ -6,10 +6,10 @@ use native.Mathlib.Nat.{sub-zero}
 use native.Mathlib.Omega.{arith}
 use lib.IntN.{pos}
 use lib.ListN.{length, length-set}
-use Rattle.fields.specs.Legal.{legal}
-use Rattle.fields.specs.Row.{defined, bitPlaces}
-use Rattle.fields.specs.Field.{spaces}
-use Rattle.places.specs.Places.{put}
+use Rattle.fields.specs.rule.Legal.{legal}
+use Rattle.fields.specs.rule.Row.{defined, bitPlaces}
+use Rattle.fields.specs.rule.Field.{spaces}
+use Rattle.places.specs.rule.Places.{put}
 use Rattle.setbytes.proofs.BitSteps.{restBlank, blank-taken, blank-passed, done}
 use Rattle.setbytes.proofs.bits.blank_bits.Statement.{statement}
 use Rattle.setbytes.proofs.bits.blank_bits.Tie as tie

@@ -6,10 +6,10 @@ use Prim.Native.Nat.{_+_, _-_, _≤_}
 use native.Mathlib.Nat.{sub-zero}
 use native.Mathlib.Omega.{arith}
 use lib.ListN.{length, length-set}
-use Rattle.fields.specs.Row.{defined, bitPlaces}
-use Rattle.fields.specs.Field.{bitBytes}
+use Rattle.fields.specs.rule.Row.{defined, bitPlaces}
+use Rattle.fields.specs.rule.Field.{bitBytes}
 use Rattle.fieldlaws.specs.RisingLaws.{rising-empty}
-use Rattle.places.specs.Places.{put}
+use Rattle.places.specs.rule.Places.{put}
 use Rattle.sets.specs.Full.{always}
 use Rattle.setbytes.specs.Sets.{headIs}
 use Rattle.setbytes.proofs.BitSteps.{rest, taken, done}

@@ -8,7 +8,7 @@ use mir.Facts.{toZ-ofZ}
 use lib.IntN.{ℤ, pos}
 use lib.ListN.{length, getD, drop, drop-of-length-le}
 use lib.Seq.{drop-cons}
-use Rattle.cells.specs.Cell.{eqZ}
+use Rattle.cells.specs.rule.Cell.{eqZ}
 use Rattle.setbytes.specs.Sets.{headIs}
 use Rattle.setbytes.proofs.bits.next_is.Statement.{statement}
 use Rattle.setbytes.proofs.bits.next_is.Tie as tie

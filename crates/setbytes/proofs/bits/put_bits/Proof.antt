@@ -8,10 +8,10 @@ use native.Mathlib.Omega.{arith}
 use borrow.Author.Needs.{needs}
 use lib.IntN.{pos}
 use lib.ListN.{length, drop, length-set}
-use Rattle.fields.specs.Legal.{legal}
-use Rattle.fields.specs.Row.{defined, bitPlaces}
-use Rattle.fields.specs.Field.{bitBytes}
-use Rattle.places.specs.Places.{put}
+use Rattle.fields.specs.rule.Legal.{legal}
+use Rattle.fields.specs.rule.Row.{defined, bitPlaces}
+use Rattle.fields.specs.rule.Field.{bitBytes}
+use Rattle.places.specs.rule.Places.{put}
 use Rattle.setbytes.proofs.BitSteps.{rest, Left, left-on, taken, passed, done}
 use Rattle.setbytes.proofs.bits.put_bits.Statement.{statement}
 use Rattle.setbytes.proofs.bits.put_bits.Tie as tie

@@ -6,7 +6,7 @@ use borrow.Author.Needs.{needs, sfits-of}
 use lib.IntN.{pos}
 use lib.ListN.{length, length-set, getD, drop}
 use mir.Facts.{toZ-ofZ}
-use Rattle.cells.specs.Cell.{countOf}
+use Rattle.cells.specs.rule.Cell.{countOf}
 use Rattle.setbytes.specs.Sets.{withMembers}
 use Rattle.setbytes.proofs.AllSteps.{member-low, member-high, members-next, members-done}
 use Rattle.setbytes.proofs.bits.set_members.Statement.{statement}

@@ -4,7 +4,7 @@ use Prim.Native.Nat.{_-_}
 use borrow.Author.Needs.{needs, sfits-of}
 use mir.Facts.{toZ-ofZ}
 use lib.Signed.{leZ}
-use Rattle.cells.specs.Cell.{cell}
+use Rattle.cells.specs.rule.Cell.{cell}
 use Rattle.setbytes.proofs.JudgeSteps.{not-good, is-good}
 use Rattle.setbytes.proofs.judge.next_good.Statement.{statement}
 use Rattle.setbytes.proofs.judge.next_good.Tie as tie

@@ -6,9 +6,9 @@ use borrow.Author.Needs.{needs, sfits-of}
 use borrow.Author.Tests.{not-true, not-false}
 use mir.Facts.{toZ-ofZ}
 use lib.ListN.{length}
-use Rattle.cells.specs.Cell.{cell}
-use Rattle.fields.specs.Legal.{legal}
-use Rattle.fields.specs.Field.{setFits}
+use Rattle.cells.specs.rule.Cell.{cell}
+use Rattle.fields.specs.rule.Legal.{legal}
+use Rattle.fields.specs.rule.Field.{setFits}
 use Rattle.setbytes.proofs.JudgeSteps.{goodFrom, good-on, bad-on, fits-none, fits-bad, fits-first, good-end}
 use Rattle.setbytes.proofs.judge.set_fits.Statement.{statement}
 use Rattle.setbytes.proofs.judge.set_fits.Tie as tie

@@ -3,9 +3,9 @@ use mathlib.Core.Path.{_≡_, refl, sym, _∙_}
 use Prim.Native.Nat.{suc, _+_, _-_, _*_, _≤_}
 use native.Mathlib.Omega.{arith}
 use lib.ListN.{length}
-use Rattle.places.specs.Places.{put}
-use Rattle.fields.specs.Field.{spaces}
-use Rattle.fields.specs.Row.{spreadPlaces}
+use Rattle.places.specs.rule.Places.{put}
+use Rattle.fields.specs.rule.Field.{spaces}
+use Rattle.fields.specs.rule.Row.{spreadPlaces}
 use Rattle.setbytes.proofs.SpreadSteps.{inside, blank-on, done}
 use Rattle.setbytes.proofs.spread.blank_spread.Statement.{statement}
 use Rattle.setbytes.proofs.spread.blank_spread.Tie as tie

@@ -5,9 +5,9 @@ use native.Mathlib.Omega.{arith}
 use borrow.Author.Needs.{needs, sfits-of}
 use mir.Facts.{toZ-ofZ}
 use lib.ListN.{length, drop}
-use Rattle.places.specs.Places.{put}
-use Rattle.fields.specs.Field.{spreadBytes}
-use Rattle.fields.specs.Row.{spreadPlaces}
+use Rattle.places.specs.rule.Places.{put}
+use Rattle.fields.specs.rule.Field.{spreadBytes}
+use Rattle.fields.specs.rule.Row.{spreadPlaces}
 use Rattle.setbytes.proofs.SpreadSteps.{inside, member-on, done}
 use Rattle.setbytes.proofs.spread.put_spread.Statement.{statement}
 use Rattle.setbytes.proofs.spread.put_spread.Tie as tie

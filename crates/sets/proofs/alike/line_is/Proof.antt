@@ -7,7 +7,7 @@ use borrow.Author.Tests.{ltb-true, leb-true, lt-ltb, le-leb}
 use lib.Dec.{ltb, leb}
 use mir.Facts.{toZ-ofZ}
 use Rattle.below.specs.Below.{and-left, and-right, and-true, holds-not}
-use Rattle.cells.specs.Cell.{countOf}
+use Rattle.cells.specs.rule.Cell.{countOf}
 use Rattle.sets.proofs.AlikeLaws.{one-inside, one-outside}
 use Rattle.sets.proofs.alike.line_is.Statement.{statement}
 use Rattle.sets.proofs.alike.line_is.Tie as tie

@@ -6,10 +6,11 @@ use native.Mathlib.Omega.{arith}
 use borrow.Author.Needs.{needs, sfits-of}
 use borrow.Author.Tests.{not-true, not-false}
 use mir.Facts.{toZ-ofZ}
-use Rattle.below.specs.Below.{allBelow, all-none, all-more, all-fails}
-use Rattle.cells.specs.Cell.{cell, eqZ}
-use Rattle.layout.specs.Layout.{lineBase}
-use Rattle.fields.specs.Legal.{onLine}
+use Rattle.below.specs.rule.Below.{allBelow}
+use Rattle.below.specs.Below.{all-none, all-more, all-fails}
+use Rattle.cells.specs.rule.Cell.{cell, eqZ}
+use Rattle.layout.specs.rule.Layout.{lineBase}
+use Rattle.fields.specs.rule.Legal.{onLine}
 use Rattle.sets.specs.Alike.{allAt}
 use Rattle.sets.proofs.AlikeLaws.{lines-alike}
 use Rattle.sets.proofs.alike.lines_are.Statement.{statement}

@@ -6,7 +6,8 @@ use native.Mathlib.Nat.{add-zero}
 use native.Mathlib.Omega.{arith}
 use borrow.Author.Tests.{not-true, not-false}
 use lib.ListN.{getD}
-use Rattle.below.specs.Below.{allBelow, all-none, all-next, all-more, all-fails}
+use Rattle.below.specs.rule.Below.{allBelow}
+use Rattle.below.specs.Below.{all-none, all-next, all-more, all-fails}
 use Rattle.sets.specs.Alike.{oneOf}
 use Rattle.sets.proofs.alike.run_is.Statement.{statement}
 use Rattle.sets.proofs.alike.run_is.Tie as tie

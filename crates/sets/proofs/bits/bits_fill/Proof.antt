@@ -9,7 +9,7 @@ use lib.IntN.{pos}
 use lib.ListN.{length, length-set}
 use mir.Facts.{toZ-ofZ}
 use native.Mathlib.Nat.{sub-zero, zero-add}
-use Rattle.fields.specs.Legal.{legal}
+use Rattle.fields.specs.rule.Legal.{legal}
 use lib.Seq.{sets}
 use Rattle.sets.proofs.BitLaws.{restSet, member, no-member, no-set, set-end}
 use Rattle.sets.proofs.FillLaws.{filled}

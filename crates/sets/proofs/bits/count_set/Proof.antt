@@ -4,7 +4,7 @@ use Prim.Native.Nat.{_+_, _-_, _≤_}
 use native.Mathlib.Omega.{arith}
 use native.Mathlib.Nat.{sub-zero, zero-add}
 use lib.ListN.{length, getD}
-use Rattle.fields.specs.Legal.{legal}
+use Rattle.fields.specs.rule.Legal.{legal}
 use Rattle.sets.proofs.BitLaws.{restSet, few-bit, count-more, count-whole, no-set, set-end}
 use Rattle.sets.proofs.bits.count_set.Statement.{statement}
 use Rattle.sets.proofs.bits.count_set.Tie as tie

@@ -3,10 +3,10 @@ use mathlib.Core.Path.{_≡_}
 use Prim.Native.Nat.{_-_}
 use borrow.Author.Needs.{needs}
 use lib.ListN.{length}
-use Rattle.places.specs.Places.{pick}
-use Rattle.fields.specs.Legal.{legal}
-use Rattle.fields.specs.Field.{setBits}
-use Rattle.fields.specs.Row.{defined, bitPlaces}
+use Rattle.places.specs.rule.Places.{pick}
+use Rattle.fields.specs.rule.Legal.{legal}
+use Rattle.fields.specs.rule.Field.{setBits}
+use Rattle.fields.specs.rule.Row.{defined, bitPlaces}
 use Rattle.sets.specs.Full.{all-defined}
 use Rattle.sets.proofs.SetLaws.{read-room, read-short}
 use Rattle.sets.proofs.bits.list_each.Statement.{statement}

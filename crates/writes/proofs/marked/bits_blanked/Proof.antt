@@ -3,7 +3,7 @@ use mathlib.Core.Path.{sym, _∙_}
 use Prim.Native.Nat.{_+_, _-_, _≤_}
 use native.Mathlib.Omega.{arith}
 use borrow.Author.Needs.{needs}
-use Rattle.fields.specs.Row.{placesBy}
+use Rattle.fields.specs.rule.Row.{placesBy}
 use Rattle.writes.proofs.Cases.{blanked, prefix}
 use Rattle.writes.proofs.marked.bits_blanked.Statement.{statement}
 use Rattle.writes.proofs.marked.bits_blanked.Tie as tie

@@ -2,7 +2,7 @@
 use Prim.Native.Nat.{_-_}
 use native.Mathlib.Omega.{arith}
 use borrow.Author.Needs.{needs}
-use Rattle.fields.specs.Row.{placesBy}
+use Rattle.fields.specs.rule.Row.{placesBy}
 use Rattle.writes.proofs.Cases.{blanked}
 use Rattle.writes.proofs.marked.bits_missing.Statement.{statement}
 use Rattle.writes.proofs.marked.bits_missing.Tie as tie

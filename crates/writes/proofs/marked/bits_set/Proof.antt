@@ -4,8 +4,8 @@ use Prim.Native.Nat.{_-_}
 use native.Mathlib.Omega.{arith}
 use borrow.Author.Needs.{needs}
 use borrow.Author.Tests.{not-true, not-false}
-use Rattle.fields.specs.Row.{fitsBy, bytesBy, placesBy}
-use Rattle.writes.specs.Write.{valueOf}
+use Rattle.fields.specs.rule.Row.{fitsBy, bytesBy, placesBy}
+use Rattle.writes.specs.rule.Write.{valueOf}
 use Rattle.writes.proofs.Cases.{accepted, illegal, legal-fits, legal-not, bits-rising}
 use Rattle.writes.proofs.marked.bits_set.Statement.{statement}
 use Rattle.writes.proofs.marked.bits_set.Tie as tie

@@ -3,7 +3,7 @@ use mathlib.Core.Path.{ap}
 use native.Mathlib.Omega.{arith}
 use borrow.Author.Needs.{needs}
 use Rattle.layout.specs.declared.Kind.the-variants.{Multiple}
-use Rattle.fields.specs.Row.{placesBy}
+use Rattle.fields.specs.rule.Row.{placesBy}
 use Rattle.writes.proofs.Cases.{blanked, ready-as, written-as}
 use Rattle.writes.proofs.marked.blank_set.Statement.{statement}
 use Rattle.writes.proofs.marked.blank_set.Tie as tie

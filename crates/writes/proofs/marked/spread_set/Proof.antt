@@ -6,8 +6,8 @@ use borrow.Author.Needs.{needs}
 use borrow.Author.Tests.{not-true, not-false, lt-ltb, le-ltb}
 use lib.Dec.{ltb}
 use lib.ListN.{length}
-use Rattle.fields.specs.Row.{fitsBy, bytesBy, placesBy}
-use Rattle.writes.specs.Write.{valueOf}
+use Rattle.fields.specs.rule.Row.{fitsBy, bytesBy, placesBy}
+use Rattle.writes.specs.rule.Write.{valueOf}
 use Rattle.writes.proofs.Cases.{accepted, illegal, many, set-not, set-many, set-fits, spread-small}
 use Rattle.writes.proofs.marked.spread_set.Statement.{statement}
 use Rattle.writes.proofs.marked.spread_set.Tie as tie

@@ -2,8 +2,8 @@
 use mathlib.Core.Path.{refl, ap, _∙_}
 use borrow.Author.Needs.{needs}
 use Rattle.layout.specs.declared.Kind.the-variants.{Multiple}
-use Rattle.fields.specs.Row.{fitsBy}
-use Rattle.writes.specs.Write.{valueOf}
+use Rattle.fields.specs.rule.Row.{fitsBy}
+use Rattle.writes.specs.rule.Write.{valueOf}
 use Rattle.writes.proofs.Cases.{ready-as, written-as, other-kind}
 use Rattle.writes.proofs.marked.write_set.Statement.{statement}
 use Rattle.writes.proofs.marked.write_set.Tie as tie

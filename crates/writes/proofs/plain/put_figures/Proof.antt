@@ -4,9 +4,9 @@ use mathlib.Core.Bool.{false}
 use native.Mathlib.Omega.{arith}
 use borrow.Author.Needs.{needs}
 use mir.Facts.{toZ-ofZ}
-use Rattle.fields.specs.Row.{bytesBy, placesBy}
-use Rattle.places.specs.Places.{put}
-use Rattle.fields.specs.Field.{number}
+use Rattle.fields.specs.rule.Row.{bytesBy, placesBy}
+use Rattle.places.specs.rule.Places.{put}
+use Rattle.fields.specs.rule.Field.{number}
 use Rattle.writes.specs.Write.{takesNumbers}
 use Rattle.writes.proofs.Cases.{no-figures, ready-as, code-few, quantity-wide}
 use Rattle.writes.proofs.plain.put_figures.Statement.{statement}

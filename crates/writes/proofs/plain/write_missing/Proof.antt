@@ -3,7 +3,7 @@ use mathlib.Core.Path.{refl}
 use Prim.Native.Nat.{_-_}
 use native.Mathlib.Omega.{arith}
 use borrow.Author.Needs.{needs}
-use Rattle.fields.specs.Row.{placesBy}
+use Rattle.fields.specs.rule.Row.{placesBy}
 use Rattle.writes.proofs.Cases.{blanked-run, ready-as, written-as}
 use Rattle.writes.proofs.plain.write_missing.Statement.{statement}
 use Rattle.writes.proofs.plain.write_missing.Tie as tie

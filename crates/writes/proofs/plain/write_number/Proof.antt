@@ -3,7 +3,7 @@ use mathlib.Core.Path.{_≡_, sym, _∙_}
 use borrow.Author.Needs.{needs}
 use borrow.Author.Tests.{not-true, not-false}
 use mir.Facts.{toZ-ofZ}
-use Rattle.fields.specs.Legal.{legal}
+use Rattle.fields.specs.rule.Legal.{legal}
 use Rattle.writes.proofs.Cases.{number-other, number-illegal, number-put}
 use Rattle.writes.proofs.plain.write_number.Statement.{statement}
 use Rattle.writes.proofs.plain.write_number.Tie as tie

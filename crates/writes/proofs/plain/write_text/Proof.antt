@@ -3,9 +3,9 @@ use mathlib.Core.Path.{refl, sym, _∙_}
 use native.Mathlib.Omega.{arith}
 use borrow.Author.Needs.{needs}
 use borrow.Author.Tests.{not-true, not-false}
-use Rattle.fields.specs.Row.{fitsBy, bytesBy, placesBy}
+use Rattle.fields.specs.rule.Row.{fitsBy, bytesBy, placesBy}
 use Rattle.fieldlaws.specs.TextLaws.{fitting}
-use Rattle.writes.specs.Write.{valueOf}
+use Rattle.writes.specs.rule.Write.{valueOf}
 use Rattle.writes.proofs.Cases.{accepted, illegal, legal-fits, legal-not, ready-as, written-as, other-kind}
 use Rattle.writes.proofs.plain.write_text.Statement.{statement}
 use Rattle.writes.proofs.plain.write_text.Tie as tie

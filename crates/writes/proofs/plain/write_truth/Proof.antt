@@ -1,9 +1,9 @@
 -- `writes::plain::write_truth` meets its contract: each arm has what the kind is there.
 use mathlib.Core.Path.{refl}
 use borrow.Author.Needs.{needs}
-use Rattle.fields.specs.Row.{fitsBy, bytesBy, placesBy}
-use Rattle.fields.specs.Field.{truthBytes}
-use Rattle.writes.specs.Write.{valueOf}
+use Rattle.fields.specs.rule.Row.{fitsBy, bytesBy, placesBy}
+use Rattle.fields.specs.rule.Field.{truthBytes}
+use Rattle.writes.specs.rule.Write.{valueOf}
 use Rattle.writes.proofs.Cases.{accepted, written-as, other-kind}
 use Rattle.writes.proofs.plain.write_truth.Statement.{statement}
 use Rattle.writes.proofs.plain.write_truth.Tie as tie

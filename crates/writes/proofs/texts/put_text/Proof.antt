@@ -6,9 +6,9 @@ use native.Mathlib.Omega.{arith}
 use borrow.Author.Needs.{needs}
 use lib.ListN.{length, take}
 use lib.Seq.{take-length}
-use Rattle.places.specs.Places.{put, run}
+use Rattle.places.specs.rule.Places.{put, run}
 use Rattle.places.specs.Laws.{put-run-append}
-use Rattle.fields.specs.Field.{spaces, textBytes}
+use Rattle.fields.specs.rule.Field.{spaces, textBytes}
 use Rattle.writes.proofs.texts.put_text.Statement.{statement}
 use Rattle.writes.proofs.texts.put_text.Tie as tie
 

@@ -8,7 +8,7 @@ use borrow.Author.Needs.{needs}
 use borrow.Author.Tests.{lt-ltb, le-ltb, lt-leb, le-leb}
 use lib.Dec.{ltb}
 use lib.ListN.{length, getD}
-use Rattle.fields.specs.Field.{allPlain, textFits}
+use Rattle.fields.specs.rule.Field.{allPlain, textFits}
 use Rattle.writes.proofs.texts.text_fits.Statement.{statement}
 use Rattle.writes.proofs.texts.text_fits.Tie as tie
 

@@ -1,0 +1,9 @@
+pub mod Bytes
+pub mod Definitions
+pub mod Tables
+pub mod Sample
+pub mod Listed
+pub mod Refused
+pub mod Each
+pub mod Written
+pub mod Proved

@@ -1,0 +1,229 @@
+-- THE DEMANDS, one by one: the final theorems over the promises of the public calls, restated here and each proved by name elsewhere. The
+-- promises stand in specs/rule of their crates: TableTested (sound), ValueRead and RecordJudged (records), Written (writes), NextFound
+-- (cuts), FileJudged (files), DefinitionRead (definition); those of the exported functions (zarfolin) hold them, or are they.
+use mathlib.Core.Path.{_≡_}
+use mathlib.Core.Logic.{⊎-elim}
+use mathlib.Core.Bool.{Bool, true}
+use mathlib.Core.List.{List}
+use Prim.Native.Nat.{ℕ, _-_}
+use lib.Dec.{eqb}
+use lib.IntN.{ℤ}
+use lib.ListN.{length, getD, take, drop}
+use Rattle.below.specs.Below.{lt-or-le}
+use Rattle.places.specs.rule.Places.{Out, Apart}
+use Rattle.layout.specs.rule.Row.{rowAt}
+use Rattle.layout.specs.declared.Kind.{Kind}
+use Rattle.layout.specs.declared.Row.{Row}
+use Rattle.fields.specs.rule.Field.{Value, holds, illegal, text, truth}
+use Rattle.fields.specs.rule.Row.{placesOf, fieldBy}
+use Rattle.sound.specs.rule.Sound.{wellFormed, TableTested}
+use Rattle.sound.specs.rule.Rows.{rowsOf}
+use Rattle.cuts.specs.declared.Next.{Next}
+use Rattle.cuts.specs.rule.Cut.{NextFound, terminatorOf}
+use Rattle.cuts.specs.rule.Records.{Records, recordsOf, laid, countEnded}
+use Rattle.cuts.specs.Records.{laid-again}
+use Rattle.records.specs.rule.Value.{Outcome, refused, outcomeOf, readingAt, ValueRead}
+use Rattle.sets.specs.rule.Sets.{listAfter}
+use Rattle.records.specs.rule.Verdict.{Verdict, RecordJudged}
+use Rattle.files.specs.rule.File.{FileVerdict, soundWith, fileVerdict, FileJudged}
+use Rattle.writes.specs.rule.Public.{refusalOf, Written}
+use Rattle.definition.specs.declared.Answer.{Answer}
+use Rattle.definition.specs.declared.Answer.the-variants as definition
+use Rattle.definition.specs.rule.Definition.{DefinitionRead}
+use Rattle.definition.proofs.Goods as goods
+use Rattle.table_laws.specs.rule.Signs.{TableSigns}
+use Rattle.table_laws.specs.Signs as signs
+use Rattle.read_laws.specs.Settled as reads
+use Rattle.read_laws.specs.rule.Exactly.{Given, Illegal}
+use Rattle.read_laws.specs.Exactly as exactly
+use Rattle.read_laws.specs.rule.Reading.{ReadOutcome}
+use Rattle.read_laws.specs.Reading as reading
+use Rattle.read_laws.specs.rule.Refused.{RecordOutcome}
+use Rattle.read_laws.specs.Refused as judging
+use Rattle.file_laws.specs.rule.Files.{FileOutcome}
+use Rattle.file_laws.specs.Files as files
+use Rattle.file_laws.specs.rule.Only.{Clean}
+use Rattle.file_laws.specs.Only as cutting
+use Rattle.laws.specs.Settled as settled
+use Rattle.laws.specs.rule.Writing as rule
+use Rattle.laws.specs.Writing as writing
+use Rattle.laws.specs.ReadBack as back
+use Rattle.laws.specs.rule.WriteBack.{Answered}
+use Rattle.laws.specs.WriteBack as again
+use Rattle.zarfolin.specs.rule.Face.{RecordTold, ValueTold, FileTold, DefinitionTold, NextTold}
+use Rattle.zarfolin.specs.rule.Truth.{TruthTold}
+use Rattle.zarfolin.specs.Settled as face
+
+-- ==== 1. EVERY CALL ENDS AND ANSWERS ON ALL INPUT (no public call has a `requires`; Rattle proves each ends), NO TWO OUTCOMES SATISFY ITS
+-- PROMISE TOGETHER, AND EVERY REFUSAL KEEPS WHAT WAS LENT
+pub one-test : {t : List ℤ} {r₁ r₂ : Bool} → TableTested t r₁ → TableTested t r₂ → r₁ ≡ r₂
+one-test = settled.table-settled
+
+module _ {t : List ℤ} {bytes : List ℕ} where
+  pub one-verdict : {v₁ v₂ : Verdict} → RecordJudged t bytes v₁ → RecordJudged t bytes v₂ → v₁ ≡ v₂
+  one-verdict = reads.verdict-one
+
+  pub one-record-told : {a₁ a₂ : List ℤ} {r₁ r₂ : ℕ} → RecordTold t bytes a₁ r₁ → RecordTold t bytes a₂ r₂ → (r₁ ≡ r₂) × (a₁ ≡ a₂)
+  one-record-told = face.record-told-one
+
+module _ {t : List ℤ} {i : ℕ} {bytes : List ℕ} {l : List ℤ} where
+  pub one-value : {l₁ l₂ : List ℤ} {o₁ o₂ : Outcome} → ValueRead t i bytes l l₁ o₁ → ValueRead t i bytes l l₂ o₂ → (o₁ ≡ o₂) × (l₁ ≡ l₂)
+  one-value = reads.value-one
+
+  pub one-value-told : {l₁ l₂ a₁ a₂ : List ℤ} {r₁ r₂ : ℕ} → ValueTold t i bytes l l₁ a₁ r₁ → ValueTold t i bytes l l₂ a₂ r₂
+      → ((r₁ ≡ r₂) × (a₁ ≡ a₂)) × (l₁ ≡ l₂)
+  one-value-told = face.value-told-one
+
+  pub refused-read-keeps : {l′ : List ℤ} {k : ℕ} → ValueRead t i bytes l l′ (refused k) → l′ ≡ l
+  refused-read-keeps = reading.read-refused-keeps
+
+module _ {t : List ℤ} {d : List ℕ} where
+  pub one-file : {v₁ v₂ : FileVerdict} → FileJudged t d v₁ → FileJudged t d v₂ → v₁ ≡ v₂
+  one-file = settled.file-one
+
+  pub one-file-told : {a₁ a₂ : List ℤ} {r₁ r₂ : ℕ} → FileTold t d a₁ r₁ → FileTold t d a₂ r₂ → (r₁ ≡ r₂) × (a₁ ≡ a₂)
+  one-file-told = face.file-told-one
+
+module _ {d : List ℕ} {from : ℕ} where
+  pub one-next : {n₁ n₂ : Next} → NextFound d from n₁ → NextFound d from n₂ → n₁ ≡ n₂
+  one-next = settled.next-settled
+
+  pub one-next-told : {a₁ a₂ : List ℤ} {r₁ r₂ : ℕ} → NextTold d from a₁ r₁ → NextTold d from a₂ r₂ → (r₁ ≡ r₂) × (a₁ ≡ a₂)
+  one-next-told = face.next-told-one
+
+module _ {d : List ℕ} {t : List ℤ} where
+  pub one-definition : {t₁ t₂ : List ℤ} {a₁ a₂ : Answer} → DefinitionRead d t t₁ a₁ → DefinitionRead d t t₂ a₂ → (a₁ ≡ a₂) × (t₁ ≡ t₂)
+  one-definition = goods.definition-settled
+
+  pub one-definition-told : {t₁ t₂ a₁ a₂ : List ℤ} {r₁ r₂ : ℕ} → DefinitionTold d t t₁ a₁ r₁ → DefinitionTold d t t₂ a₂ r₂
+      → ((r₁ ≡ r₂) × (a₁ ≡ a₂)) × (t₁ ≡ t₂)
+  one-definition-told = face.definition-told-one
+
+  pub refused-definition-keeps : {t′ : List ℤ} {n p : ℕ} → DefinitionRead d t t′ (definition.Refused n p) → t′ ≡ t
+  refused-definition-keeps = settled.definition-refused-keeps
+
+module _ {t : List ℤ} {i : ℕ} {old : List ℕ} where
+  -- the exported functions but that for a truth promise `Written` too
+  pub one-write : {x : Value} {n₁ n₂ : List ℕ} {a₁ a₂ : ℕ} → Written t i x old n₁ a₁ → Written t i x old n₂ a₂ → (n₁ ≡ n₂) × (a₁ ≡ a₂)
+  one-write = writing.one-outcome
+
+  pub one-truth-told : {b : ℕ} {n₁ n₂ : List ℕ} {r₁ r₂ : ℕ} → TruthTold t i b old n₁ r₁ → TruthTold t i b old n₂ r₂
+      → (r₁ ≡ r₂) × (n₁ ≡ n₂)
+  one-truth-told = face.truth-told-one
+
+  pub refused-write-keeps : {x : Value} {new : List ℕ} {a : ℕ} → (a ≡ 0 → ⊥) → Written t i x old new a → new ≡ old
+  refused-write-keeps = writing.refused-keeps
+
+  pub refused-truth-keeps : {b : ℕ} {new : List ℕ} {r : ℕ} → (r ≡ 0 → ⊥) → TruthTold t i b old new r → new ≡ old
+  refused-truth-keeps {b} n x = ⊎-elim (λ l. writing.refused-keeps n (x .given l)) (λ l. x .other l .keeps) (lt-or-le b 2)
+
+-- ==== 2. EXACT READING, EXACT REFUSALS BOTH WAYS, READ-BACK
+-- a value is read, or refused, exactly when the line of `ReadOutcome` for it is so
+pub read-so : (t : List ℤ) (i : ℕ) (bytes : List ℕ) (l : List ℤ) {l′ : List ℤ} {o : Outcome}
+    → ValueRead t i bytes l l′ o → ReadOutcome t i bytes l l′ o
+read-so = reading.read-named
+
+pub so-read : (t : List ℤ) (i : ℕ) (bytes : List ℕ) (l : List ℤ) {l′ : List ℤ} {o : Outcome}
+    → ReadOutcome t i bytes l l′ o → ValueRead t i bytes l l′ o
+so-read = reading.read-only
+
+-- a field is illegal exactly when it is neither spaces nor its kind's form with a legal number
+pub illegal-so : (t : List ℤ) (v : ℕ) (r : Row) (s : List ℕ) (k : Kind) → Given t v r s k
+    → (fieldBy k t v r s ≡ illegal → Illegal t v r s k) × (Illegal t v r s k → fieldBy k t v r s ≡ illegal)
+illegal-so = exactly.illegal-exactly
+
+-- a record gets its verdict, and a file gets its, exactly when what the verdict says is so; a file's is that of `verdictOf`, record by
+-- record
+pub record-so : (t : List ℤ) (bytes : List ℕ) {v : Verdict} → RecordJudged t bytes v → RecordOutcome t bytes v
+record-so = judging.record-named
+
+pub so-record : (t : List ℤ) (bytes : List ℕ) {v : Verdict} → RecordOutcome t bytes v → RecordJudged t bytes v
+so-record = judging.record-only
+
+pub file-so : (t : List ℤ) (d : List ℕ) → FileOutcome t d (fileVerdict t d)
+file-so = files.file-named
+
+pub so-file : {t : List ℤ} {d : List ℕ} {v : FileVerdict} → FileOutcome t d v → fileVerdict t d ≡ v
+so-file = files.file-only
+
+-- the count is that of the terminators passed; a file is cut at each whole terminator, and only so
+pub count-so : (t : List ℤ) (d : List ℕ) (n : ℕ) → fileVerdict t d ≡ soundWith n → n ≡ countEnded (recordsOf d)
+count-so = files.count-passed
+
+pub cut-clean : (d : List ℕ) → Clean (terminatorOf d) (recordsOf d)
+cut-clean = cutting.no-terminator-inside
+
+pub cut-again : (d : List ℕ) → laid (terminatorOf d) (recordsOf d) ≡ d
+cut-again = laid-again
+
+pub cut-one : (d : List ℕ) (rs : Records) → Clean (terminatorOf d) rs → laid (terminatorOf d) rs ≡ d → rs ≡ recordsOf d
+cut-one = cutting.cut-only
+
+-- a write is refused by its number exactly when what the number says is so
+pub write-so : (t : List ℤ) (i : ℕ) (x : Value) (n : ℕ) → rule.Outcome t i x n (refusalOf t i x n)
+write-so = writing.named
+
+pub so-write : (t : List ℤ) (i : ℕ) (x : Value) (n : ℕ) {k : ℕ} → rule.Outcome t i x n k → refusalOf t i x n ≡ k
+so-write = writing.only
+
+-- of a well-formed table no number is negative but a quantity's from, to and line values
+pub table-signs : (t : List ℤ) → wellFormed t ≡ true → TableSigns t
+table-signs = signs.formed-not-negative
+
+-- a definition that is read leaves a well-formed table
+pub definition-formed : {d : List ℕ} {t t′ : List ℤ} {v e : ℕ} → DefinitionRead d t t′ (definition.Read v e) → wellFormed t′ ≡ true
+definition-formed = settled.definition-well-formed
+
+-- what was written is read back
+pub read-back : {t : List ℤ} {i : ℕ} {x : Value} {old new : List ℕ} → Written t i x old new 0 → readingAt t i new ≡ holds x
+read-back = writing.read-back
+
+pub call-read-back : {t : List ℤ} {i : ℕ} {x : Value} {old new : List ℕ} → Written t i x old new 0 → {l l′ : List ℤ} {o : Outcome}
+    → ValueRead t i new l l′ o → o ≡ outcomeOf (rowAt t i .start - 1) (length l) (holds x)
+call-read-back = back.reads-written
+
+pub list-read-back : {t : List ℤ} {i : ℕ} {x : Value} {old new : List ℕ} → Written t i x old new 0 → {l l′ : List ℤ} {o : Outcome}
+    → ValueRead t i new l l′ o → l′ ≡ listAfter (holds x) l
+list-read-back = back.list-written
+
+pub text-read-back : {t : List ℤ} {i : ℕ} {s old new : List ℕ} → Written t i (text s) old new 0
+    → take (length s) (drop (rowAt t i .start - 1) new) ≡ s
+text-read-back = back.text-there
+
+-- ==== 3. THE LAWS OF CORRECTIONS, for the call and, since they promise `Written` too, for the exported functions
+-- locality
+pub others-kept : {t : List ℤ} {i : ℕ} {x : Value} {old new : List ℕ} → Written t i x old new 0
+    → (q : ℕ) → Out q (placesOf t (rowsOf t) (rowAt t i)) → getD new q 0 ≡ getD old q 0
+others-kept = writing.locality
+
+pub others-read : {t : List ℤ} {i : ℕ} {x : Value} {old new : List ℕ} → Written t i x old new 0
+    → (k : ℕ) → Apart (placesOf t (rowsOf t) (rowAt t k)) (placesOf t (rowsOf t) (rowAt t i)) → readingAt t k new ≡ readingAt t k old
+others-read = writing.others-unchanged
+
+-- the last write counts, whatever the one before it answered
+pub last-counts : {t : List ℤ} {i : ℕ} {x y : Value} {old one two alone : List ℕ} {a b c : ℕ}
+    → Written t i x old one a → Written t i y one two b → Written t i y old alone c → b ≡ 0 → two ≡ alone
+last-counts = writing.last-write
+
+-- rows with no shared value place are written in either order, whatever is answered
+pub in-either-order : {t : List ℤ} {i j : ℕ} {x y : Value} {old one two one′ two′ : List ℕ} {a b a′ b′ : ℕ}
+    → Apart (placesOf t (rowsOf t) (rowAt t i)) (placesOf t (rowsOf t) (rowAt t j))
+    → Written t i x old one a → Written t j y one two b → Written t j y old one′ b′ → Written t i x one′ two′ a′ → two ≡ two′
+in-either-order = writing.either-way
+
+-- write-back: what a read answered is written, and every later read answers the same
+module _ {t : List ℤ} {i : ℕ} {x : Value} {old new : List ℕ} {l l′ : List ℤ} {o : Outcome} {a : ℕ} where
+  pub back-written : ValueRead t i old l l′ o → Answered l′ old o x → Written t i x old new a → a ≡ 0
+  back-written = again.back-done
+
+  pub back-reads : ValueRead t i old l l′ o → Answered l′ old o x → Written t i x old new a
+      → {m m′ : List ℤ} {p : Outcome} → ValueRead t i new m m′ p → ValueRead t i old m m′ p
+  back-reads = again.back-read
+
+  pub back-answers : ValueRead t i old l l′ o → Answered l′ old o x → Written t i x old new a
+      → {m m′ : List ℤ} {p : Outcome} → length m ≡ length l → ValueRead t i new m m′ p → p ≡ o
+  back-answers = again.back-same
+
+-- a truth given as a number: what is done is the write of a truth
+pub truth-laws : {t : List ℤ} {i b : ℕ} {old new : List ℕ} → TruthTold t i b old new 0 → Written t i (truth (eqb b 1)) old new 0
+truth-laws = face.truth-written

@@ -1,0 +1,3 @@
+pub mod rule
+pub mod Only
+pub mod Files

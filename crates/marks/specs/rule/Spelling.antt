@@ -1,0 +1,40 @@
+-- Strings and comments as the paper has them, and the bytes that a string says. 34 is a quote, 123 and 125 are { and }, 78 and 76 are
+-- N and L, 60 and 62 are < and >.
+use mathlib.Core.Bool.{cond}
+use mathlib.Core.List.{List, [], _∷_, _++_}
+use Prim.Native.Nat.{ℕ, _+_, _*_, _-_}
+use Rattle.scan.specs.rule.Text.{Text, stop, sign}
+use Rattle.ascii.specs.rule.Class.{upperOf}
+use Rattle.scan.specs.rule.Number.{isDigit}
+use Rattle.marks.specs.rule.Marks.{insideOf}
+use Rattle.marks.specs.declared.Inside.{Inside}
+use Rattle.marks.specs.declared.Inside.the-variants.{Plain, Opened, Shut, Ell, Pair, Low}
+use Rattle.marks.specs.declared.Move.{Move}
+use Rattle.marks.specs.declared.Move.the-variants.{Go, Closed, Wrong}
+use lib.Dec.{eqb}
+
+-- the value of a hex digit, and of a pair
+abbrev pub hexOf : ℕ → ℕ
+hexOf b = cond (isDigit b) (b - 48) (upperOf b - 55)
+
+abbrev pub pairOf : ℕ → ℕ → ℕ
+pairOf a b = hexOf a * 16 + hexOf b
+
+-- the byte that a string's byte b ends, where b follows a: none or one
+unfoldable pub givesOf : Inside → ℕ → ℕ → List ℕ
+givesOf Plain a b = cond (eqb b 123) [] (b ∷ [])
+givesOf (Opened o) a b = cond (eqb b 34) (b ∷ []) (cond (eqb b 123) (b ∷ []) [])
+givesOf (Shut o) a b = []
+givesOf (Ell o) a b = 10 ∷ []
+givesOf (Pair o) a b = []
+givesOf (Low o) a b = pairOf a b ∷ []
+
+abbrev pub gone : Move → List ℕ → (Inside → List ℕ) → List ℕ
+gone (Go s) m k = m ++ k s
+gone Closed m k = []
+gone (Wrong o) m k = []
+
+-- the bytes that a string says, read on from s, where a was the byte before
+unfoldable pub decodeOf : Inside → ℕ → Text → List ℕ
+decodeOf s a (stop p) = []
+decodeOf s a (sign p b t) = gone (insideOf s b p) (givesOf s a b) (λ s. decodeOf s b t)

@@ -1,0 +1,3 @@
+pub mod Width
+pub mod Good
+pub mod Survey

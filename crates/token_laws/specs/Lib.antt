@@ -1,0 +1,11 @@
+pub mod Strings
+pub mod Comments
+pub mod Gaps
+pub mod Tokens
+pub mod Values
+pub mod Numbers
+pub mod Opening
+pub mod Judged
+pub mod Places
+pub mod Runs
+pub mod Turns

@@ -1,0 +1,87 @@
+-- "No two outcomes" for the exported functions: each promise settles the number given back, all four numbers of the answer, and every
+-- buffer that was lent.
+use mathlib.Core.Path.{_≡_, refl, sym, ap, _∙_}
+use mathlib.Core.Logic.{⊎-elim}
+use mathlib.Core.Bool.{Bool, true, false, cond}
+use mathlib.Core.List.{List}
+use Prim.Native.Nat.{ℕ}
+use native.Mathlib.Omega.{arith}
+use borrow.Author.Tests.{eqb-false}
+use lib.Dec.{eqb}
+use lib.IntN.{ℤ}
+use Rattle.below.specs.Below.{lt-or-le}
+use Rattle.fields.specs.rule.Field.{Value, truth}
+use Rattle.writes.specs.rule.Public.{Written}
+use Rattle.zarfolin.specs.rule.Face.{Telling, verdictCells, outcomeCells, fileCells, definitionCells, nextCells}
+use Rattle.zarfolin.specs.rule.Face.{RecordTold, ValueTold, FileTold, DefinitionTold, NextTold}
+use Rattle.zarfolin.specs.rule.Whole.{wholeCells, WholeTold}
+use Rattle.zarfolin.specs.rule.Truth.{noTruth, TruthTold}
+use Rattle.zarfolin.specs.declared.Told.{Told}
+
+-- what tells equal numbers is equal
+telling-one : {c₁ c₂ : Told} {a₁ a₂ : List ℤ} {r₁ r₂ : ℕ} → c₁ ≡ c₂ → Telling c₁ a₁ r₁ → Telling c₂ a₂ r₂ → (r₁ ≡ r₂) × (a₁ ≡ a₂)
+telling-one {c₁} {c₂} {a₁} {a₂} {r₁} {r₂} e x y =
+    let z : Telling c₁ a₂ r₂ = rw e y in
+    (x .gives ∙ sym (z .gives), x .holds ∙ sym (z .holds))
+
+-- ---- zarfolin_judge_record, zarfolin_judge_file, zarfolin_next_record: the number and the answer
+pub record-told-one : {t : List ℤ} {bytes : List ℕ} {a₁ a₂ : List ℤ} {r₁ r₂ : ℕ} → RecordTold t bytes a₁ r₁ → RecordTold t bytes a₂ r₂
+    → (r₁ ≡ r₂) × (a₁ ≡ a₂)
+record-told-one x y = telling-one (ap verdictCells (x .promise .says ∙ sym (y .promise .says))) (x .tells) (y .tells)
+
+pub file-told-one : {t : List ℤ} {d : List ℕ} {a₁ a₂ : List ℤ} {r₁ r₂ : ℕ} → FileTold t d a₁ r₁ → FileTold t d a₂ r₂
+    → (r₁ ≡ r₂) × (a₁ ≡ a₂)
+file-told-one x y = telling-one (ap fileCells (x .promise .says ∙ sym (y .promise .says))) (x .tells) (y .tells)
+
+pub next-told-one : {d : List ℕ} {from : ℕ} {a₁ a₂ : List ℤ} {r₁ r₂ : ℕ} → NextTold d from a₁ r₁ → NextTold d from a₂ r₂
+    → (r₁ ≡ r₂) × (a₁ ≡ a₂)
+next-told-one x y = telling-one (ap nextCells (x .promise .says ∙ sym (y .promise .says))) (x .tells) (y .tells)
+
+-- ---- zarfolin_read_value: the list too; zarfolin_read_definition: the table too
+pub value-told-one : {t : List ℤ} {i : ℕ} {bytes : List ℕ} {list list₁ list₂ a₁ a₂ : List ℤ} {r₁ r₂ : ℕ}
+    → ValueTold t i bytes list list₁ a₁ r₁ → ValueTold t i bytes list list₂ a₂ r₂ → ((r₁ ≡ r₂) × (a₁ ≡ a₂)) × (list₁ ≡ list₂)
+value-told-one x y = (
+  telling-one (ap outcomeCells (x .promise .says ∙ sym (y .promise .says))) (x .tells) (y .tells),
+  x .promise .leaves ∙ sym (y .promise .leaves),
+)
+
+pub definition-told-one : {d : List ℕ} {t t₁ t₂ a₁ a₂ : List ℤ} {r₁ r₂ : ℕ}
+    → DefinitionTold d t t₁ a₁ r₁ → DefinitionTold d t t₂ a₂ r₂ → ((r₁ ≡ r₂) × (a₁ ≡ a₂)) × (t₁ ≡ t₂)
+definition-told-one x y = (
+  telling-one (ap definitionCells (x .promise .says ∙ sym (y .promise .says))) (x .tells) (y .tells),
+  x .promise .leaves ∙ sym (y .promise .leaves),
+)
+
+-- ---- zarfolin_read_record: the rows' numbers and the list too
+pub whole-told-one : {t : List ℤ} {bytes : List ℕ} {out out₁ out₂ list list₁ list₂ a₁ a₂ : List ℤ} {r₁ r₂ : ℕ}
+    → WholeTold t bytes out out₁ list list₁ a₁ r₁ → WholeTold t bytes out out₂ list list₂ a₂ r₂
+    → ((r₁ ≡ r₂) × (a₁ ≡ a₂)) × ((out₁ ≡ out₂) × (list₁ ≡ list₂))
+whole-told-one x y = (
+  telling-one (ap wholeCells (x .promise .says ∙ sym (y .promise .says))) (x .tells) (y .tells),
+  (x .promise .rows ∙ sym (y .promise .rows), x .promise .leaves ∙ sym (y .promise .leaves)),
+)
+
+-- ---- zarfolin_write_missing, _number, _set, _text promise `Written`, as the call does: the number and the record
+pub write-told-one : {t : List ℤ} {i : ℕ} {x : Value} {old new₁ new₂ : List ℕ} {r₁ r₂ : ℕ}
+    → Written t i x old new₁ r₁ → Written t i x old new₂ r₂ → (r₁ ≡ r₂) × (new₁ ≡ new₂)
+write-told-one x y = (x .says ∙ sym (y .says), x .leaves ∙ sym (y .leaves))
+
+-- ---- zarfolin_write_truth
+pub truth-told-one : {t : List ℤ} {i b : ℕ} {old new₁ new₂ : List ℕ} {r₁ r₂ : ℕ}
+    → TruthTold t i b old new₁ r₁ → TruthTold t i b old new₂ r₂ → (r₁ ≡ r₂) × (new₁ ≡ new₂)
+truth-told-one {t} {i} {b} x y =
+    ⊎-elim (λ l. write-told-one (x .given l) (y .given l))
+    (λ l. let p = x .other l in let q = y .other l in (p .says ∙ sym (q .says), p .keeps ∙ sym (q .keeps))) (lt-or-le b 2)
+
+-- THE BRIDGE to the laws of corrections: a truth that is done is the write of a truth, so that each law of `Written` holds of it; and what
+-- is not done keeps the record, as the laws say of `Written` too
+not-done : (k : ℕ) → 0 ≡ noTruth k → ⊥
+unfolding noTruth
+not-done k e = go (eqb k 0) refl e
+  where
+    go : (c : Bool) → eqb k 0 ≡ c → 0 ≡ cond c 27 k → ⊥
+    go true q f = omega arith
+    go false q f = eqb-false k 0 q (sym f)
+
+pub truth-written : {t : List ℤ} {i b : ℕ} {old new : List ℕ} → TruthTold t i b old new 0 → Written t i (truth (eqb b 1)) old new 0
+truth-written {t} {i} {b} x = ⊎-elim (λ l. x .given l) (λ l. absurd (not-done _ (x .other l .says))) (lt-or-le b 2)

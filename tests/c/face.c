@@ -1,0 +1,234 @@
+/* A test of the face for C: every call of the library once and more, with each answer checked, and every name of the header that
+ * an answer bears out. Ends with status 1 at the first surprise. rust/test compiles and runs it; by hand:
+ *
+ *     cc -Wall -Wextra -Werror -I include tests/c/face.c target/staticlib/libzarfolin.a -o face && ./face
+ */
+#include "zarfolin.h"
+
+#include <inttypes.h>
+#include <stdio.h>
+#include <stdlib.h>
+#include <string.h>
+
+static int checks = 0;
+
+#define CHECK(condition)                                                          \
+    do {                                                                          \
+        checks++;                                                                 \
+        if (!(condition)) {                                                       \
+            fprintf(stderr, "%s:%d: not so: %s\n", __FILE__, __LINE__, #condition); \
+            exit(1);                                                              \
+        }                                                                         \
+    } while (0)
+
+static const char definition[] =
+    "SSS VERSION 1.1 <a registry's counter> SURVEY RECORD R\r\n"
+    "VARIABLE 1 NAME \"desk\" LABEL \"Desk\" TYPE SINGLE POSITION 1 TO 2\r\n"
+    "VALUES 1 TO 12 END VALUES END VARIABLE\r\n"
+    "VARIABLE 2 NAME \"seen\" LABEL \"Seen\" TYPE MULTIPLE POSITION 3 TO 6\r\n"
+    "VALUES 1 \"a\" 2 \"b\" 4 \"d\" SPECIAL END VALUES END VARIABLE\r\n"
+    "VARIABLE 3 NAME \"wait\" LABEL \"Wait\" TYPE QUANTITY POSITION 7 TO 11\r\n"
+    "VALUES -1.0 TO 99.5 END VALUES END VARIABLE\r\n"
+    "VARIABLE 4 NAME \"word\" LABEL \"Word\" TYPE CHARACTER POSITION 12 TO 16 SIZE 5 END VARIABLE\r\n"
+    "VARIABLE 5 NAME \"back\" LABEL \"Back\" TYPE LOGICAL POSITION 17 END VARIABLE\r\n"
+    "VARIABLE 6 NAME \"two\" LABEL \"Two\" TYPE MULTIPLE POSITION 18 TO 21 SPREAD 2 OF 2\r\n"
+    "VALUES 1 TO 20 END VALUES END VARIABLE\r\n"
+    "END RECORD END SURVEY END SSS\r\n";
+
+static int64_t table[ZARFOLIN_MAX_TABLE];
+static size_t table_len;
+
+static const uint8_t *bytes(const char *text) { return (const uint8_t *)text; }
+
+static int is(const int64_t *answer, int64_t a, int64_t b, int64_t c, int64_t d) {
+    return answer[0] == a && answer[1] == b && answer[2] == c && answer[3] == d;
+}
+
+static void definitions(void) {
+    int64_t answer[4];
+    const size_t length = sizeof definition - 1;
+
+    /* Too little room: refused with 10, and the table is as it was. */
+    int64_t small[3] = {7, 8, 9};
+    CHECK(zarfolin_read_definition(bytes(definition), length, small, 3, answer) == ZARFOLIN_E_TABLE_ROOM);
+    CHECK(is(answer, 10, 0, 0, 0));
+    CHECK(small[0] == 7 && small[1] == 8 && small[2] == 9);
+
+    /* A text that breaks off: 2 at its end. */
+    CHECK(zarfolin_read_definition(bytes("SSS VERSION 1.1"), 15, small, 3, answer) == ZARFOLIN_E_TOKEN);
+    CHECK(is(answer, 2, 15, 0, 0));
+    CHECK(zarfolin_read_definition(bytes("SSS VERSION 1.2"), 15, small, 3, answer) == ZARFOLIN_E_VERSION);
+    CHECK(is(answer, 4, 12, 0, 0));
+
+    table_len = ZARFOLIN_TABLE(6, 3);
+    table[table_len] = 12345;
+    CHECK(zarfolin_read_definition(bytes(definition), length, table, ZARFOLIN_MAX_TABLE, answer) == ZARFOLIN_OK);
+    CHECK(is(answer, 0, 0, 6, 3));
+    CHECK(table[table_len] == 12345);
+    CHECK(table[ZARFOLIN_H_MARK] == ZARFOLIN_MARK && table[ZARFOLIN_H_VARIABLES] == 6 && table[ZARFOLIN_H_LINES] == 3);
+    CHECK(table[ZARFOLIN_H_RECORD] == 21 && table[ZARFOLIN_H_ROWS_AT] == ZARFOLIN_HEADER);
+    CHECK(table[ZARFOLIN_H_LINES_AT] == ZARFOLIN_TABLE(6, 0));
+
+    /* A name as it stands in the definition, and a line. */
+    const int64_t *row = zarfolin_row(table, 2);
+    CHECK(row[ZARFOLIN_IDENT] == 3 && row[ZARFOLIN_TYPE] == ZARFOLIN_QUANTITY && row[ZARFOLIN_WIDTH] == 4);
+    CHECK(row[ZARFOLIN_START] == 7 && row[ZARFOLIN_FINISH] == 11 && row[ZARFOLIN_POINT] == 1 && row[ZARFOLIN_RANGE] == 1);
+    CHECK(row[ZARFOLIN_FROM] == -10 && row[ZARFOLIN_TO] == 995 && row[ZARFOLIN_DECIMALS] == 1);
+    CHECK(row[ZARFOLIN_NAME_LENGTH] == 4 && memcmp(definition + row[ZARFOLIN_NAME], "wait", 4) == 0);
+    CHECK(row[ZARFOLIN_LABEL_LENGTH] == 4 && memcmp(definition + row[ZARFOLIN_LABEL], "Wait", 4) == 0);
+    CHECK(row[ZARFOLIN_LINES] == 0 && row[ZARFOLIN_LINES_BEFORE] == 3);
+    const int64_t *spread = zarfolin_row(table, 5);
+    CHECK(spread[ZARFOLIN_TYPE] == ZARFOLIN_MULTIPLE && spread[ZARFOLIN_SUBFIELDS] == 2 && spread[ZARFOLIN_SUBFIELD_WIDTH] == 2);
+    CHECK(zarfolin_row(table, 0)[ZARFOLIN_TYPE] == ZARFOLIN_SINGLE && zarfolin_row(table, 3)[ZARFOLIN_TYPE] == ZARFOLIN_CHARACTER);
+    CHECK(zarfolin_row(table, 4)[ZARFOLIN_TYPE] == ZARFOLIN_LOGICAL && zarfolin_row(table, 1)[ZARFOLIN_LINES] == 3);
+    const int64_t *line = zarfolin_line(table, 2);
+    CHECK(line[ZARFOLIN_LINE_VALUE] == 4 && line[ZARFOLIN_LINE_SPECIAL] == 1);
+    CHECK(line[ZARFOLIN_LINE_TEXT_LENGTH] == 1 && definition[line[ZARFOLIN_LINE_TEXT]] == 'd');
+}
+
+static const char sound[] = " 710x1x-1.0ab   120 1";
+
+static void readings(void) {
+    int64_t answer[4];
+    int64_t list[4] = {-1, -1, -1, -1};
+    const uint8_t *record = bytes(sound);
+    const size_t length = sizeof sound - 1;
+
+    CHECK(zarfolin_read_value(table, table_len, 0, record, length, list, 4, answer) == ZARFOLIN_OK);
+    CHECK(is(answer, 0, ZARFOLIN_IS_NUMBER, 7, 0));
+    CHECK(zarfolin_read_value(table, table_len, 2, record, length, list, 4, answer) == ZARFOLIN_OK);
+    CHECK(is(answer, 0, ZARFOLIN_IS_NUMBER, -10, 0));
+    CHECK(zarfolin_read_value(table, table_len, 3, record, length, list, 4, answer) == ZARFOLIN_OK);
+    CHECK(is(answer, 0, ZARFOLIN_IS_TEXT, 11, 2));
+    CHECK(zarfolin_read_value(table, table_len, 4, record, length, list, 4, answer) == ZARFOLIN_OK);
+    CHECK(is(answer, 0, ZARFOLIN_IS_TRUTH, 1, 0));
+    CHECK(list[0] == -1 && list[1] == -1 && list[2] == -1 && list[3] == -1);
+
+    CHECK(zarfolin_read_value(table, table_len, 1, record, length, list, 1, answer) == ZARFOLIN_E_LIST_ROOM);
+    CHECK(is(answer, 25, 0, 0, 0) && list[0] == -1);
+    CHECK(zarfolin_read_value(table, table_len, 1, record, length, list, 4, answer) == ZARFOLIN_OK);
+    CHECK(is(answer, 0, ZARFOLIN_IS_SET, 2, 0));
+    CHECK(list[0] == 1 && list[1] == 4 && list[2] == -1 && list[3] == -1);
+    CHECK(zarfolin_read_value(table, table_len, 5, record, length, list, 4, answer) == ZARFOLIN_OK);
+    CHECK(is(answer, 0, ZARFOLIN_IS_SET, 2, 0));
+    CHECK(list[0] == 1 && list[1] == 20 && list[2] == -1);
+
+    CHECK(zarfolin_read_value(table, table_len, 6, record, length, list, 4, answer) == ZARFOLIN_E_ROW);
+    CHECK(zarfolin_read_value(table, table_len, 0, record, length - 1, list, 4, answer) == ZARFOLIN_E_SHORT);
+    CHECK(zarfolin_read_value(table + 1, table_len - 1, 0, record, length, list, 4, answer) == ZARFOLIN_E_TABLE);
+    CHECK(zarfolin_read_value(table, table_len, 0, bytes("7 10x1x-1.0ab   120 1"), length, list, 4, answer) == ZARFOLIN_E_FIELD);
+
+    /* All rows at once: as one by one, but that a set says where it starts in the list. */
+    int64_t out[ZARFOLIN_ANSWER * 6 + 1], all[5] = {-1, -1, -1, -1, -1};
+    out[ZARFOLIN_ANSWER * 6] = -1;
+    CHECK(zarfolin_read_record(table, table_len, record, length, out, ZARFOLIN_ANSWER * 6 - 1, all, 5, answer) == ZARFOLIN_E_LIST_ROOM);
+    CHECK(zarfolin_read_record(table, table_len, record, length, out, ZARFOLIN_ANSWER * 6, all, 3, answer) == ZARFOLIN_E_LIST_ROOM);
+    CHECK(is(answer, 25, 0, 0, 0) && all[0] == -1);
+    CHECK(zarfolin_read_record(table, table_len, record, length - 1, out, ZARFOLIN_ANSWER * 6, all, 5, answer) == ZARFOLIN_E_SHORT);
+    CHECK(zarfolin_read_record(table + 1, table_len - 1, record, length, out, ZARFOLIN_ANSWER * 6, all, 5, answer) == ZARFOLIN_E_TABLE);
+    CHECK(zarfolin_read_record(table, table_len, record, length, out, ZARFOLIN_ANSWER * 6 + 1, all, 5, answer) == ZARFOLIN_OK);
+    CHECK(is(answer, 0, 4, 0, 0) && out[ZARFOLIN_ANSWER * 6] == -1);
+    CHECK(is(out, 0, ZARFOLIN_IS_NUMBER, 7, 0) && is(out + ZARFOLIN_ANSWER, 0, ZARFOLIN_IS_SET, 2, 0));
+    CHECK(is(out + ZARFOLIN_ANSWER * 3, 0, ZARFOLIN_IS_TEXT, 11, 2) && is(out + ZARFOLIN_ANSWER * 5, 0, ZARFOLIN_IS_SET, 2, 2));
+    CHECK(all[0] == 1 && all[1] == 4 && all[2] == 1 && all[3] == 20 && all[4] == -1);
+    CHECK(zarfolin_read_record(table, table_len, bytes("7 10x1x-1.0ab   220 1"), length, out, ZARFOLIN_ANSWER * 6, all, 5, answer) == 0);
+    CHECK(is(answer, 0, 4, 2, 0) && is(out, 24, 0, 0, 0) && is(out + ZARFOLIN_ANSWER * 4, 24, 0, 0, 0));
+
+    CHECK(zarfolin_judge_record(table, table_len, record, length, answer) == ZARFOLIN_OK);
+    CHECK(is(answer, 0, 0, 0, 0));
+    CHECK(zarfolin_judge_record(table, table_len, bytes(" 710x1x-1.0a\tb  120 1"), length, answer) == ZARFOLIN_E_LOW_BYTE);
+    CHECK(is(answer, 23, 12, 0, 0));
+    CHECK(zarfolin_judge_record(table, table_len, bytes(" 710x1x-1.0ab   220 1"), length, answer) == ZARFOLIN_E_FIELD);
+    CHECK(is(answer, 24, 4, 0, 0));
+    CHECK(zarfolin_judge_record(table, table_len, record, 3, answer) == ZARFOLIN_E_SHORT);
+}
+
+static void writes(void) {
+    uint8_t record[] = " 710x1x-1.0ab   120 1";
+    const size_t length = sizeof record - 1;
+    const int64_t set[] = {2, 4};
+    const int64_t falling[] = {4, 2};
+    const int64_t three[] = {1, 2, 3};
+
+    CHECK(zarfolin_write_number(table, table_len, 0, 12, record, length) == ZARFOLIN_OK);
+    CHECK(zarfolin_write_set(table, table_len, 1, set, 2, record, length) == ZARFOLIN_OK);
+    CHECK(zarfolin_write_number(table, table_len, 2, 5, record, length) == ZARFOLIN_OK);
+    CHECK(zarfolin_write_text(table, table_len, 3, bytes("c d"), 3, record, length) == ZARFOLIN_OK);
+    CHECK(zarfolin_write_truth(table, table_len, 4, 0, record, length) == ZARFOLIN_OK);
+    CHECK(zarfolin_write_set(table, table_len, 5, set, 2, record, length) == ZARFOLIN_OK);
+    CHECK(memcmp(record, "1201x1x00.5c d  00204", length) == 0);
+
+    CHECK(zarfolin_write_number(table, table_len, 0, 13, record, length) == ZARFOLIN_E_VALUE);
+    CHECK(zarfolin_write_number(table, table_len, 1, 1, record, length) == ZARFOLIN_E_TYPE);
+    CHECK(zarfolin_write_truth(table, table_len, 4, 2, record, length) == ZARFOLIN_E_VALUE);
+    CHECK(zarfolin_write_truth(table, table_len, 0, 2, record, length) == ZARFOLIN_E_TYPE);
+    CHECK(zarfolin_write_set(table, table_len, 1, falling, 2, record, length) == ZARFOLIN_E_VALUE);
+    CHECK(zarfolin_write_set(table, table_len, 5, three, 3, record, length) == ZARFOLIN_E_MEMBERS);
+    CHECK(zarfolin_write_text(table, table_len, 3, bytes("c "), 2, record, length) == ZARFOLIN_E_VALUE);
+    CHECK(zarfolin_write_text(table, table_len, 6, bytes("c"), 1, record, length) == ZARFOLIN_E_ROW);
+    CHECK(zarfolin_write_missing(table, table_len, 0, record, length - 1) == ZARFOLIN_E_SHORT);
+    CHECK(memcmp(record, "1201x1x00.5c d  00204", length) == 0);
+
+    for (uint64_t row = 0; row < 6; row++) {
+        CHECK(zarfolin_write_missing(table, table_len, row, record, length) == ZARFOLIN_OK);
+    }
+    CHECK(memcmp(record, "    x x              ", length) == 0);
+}
+
+static void files(void) {
+    static const char good[] = " 710x1x-1.0ab   120 1\r\n    x x              \r\n";
+    static const char open[] = " 710x1x-1.0ab   120 1\r\n    x x              ";
+    static const char low[] = " 710x1x-1.0ab   120 1\n    x x        \r     \n";
+    static const char uneven[] = " 710x1x-1.0ab   120 1\n    x x             \n";
+    static const char illegal[] = " 710x1x-1.0ab   120 1\r12  x x              \r13  x x              \r";
+    int64_t answer[4];
+
+    CHECK(zarfolin_judge_file(table, table_len, bytes(good), sizeof good - 1, answer) == ZARFOLIN_OK);
+    CHECK(is(answer, 0, 2, 0, 0));
+    CHECK(zarfolin_judge_file(table, table_len, bytes(""), 0, answer) == ZARFOLIN_OK);
+    CHECK(is(answer, 0, 0, 0, 0));
+    CHECK(zarfolin_judge_file(table, table_len, bytes(open), sizeof open - 1, answer) == ZARFOLIN_E_UNENDED);
+    CHECK(is(answer, 30, 2, 0, 0));
+    CHECK(zarfolin_judge_file(table, table_len, bytes(uneven), sizeof uneven - 1, answer) == ZARFOLIN_E_LENGTH);
+    CHECK(is(answer, 31, 2, 0, 0));
+    CHECK(zarfolin_judge_file(table, table_len, bytes(low), sizeof low - 1, answer) == ZARFOLIN_E_LOW_BYTE);
+    CHECK(is(answer, 23, 2, 0, 15));
+    CHECK(zarfolin_judge_file(table, table_len, bytes(illegal), sizeof illegal - 1, answer) == ZARFOLIN_E_FIELD);
+    CHECK(is(answer, 24, 3, 0, 0));
+    CHECK(zarfolin_judge_file(table, 5, bytes(good), sizeof good - 1, answer) == ZARFOLIN_E_TABLE);
+    CHECK(is(answer, 20, 0, 0, 0));
+
+    CHECK(zarfolin_next_record(bytes(good), sizeof good - 1, 0, answer) == ZARFOLIN_RECORD);
+    CHECK(is(answer, 1, 0, 21, 23));
+    CHECK(zarfolin_next_record(bytes(good), sizeof good - 1, (uint64_t)answer[3], answer) == ZARFOLIN_RECORD);
+    CHECK(is(answer, 1, 23, 44, 46));
+    CHECK(zarfolin_next_record(bytes(good), sizeof good - 1, (uint64_t)answer[3], answer) == ZARFOLIN_NO_RECORD);
+    CHECK(is(answer, 0, 0, 0, 0));
+    CHECK(zarfolin_next_record(bytes(open), sizeof open - 1, 23, answer) == ZARFOLIN_OPEN_RECORD);
+    CHECK(is(answer, 2, 23, 44, 44));
+}
+
+/* Every refusal has words of its own, and a number of none has some too. */
+static void messages(void) {
+    CHECK(zarfolin_version() == ZARFOLIN_VERSION);
+    const char *unknown = zarfolin_message(99);
+    CHECK(strlen(unknown) > 0 && zarfolin_message(UINT64_MAX) == unknown && zarfolin_message(29) == unknown);
+    for (zarfolin_number a = 0; a <= ZARFOLIN_E_LENGTH; a++) {
+        const int none = (a > ZARFOLIN_E_TABLE_ROOM && a < ZARFOLIN_E_TABLE) || a == 29;
+        CHECK((strcmp(zarfolin_message(a), unknown) == 0) == none);
+        for (zarfolin_number b = 0; b < a && !none; b++) {
+            CHECK(strcmp(zarfolin_message(a), zarfolin_message(b)) != 0);
+        }
+    }
+    CHECK(ZARFOLIN_MAX_TABLE == ZARFOLIN_TABLE(ZARFOLIN_MAX_VARIABLES, ZARFOLIN_MAX_LINES));
+}
+
+int main(void) {
+    messages();
+    definitions();
+    readings();
+    writes();
+    files();
+    printf("face for C: %d checks, all as they should be\n", checks);
+    return 0;
+}

@@ -1,0 +1,312 @@
+/* How much stack each call takes, held to the figures of include/zarfolin.h.
+ *
+ * Each call runs on a stack of its own that was painted before; what is no longer as it was painted was used. An empty call
+ * is measured in the same way and taken off. The first runs of a call don't count: in them the dynamic linker may still
+ * have to bind memcpy. The inputs go through every type, refusal and terminator, tables that rise and that
+ * don't, and comments of 32 levels. Says what was measured, ends with status 1 if a call took more than its figure, and
+ * with a note if a figure is more than an eighth and 64 bytes too high.
+ *
+ *     cc -O2 -I include tests/c/stack.c target/staticlib/libzarfolin.a -o stack && ./stack
+ */
+#define _GNU_SOURCE
+#include "zarfolin.h"
+
+#include <stdio.h>
+#include <stdlib.h>
+#include <string.h>
+#include <ucontext.h>
+
+#define STACK (1u << 19)
+#define PAINT 0xa5
+
+static uint8_t stack[STACK] __attribute__((aligned(64)));
+static ucontext_t home, away;
+
+/* What the measured calls are given. */
+static char def[ZARFOLIN_MAX_DEFINITION + 2];
+static size_t def_len;
+static int64_t table[ZARFOLIN_MAX_TABLE];
+static int64_t list[ZARFOLIN_MAX_SET];
+static size_t list_len = ZARFOLIN_MAX_SET;
+static int64_t out[ZARFOLIN_ANSWER * ZARFOLIN_MAX_VARIABLES];
+static int64_t members[4 * ZARFOLIN_MAX_LOCATION];
+static uint8_t record[ZARFOLIN_MAX_LOCATION + 8];
+static size_t record_len;
+static uint64_t row;
+static int64_t number;
+static int64_t answer[ZARFOLIN_ANSWER];
+static volatile zarfolin_number got;
+
+#define TABLE table, ZARFOLIN_MAX_TABLE
+#define TEXT (const uint8_t *)def, def_len
+static void nothing(void) { got = 0; }
+static void version(void) { got = zarfolin_version(); }
+static void read_definition(void) { got = zarfolin_read_definition(TEXT, TABLE, answer); }
+static void read_value(void) { got = zarfolin_read_value(TABLE, row, record, record_len, list, list_len, answer); }
+static void read_record(void) {
+    got = zarfolin_read_record(TABLE, record, record_len, out, sizeof out / sizeof out[0], members, 4 * ZARFOLIN_MAX_LOCATION, answer);
+}
+static void judge_record(void) { got = zarfolin_judge_record(TABLE, record, record_len, answer); }
+static void write_missing(void) { got = zarfolin_write_missing(TABLE, row, record, record_len); }
+static void write_number(void) { got = zarfolin_write_number(TABLE, row, number, record, record_len); }
+static void write_truth(void) { got = zarfolin_write_truth(TABLE, row, (uint8_t)number, record, record_len); }
+static void write_set(void) { got = zarfolin_write_set(TABLE, row, list, list_len, record, record_len); }
+static void write_text(void) { got = zarfolin_write_text(TABLE, row, (const uint8_t *)def, (size_t)number, record, record_len); }
+static void judge_file(void) { got = zarfolin_judge_file(TABLE, record, record_len, answer); }
+static void next_record(void) { got = zarfolin_next_record(record, record_len, row, answer); }
+
+static struct measured {
+    const char *name;
+    void (*call)(void);
+    size_t figure;
+    size_t most;
+    unsigned runs;
+} calls[] = {
+    {"zarfolin_version", version, ZARFOLIN_STACK_VERSION, 0, 0},
+    {"zarfolin_read_definition", read_definition, ZARFOLIN_STACK_READ_DEFINITION, 0, 0},
+    {"zarfolin_read_value", read_value, ZARFOLIN_STACK_READ_VALUE, 0, 0},
+    {"zarfolin_read_record", read_record, ZARFOLIN_STACK_READ_RECORD, 0, 0},
+    {"zarfolin_judge_record", judge_record, ZARFOLIN_STACK_JUDGE_RECORD, 0, 0},
+    {"zarfolin_write_missing", write_missing, ZARFOLIN_STACK_WRITE, 0, 0},
+    {"zarfolin_write_number", write_number, ZARFOLIN_STACK_WRITE, 0, 0},
+    {"zarfolin_write_truth", write_truth, ZARFOLIN_STACK_WRITE, 0, 0},
+    {"zarfolin_write_set", write_set, ZARFOLIN_STACK_WRITE, 0, 0},
+    {"zarfolin_write_text", write_text, ZARFOLIN_STACK_WRITE, 0, 0},
+    {"zarfolin_judge_file", judge_file, ZARFOLIN_STACK_JUDGE_FILE, 0, 0},
+    {"zarfolin_next_record", next_record, ZARFOLIN_STACK_NEXT_RECORD, 0, 0},
+};
+enum { CALLS = sizeof calls / sizeof calls[0] };
+
+static void (*to_run)(void);
+static void run(void) { to_run(); }
+
+/* The bytes of a painted stack that a call touches, the frames that lead to it among them. */
+static size_t touched(void (*call)(void)) {
+    memset(stack, PAINT, STACK);
+    to_run = call;
+    getcontext(&away);
+    away.uc_stack.ss_sp = stack;
+    away.uc_stack.ss_size = STACK;
+    away.uc_link = &home;
+    makecontext(&away, run, 0);
+    swapcontext(&home, &away);
+    size_t free = 0;
+    while (free < STACK && *(const uint64_t *)(stack + free) == PAINT * UINT64_C(0x0101010101010101)) {
+        free += 8;
+    }
+    return STACK - free;
+}
+
+static void measure(void (*call)(void)) {
+    static size_t base;
+    if (base == 0) {
+        touched(nothing);
+        base = touched(nothing);
+    }
+    for (size_t i = 0; i < CALLS; i++) {
+        if (calls[i].call == call) {
+            if (calls[i].runs++ < 2) {
+                touched(call);
+            }
+            const size_t used = touched(call) - base;
+            calls[i].most = used > calls[i].most ? used : calls[i].most;
+        }
+    }
+}
+
+static void add(const char *text) {
+    const size_t n = strlen(text);
+    if (def_len + n < sizeof def) {
+        memcpy(def + def_len, text, n);
+        def_len += n;
+    }
+}
+
+static void begin(const char *heading) {
+    def_len = 0;
+    add("SSS VERSION 1.1 ");
+    add(heading);
+    add(" SURVEY RECORD R ");
+}
+
+static void variable(int ident, const char *rest) {
+    char text[80];
+    snprintf(text, sizeof text, "VARIABLE %d NAME \"v%d\" LABEL \"{\"}l{4142}{NL}\" TYPE ", ident, ident);
+    add(text);
+    add(rest);
+    add(" END VARIABLE ");
+}
+
+static zarfolin_number end(void) {
+    add("END RECORD END SURVEY END SSS");
+    measure(read_definition);
+    return got;
+}
+
+/* Every way a record may look, each judged, read and written by every row. */
+static void records(void) {
+    static const char fillers[] = " 01x-9.\t\xff";
+    static const int64_t numbers[] = {0, 1, 7, 12, -10, -999999999999999, INT64_MAX};
+    const uint64_t rows = (uint64_t)table[ZARFOLIN_H_VARIABLES];
+    for (size_t f = 0; f + 1 < sizeof fillers; f++) {
+        record_len = (size_t)table[ZARFOLIN_H_RECORD];
+        memset(record, fillers[f], sizeof record);
+        measure(judge_record);
+        measure(read_record);
+        for (row = 0; row <= rows; row += rows > 8 ? rows / 8 : 1) {
+            list_len = ZARFOLIN_MAX_SET;
+            measure(read_value);
+            for (size_t n = 0; n < sizeof numbers / sizeof numbers[0]; n++) {
+                number = numbers[n];
+                measure(write_number);
+                measure(read_value);
+                measure(write_truth);
+                number = (int64_t)((uint64_t)numbers[n] % 4);
+                measure(write_text);
+                measure(read_value);
+                list_len = (size_t)number;
+                list[0] = 1, list[1] = 2, list[2] = n % 2 ? 5 : 1;
+                measure(write_set);
+                measure(read_value);
+                list_len = ZARFOLIN_MAX_SET;
+                measure(read_value);
+            }
+            measure(write_missing);
+            measure(read_value);
+            measure(read_record);
+        }
+        measure(judge_record);
+    }
+    row = 0, record_len = 3;
+    measure(judge_record), measure(read_value), measure(read_record), measure(write_missing), measure(write_number);
+}
+
+/* Files with each terminator, of sound and faulty records. */
+static void files(void) {
+    static const char *const ends[] = {"\r\n", "\n\r", "\r", "\n", ""};
+    const size_t length = (size_t)table[ZARFOLIN_H_RECORD];
+    for (size_t e = 0; e < sizeof ends / sizeof ends[0]; e++) {
+        for (int filler = 0; filler < 3; filler++) {
+            record_len = 0;
+            for (int n = 0; n < 3 && record_len + length + 2 < sizeof record; n++) {
+                memset(record + record_len, " 0\t"[filler], length);
+                record_len += length;
+                memcpy(record + record_len, ends[e], strlen(ends[e]));
+                record_len += strlen(ends[e]);
+                measure(judge_file);
+                for (row = 0; row <= record_len; row += record_len / 3 + 1) {
+                    measure(next_record);
+                }
+            }
+        }
+    }
+}
+
+int main(void) {
+    static const char *const types[] = {
+        "SINGLE POSITION 1 TO 4 VALUES 1 TO 12 END VALUES",
+        "SINGLE POSITION 1 TO 5 VALUES 9 \"a\" 7 \"b\" SPECIAL 9999 \"c\" 1 \"d\" END VALUES",
+        "MULTIPLE POSITION 1 TO 9 VALUES 1 TO 9 END VALUES",
+        "MULTIPLE POSITION 1 TO 9 VALUES 9 \"a\" 2 \"b\" 1 \"c\" END VALUES",
+        "MULTIPLE POSITION 1 TO 9 VALUES 1 TO 3 WITH 7 \"a\" 5 \"b\" END VALUES",
+        "MULTIPLE POSITION 1 TO 9999 VALUES 1 TO 9999 END VALUES",
+        "MULTIPLE POSITION 1 TO 16000 SPREAD 4000 OF 4 VALUES 1 TO 9999 END VALUES",
+        "MULTIPLE POSITION 1 TO 6 SPREAD 3 VALUES 1 TO 3 WITH 7 \"a\" 5 \"b\" END VALUES",
+        "QUANTITY POSITION 1 TO 5 VALUES -1.0 TO 99.5 END VALUES",
+        "QUANTITY POSITION 1 TO 20 VALUES -99999.0000000000 TO 5 END VALUES",
+        "QUANTITY POSITION 1 TO 20 VALUES -999999.999999999 TO 999999.999999999 WITH 7.000000000 \"x\" -1.000000000 \"y\" END VALUES",
+        "CHARACTER POSITION 1 TO 16 SIZE 5",
+        "CHARACTER POSITION 1 TO 4096 SIZE 4096",
+        "LOGICAL POSITION 1 TO 3",
+        "LOGICAL POSITION 16385",
+        "SINGLE POSITION 3 TO 2",
+    };
+    char deep[16 * (ZARFOLIN_MAX_LEVEL + 1) + 1] = "";
+    for (int i = 0; i < ZARFOLIN_MAX_LEVEL; i++) {
+        strcat(deep, "<\"{4142}<\" ");
+    }
+    for (int i = 0; i < ZARFOLIN_MAX_LEVEL; i++) {
+        strcat(deep, ">");
+    }
+
+    measure(version);
+    for (size_t t = 0; t < sizeof types / sizeof types[0]; t++) {
+        begin(t % 2 ? "STANDARD NAMES" : "DATE \"3/NOV/98\" NOTE \"x\"");
+        variable(1, types[t]);
+        if (end() == ZARFOLIN_OK) {
+            records();
+            files();
+        }
+    }
+    /* All types in one table, with idents that rise and that fall; comments and notes wherever they may stand. */
+    for (int falling = 0; falling < 2; falling++) {
+        begin("STANDARD NAMES USER \"u\" TIME \"18:32\" ORIGIN \"o\"");
+        for (int t = 0; t < 14; t++) {
+            if (t != 9) {
+                variable(falling ? 900 - t : t + 1, types[t]);
+            }
+        }
+        if (end() == ZARFOLIN_OK) {
+            records();
+            files();
+        }
+    }
+    /* The largest: 512 variables of 8 lines each, the names long and alike, lines falling. */
+    begin("STANDARD NAMES");
+    for (int v = 512; v > 0; v--) {
+        char text[400] = "QUANTITY POSITION 1 TO 20 VALUES ", line[40];
+        for (int i = 8; i > 0; i--) {
+            snprintf(line, sizeof line, "-%d%d.25 \"t\" ", i, v);
+            strcat(text, line);
+        }
+        strcat(text, "END VALUES");
+        variable(v, text);
+    }
+    if (end() == ZARFOLIN_OK) {
+        records();
+    } else {
+        fprintf(stderr, "the largest definition was refused: %d at %d\n", (int)got, (int)answer[1]);
+        return 1;
+    }
+    /* 32 levels of comments before each token of a definition, and cut short there. */
+    begin("NOTE \"n\" STANDARD NAMES");
+    variable(1, "MULTIPLE POSITION 1 TO 6 SPREAD 3 OF 2 NOTE \"x\" VALUES 1 TO 3 WITH NOTE \"n\" 7 \"a\" SPECIAL 5 \"b\" END VALUES");
+    variable(2, "QUANTITY POSITION 1 TO 6 VALUES -1.5 TO 3.0 END VALUES");
+    variable(3, "CHARACTER POSITION 1 TO 6 SIZE 5");
+    add("END RECORD END SURVEY END SSS");
+    const size_t whole_len = def_len;
+    char *whole = malloc(whole_len);
+    memcpy(whole, def, whole_len);
+    for (size_t i = 15; i < whole_len; i++) {
+        if (whole[i] == ' ') {
+            for (int cut = 0; cut < 3; cut++) {
+                memcpy(def, whole, def_len = i);
+                def[def_len] = '\0';
+                add(deep);
+                def_len -= cut == 1 ? 5 : 0; /* comments left open */
+                if (cut == 2) {
+                    add("<<");
+                }
+                memcpy(def + def_len, whole + i, whole_len - i);
+                def_len += whole_len - i;
+                measure(read_definition);
+            }
+        }
+    }
+    free(whole);
+    def_len = ZARFOLIN_MAX_DEFINITION + 1;
+    measure(read_definition);
+
+    int status = 0;
+    for (size_t i = 0; i < CALLS; i++) {
+        const struct measured *m = &calls[i];
+        printf("%-26s %7zu bytes of stack at most, %6u runs; the header says %zu\n", m->name, m->most, m->runs, m->figure);
+        if (m->most > m->figure) {
+            printf("  more than the header says\n");
+            status = 1;
+        } else if (m->most + m->most / 8 + 64 < m->figure) {
+            printf("  note: the header says much more\n");
+        }
+    }
+    return status;
+}
