@@ -216,8 +216,6 @@ pub fn hull_of(t: &[i64], at: usize, step: usize, n: usize) -> Hull
 }
 
 // Do many numbers differ, whose least and most are known? Those that are no larger than a room has places leave their own marks.
-// The rooms take 16 KiB of stack. They stand in this call alone: it has two callers and is too long to be put into them, so that a
-// table whose numbers rise is tested without.
 fn differ_many(t: &[i64], at: usize, step: usize, n: usize, h: Hull) -> bool
     requires { ⌜ Strided (now t) at step n × Hulled (strideAt (now t) at step) n h ⌝ }
     ensures { λ r. ⌜ r ≡ allDiffer (strideAt (now (t .entry)) at step) n ⌝ }
@@ -233,15 +231,28 @@ fn differ_many(t: &[i64], at: usize, step: usize, n: usize, h: Hull) -> bool
     differ_by_marks(t, at, step, n)
 }
 
-// Do the numbers differ, whose least and most are known? Few are soon held against each other; many are marked.
-fn differ_within(t: &[i64], at: usize, step: usize, n: usize, h: Hull) -> bool
-    requires { ⌜ Strided (now t) at step n × Hulled (strideAt (now t) at step) n h ⌝ }
-    ensures { λ r. ⌜ r ≡ allDiffer (strideAt (now (t .entry)) at step) n ⌝ }
+// Whether many numbers differ, and the least and the most of them. The marks take 16 KiB of stack. They stand in this call alone: it has two
+// callers and is too long to be put into them, so that a table whose numbers rise, or are few, is tested without.
+fn block_many(t: &[i64], at: usize, step: usize, n: usize) -> Block
+    requires { ⌜ Strided (now t) at step n × (1 ≤ n) ⌝ }
+    ensures { λ r. ⌜ Blocked (strideAt (now (t .entry)) at step) n r ⌝ }
 {
-    if n <= FEW {
-        return differ_pairwise(t, at, step, n);
+    let hull = hull_of(t, at, step, n);
+    let differ = differ_many(t, at, step, n, hull);
+    Block { differ, hull }
+}
+
+// The same of numbers that don't rise. Few are soon held against each other; many are marked.
+fn block_unordered(t: &[i64], at: usize, step: usize, n: usize) -> Block
+    requires { ⌜ Strided (now t) at step n × (1 ≤ n) ⌝ }
+    ensures { λ r. ⌜ Blocked (strideAt (now (t .entry)) at step) n r ⌝ }
+{
+    if FEW < n {
+        return block_many(t, at, step, n);
     }
-    differ_many(t, at, step, n, h)
+    let hull = hull_of(t, at, step, n);
+    let differ = differ_pairwise(t, at, step, n);
+    Block { differ, hull }
 }
 
 // Do the numbers differ?
@@ -255,7 +266,8 @@ pub fn differ(t: &[i64], at: usize, step: usize, n: usize) -> bool
     if n <= FEW {
         return differ_pairwise(t, at, step, n);
     }
-    differ_many(t, at, step, n, hull_of(t, at, step, n))
+    let block = block_many(t, at, step, n);
+    block.differ
 }
 
 // Whether n numbers differ, and the least and the most of them.
@@ -270,7 +282,5 @@ pub fn block_of(t: &[i64], at: usize, step: usize, n: usize) -> Block
         };
         return Block { differ: true, hull };
     }
-    let hull = hull_of(t, at, step, n);
-    let differ = differ_within(t, at, step, n, hull);
-    Block { differ, hull }
+    block_unordered(t, at, step, n)
 }

@@ -17,5 +17,4 @@ differ-spec =
     (λ c κs. search needs)
     (λ c. search needs)
     (λ c κs. search needs)
-    (λ c κs. search needs)
-    (λ c. search needs))
+    (λ c. c .block-many .ensures .differ))
