@@ -231,8 +231,8 @@ fn differ_many(t: &[i64], at: usize, step: usize, n: usize, h: Hull) -> bool
     differ_by_marks(t, at, step, n)
 }
 
-// Whether many numbers differ, and the least and the most of them. The marks take 16 KiB of stack. They stand in this call alone: it has two
-// callers and is too long to be put into them, so that a table whose numbers rise, or are few, is tested without.
+// Whether many numbers differ, and the least and the most of them. The marks take 16 KiB of stack. They stand in this call alone: it has
+// two callers and is too long to be put into them, so that a table whose numbers rise, or are few, is tested without.
 fn block_many(t: &[i64], at: usize, step: usize, n: usize) -> Block
     requires { ⌜ Strided (now t) at step n × (1 ≤ n) ⌝ }
     ensures { λ r. ⌜ Blocked (strideAt (now (t .entry)) at step) n r ⌝ }

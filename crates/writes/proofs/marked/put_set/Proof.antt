@@ -10,7 +10,9 @@ bits-written-requires : tie.Need-bits-written-requires
 bits-written-requires c κs = ready-as (ap Multiple (c .before .enum-told .given .1)) (c .before .before .before .before .pre .1)
 
 spread-written-requires : tie.Need-spread-written-requires
-spread-written-requires c κs = (c .before .before .before .before .before .pre .0, ready-as (ap Multiple (c .before .before .s .given .1)) (c .before .before .before .before .before .pre .1))
+spread-written-requires c κs =
+    let p = c .before .before .before .before .before .pre in
+    (p .0, ready-as (ap Multiple (c .before .before .s .given .1)) (p .1))
 
 returns : tie.Need-returns
 returns c = written-as (ap Multiple (c .before .before .before .before .enum-told .given .1)) (c .before .before .bits-written .ensures)

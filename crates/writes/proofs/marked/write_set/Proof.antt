@@ -8,7 +8,9 @@ use Rattle.writes.proofs.marked.write_set.Statement.{statement}
 use Rattle.writes.proofs.marked.write_set.Tie as tie
 
 write-multiple-requires : tie.Need-write-multiple-requires
-write-multiple-requires c κs = (c .before .before .before .before .before .pre .0, ready-as (c .before .before .kind .given .1) (c .before .before .before .before .before .pre .1))
+write-multiple-requires c κs =
+    let p = c .before .before .before .before .before .pre in
+    (p .0, ready-as (c .before .before .kind .given .1) (p .1))
 
 returns : tie.Need-returns
 returns c = written-as (c .before .before .before .before .before .kind .given .1) (c .before .before .write-multiple .ensures)

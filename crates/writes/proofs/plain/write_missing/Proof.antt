@@ -16,11 +16,14 @@ blank-requires : tie.Need-blank-requires
 blank-requires c κs = let h = ready-as (c .before .before .enum-told .given .1) (c .before .before .before .before .before .pre .1) in omega (arith, h .from-one, h .ordered, h .inside, h .kind .room)
 
 write-multiple-requires : tie.Need-write-multiple-requires
-write-multiple-requires c κs = (c .before .before .before .before .before .pre .0, ready-as (c .before .before .kind .given .1) (c .before .before .before .before .before .pre .1))
+write-multiple-requires c κs =
+    let p = c .before .before .before .before .before .pre in
+    (p .0, ready-as (c .before .before .kind .given .1) (p .1))
 
 returns : tie.Need-returns
 unfolding valueOf
-returns c = written-as (c .before .before .before .before .before .kind .given .1) (as-given refl (c .before .before .write-multiple .ensures))
+returns c =
+    written-as (c .before .before .before .before .before .kind .given .1) (as-given refl (c .before .before .write-multiple .ensures))
 
 sub-blank-2 : tie.Need-sub-blank-2
 sub-blank-2 c = let h = ready-as (c .before .before .enum-told2 .given .1) (c .before .before .before .before .before .pre .1) in omega (arith, h .from-one, h .kind .width .room)
