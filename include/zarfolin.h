@@ -305,7 +305,9 @@ zarfolin_number zarfolin_next_record(const uint8_t *data, size_t data_len, uint6
 #define ZARFOLIN_STACK_READ_VALUE 38000
 #define ZARFOLIN_STACK_READ_RECORD 102000
 #define ZARFOLIN_STACK_JUDGE_RECORD 27500
-#define ZARFOLIN_STACK_WRITE 27600
+#define ZARFOLIN_STACK_WRITE 17600
+/* A write to a row that is no MULTIPLE, where the idents and each row's values rise, or are 24 at most. */
+#define ZARFOLIN_STACK_WRITE_PLAIN 1000
 #define ZARFOLIN_STACK_JUDGE_FILE 27500
 #define ZARFOLIN_STACK_NEXT_RECORD 128
 #define ZARFOLIN_STACK_VERSION 16

@@ -1,4 +1,4 @@
-// Bytes put at a run of places of a record: copied from elsewhere, or spaces. Above it stand the writers of numbers and texts.
+// Bytes put at a run of places of a record: copied from elsewhere, or spaces. Above it stand the writers of sets, texts and lines.
 ghost use mathlib.Core.Path.{_≡_};
 ghost use Prim.Native.Nat.{_+_, _≤_};
 ghost use lib.ListN.{length, take};

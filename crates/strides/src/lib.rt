@@ -22,6 +22,9 @@ pub struct Block {
     pub hull: Hull,
 }
 
+// So many numbers are sooner held against each other than marked.
+const FEW: usize = 24;
+
 // Number k of n, from `at` on, `step` apart.
 pub fn number_at(t: &[i64], at: usize, step: usize, n: usize, k: usize) -> i64
     requires { ⌜ Strided (now t) at step n × (k < n) ⌝ }
@@ -168,28 +171,6 @@ fn differ_pairwise(t: &[i64], at: usize, step: usize, n: usize) -> bool
     true
 }
 
-// Do the numbers differ, in whatever order they stand? Few are soon held against each other; many are marked.
-fn differ_unordered(t: &[i64], at: usize, step: usize, n: usize) -> bool
-    requires { ⌜ Strided (now t) at step n ⌝ }
-    ensures { λ r. ⌜ r ≡ allDiffer (strideAt (now (t .entry)) at step) n ⌝ }
-{
-    if n <= 24 {
-        return differ_pairwise(t, at, step, n);
-    }
-    differ_by_marks(t, at, step, n)
-}
-
-// Do the numbers differ?
-pub fn differ(t: &[i64], at: usize, step: usize, n: usize) -> bool
-    requires { ⌜ Strided (now t) at step n ⌝ }
-    ensures { λ r. ⌜ r ≡ allDiffer (strideAt (now (t .entry)) at step) n ⌝ }
-{
-    if all_rise(t, at, step, n) {
-        return true;
-    }
-    differ_unordered(t, at, step, n)
-}
-
 // The first number where it is at most the second, else the second.
 pub fn lesser(a: i64, b: i64) -> i64
     ensures { λ r. ⌜ r ≡ cond (leZ a b) a b ⌝ }
@@ -234,16 +215,13 @@ pub fn hull_of(t: &[i64], at: usize, step: usize, n: usize) -> Hull
     h
 }
 
-// Do the numbers differ, whose least and most are known? Those that are no larger than a room has places leave their own marks.
-fn differ_within(t: &[i64], at: usize, step: usize, n: usize, h: Hull) -> bool
+// Do many numbers differ, whose least and most are known? Those that are no larger than a room has places leave their own marks.
+fn differ_many(t: &[i64], at: usize, step: usize, n: usize, h: Hull) -> bool
     requires { ⌜ Strided (now t) at step n × Hulled (strideAt (now t) at step) n h ⌝ }
     ensures { λ r. ⌜ r ≡ allDiffer (strideAt (now (t .entry)) at step) n ⌝ }
 {
     let least = h.least;
     let most = h.most;
-    if n <= 24 {
-        return differ_pairwise(t, at, step, n);
-    }
     if cells::not_above(0, least) & cells::not_above(most, 1_023) {
         return differ_low(t, at, step, n);
     }
@@ -251,6 +229,45 @@ fn differ_within(t: &[i64], at: usize, step: usize, n: usize, h: Hull) -> bool
         return differ_middle(t, at, step, n);
     }
     differ_by_marks(t, at, step, n)
+}
+
+// Whether many numbers differ, and the least and the most of them. The marks take 16 KiB of stack. They stand in this call alone: it has
+// two callers and is too long to be put into them, so that a table whose numbers rise, or are few, is tested without.
+fn block_many(t: &[i64], at: usize, step: usize, n: usize) -> Block
+    requires { ⌜ Strided (now t) at step n × (1 ≤ n) ⌝ }
+    ensures { λ r. ⌜ Blocked (strideAt (now (t .entry)) at step) n r ⌝ }
+{
+    let hull = hull_of(t, at, step, n);
+    let differ = differ_many(t, at, step, n, hull);
+    Block { differ, hull }
+}
+
+// The same of numbers that don't rise. Few are soon held against each other; many are marked.
+fn block_unordered(t: &[i64], at: usize, step: usize, n: usize) -> Block
+    requires { ⌜ Strided (now t) at step n × (1 ≤ n) ⌝ }
+    ensures { λ r. ⌜ Blocked (strideAt (now (t .entry)) at step) n r ⌝ }
+{
+    if FEW < n {
+        return block_many(t, at, step, n);
+    }
+    let hull = hull_of(t, at, step, n);
+    let differ = differ_pairwise(t, at, step, n);
+    Block { differ, hull }
+}
+
+// Do the numbers differ?
+pub fn differ(t: &[i64], at: usize, step: usize, n: usize) -> bool
+    requires { ⌜ Strided (now t) at step n ⌝ }
+    ensures { λ r. ⌜ r ≡ allDiffer (strideAt (now (t .entry)) at step) n ⌝ }
+{
+    if all_rise(t, at, step, n) {
+        return true;
+    }
+    if n <= FEW {
+        return differ_pairwise(t, at, step, n);
+    }
+    let block = block_many(t, at, step, n);
+    block.differ
 }
 
 // Whether n numbers differ, and the least and the most of them.
@@ -265,7 +282,5 @@ pub fn block_of(t: &[i64], at: usize, step: usize, n: usize) -> Block
         };
         return Block { differ: true, hull };
     }
-    let hull = hull_of(t, at, step, n);
-    let differ = differ_within(t, at, step, n, hull);
-    Block { differ, hull }
+    block_unordered(t, at, step, n)
 }

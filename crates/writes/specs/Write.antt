@@ -15,6 +15,7 @@ use Rattle.fields.specs.rule.Legal.{legal}
 use Rattle.fields.specs.rule.Row.{Fit, fits, otherType, notLegal, tooMany, fitsBy, bytesBy, placesBy}
 use Rattle.fields.specs.Facts.{LineFacts, KindFacts, RowFacts}
 use Rattle.writes.specs.declared.Value.{Value}
+use Rattle.writes.specs.declared.Value.the-variants.{Missing, Set}
 use Rattle.writes.specs.declared.Wrote.{Wrote}
 use Rattle.writes.specs.declared.Wrote.the-variants.{Done, OtherType, NotLegal, TooMany}
 use Rattle.writes.specs.rule.Write.{valueOf}
@@ -26,6 +27,11 @@ takesNumbers (Multiple s) = false
 takesNumbers (Quantity f) = true
 takesNumbers Character = false
 takesNumbers Logical = false
+
+-- what is given to a row of sets: a missing value or a set
+abbrev pub setOr : Bool → Value
+setOr true = Missing
+setOr false = Set
 
 -- the answer by whether the value fits
 unfoldable pub answerBy : Fit → Wrote

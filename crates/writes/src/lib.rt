@@ -48,7 +48,7 @@ pub fn write_row(
     ensures { λ r. ⌜ WrittenBy (row .kind) (now (t .entry)) rows row value (now (list .entry)) (now (text .entry)) (now (bytes .entry)) (now (bytes .exit)) r ⌝ }
 {
     match value {
-        Value::Missing => plain::write_missing(t, rows, row, bytes),
+        Value::Missing => plain::write_missing(powers, t, rows, row, bytes),
         Value::Number(z) => plain::write_number(powers, t, rows, row, z, bytes),
         Value::Set => marked::write_set(powers, t, rows, row, list, bytes),
         Value::Text => plain::write_text(t, rows, row, text, bytes),

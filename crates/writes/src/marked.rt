@@ -7,7 +7,7 @@ ghost use Rattle.ascii.specs.rule.Tens.{Tens};
 ghost use Rattle.layout.specs.declared.Kind.the-variants as kind;
 ghost use Rattle.layout.specs.declared.Spread.the-variants as spread;
 ghost use Rattle.writes.specs.declared.Value.the-variants as given;
-ghost use Rattle.writes.specs.Write.{WrittenBy, Ready};
+ghost use Rattle.writes.specs.Write.{WrittenBy, Ready, setOr};
 use super::Wrote;
 use layout::Kind;
 use layout::Row;
@@ -152,7 +152,7 @@ fn spread_written(
 }
 
 // Spaces at the places of a set.
-pub fn blank_set(t: &[i64], rows: usize, row: Row, s: Spread, bytes: &mut [u8]) -> Wrote
+fn blank_set(t: &[i64], rows: usize, row: Row, s: Spread, bytes: &mut [u8]) -> Wrote
     requires { ⌜ Ready (kind.Multiple s) (now t) rows (length (now bytes)) row ⌝ }
     ensures { λ r. ⌜ WrittenBy (kind.Multiple s) (now (t .entry)) rows row given.Missing [] [] (now (bytes .entry)) (now (bytes .exit)) r ⌝ }
 {
@@ -163,6 +163,50 @@ pub fn blank_set(t: &[i64], rows: usize, row: Row, s: Spread, bytes: &mut [u8]) 
             Wrote::Done
         }
     }
+}
+
+// A set at its places.
+fn put_set(
+    powers: &[u64; 16],
+    t: &[i64],
+    rows: usize,
+    row: Row,
+    s: Spread,
+    list: &[i64],
+    bytes: &mut [u8],
+) -> Wrote
+    requires { ⌜ Tens (now powers) ⌝ }
+    requires { ⌜ Ready (kind.Multiple s) (now t) rows (length (now bytes)) row ⌝ }
+    ensures { λ r. ⌜ WrittenBy (kind.Multiple s) (now (t .entry)) rows row given.Set (now (list .entry)) [] (now (bytes .entry)) (now (bytes .exit)) r ⌝ }
+{
+    match s {
+        Spread::Bits => bits_written(t, rows, row, list, bytes),
+        Spread::Fields { count, width } => {
+            spread_written(powers, t, rows, row, count, width, list, bytes)
+        }
+    }
+}
+
+// All that is written to a row of sets: spaces, or a set. The marks take 10 KB of stack. They stand in this call alone: it has two
+// callers and is too long to be put into them, so that no other row's value is written with them in its frame.
+pub fn write_multiple(
+    powers: &[u64; 16],
+    t: &[i64],
+    rows: usize,
+    row: Row,
+    s: Spread,
+    blank: bool,
+    list: &[i64],
+    bytes: &mut [u8],
+) -> Wrote
+    requires { ⌜ Tens (now powers) ⌝ }
+    requires { ⌜ Ready (kind.Multiple s) (now t) rows (length (now bytes)) row ⌝ }
+    ensures { λ r. ⌜ WrittenBy (kind.Multiple s) (now (t .entry)) rows row (setOr blank) (now (list .entry)) [] (now (bytes .entry)) (now (bytes .exit)) r ⌝ }
+{
+    if blank {
+        return blank_set(t, rows, row, s, bytes);
+    }
+    put_set(powers, t, rows, row, s, list, bytes)
 }
 
 pub fn write_set(
@@ -179,12 +223,7 @@ pub fn write_set(
 {
     let kind = row.kind;
     match kind {
-        Kind::Multiple(s) => match s {
-            Spread::Bits => bits_written(t, rows, row, list, bytes),
-            Spread::Fields { count, width } => {
-                spread_written(powers, t, rows, row, count, width, list, bytes)
-            }
-        },
+        Kind::Multiple(s) => write_multiple(powers, t, rows, row, s, false, list, bytes),
         Kind::Single => Wrote::OtherType,
         Kind::Quantity(_) => Wrote::OtherType,
         Kind::Character => Wrote::OtherType,

@@ -113,7 +113,14 @@ pub fn write_truth(t: &[i64], rows: usize, row: Row, b: bool, bytes: &mut [u8]) 
 }
 
 // Spaces. The places of a CHARACTER start with its position, those of the other kinds end with it.
-pub fn write_missing(t: &[i64], rows: usize, row: Row, bytes: &mut [u8]) -> Wrote
+pub fn write_missing(
+    powers: &[u64; 16],
+    t: &[i64],
+    rows: usize,
+    row: Row,
+    bytes: &mut [u8],
+) -> Wrote
+    requires { ⌜ Tens (now powers) ⌝ }
     requires { ⌜ Ready (row .kind) (now t) rows (length (now bytes)) row ⌝ }
     ensures { λ r. ⌜ WrittenBy (row .kind) (now (t .entry)) rows row given.Missing [] [] (now (bytes .entry)) (now (bytes .exit)) r ⌝ }
 {
@@ -121,7 +128,9 @@ pub fn write_missing(t: &[i64], rows: usize, row: Row, bytes: &mut [u8]) -> Wrot
     let w = row.width;
     match kind {
         Kind::Single => runs::blank(bytes, row.finish - w, w),
-        Kind::Multiple(s) => return super::marked::blank_set(t, rows, row, s, bytes),
+        Kind::Multiple(s) => {
+            return super::marked::write_multiple(powers, t, rows, row, s, true, t, bytes);
+        }
         Kind::Quantity(_) => runs::blank(bytes, row.finish - w, w),
         Kind::Character => runs::blank(bytes, row.start - 1, w),
         Kind::Logical => runs::blank(bytes, row.finish - 1, 1),

@@ -4,33 +4,38 @@ use Prim.Native.Nat.{_-_}
 use native.Mathlib.Omega.{arith}
 use borrow.Author.Needs.{needs}
 use Rattle.fields.specs.rule.Row.{placesBy}
-use Rattle.writes.proofs.Cases.{blanked-run, ready-as, written-as}
+use Rattle.writes.specs.rule.Write.{valueOf}
+use Rattle.writes.proofs.Cases.{blanked-run, ready-as, written-as, as-given}
 use Rattle.writes.proofs.plain.write_missing.Statement.{statement}
 use Rattle.writes.proofs.plain.write_missing.Tie as tie
 
 sub-blank : tie.Need-sub-blank
-sub-blank c = let h = ready-as (c .before .before .enum-told .given .1) (c .before .before .before .before .before .pre) in omega (arith, h .from-one, h .kind .room)
+sub-blank c = let h = ready-as (c .before .before .enum-told .given .1) (c .before .before .before .before .before .pre .1) in omega (arith, h .from-one, h .kind .room)
 
 blank-requires : tie.Need-blank-requires
-blank-requires c κs = let h = ready-as (c .before .before .enum-told .given .1) (c .before .before .before .before .before .pre) in omega (arith, h .from-one, h .ordered, h .inside, h .kind .room)
+blank-requires c κs = let h = ready-as (c .before .before .enum-told .given .1) (c .before .before .before .before .before .pre .1) in omega (arith, h .from-one, h .ordered, h .inside, h .kind .room)
 
-blank-set-requires : tie.Need-blank-set-requires
-blank-set-requires c κs = ready-as (c .before .before .kind .given .1) (c .before .before .before .before .before .pre)
+write-multiple-requires : tie.Need-write-multiple-requires
+write-multiple-requires c κs =
+    let p = c .before .before .before .before .before .pre in
+    (p .0, ready-as (c .before .before .kind .given .1) (p .1))
 
 returns : tie.Need-returns
-returns c = written-as (c .before .before .before .before .before .kind .given .1) (c .before .before .blank-set .ensures)
+unfolding valueOf
+returns c =
+    written-as (c .before .before .before .before .before .kind .given .1) (as-given refl (c .before .before .write-multiple .ensures))
 
 sub-blank-2 : tie.Need-sub-blank-2
-sub-blank-2 c = let h = ready-as (c .before .before .enum-told2 .given .1) (c .before .before .before .before .before .pre) in omega (arith, h .from-one, h .kind .width .room)
+sub-blank-2 c = let h = ready-as (c .before .before .enum-told2 .given .1) (c .before .before .before .before .before .pre .1) in omega (arith, h .from-one, h .kind .width .room)
 
 blank-requires-2 : tie.Need-blank-requires-2
-blank-requires-2 c κs = let h = ready-as (c .before .before .enum-told2 .given .1) (c .before .before .before .before .before .pre) in omega (arith, h .from-one, h .ordered, h .inside, h .kind .width .room)
+blank-requires-2 c κs = let h = ready-as (c .before .before .enum-told2 .given .1) (c .before .before .before .before .before .pre .1) in omega (arith, h .from-one, h .ordered, h .inside, h .kind .width .room)
 
 blank-requires-3 : tie.Need-blank-requires-3
-blank-requires-3 c κs = let h = ready-as (c .before .before .enum-told3 .given .1) (c .before .before .before .before .before .pre) in omega (arith, h .from-one, h .ordered, h .inside, h .kind .room)
+blank-requires-3 c κs = let h = ready-as (c .before .before .enum-told3 .given .1) (c .before .before .before .before .before .pre .1) in omega (arith, h .from-one, h .ordered, h .inside, h .kind .room)
 
 blank-requires-4 : tie.Need-blank-requires-4
-blank-requires-4 c κs = let h = ready-as (c .before .before .enum-told4 .given .1) (c .before .before .before .before .before .pre) in omega (arith, h .from-one, h .ordered, h .inside, h .kind .room)
+blank-requires-4 c κs = let h = ready-as (c .before .before .enum-told4 .given .1) (c .before .before .before .before .before .pre .1) in omega (arith, h .from-one, h .ordered, h .inside, h .kind .room)
 
 returns-2 : tie.Need-returns-2
 unfolding placesBy
@@ -64,7 +69,7 @@ write-missing-spec =
     sub-blank
     blank-requires
     (λ c. search needs)
-    blank-set-requires
+    write-multiple-requires
     (λ c. search needs)
     returns
     (λ c. search needs)
