@@ -1,7 +1,7 @@
 -- What computes where a definition is read: the rule's definitions, from the bytes to the table. A theorem by computation says
 -- `unfolding definitions`, and all of them unfold. Made by: tools/unfolds definitions
 -- ascii below.Below:anyBelow+maxBelow cells.Cell:signedOf+numberOf+eqZ+pasted layout.Row
--- widths.Width:tailOf+wholeDigits+quantityWidth+need sound.Sound:roomGood rows scan marks tokens statements names survey reading definition
+-- widths.Width:tailOf+wholeDigits+quantityWidth+need sound.Sound:roomGood rows scan marks tokens.Gap names survey reading definition
 use Rattle.ascii.specs.rule.Class.{classOf, upperOf}
 use Rattle.ascii.specs.rule.Tens.{countFrom, digitsOf}
 use Rattle.below.specs.rule.Below.{anyBelow, maxBelow}

@@ -10,10 +10,11 @@ use borrow.Author.Tests.{lt-ltb, le-ltb}
 use Rattle.layout.specs.declared.Columns.{Columns}
 use Rattle.layout.specs.declared.Header.{Header}
 use Rattle.rows.specs.rule.Cells.{rowCells, headerCells}
-use Rattle.survey.specs.rule.Survey.{Variable}
+use Rattle.survey.specs.rule.Survey.{Variable, Survey}
 use Rattle.survey.specs.rule.Table.{tableOf}
+use Rattle.reading.specs.rule.Result.{Result, Is, Not}
+use Rattle.reading.specs.rule.Whole.{surveyOf}
 use Rattle.definition.specs.declared.Answer.the-variants as answer
-use Rattle.definition.specs.Books.{Read, Whole, Faulty, surveyOf}
 use Rattle.definition.specs.rule.Definition.{Built, Refusal, outcomeOf, answerOf, tableAfter}
 use Rattle.definition_samples.specs.Bytes.{bytes}
 use Rattle.definition_samples.specs.Definitions.{definitions}
@@ -111,9 +112,9 @@ abbrev pub sampleTable : List ℤ
 sampleTable = headerCells header ++ rowCells desk ++ rowCells seen ++ rowCells wait ++ line 1 211 ++ line 2 217 ++ line 4 223
 
 -- ---- THE SAMPLE IS READ
-abbrev variablesIn : Read → List Variable
-variablesIn (Whole s) = s .variables
-variablesIn (Faulty f) = []
+abbrev variablesIn : Result Survey → List Variable
+variablesIn (Is s n) = s .variables
+variablesIn (Not f) = []
 
 -- the variables that the text gives
 pub sampleVariables : List Variable

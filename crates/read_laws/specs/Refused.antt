@@ -20,8 +20,7 @@ use Rattle.records.specs.rule.Verdict.{Verdict, sound, refused, lowByte, badFie
 use Rattle.records.specs.rule.Verdict.{verdictOf, RecordJudged}
 use Rattle.records.specs.declared.Found.{Found}
 use Rattle.records.specs.declared.Found.the-variants.{At, Nothing}
-use Rattle.read_laws.specs.rule.Refused.{IsFirst, NoLow, RecordOutcome, not-formed, too-short, low-byte, bad-field, no-fault}
-use Rattle.read_laws.specs.Refused.{Passes}
+use Rattle.read_laws.specs.rule.Refused.{IsFirst, Passes, NoLow, RecordOutcome, not-formed, too-short, low-byte, bad-field, no-fault}
 
 module _ (f : ℕ → Bool) where
   pub none-found : (n i : ℕ) → firstFrom f i n ≡ Nothing → (j : ℕ) → i ≤ j → j < i + n → f j ≡ false
@@ -62,14 +61,8 @@ module _ (f : ℕ → Bool) where
 
 -- ---- a whole record
 module _ (t : List ℤ) (good : wellFormed t ≡ true) (bytes : List ℕ) where
-  -- what a sound record has
-  pub record Passes : Type 0 where
-    pub long : lengthOf t ≤ length bytes
-    pub plain : (p : ℕ) → p < length bytes → 32 ≤ getD bytes p 0
-    pub legal-rows : (i : ℕ) → i < rowsOf t → isIllegal (readingAt t i bytes) ≡ false
-
   -- REFUSED EXACTLY WHEN: a record that passes is sound
-  pub passes-sound : Passes → verdictOf t bytes ≡ sound
+  pub passes-sound : Passes t good bytes → verdictOf t bytes ≡ sound
   unfolding verdictOf rowsVerdict byteVerdict rowVerdict
   passes-sound p =
       rw (
@@ -81,7 +74,7 @@ module _ (t : List ℤ) (good : wellFormed t ≡ true) (bytes : List ℕ) where
 
   by-rows : lengthOf t ≤ length bytes → firstFrom (lowAt bytes) 0 (length bytes) ≡ Nothing → (x : Found)
       → firstFrom (badRow t (rowsOf t) bytes) 0 (rowsOf t) ≡ x
-      → rowVerdict x ≡ sound → Passes
+      → rowVerdict x ≡ sound → Passes t good bytes
   unfolding rowVerdict
   by-rows l q (At i) r v = let z : _≡_ {A = ℕ} 0 1 = cc in absurd (omega arith)
   by-rows l q Nothing r v = record {
@@ -91,18 +84,18 @@ module _ (t : List ℤ) (good : wellFormed t ≡ true) (bytes : List ℕ) where
   }
 
   by-bytes : lengthOf t ≤ length bytes → (x : Found) → firstFrom (lowAt bytes) 0 (length bytes) ≡ x
-      → byteVerdict x (rowVerdict (firstFrom (badRow t (rowsOf t) bytes) 0 (rowsOf t))) ≡ sound → Passes
+      → byteVerdict x (rowVerdict (firstFrom (badRow t (rowsOf t) bytes) 0 (rowsOf t))) ≡ sound → Passes t good bytes
   unfolding byteVerdict
   by-bytes l (At p) q v = let z : _≡_ {A = ℕ} 0 1 = cc in absurd (omega arith)
   by-bytes l Nothing q v = by-rows l q (firstFrom (badRow t (rowsOf t) bytes) 0 (rowsOf t)) refl v
 
-  by-length : (c : Bool) → leb (lengthOf t) (length bytes) ≡ c → cond c (rowsVerdict t (rowsOf t) bytes) (refused 22) ≡ sound → Passes
+  by-length : (c : Bool) → leb (lengthOf t) (length bytes) ≡ c → cond c (rowsVerdict t (rowsOf t) bytes) (refused 22) ≡ sound → Passes t good bytes
   unfolding rowsVerdict
   by-length true q v = by-bytes (leb-true _ _ q) (firstFrom (lowAt bytes) 0 (length bytes)) refl v
   by-length false q v = let z : _≡_ {A = ℕ} 0 1 = cc in absurd (omega arith)
 
   -- and one that is sound passes
-  pub sound-passes : verdictOf t bytes ≡ sound → Passes
+  pub sound-passes : verdictOf t bytes ≡ sound → Passes t good bytes
   unfolding verdictOf
   sound-passes e = by-length (leb (lengthOf t) (length bytes)) refl (rw good at e)
 

@@ -5,11 +5,13 @@ use mathlib.Core.Bool.{Bool, true, false}
 use mathlib.Core.List.{List}
 use Prim.Native.Nat.{ℕ, _+_, _≤_, _<_}
 use lib.IntN.{ℤ}
-use lib.ListN.{length}
+use lib.ListN.{length, getD}
+use Rattle.sets.specs.rule.Sets.{isIllegal}
 use Rattle.sound.specs.rule.Sound.{wellFormed}
 use Rattle.sound.specs.rule.Rows.{rowsOf, lengthOf}
 use Rattle.lows.specs.rule.Lows.{lowAt}
 use Rattle.records.specs.rule.First.{badRow}
+use Rattle.records.specs.rule.Value.{readingAt}
 use Rattle.records.specs.rule.Verdict.{Verdict, sound, refused, lowByte, badField}
 
 -- ---- the first of the n numbers from i on
@@ -19,6 +21,14 @@ pub record IsFirst (f : ℕ → Bool) (i n k : ℕ) : Type 0 where
   pub below : k < i + n
   pub passes : f k ≡ true
   pub none : (j : ℕ) → i ≤ j → j < k → f j ≡ false
+
+-- a record that passes by a well-formed table
+module _ (t : List ℤ) (good : wellFormed t ≡ true) (bytes : List ℕ) where
+  -- what a sound record has
+  pub record Passes : Type 0 where
+    pub long : lengthOf t ≤ length bytes
+    pub plain : (p : ℕ) → p < length bytes → 32 ≤ getD bytes p 0
+    pub legal-rows : (i : ℕ) → i < rowsOf t → isIllegal (readingAt t i bytes) ≡ false
 
 -- no byte is below 32
 abbrev pub NoLow : List ℕ → Type 0
