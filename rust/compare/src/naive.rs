@@ -539,17 +539,17 @@ fn values(r: &mut Reader, quantity: bool, row: &mut [i64], lines: &mut Vec<Vec<i
 
 // ------------------------------------------------------------------------------------------------- tables
 
-struct Row {
-    cells: Vec<i64>,
+pub(crate) struct Row {
+    pub(crate) cells: Vec<i64>,
     lines: Vec<Vec<i64>>,
 }
 
-struct Table {
-    rows: Vec<Row>,
-    least: usize,
+pub(crate) struct Table {
+    pub(crate) rows: Vec<Row>,
+    pub(crate) least: usize,
 }
 
-fn understood(t: &[i64]) -> Option<Table> {
+pub(crate) fn understood(t: &[i64]) -> Option<Table> {
     if t.len() < HEADER || !(1..=512).contains(&t[1]) || !(0..=4096).contains(&t[2]) {
         return None;
     }
@@ -658,7 +658,7 @@ impl Row {
             || self.lines.iter().any(|line| line[0] == v)
     }
 
-    fn defined(&self) -> BTreeSet<i64> {
+    pub(crate) fn defined(&self) -> BTreeSet<i64> {
         let mut all: BTreeSet<i64> = self.lines.iter().map(|line| line[0]).collect();
         if self.cells[9] == 1 {
             all.extend(self.cells[10]..=self.cells[11]);
@@ -667,7 +667,7 @@ impl Row {
     }
 
     /// The places of the value in a record, field by field.
-    fn places(&self) -> Vec<Vec<usize>> {
+    pub(crate) fn places(&self) -> Vec<Vec<usize>> {
         let c = &self.cells;
         let (start, finish, w) = (c[2] as usize - 1, c[3] as usize, c[4] as usize);
         match c[1] {

@@ -26,6 +26,13 @@ pub struct Judgement {
     pub place: usize,
 }
 
+impl Judgement {
+    /// The four numbers that a call answers with.
+    pub fn numbers(self) -> [i64; 4] {
+        [self.number as i64, self.place as i64, 0, 0]
+    }
+}
+
 /// Reads the value of one row. Only a set touches the list, and only its start.
 pub fn read_value(table: &[i64], row: u64, record: &[u8], list: &mut [i64]) -> Reading {
     let Some(t) = view(table) else { return Err(20) };
@@ -98,7 +105,7 @@ fn count_members(row: &Row, lines: &[Line], record: &[u8]) -> usize {
 
 /// The value of a row of a table that was tested, in a record that is long enough.
 #[inline]
-fn row_value(row: &Row, lines: &[Line], record: &[u8], list: &mut [i64]) -> Reading {
+pub(crate) fn row_value(row: &Row, lines: &[Line], record: &[u8], list: &mut [i64]) -> Reading {
     match row[column::TYPE] {
         SINGLE => match category(last_bytes(row, record)) {
             Category::Blank | Category::Number(0) => Ok(Value::Missing),
@@ -144,7 +151,15 @@ fn row_value(row: &Row, lines: &[Line], record: &[u8], list: &mut [i64]) -> Read
 
 /// Judges a whole record: 20, 22, 23 with the byte's place, 24 with the lowest row.
 pub fn judge_record(table: &[i64], record: &[u8]) -> Judgement {
-    let Some(t) = view(table) else { return Judgement { number: 20, place: 0 } };
+    match view(table) {
+        Some(t) => judge(&t, record),
+        None => Judgement { number: 20, place: 0 },
+    }
+}
+
+/// Judges a record under a table that was tested.
+#[inline]
+pub(crate) fn judge(t: &Table, record: &[u8]) -> Judgement {
     if record.len() < t.least {
         return Judgement { number: 22, place: 0 };
     }
@@ -152,7 +167,7 @@ pub fn judge_record(table: &[i64], record: &[u8]) -> Judgement {
     if place < record.len() {
         return Judgement { number: 23, place };
     }
-    match first_illegal(&t, record) {
+    match first_illegal(t, record) {
         Some(row) => Judgement { number: 24, place: row },
         None => Judgement { number: 0, place: 0 },
     }
@@ -226,7 +241,7 @@ fn on_line(lines: &[Line], v: i64) -> bool {
 }
 
 /// Up to this many lines or subfields, looking through the lines is quick enough.
-const FEW: usize = 16;
+pub(crate) const FEW: usize = 16;
 
 /// The defined categories of a row, made ready for many questions once more than a few were asked.
 pub(crate) struct Defined<'a> {
@@ -263,14 +278,14 @@ impl<'a> Defined<'a> {
 
 /// The last w bytes of the position.
 #[inline]
-fn last_bytes<'a>(row: &Row, record: &'a [u8]) -> &'a [u8] {
+pub(crate) fn last_bytes<'a>(row: &Row, record: &'a [u8]) -> &'a [u8] {
     let finish = row[column::FINISH] as usize;
     &record[finish - row[column::WIDTH] as usize..finish]
 }
 
 /// The last w bytes of each subfield.
 #[inline]
-fn subfields<'a>(row: &Row, record: &'a [u8]) -> impl Iterator<Item = &'a [u8]> + use<'a> {
+pub(crate) fn subfields<'a>(row: &Row, record: &'a [u8]) -> impl Iterator<Item = &'a [u8]> + use<'a> {
     let start = row[column::START] as usize - 1;
     let width = row[column::SUBWIDTH] as usize;
     let w = row[column::WIDTH] as usize;
@@ -278,7 +293,7 @@ fn subfields<'a>(row: &Row, record: &'a [u8]) -> impl Iterator<Item = &'a [u8]> 
     all.chunks_exact(width).map(move |subfield| &subfield[width - w..])
 }
 
-enum Category {
+pub(crate) enum Category {
     Blank,
     Number(i64),
     Bad,
@@ -286,7 +301,7 @@ enum Category {
 
 /// Spaces, then digits; at most four bytes.
 #[inline]
-fn category(places: &[u8]) -> Category {
+pub(crate) fn category(places: &[u8]) -> Category {
     // Mostly digits throughout.
     let mut value = 0i64;
     let mut plain = true;
@@ -312,7 +327,7 @@ fn category(places: &[u8]) -> Category {
     if digits { Category::Number(value) } else { Category::Blank }
 }
 
-enum Quantity {
+pub(crate) enum Quantity {
     Blank,
     Number(i64),
     Bad,
@@ -320,7 +335,7 @@ enum Quantity {
 
 /// Spaces, `-` or none, digits, at least one before the point; point and decimals as in the block.
 #[inline]
-fn quantity(row: &Row, places: &[u8]) -> Quantity {
+pub(crate) fn quantity(row: &Row, places: &[u8]) -> Quantity {
     let decimals = row[column::DECIMALS] as usize;
     let point = row[column::POINT] as usize;
     let (whole, rest) = places.split_at(places.len() - decimals - point);
@@ -367,7 +382,7 @@ enum Bits {
 
 /// The bytes of a bitstring's position; byte c is at c - 1.
 #[inline]
-fn bit_bytes<'a>(row: &Row, record: &'a [u8]) -> &'a [u8] {
+pub(crate) fn bit_bytes<'a>(row: &Row, record: &'a [u8]) -> &'a [u8] {
     let start = row[column::START] as usize - 1;
     &record[start..start + row[column::WIDTH] as usize]
 }
@@ -451,7 +466,7 @@ fn list_bits(row: &Row, lines: &[Line], record: &[u8], rising: bool, list: &mut 
     each_member(&members, put);
 }
 
-fn each_member(members: &[u64; 157], mut put: impl FnMut(i64)) {
+pub(crate) fn each_member(members: &[u64; 157], mut put: impl FnMut(i64)) {
     for (i, &word) in members.iter().enumerate() {
         let mut word = word;
         while word != 0 {
