@@ -4,7 +4,7 @@
 use crate::coming::Correction;
 use crate::face::Face;
 use crate::naive::{Naive, Row, understood};
-use std::collections::BTreeMap;
+use std::collections::{BTreeMap, BTreeSet};
 
 /// "Table not well formed": the test is that of every call on records.
 fn not_well_formed(table: &[i64]) -> bool {
@@ -82,6 +82,12 @@ fn share_a_place(a: &Row, b: &Row) -> bool {
 pub(crate) fn rows_share(table: &[i64]) -> bool {
     let Some(t) = understood(table) else { return false };
     (0..t.rows.len()).any(|i| (0..i).any(|j| share_a_place(&t.rows[i], &t.rows[j])))
+}
+
+/// Every value place of the table's rows.
+pub fn value_places(table: &[i64]) -> BTreeSet<usize> {
+    let rows = understood(table).map_or(vec![], |t| t.rows);
+    rows.iter().flat_map(|row| row.places().concat()).collect()
 }
 
 pub fn normal(table: &[i64], record: &mut [u8]) -> [i64; 4] {
