@@ -1,6 +1,6 @@
 //! Value places and readings: one row's value, and the judgement of a whole record.
 
-use crate::scan::{find, lanes};
+use crate::scan::find_low;
 use crate::table::{Table, view};
 use crate::*;
 
@@ -163,7 +163,7 @@ pub(crate) fn judge(t: &Table, record: &[u8]) -> Judgement {
     if record.len() < t.least {
         return Judgement { number: 22, place: 0 };
     }
-    let place = find(record, 0, lanes::below_32);
+    let place = find_low(record, 0);
     if place < record.len() {
         return Judgement { number: 23, place };
     }
@@ -175,17 +175,21 @@ pub(crate) fn judge(t: &Table, record: &[u8]) -> Judgement {
 
 /// The lowest row whose field is illegal. The record is long enough and holds no byte below 32.
 pub(crate) fn first_illegal(t: &Table, record: &[u8]) -> Option<usize> {
-    t.rows.iter().position(|row| !field_legal(t, row, record))
+    t.rows.iter().enumerate().position(|(i, row)| !field_legal(t, i, row, record))
 }
 
 #[inline]
-fn field_legal(t: &Table, row: &Row, record: &[u8]) -> bool {
+fn field_legal(t: &Table, i: usize, row: &Row, record: &[u8]) -> bool {
     match row[column::TYPE] {
         SINGLE => match category(last_bytes(row, record)) {
             Category::Blank | Category::Number(0) => true,
             Category::Number(c) => legal(row, t.lines_of(row), c),
             Category::Bad => false,
         },
+        MULTIPLE if row[column::SUBFIELDS] == 0 && row[column::RANGE] == 0 && t.in_turn(i) => {
+            let first = t.lines_of(row)[0][0] as usize;
+            one_kind(&bit_bytes(row, record)[first - 1..])
+        }
         MULTIPLE if row[column::SUBFIELDS] == 0 => !matches!(bits(row, t.lines_of(row), record), Bits::Bad),
         MULTIPLE => {
             let lines = t.lines_of(row);
@@ -206,6 +210,26 @@ fn field_legal(t: &Table, row: &Row, record: &[u8]) -> bool {
     }
 }
 
+/// Whether the bytes are `0` and `1` throughout, or spaces throughout.
+#[inline]
+fn one_kind(bytes: &[u8]) -> bool {
+    const LOW: u64 = 0x0101_0101_0101_0101;
+    let (mut binary, mut spaces) = (0, 0);
+    let mut note = |word: u64| {
+        binary |= (word ^ (LOW * b'0' as u64)) & (LOW * 0xfe);
+        spaces |= word ^ (LOW * b' ' as u64);
+    };
+    let (words, rest) = bytes.as_chunks::<8>();
+    words.iter().for_each(|word| note(u64::from_le_bytes(*word)));
+    match (rest, bytes.last_chunk::<8>()) {
+        ([], _) => {}
+        // The last word once more, with what is left.
+        (_, Some(last)) => note(u64::from_le_bytes(*last)),
+        _ => rest.iter().for_each(|&x| note(LOW * x as u64)),
+    }
+    binary == 0 || spaces == 0
+}
+
 #[inline]
 fn spread_legal(row: &Row, record: &[u8], mut defined: impl FnMut(i64) -> bool) -> bool {
     subfields(row, record).all(|place| match category(place) {
@@ -218,7 +242,7 @@ fn spread_legal(row: &Row, record: &[u8], mut defined: impl FnMut(i64) -> bool) 
 /// Whether a byte below 32 is among these.
 #[inline]
 fn controls(bytes: &[u8]) -> bool {
-    find(bytes, 0, lanes::below_32) < bytes.len()
+    find_low(bytes, 0) < bytes.len()
 }
 
 /// Whether the number lies in the row's range or on one of its lines.

@@ -1,7 +1,7 @@
 //! Data files: the next record, and the judgement of a whole file.
 
 use crate::field::first_illegal;
-use crate::scan::{find, lanes};
+use crate::scan::{find, find_low, lanes};
 use crate::table::{Table, view};
 
 /// The next record of a file.
@@ -141,7 +141,7 @@ fn judge_records(t: &Table, data: &[u8], terminator: Terminator, length: u64, la
         count += 1;
         // The first byte below 32 is the record's end, or a byte that mustn't be there.
         let mut low = None;
-        let mut place = find(data, start, lanes::below_32);
+        let mut place = find_low(data, start);
         if place < data.len() && !terminator.at(data, place) {
             low = Some(place - start);
             place = terminator.next(data, place + 1).unwrap_or(data.len());

@@ -210,7 +210,7 @@ fn one_record(
 fn bitstring(row: &Row, record: &[u8], categories: &[u16], ones: &mut [u32], values: &mut [[u8; 8]]) -> bool {
     let bytes = bit_bytes(row, record);
     if bytes[categories[0] as usize - 1] == b' ' {
-        values.fill(ZERO);
+        values.as_flattened_mut().fill(0);
         return false;
     }
     for ((&c, ones), value) in categories.iter().zip(ones).zip(values) {
@@ -224,7 +224,7 @@ fn bitstring(row: &Row, record: &[u8], categories: &[u16], ones: &mut [u32], val
 /// A spread's values; whether it is there.
 #[inline]
 fn spread(row: &Row, record: &[u8], categories: &[u16], ones: &mut [u32], values: &mut [[u8; 8]]) -> bool {
-    values.fill(ZERO);
+    values.as_flattened_mut().fill(0);
     let mut there = false;
     for places in subfields(row, record) {
         if let Category::Number(c) = category(places) {

@@ -1,7 +1,7 @@
 //! Mending a damaged data file: one terminator, one length, no byte below 32.
 
 use crate::file::Terminator;
-use crate::scan::{find, lanes};
+use crate::scan::find_low;
 use crate::table::view;
 
 /// The pieces of a file between boundaries, from the left.
@@ -27,7 +27,7 @@ impl Pieces<'_> {
         }
         let mut end = start;
         loop {
-            end = find(self.data, end, lanes::below_32);
+            end = find_low(self.data, end);
             if end == self.data.len() {
                 self.at = end;
                 return Some(Piece { start, end, boundary: None });
