@@ -21,6 +21,8 @@ pub trait Coming {
     fn normal(&self, table: &[i64], record: &mut [u8]) -> [i64; 4];
     fn mend(&self, table: &[i64], data: &[u8], out: &mut [u8], list: &mut [i64]) -> [i64; 4];
     fn matrix(&self, table: &[i64], data: &[u8], out: &mut [u8]) -> [i64; 4];
+    fn export(&self, def: &[u8], table: &[i64], data: &[u8], out: &mut [u8]) -> [i64; 5];
+    fn import(&self, def: &[u8], table: &[i64], text: &[u8], out: &mut [u8]) -> [i64; 4];
 }
 
 /// The plain Rust.
@@ -58,6 +60,14 @@ impl Coming for Plain {
     fn matrix(&self, table: &[i64], data: &[u8], out: &mut [u8]) -> [i64; 4] {
         plain::matrix(table, data, out)
     }
+
+    fn export(&self, def: &[u8], table: &[i64], data: &[u8], out: &mut [u8]) -> [i64; 5] {
+        plain::export(def, table, data, out)
+    }
+
+    fn import(&self, def: &[u8], table: &[i64], text: &[u8], out: &mut [u8]) -> [i64; 4] {
+        plain::import(def, table, text, out)
+    }
 }
 
 /// The naive Rust.
@@ -86,6 +96,14 @@ impl Coming for Naive {
 
     fn matrix(&self, table: &[i64], data: &[u8], out: &mut [u8]) -> [i64; 4] {
         naive_02::matrix(table, data, out)
+    }
+
+    fn export(&self, def: &[u8], table: &[i64], data: &[u8], out: &mut [u8]) -> [i64; 5] {
+        naive_02::export(def, table, data, out)
+    }
+
+    fn import(&self, def: &[u8], table: &[i64], text: &[u8], out: &mut [u8]) -> [i64; 4] {
+        naive_02::import(def, table, text, out)
     }
 }
 

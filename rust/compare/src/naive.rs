@@ -12,7 +12,7 @@ const ROW: usize = 18;
 const LINE: usize = 4;
 
 /// A refusal: number and place.
-type Fault = (i64, usize);
+pub(crate) type Fault = (i64, usize);
 
 // ---------------------------------------------------------------------------------------------- definitions
 
@@ -246,7 +246,7 @@ fn canonical_length(v: i64, decimals: usize, point: bool) -> usize {
     digits.len() + point as usize + (v < 0) as usize
 }
 
-fn decoded(def: &[u8], place: usize, length: usize) -> Vec<u8> {
+pub(crate) fn decoded(def: &[u8], place: usize, length: usize) -> Vec<u8> {
     let text: Vec<u8> = def[place..place + length].iter().copied().filter(|&x| x >= 32).collect();
     let mut out = vec![];
     let mut i = 0;
@@ -274,7 +274,7 @@ fn decoded(def: &[u8], place: usize, length: usize) -> Vec<u8> {
     out
 }
 
-fn read(def: &[u8], room: usize) -> Result<Vec<i64>, Fault> {
+pub(crate) fn read(def: &[u8], room: usize) -> Result<Vec<i64>, Fault> {
     if def.len() > 1_048_576 {
         return Err((1, 0));
     }

@@ -3,7 +3,7 @@
 
 use crate::coming::Correction;
 use crate::face::Face;
-use crate::naive::{Naive, Row, understood};
+use crate::naive::{Naive, Row, decoded, read, understood};
 use std::collections::{BTreeMap, BTreeSet};
 
 /// "Table not well formed": the test is that of every call on records.
@@ -287,4 +287,236 @@ pub fn matrix(table: &[i64], data: &[u8], out: &mut [u8]) -> [i64; 4] {
     assert_eq!(bytes.len() as u128, total);
     out[..bytes.len()].copy_from_slice(&bytes);
     [0, total as i64, r as i64, c as i64]
+}
+
+// ---------------------------------------------------------------------------------------------------- C-16, export
+
+/// "The table is the one this definition yields."
+fn is_its_table(def: &[u8], table: &[i64]) -> bool {
+    read(def, usize::MAX).is_ok_and(|own| table.starts_with(&own))
+}
+
+fn name_of(def: &[u8], row: &Row) -> Vec<u8> {
+    decoded(def, row.cells[14] as usize, row.cells[15] as usize)
+}
+
+/// "Quoted when they hold a comma, quote, CR or LF. Quotes are doubled."
+fn as_field(bytes: &[u8]) -> Vec<u8> {
+    if !bytes.iter().any(|x| b",\"\r\n".contains(x)) {
+        return bytes.to_vec();
+    }
+    let mut field = vec![b'"'];
+    for &x in bytes {
+        field.push(x);
+        if x == b'"' {
+            field.push(b'"');
+        }
+    }
+    field.push(b'"');
+    field
+}
+
+/// "A digit or more before the point without needless zeros, their decimals, and no point where there are none."
+fn number_text(v: i64, decimals: usize) -> String {
+    let mut text = format!("{:0>1$}", v.unsigned_abs(), decimals + 1);
+    if decimals > 0 {
+        text.insert(text.len() - decimals, '.');
+    }
+    if v < 0 { format!("-{text}") } else { text }
+}
+
+/// "Sets are codes joined by semicolons with `none` for the empty set."
+fn set_text(codes: &[i64]) -> String {
+    if codes.is_empty() {
+        return "none".into();
+    }
+    codes.iter().map(i64::to_string).collect::<Vec<_>>().join(";")
+}
+
+/// What is written for the row's value, before it is quoted.
+fn value_text(table: &[i64], row: usize, record: &[u8]) -> Vec<u8> {
+    let t = understood(table).unwrap();
+    let mut list = vec![0; 10_000];
+    let mut read = [0; 4];
+    assert_eq!(Naive.read_value(table, row as u64, record, &mut list, &mut read), 0);
+    match read {
+        [_, 0, ..] => vec![],
+        [_, 1, number, _] => number_text(number, t.rows[row].cells[5] as usize).into_bytes(),
+        [_, 2, count, _] => set_text(&list[..count as usize]).into_bytes(),
+        [_, 3, place, length] => record[place as usize..(place + length) as usize].to_vec(),
+        [_, _, truth, _] => truth.to_string().into_bytes(),
+    }
+}
+
+fn text_line(fields: Vec<Vec<u8>>) -> Vec<u8> {
+    let fields: Vec<Vec<u8>> = fields.iter().map(|field| as_field(field)).collect();
+    [fields.join(&b','), b"\r\n".to_vec()].concat()
+}
+
+pub fn export(def: &[u8], table: &[i64], data: &[u8], out: &mut [u8]) -> [i64; 5] {
+    let Some(t) = understood(table) else { return [20, 0, 0, 0, 0] };
+    if !is_its_table(def, table) {
+        return [40, 0, 0, 0, 0];
+    }
+    let mut judged = [0; 4];
+    let sound = match Naive.judge_file(table, data, &mut judged) {
+        0 => judged[1],
+        _ => judged[1] - 1,
+    };
+    let mut text = text_line(t.rows.iter().map(|row| name_of(def, row)).collect());
+    let mut next = [0; 4];
+    for _ in 0..sound {
+        assert_eq!(Naive.next_record(data, next[3] as u64, &mut next), 1);
+        let record = &data[next[1] as usize..next[2] as usize];
+        text.extend(text_line((0..t.rows.len()).map(|row| value_text(table, row, record)).collect()));
+    }
+    if out.len() < text.len() {
+        return [60, 0, 0, 0, 0];
+    }
+    out[..text.len()].copy_from_slice(&text);
+    [judged[0], judged[1], judged[2], judged[3], text.len() as i64]
+}
+
+// ---------------------------------------------------------------------------------------------------- C-23, import
+
+/// A field, and what stands behind it; None for a malformed one.
+fn one_field(text: &[u8]) -> Option<(Vec<u8>, &[u8])> {
+    let mut field = vec![];
+    let mut rest = text;
+    if let Some(behind) = rest.strip_prefix(b"\"") {
+        rest = behind;
+        loop {
+            if let Some(behind) = rest.strip_prefix(b"\"\"") {
+                field.push(b'"');
+                rest = behind;
+            } else if let Some(behind) = rest.strip_prefix(b"\"") {
+                rest = behind;
+                break;
+            } else {
+                let (&x, behind) = rest.split_first()?;
+                field.push(x);
+                rest = behind;
+            }
+        }
+    } else {
+        while let Some((x, behind)) = rest.split_first().filter(|(x, _)| !b",\r\n".contains(x)) {
+            if *x == b'"' {
+                return None;
+            }
+            field.push(*x);
+            rest = behind;
+        }
+    }
+    (rest.starts_with(b",") || rest.starts_with(b"\r\n")).then_some((field, rest))
+}
+
+/// The fields of the first line, and the text behind it; or the column of the first malformed field.
+fn one_line(text: &[u8]) -> Result<(Vec<Vec<u8>>, &[u8]), i64> {
+    let mut fields = vec![];
+    let mut rest = text;
+    loop {
+        let (field, behind) = one_field(rest).ok_or(fields.len() as i64 + 1)?;
+        fields.push(field);
+        match behind.strip_prefix(b",") {
+            Some(more) => rest = more,
+            None => return Ok((fields, behind.strip_prefix(b"\r\n").unwrap())),
+        }
+    }
+}
+
+/// All that a number may be given back as: what export writes, and that with zeros cut from the end of its decimals.
+fn number_texts(v: i64, decimals: usize) -> Vec<String> {
+    let mut texts = vec![number_text(v, decimals)];
+    if decimals > 0 {
+        let mut text = texts[0].clone();
+        while let Some(cut) = text.strip_suffix('0') {
+            text = cut.strip_suffix('.').unwrap_or(cut).to_string();
+            texts.push(text.clone());
+            if !text.contains('.') {
+                break;
+            }
+        }
+    }
+    texts
+}
+
+/// The scaled number that a field might be: its digits, with as many zeros as decimals are missing.
+fn perhaps(field: &str, decimals: usize) -> Option<i64> {
+    let behind = field.split_once('.').map_or(0, |(_, behind)| behind.len());
+    let digits = field.replace('.', "") + &"0".repeat(decimals.checked_sub(behind)?);
+    digits.parse().ok()
+}
+
+/// Writes the field's value: whether it is one.
+fn import_field(table: &[i64], row: u64, field: &[u8], record: &mut [u8]) -> bool {
+    let t = understood(table).unwrap();
+    let cells = &t.rows[row as usize].cells;
+    if field.is_empty() {
+        return Naive.write_missing(table, row, record) == 0;
+    }
+    if cells[1] == 4 {
+        return Naive.write_text(table, row, field, record) == 0;
+    }
+    let Ok(text) = std::str::from_utf8(field) else { return false };
+    match cells[1] {
+        1 | 3 => perhaps(text, cells[5] as usize).is_some_and(|v| {
+            number_texts(v, cells[5] as usize).iter().any(|other| other == text)
+                && Naive.write_number(table, row, v, record) == 0
+        }),
+        2 => {
+            let codes: Result<Vec<i64>, _> =
+                if text == "none" { Ok(vec![]) } else { text.split(';').map(str::parse).collect() };
+            codes.is_ok_and(|codes| set_text(&codes) == text && Naive.write_set(table, row, &codes, record) == 0)
+        }
+        _ => (text == "0" || text == "1") && Naive.write_truth(table, row, (text == "1") as u8, record) == 0,
+    }
+}
+
+pub fn import(def: &[u8], table: &[i64], text: &[u8], out: &mut [u8]) -> [i64; 4] {
+    let Some(t) = understood(table) else { return [20, 0, 0, 0] };
+    if !is_its_table(def, table) {
+        return [40, 0, 0, 0];
+    }
+    if rows_share(table) {
+        return [90, 0, 0, 0];
+    }
+    let v = t.rows.len();
+    let mut built = vec![];
+    let mut rest = text;
+    let mut line = 0;
+    loop {
+        line += 1;
+        let fields = match one_line(rest) {
+            Err(column) => return [61, line, column, 0],
+            Ok((fields, behind)) => {
+                rest = behind;
+                fields
+            }
+        };
+        if line == 1 {
+            let names: Vec<Vec<u8>> = t.rows.iter().map(|row| name_of(def, row)).collect();
+            if let Some(k) = (0..v.max(fields.len())).find(|&k| fields.get(k) != names.get(k)) {
+                return [62, 1, k as i64 + 1, 0];
+            }
+        } else if fields.len() != v {
+            return [63, line, fields.len().min(v) as i64 + 1, 0];
+        } else {
+            let mut record = vec![b' '; t.least];
+            for (k, field) in fields.iter().enumerate() {
+                if !import_field(table, k as u64, field, &mut record) {
+                    return [64, line, k as i64 + 1, 0];
+                }
+            }
+            built.extend(record);
+            built.extend(b"\r\n");
+        }
+        if rest.is_empty() {
+            break;
+        }
+    }
+    if out.len() < built.len() {
+        return [60, 0, 0, 0];
+    }
+    out[..built.len()].copy_from_slice(&built);
+    [0, line - 1, built.len() as i64, 0]
 }

@@ -4,7 +4,7 @@
 use std::collections::BTreeMap;
 use std::fmt::Debug;
 use zarfolin_compare::coming::{Coming, Correction, Naive, Plain};
-use zarfolin_compare::definitions::Size;
+use zarfolin_compare::definitions::{self, Size, Style};
 use zarfolin_compare::naive_02::value_places;
 use zarfolin_compare::records;
 use zarfolin_compare::rng::Rng;
@@ -380,6 +380,183 @@ fn one_row(row: [i64; 18]) -> Vec<i64> {
     table
 }
 
+// --------------------------------------------------------------------------------------------------- C-16 and C-23
+
+/// A definition and its table; mostly one in which no two rows share a value place, which takes a few tries.
+fn survey(r: &mut Rng) -> (Vec<u8>, Vec<i64>) {
+    let mut tries = if r.once_in(4) { 1 } else { 60 };
+    loop {
+        let variables = 1 + r.below(3);
+        let m = definitions::model(r, Size { variables, lines: 4, text: 4 });
+        let style = Style::any(r);
+        let (def, table) = definitions::sound(r, style, &m);
+        tries -= 1;
+        if tries == 0 || (table[3] < 200 && zarfolin_plain::normal(&table, &mut [])[0] != 90) {
+            return (def, table);
+        }
+    }
+}
+
+/// A table or a definition that don't go together, now and then.
+fn parted(r: &mut Rng, def: &mut Vec<u8>, table: &mut Vec<i64>) {
+    match r.below(40) {
+        0 => tables::changed(r, table),
+        1 => definitions::damage_bytes(r, def),
+        2 => *def = survey(r).0,
+        3 => {
+            // A text place that the definition doesn't yield leaves a table well formed.
+            table[row_at(0) + 14] += 1;
+        }
+        4 => table.push(7),
+        _ => {}
+    }
+}
+
+fn exports(a: &dyn Coming, b: &dyn Coming, count: u64) -> Met {
+    let mut pair = Pair::new(a, b);
+    for seed in seeds(count) {
+        let mut r = Rng::new(seed ^ 0x1616);
+        let (mut def, mut table) = survey(&mut r);
+        let mut data = records::sound_file(&mut r, &table, 4);
+        if r.once_in(4) {
+            data = records::file(&mut r, &table);
+        } else if r.once_in(3) && !data.is_empty() {
+            let at = r.below(data.len());
+            data[at] = r.pick(b"\r\n\t x,\"09");
+        }
+        parted(&mut r, &mut def, &mut table);
+        let what = format!("seed {seed}: export(b\"{}\", {table:?}, b\"{}\")", def.escape_ascii(), data.escape_ascii());
+        let ask = |pair: &Pair, room: usize| {
+            pair.ask(format!("{what} in {room}"), |side| {
+                let mut bytes = guarded(&vec![0x55; room], 0x7e);
+                let answer = side.export(&def, &table, &data, within(&mut bytes));
+                (answer, bytes)
+            })
+        };
+        let (answer, bytes) = ask(&pair, 60_000)?;
+        pair.note(answer[0]);
+        let length = answer[4] as usize;
+        hold(bytes[8 + length..60_008].iter().all(|&x| x == 0x55), || format!("{what}: beyond {length}"))?;
+        if matches!(answer[0], 20 | 40 | 60) {
+            hold(answer[1..] == [0; 4], || format!("{what}: {answer:?}"))?;
+            continue;
+        }
+        // The fault is judge_file's own, with the lines before it.
+        let judged = zarfolin_plain::judge_file(&table, &data).numbers();
+        hold(judged == answer[..4], || format!("{what}: judged {judged:?}"))?;
+        let exact = ask(&pair, length)?;
+        hold(exact.0 == answer && exact.1[8..8 + length] == bytes[8..8 + length], || format!("{what}: an exact fit"))?;
+        let (short, kept) = ask(&pair, length - 1)?;
+        pair.note(short[0]);
+        hold(short == [60, 0, 0, 0, 0] && kept[8..7 + length].iter().all(|&x| x == 0x55), || {
+            format!("{what}: {short:?} one short of {length}")
+        })?;
+        // Importing the export of a sound file gives records whose rows read as the originals.
+        if answer[0] == 0 && zarfolin_plain::normal(&table, &mut [])[0] != 90 {
+            pair.note(1000);
+            let least = table[3] as usize;
+            let mut out = vec![0; answer[1] as usize * (least + 2)];
+            let back = pair.a.import(&def, &table, &bytes[8..8 + length], &mut out);
+            hold(back == [0, answer[1], out.len() as i64, 0], || format!("{what}: its import gives {back:?}"))?;
+            let step = data.len() / (answer[1] as usize).max(1);
+            for (record, original) in out.chunks(least + 2).zip(data.chunks(step.max(1))) {
+                let same = readings(&table, record) == readings(&table, original);
+                hold(same, || format!("{what}: imported b\"{}\"", record.escape_ascii()))?;
+            }
+            let mut again = vec![0; length];
+            pair.a.export(&def, &table, &out, &mut again);
+            hold(again == bytes[8..8 + length], || format!("{what}: exported again"))?;
+        }
+    }
+    Ok(pair.met)
+}
+
+/// Text that is nearly an export: as it is, with needless quotes, with zeros cut, with bytes or fields changed.
+fn changed_text(r: &mut Rng, text: &mut Vec<u8>) {
+    for _ in 0..r.below(3) {
+        if text.is_empty() {
+            return;
+        }
+        let at = r.below(text.len());
+        match r.below(9) {
+            0 => drop(text.remove(at)),
+            1 => text.insert(at, r.pick(b",;\"\r\n0 -.5x\t")),
+            2 => text[at] = r.pick(b",;\"\r\n01 -.59x\t\xff"),
+            3 => text.truncate(at),
+            4 => text.extend(b"\r\n"),
+            // A field quoted without need, zeros cut or added, and other forms of a number.
+            5 | 6 => {
+                let plain = |x: &u8| b"0123456789.;-".contains(x);
+                let start = text[..at].iter().rposition(|x| !plain(x)).map_or(0, |i| i + 1);
+                let end = at + text[at..].iter().position(|x| !plain(x)).unwrap_or(text.len() - at);
+                let field = String::from_utf8_lossy(&text[start..end.max(start)]).into_owned();
+                let field = match r.below(8) {
+                    0 | 1 => format!("\"{field}\""),
+                    2 | 3 => field.strip_suffix('0').unwrap_or(&field).to_string(),
+                    4 => field.trim_end_matches('0').trim_end_matches('.').to_string(),
+                    5 => format!("0{field}"),
+                    6 => format!("{field}0"),
+                    _ => format!("-{field}"),
+                };
+                text.splice(start..end.max(start), field.into_bytes());
+            }
+            7 => {
+                let at = text[at..].windows(2).position(|w| w == b"\r\n").map_or(at, |i| at + i);
+                text.insert(at, b',');
+            }
+            _ => {
+                if let Some(i) = text[at..].iter().position(|&x| x == b'0') {
+                    text.remove(at + i);
+                }
+            }
+        }
+    }
+}
+
+fn imports(a: &dyn Coming, b: &dyn Coming, count: u64) -> Met {
+    let mut pair = Pair::new(a, b);
+    for seed in seeds(count) {
+        let mut r = Rng::new(seed ^ 0x2323);
+        let (mut def, mut table) = survey(&mut r);
+        let data = records::sound_file(&mut r, &table, 3);
+        let mut text = vec![0; 60_000];
+        let answer = zarfolin_plain::export(&def, &table, &data, &mut text);
+        text.truncate(answer[4] as usize);
+        changed_text(&mut r, &mut text);
+        parted(&mut r, &mut def, &mut table);
+        let what = format!("seed {seed}: import(b\"{}\", {table:?}, b\"{}\")", def.escape_ascii(), text.escape_ascii());
+        let ask = |pair: &Pair, room: usize| {
+            pair.ask(format!("{what} in {room}"), |side| {
+                let mut bytes = guarded(&vec![0x55; room], 0x7e);
+                let answer = side.import(&def, &table, &text, within(&mut bytes));
+                (answer, bytes)
+            })
+        };
+        let (answer, bytes) = ask(&pair, 60_000)?;
+        pair.note(answer[0]);
+        let length = if answer[0] == 0 { answer[2] as usize } else { 0 };
+        hold(bytes[8 + length..60_008].iter().all(|&x| x == 0x55), || format!("{what}: beyond {length}"))?;
+        if answer[0] != 0 || length == 0 {
+            continue;
+        }
+        let exact = ask(&pair, length)?;
+        hold(exact.0 == answer && exact.1[8..8 + length] == bytes[8..8 + length], || format!("{what}: an exact fit"))?;
+        let (short, kept) = ask(&pair, length - 1)?;
+        pair.note(short[0]);
+        hold(short == [60, 0, 0, 0] && kept[8..7 + length].iter().all(|&x| x == 0x55), || {
+            format!("{what}: {short:?} one short of {length}")
+        })?;
+        // What is accepted otherwise than byte for byte is noted as 1000.
+        let mut again = vec![0; 60_000];
+        let exported = pair.a.export(&def, &table, &bytes[8..8 + length], &mut again);
+        hold(exported[..2] == [0, answer[1]], || format!("{what}: built a file that gives {exported:?}"))?;
+        if again[..exported[4] as usize] != text {
+            pair.note(1000);
+        }
+    }
+    Ok(pair.met)
+}
+
 /// A fault planted in the plain Rust.
 struct Wrong(u32);
 
@@ -460,6 +637,33 @@ impl Coming for Wrong {
             _ => Plain.mend(table, data, out, list),
         }
     }
+    fn export(&self, def: &[u8], table: &[i64], data: &[u8], out: &mut [u8]) -> [i64; 5] {
+        let mut answer = Plain.export(def, table, data, out);
+        match self.0 {
+            // 40 before 20; the length not told where the data is faulty.
+            16 if answer[0] == 20 => answer[0] = 40,
+            17 if answer[0] > 20 && answer[4] > 0 => answer[4] = 0,
+            _ => {}
+        }
+        answer
+    }
+    fn import(&self, def: &[u8], table: &[i64], text: &[u8], out: &mut [u8]) -> [i64; 4] {
+        match self.0 {
+            // The last line without its CR LF; a bare LF as a line end.
+            18 if !text.ends_with(b"\r\n") => Plain.import(def, table, &[text, b"\r\n"].concat(), out),
+            19 => {
+                let mut mended: Vec<u8> = vec![];
+                for &x in text {
+                    if x == b'\n' && mended.last() != Some(&b'\r') {
+                        mended.push(b'\r');
+                    }
+                    mended.push(x);
+                }
+                Plain.import(def, table, &mended, out)
+            }
+            _ => Plain.import(def, table, text, out),
+        }
+    }
     fn matrix(&self, table: &[i64], data: &[u8], out: &mut [u8]) -> [i64; 4] {
         let answer = Plain.matrix(table, data, out);
         match self.0 {
@@ -484,14 +688,16 @@ impl Coming for Wrong {
 
 #[test]
 fn planted_faults_are_found() {
-    for fault in 0..16 {
+    for fault in 0..20 {
         let wrong = Wrong(fault);
         let met = match fault {
             0..4 => parts(&wrong, &Naive, 4_000),
             4..7 => corrections(&wrong, &Naive, 2_000),
             7..10 => normals(&wrong, &Naive, 4_000),
             10..13 => mends(&wrong, &Naive, 500),
-            _ => matrices(&wrong, &Naive, 300),
+            13..16 => matrices(&wrong, &Naive, 300),
+            16..18 => exports(&wrong, &Naive, 1_000),
+            _ => imports(&wrong, &Naive, 1_000),
         };
         assert!(met.is_err(), "planted fault {fault} was not found");
     }
@@ -520,4 +726,14 @@ fn mended_files() {
 #[test]
 fn matrices_of_files() {
     end("matrix", matrices(&Plain, &Naive, 1_000), &[0, 20, 22, 23, 24, 30, 31, 80, 81, 82]);
+}
+
+#[test]
+fn exports_of_files() {
+    end("export", exports(&Plain, &Naive, 3_000), &[0, 20, 22, 23, 24, 30, 31, 40, 60, 1000]);
+}
+
+#[test]
+fn imports_of_texts() {
+    end("import", imports(&Plain, &Naive, 6_000), &[0, 20, 40, 60, 61, 62, 63, 64, 90, 1000]);
 }

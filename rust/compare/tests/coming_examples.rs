@@ -318,3 +318,181 @@ fn c20_refusals_in_their_order() {
         assert_eq!(matrix(&logical, b"1\n", 57), [0, 57, 1, 1]);
     });
 }
+
+/// The variables of a survey for export and import, and its names as they are decoded: `a`, `b,"c`, a break between `d` and `e`.
+fn spread_sheet() -> (String, Vec<i64>) {
+    let variables = [
+        "VARIABLE 1 NAME \"{61}\" LABEL \"\" TYPE SINGLE POSITION 1 TO 2 VALUES 1 TO 20 END VALUES END VARIABLE ",
+        "VARIABLE 2 NAME \"b,{\"}c\" LABEL \"\" TYPE QUANTITY POSITION 3 TO 7 VALUES -9.99 TO 99.99 END VALUES END VARIABLE ",
+        "VARIABLE 3 NAME \"d{NL}e\" LABEL \"\" TYPE MULTIPLE POSITION 8 TO 11 SPREAD 2 OF 2 VALUES 1 TO 40 END VALUES END VARIABLE ",
+        "VARIABLE 4 NAME \"\" LABEL \"\" TYPE CHARACTER POSITION 12 TO 15 SIZE 4 END VARIABLE ",
+        "VARIABLE 5 NAME \"\" LABEL \"\" TYPE LOGICAL POSITION 16 END VARIABLE ",
+    ]
+    .concat();
+    (definition(&variables), table(&variables))
+}
+
+const NAMES: &str = "a,\"b,\"\"c\",\"d\ne\",,\r\n";
+
+#[test]
+fn c16_export() {
+    let (def, t) = spread_sheet();
+    each(|side| {
+        let export = |data: &str| {
+            let mut out = vec![b'?'; 300];
+            let answer = side.export(def.as_bytes(), &t, data.as_bytes(), &mut out);
+            let length = answer[4] as usize;
+            assert!(out[length..].iter().all(|&x| x == b'?'));
+            let text = String::from_utf8(out[..length].to_vec()).unwrap();
+            (answer[..4].to_vec(), text.strip_prefix(NAMES).unwrap_or(&text).to_string(), text.starts_with(NAMES))
+        };
+        let done = |data: &str, records: i64, lines: &str| {
+            assert_eq!(export(data), (vec![0, records, 0, 0], lines.to_string(), true), "{data:?}")
+        };
+        // Reading 5: no records, the name line alone. Readings 2 and 3: names decoded, quoted where they must be, empty ones as they are.
+        done("", 0, "");
+        // Reading 4: needless zeros go, decimals stay; codes joined by semicolons, the empty set, missing, truths.
+        done(" 700.50 3 1ab  1\n", 1, "7,0.50,1;3,ab,1\r\n");
+        done("20-0.500000    0\n", 1, "20,-0.50,none,,0\r\n");
+        done("  00.00          \n", 1, ",0.00,,,\r\n");
+        done("           ,\"   \n", 1, ",,,\",\"\"\",\r\n");
+        // Every type missing.
+        done("                \n", 1, ",,,,\r\n");
+        // A fault: the lines before it stay, and judge_file's answer is told.
+        let one = " 700.50 3 1ab  1\n";
+        let line = "7,0.50,1;3,ab,1\r\n";
+        assert_eq!(export(&format!("{one}{}", one.replace(" 7", "21"))), (illegal(2, 0).to_vec(), line.into(), true));
+        assert_eq!(export(&format!("{one}x")), (vec![30, 2, 0, 0], line.into(), true));
+        assert_eq!(export(&format!("{one}x{one}")), (vec![31, 2, 0, 0], line.into(), true));
+        assert_eq!(export("x\n"), (vec![22, 1, 0, 0], "".into(), true));
+        // Reading 1: 20, 40, 60 in this order, with zeros behind; a refused definition is 40 too.
+        let refused = |def: &str, t: &[i64], data: &str, room: usize| {
+            let mut out = vec![b'?'; room];
+            let answer = side.export(def.as_bytes(), t, data.as_bytes(), &mut out);
+            assert_eq!((&answer[1..], out.iter().all(|&x| x == b'?')), (&[0; 4][..], true));
+            answer[0]
+        };
+        let mut other = t.clone();
+        other[zarfolin_compare::shape::row_at(0) + 14] += 1;
+        assert_eq!(refused("", &t[..9], "", 0), 20);
+        assert_eq!(refused("", &t, "x", 0), 40);
+        assert_eq!(refused(&def, &other, "x", 0), 40);
+        // 60 if the text before the fault doesn't fit, whatever the fault.
+        assert_eq!(refused(&def, &t, "x", NAMES.len() - 1), 60);
+        // More numbers than the table's are not looked at.
+        other.clone_from(&t);
+        other.push(-3);
+        let answer = side.export(def.as_bytes(), &other, b"", &mut vec![0; NAMES.len()]);
+        assert_eq!(answer, [0, 0, 0, 0, NAMES.len() as i64]);
+    });
+}
+
+#[test]
+fn c23_import() {
+    let (def, t) = spread_sheet();
+    each(|side| {
+        let import = |text: &str| {
+            let mut out = vec![b'?'; 100];
+            let answer = side.import(def.as_bytes(), &t, text.as_bytes(), &mut out);
+            let length = if answer[0] == 0 { answer[2] as usize } else { 0 };
+            assert!(out[length..].iter().all(|&x| x == b'?'));
+            (answer, String::from_utf8(out[..length].to_vec()).unwrap())
+        };
+        let lines = |lines: &str| import(&format!("{NAMES}{lines}"));
+        let built =
+            |line: &str, record: &str| assert_eq!(lines(line), ([0, 1, 18, 0], format!("{record}\r\n")), "{line:?}");
+        let refused = |line: &str, number: i64, row: i64, column: i64| {
+            assert_eq!(lines(line), ([number, row, column, 0], "".into()), "{line:?}")
+        };
+        assert_eq!(lines(""), ([0, 0, 0, 0], "".into()));
+        built("7,0.50,1;3,ab,1\r\n", "0700.500103ab  1");
+        built("20,-0.50,none,,0\r\n", "20-0.500000    0");
+        built(",,,\",\"\"\",\r\n", "           ,\"   ");
+        // Reading 2: zeros cut from the end of decimals, and the point where none is left.
+        built("7,12.5,,,\r\n", "0712.50         ");
+        built("7,12,,,\r\n", "0712.00         ");
+        built("7,12.0,,,\r\n", "0712.00         ");
+        // Reading 3: quoted without need; an empty one is missing.
+        built("\"7\",\"\",\"1;2\",\"ab\",\"1\"\r\n", "07     0102ab  1");
+        // Reading 2: 64, at the lowest column.
+        for (field, column) in [
+            ("007,,,,", 1),
+            ("+7,,,,", 1),
+            (" 7,,,,", 1),
+            ("0,,,,", 1),
+            ("21,,,,", 1),
+            ("7.,,,,", 1),
+            ("7.0,,,,", 1),
+            ("-7,,,,", 1),
+            (",-0,,,", 2),
+            (",-0.00,,,", 2),
+            (",7.,,,", 2),
+            (",.5,,,", 2),
+            (",12.505,,,", 2),
+            (",12.500,,,", 2),
+            (",00.50,,,", 2),
+            (",100,,,", 2),
+            (",1e1,,,", 2),
+            (",,2;1,,", 3),
+            (",,1;1,,", 3),
+            (",,1;2;3,,", 3),
+            (",,41,,", 3),
+            (",,0,,", 3),
+            (",,01,,", 3),
+            (",,1;,,", 3),
+            (",,None,,", 3),
+            (",,,ab ,", 4),
+            (",,, ,", 4),
+            (",,,abcde,", 4),
+            (",,,\"a\r\nb\",", 4),
+            (",,,a\tb,", 4),
+            (",,,,2", 5),
+            (",,,,true", 5),
+            (",,,,01", 5),
+            ("x,x,x,,", 1),
+        ] {
+            refused(&format!("{field}\r\n"), 64, 2, column);
+        }
+        // Reading 3: 61.
+        for (line, column) in [
+            ("7\",,,,\r\n", 1),
+            ("\"7\"x,,,,\r\n", 1),
+            (",\"7\" ,,,\r\n", 2),
+            (",,,a\nb,\r\n", 4),
+            (",,,a\rb,\r\n", 4),
+            (",,,\"ab,1\r\n", 4),
+            (",,,,", 5),
+            (",,,,1", 5),
+            (",,,,\r", 5),
+            (",,,,\n", 5),
+            ("\"7\"", 1),
+            ("x", 1),
+        ] {
+            refused(line, 61, 2, column);
+        }
+        // Reading 4: 61 of a line before its 63 and 64, an earlier line before all; an empty line is one empty field.
+        refused("x,,\"", 61, 2, 3);
+        refused("x,,,,\r\n\"", 64, 2, 1);
+        refused(",,,,\r\n\r\n", 63, 3, 2);
+        refused("\r\n", 63, 2, 2);
+        refused("x,,,\r\n", 63, 2, 5);
+        refused("x,,,,,,\r\n", 63, 2, 6);
+        // The name line: 61 at 1, 1 for an empty text; 62 at the first column that differs, or is on one side only.
+        assert_eq!(import("").0, [61, 1, 1, 0]);
+        assert_eq!(import(NAMES.trim_end()).0, [61, 1, 5, 0]);
+        assert_eq!(import(&NAMES.replacen('a', "A", 1)).0, [62, 1, 1, 0]);
+        assert_eq!(import(&NAMES.replacen('a', "\"a\"", 1)).0, [0, 0, 0, 0]);
+        assert_eq!(import(&NAMES.replacen("\ne", "\r\ne", 1)).0, [62, 1, 3, 0]);
+        assert_eq!(import(&NAMES.replacen(",,", ",", 1)).0, [62, 1, 5, 0]);
+        assert_eq!(import(&NAMES.replacen("\r\n", ",\r\n", 1)).0, [62, 1, 6, 0]);
+        assert_eq!(import("a,b\r\n").0, [62, 1, 2, 0]);
+        // Reading 6: 20, 40, 90, the lines, then 60.
+        let bare = |def: &str, t: &[i64], text: &str| side.import(def.as_bytes(), t, text.as_bytes(), &mut []);
+        assert_eq!(bare("", &[], "\""), [20, 0, 0, 0]);
+        assert_eq!(bare("", &t, "\""), [40, 0, 0, 0]);
+        let two = variable(1, "LOGICAL POSITION 1") + &variable(2, "LOGICAL POSITION 1");
+        assert_eq!(bare(&definition(&two), &table(&two), "\""), [90, 0, 0, 0]);
+        assert_eq!(bare(&def, &t, &format!("{NAMES},,,,\r\n,\r\n")), [63, 3, 3, 0]);
+        assert_eq!(bare(&def, &t, &format!("{NAMES},,,,\r\n")), [60, 0, 0, 0]);
+    });
+}

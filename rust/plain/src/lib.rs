@@ -6,6 +6,7 @@
 #![forbid(unsafe_code)]
 
 mod correct;
+mod csv;
 mod definition;
 mod field;
 mod file;
@@ -17,6 +18,7 @@ mod table;
 mod write;
 
 pub use correct::{Correction, correct};
+pub use csv::{export, import};
 pub use definition::{Definition, read_definition};
 pub use field::{Judgement, Reading, Value, judge_record, read_record, read_value};
 pub use file::{FileJudgement, NextRecord, judge_file, judge_part, next_record};

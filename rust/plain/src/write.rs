@@ -134,62 +134,74 @@ pub(crate) fn put_truth(row: &Row, truth: i64, record: &mut [u8]) -> Result<(), 
 pub fn write_set(table: &[i64], row: u64, list: &[i64], record: &mut [u8]) -> u32 {
     answer((|| {
         let (t, row) = prepare(table, row, record.len())?;
-        if row[column::TYPE] != MULTIPLE {
-            return Err(26);
-        }
-        let lines = t.lines_of(row);
-        let mut defined = Defined::new(row, lines);
-        let mut last = 0;
-        for &c in list {
-            if c <= last || !defined.has(c) {
-                return Err(27);
-            }
-            last = c;
-        }
-        let n = row[column::SUBFIELDS] as usize;
-        let start = row[column::START] as usize - 1;
-        let w = row[column::WIDTH] as usize;
-        if n == 0 {
-            let bytes = &mut record[start..start + w];
-            let (from, to) = range_of(row);
-            bytes[from as usize - 1..to as usize].fill(b'0');
-            for line in lines {
-                bytes[line[0] as usize - 1] = b'0';
-            }
-            for &c in list {
-                bytes[c as usize - 1] = b'1';
-            }
-            return Ok(());
-        }
-        if list.len() > n {
-            return Err(28);
-        }
-        let width = row[column::SUBWIDTH] as usize;
-        let mut members = list.iter();
-        for subfield in record[start..start + n * width].chunks_exact_mut(width) {
-            let mut c = members.next().map_or(0, |&c| c as u64);
-            digits(&mut subfield[width - w..], &mut c);
-        }
-        Ok(())
+        put_set(&t, row, list, record)
     })())
+}
+
+/// A set to a row of a table that was tested, in a record that is long enough: 26, 27, 28.
+#[inline]
+pub(crate) fn put_set(t: &Table, row: &Row, list: &[i64], record: &mut [u8]) -> Result<(), u32> {
+    if row[column::TYPE] != MULTIPLE {
+        return Err(26);
+    }
+    let lines = t.lines_of(row);
+    let mut defined = Defined::new(row, lines);
+    let mut last = 0;
+    for &c in list {
+        if c <= last || !defined.has(c) {
+            return Err(27);
+        }
+        last = c;
+    }
+    let n = row[column::SUBFIELDS] as usize;
+    let start = row[column::START] as usize - 1;
+    let w = row[column::WIDTH] as usize;
+    if n == 0 {
+        let bytes = &mut record[start..start + w];
+        let (from, to) = range_of(row);
+        bytes[from as usize - 1..to as usize].fill(b'0');
+        for line in lines {
+            bytes[line[0] as usize - 1] = b'0';
+        }
+        for &c in list {
+            bytes[c as usize - 1] = b'1';
+        }
+        return Ok(());
+    }
+    if list.len() > n {
+        return Err(28);
+    }
+    let width = row[column::SUBWIDTH] as usize;
+    let mut members = list.iter();
+    for subfield in record[start..start + n * width].chunks_exact_mut(width) {
+        let mut c = members.next().map_or(0, |&c| c as u64);
+        digits(&mut subfield[width - w..], &mut c);
+    }
+    Ok(())
 }
 
 /// Writes a text to a CHARACTER: 1 to w bytes of 32 to 255 with no space at the end.
 pub fn write_text(table: &[i64], row: u64, text: &[u8], record: &mut [u8]) -> u32 {
     answer((|| {
         let (_, row) = prepare(table, row, record.len())?;
-        if row[column::TYPE] != CHARACTER {
-            return Err(26);
-        }
-        let w = row[column::WIDTH] as usize;
-        let good = text.len() <= w && text.last().is_some_and(|&x| x != b' ') && text.iter().all(|&x| x >= 32);
-        if !good {
-            return Err(27);
-        }
-        let start = row[column::START] as usize - 1;
-        let (used, rest) = record[start..start + w].split_at_mut(text.len());
-        used.copy_from_slice(text);
-        rest.fill(b' ');
-        Ok(())
+        put_text(row, text, record)
     })())
+}
+
+/// A text to a row of a table that was tested, in a record that is long enough: 26, 27.
+#[inline]
+pub(crate) fn put_text(row: &Row, text: &[u8], record: &mut [u8]) -> Result<(), u32> {
+    if row[column::TYPE] != CHARACTER {
+        return Err(26);
+    }
+    let w = row[column::WIDTH] as usize;
+    let good = text.len() <= w && text.last().is_some_and(|&x| x != b' ') && text.iter().all(|&x| x >= 32);
+    if !good {
+        return Err(27);
+    }
+    let start = row[column::START] as usize - 1;
+    let (used, rest) = record[start..start + w].split_at_mut(text.len());
+    used.copy_from_slice(text);
+    rest.fill(b' ');
+    Ok(())
 }
