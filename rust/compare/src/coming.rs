@@ -21,6 +21,7 @@ pub trait Coming {
     fn normal(&self, table: &[i64], record: &mut [u8]) -> [i64; 4];
     fn mend(&self, table: &[i64], data: &[u8], out: &mut [u8], list: &mut [i64]) -> [i64; 4];
     fn matrix(&self, table: &[i64], data: &[u8], out: &mut [u8]) -> [i64; 4];
+    fn write_definition(&self, def: &[u8], table: &[i64], out: &mut [u8]) -> [i64; 4];
     fn export(&self, def: &[u8], table: &[i64], data: &[u8], out: &mut [u8]) -> [i64; 5];
     fn import(&self, def: &[u8], table: &[i64], text: &[u8], out: &mut [u8]) -> [i64; 4];
 }
@@ -61,6 +62,10 @@ impl Coming for Plain {
         plain::matrix(table, data, out)
     }
 
+    fn write_definition(&self, def: &[u8], table: &[i64], out: &mut [u8]) -> [i64; 4] {
+        plain::write_definition(def, table, out)
+    }
+
     fn export(&self, def: &[u8], table: &[i64], data: &[u8], out: &mut [u8]) -> [i64; 5] {
         plain::export(def, table, data, out)
     }
@@ -96,6 +101,10 @@ impl Coming for Naive {
 
     fn matrix(&self, table: &[i64], data: &[u8], out: &mut [u8]) -> [i64; 4] {
         naive_02::matrix(table, data, out)
+    }
+
+    fn write_definition(&self, def: &[u8], table: &[i64], out: &mut [u8]) -> [i64; 4] {
+        naive_02::write_definition(def, table, out)
     }
 
     fn export(&self, def: &[u8], table: &[i64], data: &[u8], out: &mut [u8]) -> [i64; 5] {

@@ -520,3 +520,164 @@ pub fn import(def: &[u8], table: &[i64], text: &[u8], out: &mut [u8]) -> [i64; 4
     out[..built.len()].copy_from_slice(&built);
     [0, line - 1, built.len() as i64, 0]
 }
+
+// -------------------------------------------------------------------------------------------- C-11, clean definitions
+
+/// The kept bytes of a definition that was read, as tokens: strings with their quotes, runs of figures, keywords in capitals, and the
+/// record's letter. Comments are left out.
+fn tokens(kept: &[u8]) -> Vec<Vec<u8>> {
+    let keywords = [
+        "SSS",
+        "VERSION",
+        "DATE",
+        "TIME",
+        "ORIGIN",
+        "USER",
+        "STANDARD",
+        "NAMES",
+        "SURVEY",
+        "TITLE",
+        "RECORD",
+        "VARIABLE",
+        "NAME",
+        "LABEL",
+        "TYPE",
+        "SINGLE",
+        "MULTIPLE",
+        "QUANTITY",
+        "CHARACTER",
+        "LOGICAL",
+        "POSITION",
+        "TO",
+        "SPREAD",
+        "OF",
+        "VALUES",
+        "WITH",
+        "SPECIAL",
+        "SIZE",
+        "NOTE",
+        "END",
+    ];
+    let mut all: Vec<Vec<u8>> = vec![];
+    let mut at = 0;
+    loop {
+        let rest = &kept[at..];
+        let last = |n: usize| all.len().checked_sub(n).map(|i| all[i].as_slice());
+        if last(1) == Some(b"SSS") && last(2) == Some(b"END") {
+            return all;
+        }
+        let upper = rest[..rest.len().min(9)].to_ascii_uppercase();
+        let token = if rest[0] == b' ' {
+            at += 1;
+            continue;
+        } else if rest[0] == b'<' {
+            at += comment_length(rest);
+            continue;
+        } else if rest[0] == b'"' {
+            rest[..string_length(rest)].to_vec()
+        } else if last(1) == Some(b"RECORD") && last(2) != Some(b"END") {
+            rest[..1].to_vec()
+        } else if b"0123456789.+-".contains(&rest[0]) {
+            rest.iter().copied().take_while(|x| b"0123456789.+-".contains(x)).collect()
+        } else {
+            keywords.iter().find(|word| upper.starts_with(word.as_bytes())).unwrap().as_bytes().to_vec()
+        };
+        at += token.len();
+        all.push(token);
+    }
+}
+
+/// The length of a string, its quotes counted.
+fn string_length(text: &[u8]) -> usize {
+    let mut at = 1;
+    while text[at] != b'"' {
+        at += if text[at] == b'{' { text[at..].iter().position(|&x| x == b'}').unwrap() + 1 } else { 1 };
+    }
+    at + 1
+}
+
+fn comment_length(text: &[u8]) -> usize {
+    let mut at = 1;
+    while text[at] != b'>' {
+        at += match text[at] {
+            b'<' => comment_length(&text[at..]),
+            b'"' => string_length(&text[at..]),
+            _ => 1,
+        };
+    }
+    at + 1
+}
+
+/// The tokens of each statement, notes left out.
+fn statements(tokens: Vec<Vec<u8>>) -> Vec<Vec<Vec<u8>>> {
+    let mut all: Vec<Vec<Vec<u8>>> = vec![];
+    let mut note = false;
+    for token in tokens {
+        if token == b"NOTE" || note {
+            note = token == b"NOTE";
+            continue;
+        }
+        let figure = b"0123456789.+-".contains(&token[0]);
+        let goes_on = match all.last().and_then(|statement| statement.last()) {
+            None => false,
+            // A figure goes on with a statement that is waiting for one, else it begins a range or a line.
+            Some(last) if figure => {
+                [&b"VERSION"[..], b"VARIABLE", b"POSITION", b"TO", b"SPREAD", b"OF", b"SIZE"].contains(&last.as_slice())
+            }
+            Some(last) => {
+                token[0] == b'"'
+                    || last == b"END"
+                    || last == b"TYPE"
+                    || last == b"STANDARD"
+                    || (last == b"RECORD" && token.len() == 1)
+                    || [&b"TO"[..], b"OF", b"WITH", b"SPECIAL"].contains(&token.as_slice())
+            }
+        };
+        // END VARIABLE ends with a word that elsewhere waits for its number.
+        let ended = all.last().is_some_and(|statement| statement[0] == b"END" && statement.len() == 2);
+        match all.last_mut() {
+            Some(statement) if goes_on && !ended => statement.push(token),
+            _ => all.push(vec![token]),
+        }
+    }
+    all
+}
+
+pub fn write_definition(def: &[u8], table: &[i64], out: &mut [u8]) -> [i64; 4] {
+    let own = match read(def, usize::MAX) {
+        Err((number, place)) => return [number, place as i64, 0, 0],
+        Ok(own) => own,
+    };
+    if !table.starts_with(&own) {
+        return [40, 0, 0, 0];
+    }
+    let kept: Vec<u8> = def.iter().copied().filter(|&x| x >= 32).collect();
+    let mut statements = statements(tokens(&kept));
+    // The heading in its order; what stands before it and behind it stays.
+    let order = ["SSS", "VERSION", "DATE", "TIME", "ORIGIN", "USER", "STANDARD", "SURVEY"];
+    let survey = statements.iter().position(|statement| statement[0] == b"SURVEY").unwrap();
+    statements[..survey].sort_by_key(|statement| order.iter().position(|word| word.as_bytes() == statement[0]));
+    // Widths always stated.
+    let mut widths = understood(&own).unwrap().rows.into_iter().map(|row| row.cells[8]).filter(|&width| width > 0);
+    for statement in &mut statements {
+        if statement[0] == b"POSITION" && statement.len() == 2 {
+            statement.extend([b"TO".to_vec(), statement[1].clone()]);
+        }
+        if statement[0] == b"SPREAD" {
+            let width = widths.next().unwrap();
+            if statement.len() == 2 {
+                statement.extend([b"OF".to_vec(), width.to_string().into_bytes()]);
+            }
+        }
+    }
+    let text: Vec<u8> =
+        statements.iter().flat_map(|statement| [statement.join(&b' '), b"\r\n".to_vec()].concat()).collect();
+    if text.len() > 1_048_576 {
+        return [41, 0, 0, 0];
+    }
+    if out.len() < text.len() {
+        return [42, 0, 0, 0];
+    }
+    out[..text.len()].copy_from_slice(&text);
+    [0, 0, text.len() as i64, 0]
+}

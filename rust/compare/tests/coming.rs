@@ -8,7 +8,7 @@ use zarfolin_compare::definitions::{self, Size, Style};
 use zarfolin_compare::naive_02::value_places;
 use zarfolin_compare::records;
 use zarfolin_compare::rng::Rng;
-use zarfolin_compare::shape::row_at;
+use zarfolin_compare::shape::{line_at, row_at};
 use zarfolin_compare::tables;
 
 /// How often each number was met, or the first difference.
@@ -557,6 +557,85 @@ fn imports(a: &dyn Coming, b: &dyn Coming, count: u64) -> Met {
     Ok(pair.met)
 }
 
+// ---------------------------------------------------------------------------------------------------------- C-11
+
+fn cleans(a: &dyn Coming, b: &dyn Coming, count: u64) -> Met {
+    let mut pair = Pair::new(a, b);
+    for seed in seeds(count) {
+        let mut r = Rng::new(seed ^ 0x1111);
+        let m = definitions::model(&mut r, definitions::SMALL);
+        let style = Style::any(&mut r);
+        let (mut def, mut table) = definitions::sound(&mut r, style, &m);
+        if r.once_in(6) {
+            // Widths not stated, figures with zeros, faults.
+            let mut tokens = m.tokens.clone();
+            definitions::damage_figures(&mut r, &mut tokens);
+            def = definitions::render(&mut r, style, &tokens).0;
+            table.resize(table.len() + 100, 0);
+            zarfolin_plain::read_definition(&def, &mut table);
+        }
+        parted(&mut r, &mut def, &mut table);
+        if seed % 1_000 == 5 {
+            // A clean text beyond the limit: each line of it grows.
+            let lines: String = (0..4_096).map(|i| format!("{i}\"{}\"", "x".repeat(249))).collect();
+            def = format!(
+                "SSSVERSION1.1SURVEYRECORDRVARIABLE1NAME\"\"LABEL\"\"TYPEQUANTITYPOSITION1TO9VALUES{lines}ENDVALUES\
+                 ENDVARIABLEENDRECORDENDSURVEYENDSSS"
+            )
+            .into_bytes();
+            table.resize(30_000, 0);
+            zarfolin_plain::read_definition(&def, &mut table);
+        }
+        let what = format!("seed {seed}: write_definition(b\"{}\", {table:?})", def.escape_ascii());
+        let ask = |pair: &Pair, def: &[u8], table: &[i64], room: usize| {
+            pair.ask(format!("{what} in {room}"), |side| {
+                let mut bytes = guarded(&vec![0x55; room], 0x7e);
+                let answer = side.write_definition(def, table, within(&mut bytes));
+                (answer, bytes)
+            })
+        };
+        let (answer, bytes) = ask(&pair, &def, &table, 20_000)?;
+        pair.note(answer[0]);
+        let length = answer[2] as usize;
+        hold(bytes[8 + length..20_008].iter().all(|&x| x == 0x55), || format!("{what}: beyond {length}"))?;
+        if answer[0] != 0 {
+            continue;
+        }
+        let clean = &bytes[8..8 + length];
+        let exact = ask(&pair, &def, &table, length)?;
+        hold(exact.0 == answer && exact.1[8..8 + length] == *clean, || format!("{what}: an exact fit"))?;
+        let (short, kept) = ask(&pair, &def, &table, length - 1)?;
+        pair.note(short[0]);
+        hold(short == [42, 0, 0, 0] && kept[8..7 + length].iter().all(|&x| x == 0x55), || {
+            format!("{what}: {short:?}")
+        })?;
+        // Reading it gives the same table apart from text places and lengths; cleaning it again gives it again.
+        let mut own = vec![0; 30_000];
+        let read = zarfolin_plain::read_definition(clean, &mut own);
+        let used = length_of(&own);
+        let apart = |table: &[i64]| {
+            let mut table = table[..used].to_vec();
+            let rows = table[1] as usize;
+            (0..rows).for_each(|i| table[row_at(i) + 14..row_at(i) + 18].fill(0));
+            (0..table[2] as usize).for_each(|i| table[line_at(rows, i) + 2..line_at(rows, i) + 4].fill(0));
+            table
+        };
+        hold(read.number == 0 && apart(&own) == apart(&table), || format!("{what}: reads otherwise"))?;
+        let (again, bytes) = ask(&pair, clean, &own, length)?;
+        hold(again == answer && bytes[8..8 + length] == *clean, || format!("{what}: cleaned again"))?;
+    }
+    Ok(pair.met)
+}
+
+fn length_of(table: &[i64]) -> usize {
+    line_at(table[1] as usize, table[2] as usize)
+}
+
+#[test]
+fn clean_definitions() {
+    end("clean", cleans(&Plain, &Naive, 6_000), &[0, 2, 3, 5, 6, 7, 8, 40, 41, 42]);
+}
+
 /// A fault planted in the plain Rust.
 struct Wrong(u32);
 
@@ -637,6 +716,16 @@ impl Coming for Wrong {
             _ => Plain.mend(table, data, out, list),
         }
     }
+    fn write_definition(&self, def: &[u8], table: &[i64], out: &mut [u8]) -> [i64; 4] {
+        let answer = Plain.write_definition(def, table, out);
+        match self.0 {
+            // 42 before 41; 20 in place of 40; the last CR LF missing.
+            20 if answer[0] == 41 => [42, 0, 0, 0],
+            21 if answer[0] == 40 && !zarfolin_plain::well_formed(table) => [20, 0, 0, 0],
+            22 if answer[0] == 0 => [0, 0, answer[2] - 2, 0],
+            _ => answer,
+        }
+    }
     fn export(&self, def: &[u8], table: &[i64], data: &[u8], out: &mut [u8]) -> [i64; 5] {
         let mut answer = Plain.export(def, table, data, out);
         match self.0 {
@@ -688,7 +777,7 @@ impl Coming for Wrong {
 
 #[test]
 fn planted_faults_are_found() {
-    for fault in 0..20 {
+    for fault in 0..23 {
         let wrong = Wrong(fault);
         let met = match fault {
             0..4 => parts(&wrong, &Naive, 4_000),
@@ -697,7 +786,8 @@ fn planted_faults_are_found() {
             10..13 => mends(&wrong, &Naive, 500),
             13..16 => matrices(&wrong, &Naive, 300),
             16..18 => exports(&wrong, &Naive, 1_000),
-            _ => imports(&wrong, &Naive, 1_000),
+            18..20 => imports(&wrong, &Naive, 1_000),
+            _ => cleans(&wrong, &Naive, 1_000),
         };
         assert!(met.is_err(), "planted fault {fault} was not found");
     }

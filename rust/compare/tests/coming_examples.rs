@@ -496,3 +496,143 @@ fn c23_import() {
         assert_eq!(bare(&def, &t, &format!("{NAMES},,,,\r\n")), [60, 0, 0, 0]);
     });
 }
+
+/// The table that a whole definition yields.
+fn yielded(def: &[u8]) -> Vec<i64> {
+    let mut table = vec![0; 40_000];
+    let d = zarfolin_plain::read_definition(def, &mut table);
+    assert_eq!((d.number, d.place), (0, 0), "{}", def.escape_ascii());
+    table.truncate(zarfolin_compare::shape::length(d.variables, d.lines));
+    table
+}
+
+#[test]
+fn c11_a_clean_definition() {
+    let def = "SSS version1.1<c <d> \"e>\"> STANDARD NAMES USER\"u{NL}\" note \"n\" DATE \"\" survey TITLE \"t{2\n2}x\r\n\" RECORDr
+        VARIABLE 007 NAME \"a\" LABEL \"b{0a}\" TYPE multiple POSITION 0\n5 SPREAD 1 VALUES NOTE \"x\" 1 TO 9 END VALUES END VARIABLE
+        VARIABLE 8 NAME \"c\" NOTE \"\" LABEL \"\" TYPE quantity POSITION 6 TO 010
+          VALUES -0.50TO 1.00<y>WITH 2.00\"two\"SPECIAL 03.00 \"three\" END VALUES END VARIABLE
+        VARIABLE 9 NAME \"d\" LABEL \"\" TYPE MULTIPLE POSITION 11 TO 15 SPREAD 2 OF 02 VALUES 1 \"\" 2 \"\" END VALUES END VARIABLE
+        VARIABLE 10 NAME \"e\" LABEL \"\" TYPE CHARACTER POSITION 16TO19 SIZE 04 ENDVARIABLE
+        VARIABLE 11 NAME \"f\" LABEL \"\" TYPE MULTIPLE POSITION 20TO22 VALUES 3\"\"END VALUES END VARIABLE
+        VARIABLE 12 NAME \"g\" LABEL \"\" TYPE LOGICAL POSITION 23 ENDVARIABLE ENDRECORDENDSURVEYENDSSS and what follows \"";
+    // Readings 1 to 4: numbers as they stand, widths always stated, a line a statement in this order, every brace form as read.
+    let clean = [
+        "SSS",
+        "VERSION 1.1",
+        "DATE \"\"",
+        "USER \"u{NL}\"",
+        "STANDARD NAMES",
+        "SURVEY",
+        "TITLE \"t{22}x\"",
+        "RECORD r",
+        "VARIABLE 007",
+        "NAME \"a\"",
+        "LABEL \"b{0a}\"",
+        "TYPE MULTIPLE",
+        "POSITION 05 TO 05",
+        "SPREAD 1 OF 1",
+        "VALUES",
+        "1 TO 9",
+        "END VALUES",
+        "END VARIABLE",
+        "VARIABLE 8",
+        "NAME \"c\"",
+        "LABEL \"\"",
+        "TYPE QUANTITY",
+        "POSITION 6 TO 010",
+        "VALUES",
+        "-0.50 TO 1.00 WITH",
+        "2.00 \"two\" SPECIAL",
+        "03.00 \"three\"",
+        "END VALUES",
+        "END VARIABLE",
+        "VARIABLE 9",
+        "NAME \"d\"",
+        "LABEL \"\"",
+        "TYPE MULTIPLE",
+        "POSITION 11 TO 15",
+        "SPREAD 2 OF 02",
+        "VALUES",
+        "1 \"\"",
+        "2 \"\"",
+        "END VALUES",
+        "END VARIABLE",
+        "VARIABLE 10",
+        "NAME \"e\"",
+        "LABEL \"\"",
+        "TYPE CHARACTER",
+        "POSITION 16 TO 19",
+        "SIZE 04",
+        "END VARIABLE",
+        "VARIABLE 11",
+        "NAME \"f\"",
+        "LABEL \"\"",
+        "TYPE MULTIPLE",
+        "POSITION 20 TO 22",
+        "VALUES",
+        "3 \"\"",
+        "END VALUES",
+        "END VARIABLE",
+        "VARIABLE 12",
+        "NAME \"g\"",
+        "LABEL \"\"",
+        "TYPE LOGICAL",
+        "POSITION 23 TO 23",
+        "END VARIABLE",
+        "END RECORD",
+        "END SURVEY",
+        "END SSS",
+        "",
+    ]
+    .join("\r\n");
+    let t = yielded(def.as_bytes());
+    each(|side| {
+        let mut out = vec![b'?'; clean.len() + 9];
+        assert_eq!(side.write_definition(def.as_bytes(), &t, &mut out), [0, 0, clean.len() as i64, 0]);
+        assert_eq!(String::from_utf8(out).unwrap(), clean.clone() + "?????????");
+        // Reading 7: cleaning it again gives it again.
+        let mut again = vec![0; clean.len()];
+        let own = yielded(clean.as_bytes());
+        assert_eq!(side.write_definition(clean.as_bytes(), &own, &mut again)[..1], [0]);
+        assert_eq!(String::from_utf8(again).unwrap(), clean);
+    });
+}
+
+#[test]
+fn c11_refusals_in_their_order() {
+    let variables = variable(1, "LOGICAL POSITION 1");
+    let (def, t) = (definition(&variables), table(&variables));
+    // A title that makes the clean text just as long as it may be.
+    let titled = |n: usize| def.replace("SURVEY RECORD", &format!("SURVEY TITLE \"{}\" RECORD", "x".repeat(n)));
+    each(|side| {
+        let write = |def: &str, t: &[i64], room: usize| {
+            let mut out = vec![b'?'; room];
+            let answer = side.write_definition(def.as_bytes(), t, &mut out);
+            assert!(answer[0] == 0 || out.iter().all(|&x| x == b'?'));
+            answer
+        };
+        // Reading 5: 1 to 9 first, with their place; then 40 for a table that differs anywhere, or is shorter; no 20 here.
+        assert_eq!(write(&" ".repeat(1_048_577), &[], 0), [1, 0, 0, 0]);
+        assert_eq!(write("<sss>", &[], 0), [2, 0, 0, 0]);
+        assert_eq!(write(&def.replace("1.1", "1.2"), &[], 0), [4, 12, 0, 0]);
+        assert_eq!(write(&def, &[], 0), [40, 0, 0, 0]);
+        assert_eq!(write(&def, &t[..t.len() - 1], 0), [40, 0, 0, 0]);
+        for i in 0..t.len() {
+            let mut other = t.clone();
+            other[i] += 1;
+            assert_eq!(write(&def, &other, 500), [40, 0, 0, 0], "cell {i}");
+        }
+        // More numbers are not looked at.
+        let length = write(&def, &[&t[..], &[-1]].concat(), 500)[2];
+        // Reading 6: 41 before 42; exactly 1,048,576 bytes is no 41; an exact fit is enough.
+        let room = 1_048_576 - length as usize - "TITLE \"\"\r\n".len();
+        let long = titled(room);
+        assert_eq!(write(&long, &yielded(long.as_bytes()), 1_048_576), [0, 0, 1_048_576, 0]);
+        assert_eq!(write(&long, &yielded(long.as_bytes()), 1_048_575), [42, 0, 0, 0]);
+        let long = titled(room + 1);
+        assert_eq!(write(&long, &yielded(long.as_bytes()), 2_000_000), [41, 0, 0, 0]);
+        assert_eq!(write(&long, &yielded(long.as_bytes()), 0), [41, 0, 0, 0]);
+        assert_eq!(write(&long, &t, 0), [40, 0, 0, 0]);
+    });
+}

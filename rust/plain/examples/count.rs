@@ -62,6 +62,17 @@ fn main() {
             let data = damaged(&data);
             measured(&mut || mend(&table, &data, &mut out, &mut list)[2])
         }
+        "write_definition" => measured(&mut || write_definition(&definition, &table, &mut out)[2]),
+        "read_definition" => {
+            let mut own = vec![0; 40_000];
+            measured(&mut || read_definition(&definition, &mut own).variables as i64)
+        }
+        "export" => measured(&mut || export(&definition, &table, &data, &mut out)[4]),
+        "import" => {
+            let length = export(&definition, &table, &data, &mut out)[4] as usize;
+            let text = out[..length].to_vec();
+            measured(&mut || import(&definition, &table, &text, &mut out)[2])
+        }
         "matrix" => measured(&mut || matrix(&table, &data, &mut out)[1]),
         other => panic!("{other}?"),
     };

@@ -5,6 +5,7 @@
 
 #![forbid(unsafe_code)]
 
+mod clean;
 mod correct;
 mod csv;
 mod definition;
@@ -17,6 +18,7 @@ mod scan;
 mod table;
 mod write;
 
+pub use clean::write_definition;
 pub use correct::{Correction, correct};
 pub use csv::{export, import};
 pub use definition::{Definition, read_definition};
