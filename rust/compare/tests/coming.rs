@@ -633,7 +633,7 @@ fn length_of(table: &[i64]) -> usize {
 
 #[test]
 fn clean_definitions() {
-    end("clean", cleans(&Plain, &Naive, 6_000), &[0, 2, 3, 5, 6, 7, 8, 40, 41, 42]);
+    end("clean", cleans(&Plain, &Naive, 2_500), &[0, 2, 3, 5, 6, 7, 8, 40, 41, 42]);
 }
 
 /// A fault planted in the plain Rust.
@@ -795,17 +795,17 @@ fn planted_faults_are_found() {
 
 #[test]
 fn parts_of_files() {
-    end("parts", parts(&Plain, &Naive, 12_000), &[0, 20, 22, 23, 24, 29, 30, 31]);
+    end("parts", parts(&Plain, &Naive, 8_000), &[0, 20, 22, 23, 24, 29, 30, 31]);
 }
 
 #[test]
 fn lists_of_corrections() {
-    end("corrections", corrections(&Plain, &Naive, 15_000), &[0, 20, 22, 1000, 1021, 1026, 1027]);
+    end("corrections", corrections(&Plain, &Naive, 10_000), &[0, 20, 22, 1000, 1021, 1026, 1027]);
 }
 
 #[test]
 fn normal_forms() {
-    end("normal", normals(&Plain, &Naive, 8_000), &[0, 20, 22, 23, 24, 90, 1000, 2000, 2001, 2002]);
+    end("normal", normals(&Plain, &Naive, 4_000), &[0, 20, 22, 23, 24, 90, 1000, 2000, 2001, 2002]);
 }
 
 #[test]
@@ -815,15 +815,15 @@ fn mended_files() {
 
 #[test]
 fn matrices_of_files() {
-    end("matrix", matrices(&Plain, &Naive, 1_000), &[0, 20, 22, 23, 24, 30, 31, 80, 81, 82]);
+    end("matrix", matrices(&Plain, &Naive, 600), &[0, 20, 22, 23, 24, 30, 31, 80, 81, 82]);
 }
 
 #[test]
 fn exports_of_files() {
-    end("export", exports(&Plain, &Naive, 3_000), &[0, 20, 22, 23, 24, 30, 31, 40, 60, 1000]);
+    end("export", exports(&Plain, &Naive, 2_000), &[0, 20, 22, 23, 24, 30, 31, 40, 60, 1000]);
 }
 
 #[test]
 fn imports_of_texts() {
-    end("import", imports(&Plain, &Naive, 6_000), &[0, 20, 40, 60, 61, 62, 63, 64, 90, 1000]);
+    end("import", imports(&Plain, &Naive, 4_000), &[0, 20, 40, 60, 61, 62, 63, 64, 90, 1000]);
 }
