@@ -1,6 +1,9 @@
 //! One call of document 02 on a survey's files, to have its instructions counted:
 //!
-//!     valgrind --tool=callgrind --collect-atstart=no --toggle-collect='*measured*' count CALL DEFINITION DATA [RECORDS]
+//!     GLIBC_TUNABLES=glibc.cpu.hwcaps=-ERMS valgrind --tool=callgrind --collect-atstart=no --toggle-collect='*measured*' \
+//!         count CALL DEFINITION DATA [RECORDS]
+//!
+//! (Without the first word a `rep stosb` of the C library counts as an instruction a byte.)
 
 use std::hint::black_box;
 use zarfolin_plain::*;
