@@ -98,8 +98,8 @@ pub(crate) fn find_low(b: &[u8], from: usize) -> usize {
         }
     }
     let clear =
-        rest.as_chunks::<128>().0.iter().take_while(|block| !block.iter().fold(false, |low, &x| low | (x < 32)));
-    find(b, from + 128 * clear.count(), lanes::below_32)
+        rest.as_chunks::<64>().0.iter().take_while(|block| !block.iter().fold(false, |low, &x| low | (x < 32)));
+    find(b, from + 64 * clear.count(), lanes::below_32)
 }
 
 /// A run of digits. Its true value may be of any length; `value` holds it up to eighteen significant digits.
