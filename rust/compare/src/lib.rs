@@ -5,9 +5,11 @@ pub use zarfolin::table as shape;
 
 pub mod bridge;
 pub mod case;
+pub mod coming;
 pub mod definitions;
 pub mod face;
 pub mod naive;
+pub mod naive_02;
 pub mod records;
 pub mod rng;
 pub mod tables;

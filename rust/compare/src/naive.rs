@@ -12,7 +12,7 @@ const ROW: usize = 18;
 const LINE: usize = 4;
 
 /// A refusal: number and place.
-type Fault = (i64, usize);
+pub(crate) type Fault = (i64, usize);
 
 // ---------------------------------------------------------------------------------------------- definitions
 
@@ -246,7 +246,7 @@ fn canonical_length(v: i64, decimals: usize, point: bool) -> usize {
     digits.len() + point as usize + (v < 0) as usize
 }
 
-fn decoded(def: &[u8], place: usize, length: usize) -> Vec<u8> {
+pub(crate) fn decoded(def: &[u8], place: usize, length: usize) -> Vec<u8> {
     let text: Vec<u8> = def[place..place + length].iter().copied().filter(|&x| x >= 32).collect();
     let mut out = vec![];
     let mut i = 0;
@@ -274,7 +274,7 @@ fn decoded(def: &[u8], place: usize, length: usize) -> Vec<u8> {
     out
 }
 
-fn read(def: &[u8], room: usize) -> Result<Vec<i64>, Fault> {
+pub(crate) fn read(def: &[u8], room: usize) -> Result<Vec<i64>, Fault> {
     if def.len() > 1_048_576 {
         return Err((1, 0));
     }
@@ -539,17 +539,17 @@ fn values(r: &mut Reader, quantity: bool, row: &mut [i64], lines: &mut Vec<Vec<i
 
 // ------------------------------------------------------------------------------------------------- tables
 
-struct Row {
-    cells: Vec<i64>,
+pub(crate) struct Row {
+    pub(crate) cells: Vec<i64>,
     lines: Vec<Vec<i64>>,
 }
 
-struct Table {
-    rows: Vec<Row>,
-    least: usize,
+pub(crate) struct Table {
+    pub(crate) rows: Vec<Row>,
+    pub(crate) least: usize,
 }
 
-fn understood(t: &[i64]) -> Option<Table> {
+pub(crate) fn understood(t: &[i64]) -> Option<Table> {
     if t.len() < HEADER || !(1..=512).contains(&t[1]) || !(0..=4096).contains(&t[2]) {
         return None;
     }
@@ -658,7 +658,7 @@ impl Row {
             || self.lines.iter().any(|line| line[0] == v)
     }
 
-    fn defined(&self) -> BTreeSet<i64> {
+    pub(crate) fn defined(&self) -> BTreeSet<i64> {
         let mut all: BTreeSet<i64> = self.lines.iter().map(|line| line[0]).collect();
         if self.cells[9] == 1 {
             all.extend(self.cells[10]..=self.cells[11]);
@@ -667,7 +667,7 @@ impl Row {
     }
 
     /// The places of the value in a record, field by field.
-    fn places(&self) -> Vec<Vec<usize>> {
+    pub(crate) fn places(&self) -> Vec<Vec<usize>> {
         let c = &self.cells;
         let (start, finish, w) = (c[2] as usize - 1, c[3] as usize, c[4] as usize);
         match c[1] {

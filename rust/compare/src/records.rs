@@ -173,7 +173,8 @@ pub fn record(r: &mut Rng, table: &[i64]) -> Vec<u8> {
     record
 }
 
-fn field(r: &mut Rng, table: &[i64], row: usize, record: &mut [u8]) {
+/// Lays a field of this row anew.
+pub fn field(r: &mut Rng, table: &[i64], row: usize, record: &mut [u8]) {
     let c = |column| cell(table, row, column);
     let start = c(2).clamp(1, 20_000) - 1;
     let finish = c(3).clamp(1, 20_000);
@@ -287,4 +288,63 @@ pub fn file(r: &mut Rng, table: &[i64]) -> Vec<u8> {
 /// Data for the next-record call: letters and many line ends.
 pub fn loose_data(r: &mut Rng) -> Vec<u8> {
     (0..r.below(24)).map(|_| r.pick(b"ab \r\n\r\nx")).collect()
+}
+
+/// A record that is judged sound, as far as no two rows share a place: what is illegal in it is written anew, as missing or as a number.
+pub fn sound_record(r: &mut Rng, table: &[i64]) -> Vec<u8> {
+    let mut record = record(r, table);
+    record.resize(record.len().max(table[3] as usize), b'x');
+    for x in &mut record {
+        *x = (*x).max(32);
+    }
+    for row in 0..rows(table) {
+        if zarfolin_plain::read_value(table, row as u64, &record, &mut [0; 10_000]).is_err() {
+            zarfolin_plain::write_missing(table, row as u64, &mut record);
+            let v = number(r, table, row);
+            zarfolin_plain::write_number(table, row as u64, v, &mut record);
+        }
+    }
+    record
+}
+
+/// A file of sound records of one length; with none, some, or all of them alike.
+pub fn sound_file(r: &mut Rng, table: &[i64], most: usize) -> Vec<u8> {
+    let end = r.pick(&[&b"\r\n"[..], b"\n\r", b"\r", b"\n"]);
+    let length = table[3] as usize + r.pick(&[0, 0, 0, 5]);
+    let mut data = vec![];
+    for _ in 0..r.below(most + 1) {
+        let mut record = sound_record(r, table);
+        record.resize(length, b'-');
+        data.extend(record);
+        data.extend(end);
+    }
+    data
+}
+
+/// A data file as mail leaves it: records of all lengths, mixed line ends, empty records, bytes below 32.
+pub fn damaged_file(r: &mut Rng, table: &[i64]) -> Vec<u8> {
+    let ends = [&b"\r\n"[..], b"\n\r", b"\r", b"\n"];
+    let least = table.get(3).map_or(3, |&l| l.clamp(0, 200) as usize);
+    let (own, same) = (r.pick(&ends), r.once_in(2));
+    let mut data = vec![];
+    for _ in 0..r.below(7) {
+        let length = match r.below(6) {
+            0 => 0,
+            1 => r.below(least + 1),
+            2 => least + r.below(4),
+            _ => least,
+        };
+        for _ in 0..length {
+            data.push(if r.once_in(30) { r.range(0, 31) as u8 } else { letter(r) });
+        }
+        data.extend(if same && !r.once_in(6) { own } else { r.pick(&ends) });
+    }
+    if r.once_in(3) {
+        data.pop();
+    }
+    if r.once_in(3) {
+        let at = r.below(data.len() + 1);
+        data.insert(at, r.pick(b"\r\n\r\n\t x"));
+    }
+    data
 }

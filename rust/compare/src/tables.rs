@@ -150,3 +150,28 @@ fn mend(r: &mut Rng, table: &mut [i64]) {
     }
     table[3] = (0..rows).map(|i| table[row_at(i) + 3]).max().unwrap_or(0);
 }
+
+/// Lays the rows of a sound table one behind the other, in some order and with gaps, so that no two share a place; left as it is
+/// where that passes the highest location.
+pub fn apart(r: &mut Rng, table: &mut [i64]) {
+    let rows = table[1] as usize;
+    let mut order: Vec<usize> = (0..rows).collect();
+    if r.once_in(3) {
+        for i in (1..rows).rev() {
+            order.swap(i, r.below(i + 1));
+        }
+    }
+    let length = |table: &[i64], i: usize| table[row_at(i) + 3] - table[row_at(i) + 2] + 1;
+    if (0..rows).map(|i| length(table, i) + 3).sum::<i64>() > 16_384 {
+        return;
+    }
+    let mut at = 1;
+    for i in order {
+        let room = length(table, i);
+        at += if r.once_in(4) { r.range(1, 3) } else { 0 };
+        table[row_at(i) + 2] = at;
+        table[row_at(i) + 3] = at + room - 1;
+        at += room;
+    }
+    table[3] = (0..rows).map(|i| table[row_at(i) + 3]).max().unwrap_or(0);
+}

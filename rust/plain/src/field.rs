@@ -1,6 +1,6 @@
 //! Value places and readings: one row's value, and the judgement of a whole record.
 
-use crate::scan::{find, lanes};
+use crate::scan::find_low;
 use crate::table::{Table, view};
 use crate::*;
 
@@ -24,6 +24,13 @@ pub type Reading = Result<Value, u32>;
 pub struct Judgement {
     pub number: u32,
     pub place: usize,
+}
+
+impl Judgement {
+    /// The four numbers that a call answers with.
+    pub fn numbers(self) -> [i64; 4] {
+        [self.number as i64, self.place as i64, 0, 0]
+    }
 }
 
 /// Reads the value of one row. Only a set touches the list, and only its start.
@@ -98,7 +105,7 @@ fn count_members(row: &Row, lines: &[Line], record: &[u8]) -> usize {
 
 /// The value of a row of a table that was tested, in a record that is long enough.
 #[inline]
-fn row_value(row: &Row, lines: &[Line], record: &[u8], list: &mut [i64]) -> Reading {
+pub(crate) fn row_value(row: &Row, lines: &[Line], record: &[u8], list: &mut [i64]) -> Reading {
     match row[column::TYPE] {
         SINGLE => match category(last_bytes(row, record)) {
             Category::Blank | Category::Number(0) => Ok(Value::Missing),
@@ -144,15 +151,23 @@ fn row_value(row: &Row, lines: &[Line], record: &[u8], list: &mut [i64]) -> Read
 
 /// Judges a whole record: 20, 22, 23 with the byte's place, 24 with the lowest row.
 pub fn judge_record(table: &[i64], record: &[u8]) -> Judgement {
-    let Some(t) = view(table) else { return Judgement { number: 20, place: 0 } };
+    match view(table) {
+        Some(t) => judge(&t, record),
+        None => Judgement { number: 20, place: 0 },
+    }
+}
+
+/// Judges a record under a table that was tested.
+#[inline]
+pub(crate) fn judge(t: &Table, record: &[u8]) -> Judgement {
     if record.len() < t.least {
         return Judgement { number: 22, place: 0 };
     }
-    let place = find(record, 0, lanes::below_32);
+    let place = find_low(record, 0);
     if place < record.len() {
         return Judgement { number: 23, place };
     }
-    match first_illegal(&t, record) {
+    match first_illegal(t, record) {
         Some(row) => Judgement { number: 24, place: row },
         None => Judgement { number: 0, place: 0 },
     }
@@ -160,17 +175,21 @@ pub fn judge_record(table: &[i64], record: &[u8]) -> Judgement {
 
 /// The lowest row whose field is illegal. The record is long enough and holds no byte below 32.
 pub(crate) fn first_illegal(t: &Table, record: &[u8]) -> Option<usize> {
-    t.rows.iter().position(|row| !field_legal(t, row, record))
+    t.rows.iter().enumerate().position(|(i, row)| !field_legal(t, i, row, record))
 }
 
 #[inline]
-fn field_legal(t: &Table, row: &Row, record: &[u8]) -> bool {
+fn field_legal(t: &Table, i: usize, row: &Row, record: &[u8]) -> bool {
     match row[column::TYPE] {
         SINGLE => match category(last_bytes(row, record)) {
             Category::Blank | Category::Number(0) => true,
             Category::Number(c) => legal(row, t.lines_of(row), c),
             Category::Bad => false,
         },
+        MULTIPLE if row[column::SUBFIELDS] == 0 && row[column::RANGE] == 0 && t.in_turn(i) => {
+            let first = t.lines_of(row)[0][0] as usize;
+            one_kind(&bit_bytes(row, record)[first - 1..])
+        }
         MULTIPLE if row[column::SUBFIELDS] == 0 => !matches!(bits(row, t.lines_of(row), record), Bits::Bad),
         MULTIPLE => {
             let lines = t.lines_of(row);
@@ -191,6 +210,26 @@ fn field_legal(t: &Table, row: &Row, record: &[u8]) -> bool {
     }
 }
 
+/// Whether the bytes are `0` and `1` throughout, or spaces throughout.
+#[inline]
+fn one_kind(bytes: &[u8]) -> bool {
+    const LOW: u64 = 0x0101_0101_0101_0101;
+    let (mut binary, mut spaces) = (0, 0);
+    let mut note = |word: u64| {
+        binary |= (word ^ (LOW * b'0' as u64)) & (LOW * 0xfe);
+        spaces |= word ^ (LOW * b' ' as u64);
+    };
+    let (words, rest) = bytes.as_chunks::<8>();
+    words.iter().for_each(|word| note(u64::from_le_bytes(*word)));
+    match (rest, bytes.last_chunk::<8>()) {
+        ([], _) => {}
+        // The last word once more, with what is left.
+        (_, Some(last)) => note(u64::from_le_bytes(*last)),
+        _ => rest.iter().for_each(|&x| note(LOW * x as u64)),
+    }
+    binary == 0 || spaces == 0
+}
+
 #[inline]
 fn spread_legal(row: &Row, record: &[u8], mut defined: impl FnMut(i64) -> bool) -> bool {
     subfields(row, record).all(|place| match category(place) {
@@ -203,7 +242,7 @@ fn spread_legal(row: &Row, record: &[u8], mut defined: impl FnMut(i64) -> bool) 
 /// Whether a byte below 32 is among these.
 #[inline]
 fn controls(bytes: &[u8]) -> bool {
-    find(bytes, 0, lanes::below_32) < bytes.len()
+    find_low(bytes, 0) < bytes.len()
 }
 
 /// Whether the number lies in the row's range or on one of its lines.
@@ -226,7 +265,7 @@ fn on_line(lines: &[Line], v: i64) -> bool {
 }
 
 /// Up to this many lines or subfields, looking through the lines is quick enough.
-const FEW: usize = 16;
+pub(crate) const FEW: usize = 16;
 
 /// The defined categories of a row, made ready for many questions once more than a few were asked.
 pub(crate) struct Defined<'a> {
@@ -263,14 +302,14 @@ impl<'a> Defined<'a> {
 
 /// The last w bytes of the position.
 #[inline]
-fn last_bytes<'a>(row: &Row, record: &'a [u8]) -> &'a [u8] {
+pub(crate) fn last_bytes<'a>(row: &Row, record: &'a [u8]) -> &'a [u8] {
     let finish = row[column::FINISH] as usize;
     &record[finish - row[column::WIDTH] as usize..finish]
 }
 
 /// The last w bytes of each subfield.
 #[inline]
-fn subfields<'a>(row: &Row, record: &'a [u8]) -> impl Iterator<Item = &'a [u8]> + use<'a> {
+pub(crate) fn subfields<'a>(row: &Row, record: &'a [u8]) -> impl Iterator<Item = &'a [u8]> + use<'a> {
     let start = row[column::START] as usize - 1;
     let width = row[column::SUBWIDTH] as usize;
     let w = row[column::WIDTH] as usize;
@@ -278,7 +317,7 @@ fn subfields<'a>(row: &Row, record: &'a [u8]) -> impl Iterator<Item = &'a [u8]> 
     all.chunks_exact(width).map(move |subfield| &subfield[width - w..])
 }
 
-enum Category {
+pub(crate) enum Category {
     Blank,
     Number(i64),
     Bad,
@@ -286,7 +325,7 @@ enum Category {
 
 /// Spaces, then digits; at most four bytes.
 #[inline]
-fn category(places: &[u8]) -> Category {
+pub(crate) fn category(places: &[u8]) -> Category {
     // Mostly digits throughout.
     let mut value = 0i64;
     let mut plain = true;
@@ -312,7 +351,7 @@ fn category(places: &[u8]) -> Category {
     if digits { Category::Number(value) } else { Category::Blank }
 }
 
-enum Quantity {
+pub(crate) enum Quantity {
     Blank,
     Number(i64),
     Bad,
@@ -320,7 +359,7 @@ enum Quantity {
 
 /// Spaces, `-` or none, digits, at least one before the point; point and decimals as in the block.
 #[inline]
-fn quantity(row: &Row, places: &[u8]) -> Quantity {
+pub(crate) fn quantity(row: &Row, places: &[u8]) -> Quantity {
     let decimals = row[column::DECIMALS] as usize;
     let point = row[column::POINT] as usize;
     let (whole, rest) = places.split_at(places.len() - decimals - point);
@@ -367,7 +406,7 @@ enum Bits {
 
 /// The bytes of a bitstring's position; byte c is at c - 1.
 #[inline]
-fn bit_bytes<'a>(row: &Row, record: &'a [u8]) -> &'a [u8] {
+pub(crate) fn bit_bytes<'a>(row: &Row, record: &'a [u8]) -> &'a [u8] {
     let start = row[column::START] as usize - 1;
     &record[start..start + row[column::WIDTH] as usize]
 }
@@ -451,7 +490,7 @@ fn list_bits(row: &Row, lines: &[Line], record: &[u8], rising: bool, list: &mut 
     each_member(&members, put);
 }
 
-fn each_member(members: &[u64; 157], mut put: impl FnMut(i64)) {
+pub(crate) fn each_member(members: &[u64; 157], mut put: impl FnMut(i64)) {
     for (i, &word) in members.iter().enumerate() {
         let mut word = word;
         while word != 0 {

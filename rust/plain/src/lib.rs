@@ -1,20 +1,32 @@
-//! Reading, judging and writing Triple-S 1.1 in plain Rust, written from the project's papers only (document 01, the
-//! readings, document 003) and from none of the verified code, so that the two can be held against each other.
+//! Reading, judging and writing Triple-S 1.1 in plain Rust, written from the project's papers only (documents 01, 02 and 003 and
+//! the readings) and from none of the verified code, so that the two can be held against each other.
 //!
 //! Every call is total: any bytes, any numbers, any lengths. Every refusal leaves all lent memory as it was.
 
 #![forbid(unsafe_code)]
 
+mod clean;
+mod correct;
+mod csv;
 mod definition;
 mod field;
 mod file;
+mod matrix;
+mod mend;
+mod normal;
 mod scan;
 mod table;
 mod write;
 
+pub use clean::write_definition;
+pub use correct::{Correction, correct};
+pub use csv::{export, import};
 pub use definition::{Definition, read_definition};
 pub use field::{Judgement, Reading, Value, judge_record, read_record, read_value};
-pub use file::{FileJudgement, NextRecord, judge_file, next_record};
+pub use file::{FileJudgement, NextRecord, judge_file, judge_part, next_record};
+pub use matrix::matrix;
+pub use mend::mend;
+pub use normal::normal;
 pub use table::well_formed;
 pub use write::{write_missing, write_number, write_set, write_text, write_truth};
 

@@ -86,6 +86,22 @@ pub(crate) fn find(b: &[u8], from: usize, flags: impl Fn(u64) -> u64) -> usize {
     }
 }
 
+/// The first byte below 32 from `from` on, or the length. Blocks without one are passed by in one piece.
+#[inline]
+pub(crate) fn find_low(b: &[u8], from: usize) -> usize {
+    let Some(rest) = b.get(from..) else { return b.len() };
+    // Where one is near, a word tells.
+    if let Some(word) = rest.first_chunk::<8>() {
+        let met = lanes::below_32(u64::from_le_bytes(*word));
+        if met != 0 {
+            return from + met.trailing_zeros() as usize / 8;
+        }
+    }
+    let clear =
+        rest.as_chunks::<64>().0.iter().take_while(|block| !block.iter().fold(false, |low, &x| low | (x < 32)));
+    find(b, from + 64 * clear.count(), lanes::below_32)
+}
+
 /// A run of digits. Its true value may be of any length; `value` holds it up to eighteen significant digits.
 #[derive(Clone, Copy)]
 pub(crate) struct Number {

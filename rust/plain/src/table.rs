@@ -9,6 +9,8 @@ pub(crate) struct Table<'a> {
     pub lines: &'a [Line],
     /// The least record length.
     pub least: usize,
+    /// A bit for each row: whether its lines count up by ones.
+    in_turn: [u64; MAX_VARIABLES / 64],
 }
 
 impl<'a> Table<'a> {
@@ -17,6 +19,12 @@ impl<'a> Table<'a> {
     pub fn lines_of(&self, row: &Row) -> &'a [Line] {
         let before = row[column::BEFORE] as usize;
         &self.lines[before..before + row[column::LINES] as usize]
+    }
+
+    /// Whether there are lines in this row, and they count up by ones.
+    #[inline]
+    pub fn in_turn(&self, row: usize) -> bool {
+        self.in_turn[row / 64] >> (row % 64) & 1 == 1
     }
 }
 
@@ -51,7 +59,8 @@ pub(crate) fn view(table: &[i64]) -> Option<Table<'_>> {
     let mut idents = [0u64; 157];
     let mut before = 0usize;
     let mut highest = 0;
-    for row in rows {
+    let mut in_turn = [0; MAX_VARIABLES / 64];
+    for (i, row) in rows.iter().enumerate() {
         let ident = row[column::IDENT];
         if !(1..=9_999).contains(&ident) {
             return None;
@@ -67,15 +76,14 @@ pub(crate) fn view(table: &[i64]) -> Option<Table<'_>> {
         }
         let own = &lines[before..before + count as usize];
         before += count as usize;
-        if !row_sound(row, own) {
-            return None;
-        }
+        in_turn[i / 64] |= (row_sound(row, own)? as u64) << (i % 64);
         highest = highest.max(row[column::FINISH]);
     }
-    (before == e && least == highest).then_some(Table { rows, lines, least: least as usize })
+    (before == e && least == highest).then_some(Table { rows, lines, least: least as usize, in_turn })
 }
 
-fn row_sound(row: &Row, lines: &[Line]) -> bool {
+/// Whether the row's lines count up by ones; None for a row that is not sound.
+fn row_sound(row: &Row, lines: &[Line]) -> Option<bool> {
     let &[
         _,
         kind,
@@ -104,54 +112,61 @@ fn row_sound(row: &Row, lines: &[Line]) -> bool {
         || !within(label_length, text)
         || !within(range, 1)
     {
-        return false;
+        return None;
     }
     let room = finish - start + 1;
     match kind {
         SINGLE | MULTIPLE => {
             if decimals != 0 || point != 0 {
-                return false;
+                return None;
             }
-            let Some((_, most)) = block_sound(range, from, to, lines, 1, MAX_CATEGORY) else { return false };
-            let digits = category_digits(most);
-            if kind == SINGLE {
+            let block = block_sound(range, from, to, lines, 1, MAX_CATEGORY)?;
+            let digits = category_digits(block.most);
+            let sound = if kind == SINGLE {
                 subfields == 0 && subwidth == 0 && w == digits && w <= room
             } else if subfields == 0 {
-                subwidth == 0 && w == most && w <= room
+                subwidth == 0 && w == block.most && w <= room
             } else {
                 // Each at most the room, so the product stays small.
                 w == digits
                     && (1..=room).contains(&subfields)
                     && (w..=room).contains(&subwidth)
                     && subfields * subwidth <= room
-            }
+            };
+            sound.then_some(block.in_turn)
         }
         QUANTITY => {
             if subfields != 0 || subwidth != 0 || !within(decimals, MAX_DECIMALS as i64) || !within(point, 1) {
-                return false;
+                return None;
             }
             if decimals > 0 && point == 0 {
-                return false;
+                return None;
             }
-            let Some((lowest, most)) = block_sound(range, from, to, lines, -MAX_QUANTITY, MAX_QUANTITY) else {
-                return false;
-            };
-            w == quantity_width(lowest, decimals, point).max(quantity_width(most, decimals, point)) && w <= room
+            let block = block_sound(range, from, to, lines, -MAX_QUANTITY, MAX_QUANTITY)?;
+            let longest = quantity_width(block.least, decimals, point).max(quantity_width(block.most, decimals, point));
+            (w == longest && w <= room).then_some(block.in_turn)
         }
         CHARACTER | LOGICAL => {
             let size = if kind == LOGICAL { 1 } else { MAX_SIZE };
-            decimals | point | subfields | subwidth | range | from | to == 0
+            let sound = decimals | point | subfields | subwidth | range | from | to == 0
                 && lines.is_empty()
                 && 1 <= w
                 && w <= size
-                && w <= room
+                && w <= room;
+            sound.then_some(false)
         }
-        _ => false,
+        _ => None,
     }
 }
 
-/// The least and greatest number of a block whose range and lines are sound.
-fn block_sound(range: i64, from: i64, to: i64, lines: &[Line], low: i64, high: i64) -> Option<(i64, i64)> {
+/// A block whose range and lines are sound: its least and greatest number, and whether its lines count up by ones.
+struct Block {
+    least: i64,
+    most: i64,
+    in_turn: bool,
+}
+
+fn block_sound(range: i64, from: i64, to: i64, lines: &[Line], low: i64, high: i64) -> Option<Block> {
     if range == 1 {
         if from < low || to < from || high < to {
             return None;
@@ -159,29 +174,38 @@ fn block_sound(range: i64, from: i64, to: i64, lines: &[Line], low: i64, high: i
     } else if from != 0 || to != 0 || lines.is_empty() {
         return None;
     }
-    let (mut least, mut most) = (i64::MAX, i64::MIN);
-    let mut sound = true;
-    let mut rising = true;
-    let mut last = i64::MIN;
-    for &[value, special, place, length] in lines {
-        least = least.min(value);
-        most = most.max(value);
-        sound &= within(special, 1) & within(place, MAX_DEFINITION as i64) & within(length, MAX_DEFINITION as i64);
-        rising &= last < value;
-        last = value;
+    let (mut least, mut most) = if range == 1 { (from, to) } else { (i64::MAX, i64::MIN) };
+    let mut in_turn = false;
+    if let (Some(first), Some(last)) = (lines.first(), lines.last()) {
+        // Places and lengths are at most a power of two: with all but one of it added no bit above it may be set, and none before.
+        const ADDED: u64 = MAX_DEFINITION as u64 - 1;
+        let (mut flags, mut texts) = (0, 0);
+        let mut rising = true;
+        let mut before = i64::MIN;
+        for &[value, special, place, length] in lines {
+            flags |= special as u64;
+            texts |= place as u64 | length as u64;
+            texts |= (place as u64).wrapping_add(ADDED) | (length as u64).wrapping_add(ADDED);
+            // i64::MIN itself is below every bound, so that a first line never looks like a fall.
+            rising &= before < value;
+            before = value;
+        }
+        if flags > 1 || texts >= 2 * MAX_DEFINITION as u64 {
+            return None;
+        }
+        let (mut lowest, mut highest) = (first[0], last[0]);
+        if !rising {
+            lowest = lines.iter().map(|line| line[0]).min()?;
+            highest = lines.iter().map(|line| line[0]).max()?;
+        }
+        if lowest < low || high < highest || (!rising && repeated(lines, low == 1)) {
+            return None;
+        }
+        least = least.min(lowest);
+        most = most.max(highest);
+        in_turn = rising && highest - lowest == lines.len() as i64 - 1;
     }
-    if !sound || (!lines.is_empty() && (least < low || high < most)) {
-        return None;
-    }
-    // i64::MIN itself is below every bound, so a first line never looks like a fall.
-    if !rising && repeated(lines, low == 1) {
-        return None;
-    }
-    if range == 1 {
-        least = least.min(from);
-        most = most.max(to);
-    }
-    Some((least, most))
+    Some(Block { least, most, in_turn })
 }
 
 /// Whether two lines have the same value. All values are within their bounds.

@@ -1,0 +1,122 @@
+//! The calls of document 02 that the library will get, as a trait: what each takes and gives, over slices. The plain Rust and the
+//! naive one stand behind it now, and are held against each other; the library joins them as each request lands.
+
+use crate::naive_02;
+use zarfolin_plain as plain;
+
+/// One correction, as it stands at the C face: 32 bytes.
+#[repr(C)]
+#[derive(Clone, Copy, Debug, Default, PartialEq, Eq)]
+pub struct Correction {
+    pub row: u64,
+    pub kind: u64,
+    pub number: i64,
+    pub mark: u64,
+}
+
+pub trait Coming {
+    fn name(&self) -> &'static str;
+    fn judge_part(&self, table: &[i64], data: &[u8], terminator: u64, first: u64, last: u64) -> [i64; 4];
+    fn correct(&self, table: &[i64], corrections: &mut [Correction], record: &mut [u8]) -> u64;
+    fn normal(&self, table: &[i64], record: &mut [u8]) -> [i64; 4];
+    fn mend(&self, table: &[i64], data: &[u8], out: &mut [u8], list: &mut [i64]) -> [i64; 4];
+    fn matrix(&self, table: &[i64], data: &[u8], out: &mut [u8]) -> [i64; 4];
+    fn write_definition(&self, def: &[u8], table: &[i64], out: &mut [u8]) -> [i64; 4];
+    fn export(&self, def: &[u8], table: &[i64], data: &[u8], out: &mut [u8]) -> [i64; 5];
+    fn import(&self, def: &[u8], table: &[i64], text: &[u8], out: &mut [u8]) -> [i64; 4];
+}
+
+/// The plain Rust.
+pub struct Plain;
+
+impl Coming for Plain {
+    fn name(&self) -> &'static str {
+        "plain Rust"
+    }
+
+    fn judge_part(&self, table: &[i64], data: &[u8], terminator: u64, first: u64, last: u64) -> [i64; 4] {
+        plain::judge_part(table, data, terminator, first, last)
+    }
+
+    fn correct(&self, table: &[i64], corrections: &mut [Correction], record: &mut [u8]) -> u64 {
+        let mut list: Vec<plain::Correction> = corrections
+            .iter()
+            .map(|c| plain::Correction { row: c.row, kind: c.kind, number: c.number, mark: c.mark })
+            .collect();
+        let number = plain::correct(table, &mut list, record);
+        for (c, done) in corrections.iter_mut().zip(list) {
+            *c = Correction { row: done.row, kind: done.kind, number: done.number, mark: done.mark };
+        }
+        number
+    }
+
+    fn normal(&self, table: &[i64], record: &mut [u8]) -> [i64; 4] {
+        plain::normal(table, record)
+    }
+
+    fn mend(&self, table: &[i64], data: &[u8], out: &mut [u8], list: &mut [i64]) -> [i64; 4] {
+        plain::mend(table, data, out, list)
+    }
+
+    fn matrix(&self, table: &[i64], data: &[u8], out: &mut [u8]) -> [i64; 4] {
+        plain::matrix(table, data, out)
+    }
+
+    fn write_definition(&self, def: &[u8], table: &[i64], out: &mut [u8]) -> [i64; 4] {
+        plain::write_definition(def, table, out)
+    }
+
+    fn export(&self, def: &[u8], table: &[i64], data: &[u8], out: &mut [u8]) -> [i64; 5] {
+        plain::export(def, table, data, out)
+    }
+
+    fn import(&self, def: &[u8], table: &[i64], text: &[u8], out: &mut [u8]) -> [i64; 4] {
+        plain::import(def, table, text, out)
+    }
+}
+
+/// The naive Rust.
+pub struct Naive;
+
+impl Coming for Naive {
+    fn name(&self) -> &'static str {
+        "naive Rust"
+    }
+
+    fn judge_part(&self, table: &[i64], data: &[u8], terminator: u64, first: u64, last: u64) -> [i64; 4] {
+        naive_02::judge_part(table, data, terminator, first, last)
+    }
+
+    fn correct(&self, table: &[i64], corrections: &mut [Correction], record: &mut [u8]) -> u64 {
+        naive_02::correct(table, corrections, record)
+    }
+
+    fn normal(&self, table: &[i64], record: &mut [u8]) -> [i64; 4] {
+        naive_02::normal(table, record)
+    }
+
+    fn mend(&self, table: &[i64], data: &[u8], out: &mut [u8], list: &mut [i64]) -> [i64; 4] {
+        naive_02::mend(table, data, out, list)
+    }
+
+    fn matrix(&self, table: &[i64], data: &[u8], out: &mut [u8]) -> [i64; 4] {
+        naive_02::matrix(table, data, out)
+    }
+
+    fn write_definition(&self, def: &[u8], table: &[i64], out: &mut [u8]) -> [i64; 4] {
+        naive_02::write_definition(def, table, out)
+    }
+
+    fn export(&self, def: &[u8], table: &[i64], data: &[u8], out: &mut [u8]) -> [i64; 5] {
+        naive_02::export(def, table, data, out)
+    }
+
+    fn import(&self, def: &[u8], table: &[i64], text: &[u8], out: &mut [u8]) -> [i64; 4] {
+        naive_02::import(def, table, text, out)
+    }
+}
+
+/// Both sides.
+pub fn sides() -> [&'static dyn Coming; 2] {
+    [&Plain, &Naive]
+}
