@@ -1,0 +1,5 @@
+pub mod Cut
+pub mod Breaks
+pub mod Stand
+pub mod Decoded
+pub mod Same
