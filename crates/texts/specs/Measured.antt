@@ -1,5 +1,6 @@
 -- What the code keeps of a stretch while it is measured: where its reader stands, and how many signs it has said so far.
 use mathlib.Core.Path.{_≡_}
+use mathlib.Core.Logic.{_⊎_}
 use mathlib.Core.Bool.{Bool, true, false, cond, _||_}
 use mathlib.Core.List.{List, [], _∷_}
 use Prim.Native.Nat.{ℕ, _+_, _≤_, _<_}
@@ -13,14 +14,12 @@ use Rattle.marks.specs.declared.Inside.the-variants.{Plain, Opened, Shut, Ell, 
 use Rattle.marks.specs.declared.Move.{Move}
 use Rattle.marks.specs.declared.Move.the-variants.{Go, Closed, Wrong}
 use Rattle.signs.specs.declared.Sign.{Sign}
+use Rattle.signs.specs.declared.Sign.the-variants.{Byte, Break}
 use Rattle.marks.specs.rule.Marks.{isHex, insideOf}
-use Rattle.marks.specs.Spelling.{idle}
 use Rattle.texts.specs.declared.Pace.{Pace}
 use Rattle.texts.specs.declared.Pace.the-variants.{On}
 use Rattle.texts.specs.declared.Pace.the-variants as pace
-use Rattle.texts.specs.declared.Short.{Short}
-use Rattle.texts.specs.declared.Short.the-variants.{One, Other}
-use Rattle.marks.specs.rule.Spelling.{givesOf, decodeOf}
+use Rattle.marks.specs.rule.Spelling.{pairOf, givesOf, decodeOf}
 use Rattle.texts.specs.declared.Extent.{Extent}
 use Rattle.texts.specs.declared.Extent.the-variants.{Signs, NotText}
 use Rattle.texts.specs.declared.Run.{Run}
@@ -82,21 +81,22 @@ pub record Copied (d : List ℕ) (s : Inside) (n k : ℕ) (list list′ : List �
 pub record Says (d : List ℕ) (s : Inside) (n : ℕ) (x : Sign) (m : ℕ) (t : Inside) : Type 0 where
   pub split : decodeOf s 0 (text d n) ≡ x ∷ decodeOf t 0 (text d m)
   pub counts : (c : ℕ) → measureFrom s c (text d n) ≡ measureFrom t (c + 1) (text d m)
-  pub rests : idle t ≡ true
   pub ahead : n < m
   pub within : m ≤ length d
 
-pub record ShortAt (d : List ℕ) (s : Inside) (n : ℕ) (r : Short) : Type 0 where
-  pub told : {x : Sign} {m : ℕ} {t : Inside} → r ≡ One x m t → Says d s n x m t
+-- what a brace form at n says whose bytes stand side by side: the byte behind its brace tells which form it is
+unfoldable pub formSign : List ℕ → ℕ → Sign
+formSign d n =
+    let b = getD d (n + 1) 0 in
+    cond (eqb b 78) Break (cond (isMark b) (Byte b) (Byte (pairOf b (getD d (n + 2) 0))))
 
--- the same of a hex pair at n, behind whose first digit the reader stands in a form that opened at o
-pub record PairSays (d : List ℕ) (o n : ℕ) (x : Sign) (m : ℕ) (t : Inside) : Type 0 where
-  pub hex : isHex (getD d n 0) ≡ true
-  pub split : decodeOf (Low o) (getD d n 0) (text d (n + 1)) ≡ x ∷ decodeOf t 0 (text d m)
-  pub counts : (c : ℕ) → measureFrom (Low o) c (text d (n + 1)) ≡ measureFrom t (c + 1) (text d m)
-  pub rests : idle t ≡ true
-  pub ahead : n + 1 < m
-  pub within : m ≤ length d
+-- such a form from n to m
+pub record Form (d : List ℕ) (n m : ℕ) : Type 0 where
+  pub says : Says d Plain n (formSign d n) m Plain
+  pub room : n + 3 ≤ length d
+  pub hex : (getD d (n + 1) 0 ≡ 78 → ⊥) → isMark (getD d (n + 1) 0) ≡ false
+      → (isHex (getD d (n + 1) 0) ≡ true) × (isHex (getD d (n + 2) 0) ≡ true)
 
-pub record ShortPair (d : List ℕ) (o n : ℕ) (r : Short) : Type 0 where
-  pub told : {x : Sign} {m : ℕ} {t : Inside} → r ≡ One x m t → PairSays d o n x m t
+-- the end of a form at n; or n, where none was told
+abbrev pub FormEnd : List ℕ → ℕ → ℕ → Type 0
+FormEnd d n m = (m ≡ n) ⊎ Form d n m

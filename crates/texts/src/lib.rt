@@ -18,7 +18,7 @@ ghost use Rattle.texts.specs.rule.Decode.{numbersOf, TextDecoded};
 ghost use mathlib.Core.Bool.{true};
 ghost use Rattle.marks.specs.rule.Marks.{isHex};
 ghost use Rattle.marks.specs.rule.Spelling.{hexOf};
-ghost use Rattle.texts.specs.Measured.{isMark, completes, endedIn, measureFrom, Passed, Paced, Copied, ShortPair, ShortAt};
+ghost use Rattle.texts.specs.Measured.{isMark, completes, endedIn, measureFrom, Passed, Paced, Copied, formSign, Form, FormEnd};
 
 // A run of bytes passed at once: the place after it, and how many signs were said before that.
 pub struct Run {
@@ -53,8 +53,67 @@ fn marked(b: u8) -> bool
     (b == 34) | (b == 123)
 }
 
-// Passes plain bytes up to a quote or a brace.
-fn pass_plain(s: &[u8], n: usize) -> Run
+// The value of a hex digit.
+fn hex_of(classes: &[u8; 256], b: u8) -> u8
+    requires { ⌜ Classes (now classes) ⌝ }
+    requires { ⌜ isHex b ≡ true ⌝ }
+    ensures { λ r. ⌜ (r ≡ hexOf b) × (r ≤ 15) ⌝ }
+{
+    if ascii::class_of(classes, b) == ascii::DIGIT {
+        return b - 48;
+    }
+    ascii::upper(b) - 55
+}
+
+// The place behind a brace form of one sign whose bytes stand side by side; or the place itself, where none is told at once.
+fn form_end(classes: &[u8; 256], s: &[u8], n: usize) -> usize
+    requires { ⌜ Classes (now classes) ⌝ }
+    requires { ⌜ n ≤ length (now s) ⌝ }
+    ensures { λ r. ⌜ FormEnd (now (s .entry)) n r ⌝ }
+{
+    if s.len() - n < 4 {
+        return n;
+    }
+    if s[n] != 123 {
+        return n;
+    }
+    let b = s[n + 1];
+    let c = s[n + 2];
+    if marked(b) {
+        return if c == 125 { n + 3 } else { n };
+    }
+    if s[n + 3] != 125 {
+        return n;
+    }
+    if b == 78 {
+        return if c == 76 { n + 4 } else { n };
+    }
+    if !marks::is_hex(classes, b) {
+        return n;
+    }
+    if marks::is_hex(classes, c) { n + 4 } else { n }
+}
+
+// The sign of a brace form that was told at once.
+fn form_sign(classes: &[u8; 256], s: &[u8], n: usize, m: usize) -> Sign
+    requires { ⌜ Classes (now classes) ⌝ }
+    requires { ⌜ Form (now s) n m ⌝ }
+    ensures { λ r. ⌜ r ≡ formSign (now (s .entry)) n ⌝ }
+{
+    let b = s[n + 1];
+    if b == 78 {
+        return Sign::Break;
+    }
+    if marked(b) {
+        return Sign::Byte(b);
+    }
+    let high = hex_of(classes, b);
+    Sign::Byte(high * 16 + hex_of(classes, s[n + 2]))
+}
+
+// Passes plain bytes, and brace forms that are told at once.
+fn pass_plain(classes: &[u8; 256], s: &[u8], n: usize) -> Run
+    requires { ⌜ Classes (now classes) ⌝ }
     ensures { λ r. ⌜ Passed (now (s .entry)) Inside.Plain n r ⌝ }
 {
     let mut i = n;
@@ -62,24 +121,54 @@ fn pass_plain(s: &[u8], n: usize) -> Run
     while i < s.len() {
         let b = s[i];
         if marked(b) {
-            return Run { next: i, count };
+            let e = form_end(classes, s, i);
+            if e == i {
+                return Run { next: i, count };
+            }
+            count += 1;
+            i = e;
+        } else {
+            count += kept(b);
+            i += 1;
         }
-        count += kept(b);
-        i += 1;
     }
     Run { next: i, count }
 }
 
-// In plain text passes what is plain, in a brace form nothing.
-fn pass(s: &[u8], inside: Inside, n: usize) -> Run
+// Passes hex pairs, in a form that opened at o.
+fn pass_pairs(classes: &[u8; 256], s: &[u8], n: usize, o: usize) -> Run
+    requires { ⌜ Classes (now classes) ⌝ }
+    ensures { λ r. ⌜ Passed (now (s .entry)) (Inside.Pair o) n r ⌝ }
+{
+    let mut i = n;
+    let mut count: usize = 0;
+    while i < s.len() {
+        if s.len() - i < 2 {
+            return Run { next: i, count };
+        }
+        if !marks::is_hex(classes, s[i]) {
+            return Run { next: i, count };
+        }
+        if !marks::is_hex(classes, s[i + 1]) {
+            return Run { next: i, count };
+        }
+        count += 1;
+        i += 2;
+    }
+    Run { next: i, count }
+}
+
+// Passes what can be passed at once.
+fn pass(classes: &[u8; 256], s: &[u8], inside: Inside, n: usize) -> Run
+    requires { ⌜ Classes (now classes) ⌝ }
     ensures { λ r. ⌜ Passed (now (s .entry)) inside n r ⌝ }
 {
     match inside {
-        Inside::Plain => pass_plain(s, n),
+        Inside::Plain => pass_plain(classes, s, n),
         Inside::Opened(_) => Run { next: n, count: 0 },
         Inside::Shut(_) => Run { next: n, count: 0 },
         Inside::Ell(_) => Run { next: n, count: 0 },
-        Inside::Pair(_) => Run { next: n, count: 0 },
+        Inside::Pair(o) => pass_pairs(classes, s, n, o),
         Inside::Low(_) => Run { next: n, count: 0 },
     }
 }
@@ -114,114 +203,6 @@ fn ended(inside: Inside, count: usize) -> Extent
         Inside::Ell(_) => Extent::NotText,
         Inside::Pair(_) => Extent::NotText,
         Inside::Low(_) => Extent::NotText,
-    }
-}
-
-// The value of a hex digit.
-fn hex_of(classes: &[u8; 256], b: u8) -> u8
-    requires { ⌜ Classes (now classes) ⌝ }
-    requires { ⌜ isHex b ≡ true ⌝ }
-    ensures { λ r. ⌜ (r ≡ hexOf b) × (r ≤ 15) ⌝ }
-{
-    if ascii::class_of(classes, b) == ascii::DIGIT {
-        return b - 48;
-    }
-    ascii::upper(b) - 55
-}
-
-// A sign that was told at once, the place after it, and where the reader then stands; or it must be read byte by byte.
-pub enum Short {
-    One {
-        sign: Sign,
-        next: usize,
-        inside: Inside,
-    },
-    Other,
-}
-
-// A hex pair at a place, in a form that opened at o: with its closing brace, if that stands right behind it.
-fn short_pair(classes: &[u8; 256], s: &[u8], n: usize, o: usize) -> Short
-    requires { ⌜ Classes (now classes) ⌝ }
-    requires { ⌜ n + 3 ≤ length (now s) ⌝ }
-    ensures { λ r. ⌜ ShortPair (now (s .entry)) o n r ⌝ }
-{
-    let a = s[n];
-    let b = s[n + 1];
-    if !marks::is_hex(classes, a) {
-        return Short::Other;
-    }
-    if !marks::is_hex(classes, b) {
-        return Short::Other;
-    }
-    let high = hex_of(classes, a);
-    let sign = Sign::Byte(high * 16 + hex_of(classes, b));
-    if s[n + 2] == 125 {
-        return Short::One {
-            sign,
-            next: n + 3,
-            inside: Inside::Plain,
-        };
-    }
-    Short::One {
-        sign,
-        next: n + 2,
-        inside: Inside::Pair(o),
-    }
-}
-
-// A brace form at a place whose bytes stand side by side.
-fn short_form(classes: &[u8; 256], s: &[u8], n: usize) -> Short
-    requires { ⌜ Classes (now classes) ⌝ }
-    requires { ⌜ n + 4 ≤ length (now s) ⌝ }
-    ensures { λ r. ⌜ ShortAt (now (s .entry)) Inside.Plain n r ⌝ }
-{
-    if s[n] != 123 {
-        return Short::Other;
-    }
-    let b = s[n + 1];
-    if b == 78 {
-        if s[n + 2] == 76 {
-            if s[n + 3] == 125 {
-                return Short::One {
-                    sign: Sign::Break,
-                    next: n + 4,
-                    inside: Inside::Plain,
-                };
-            }
-        }
-        return Short::Other;
-    }
-    if marked(b) {
-        if s[n + 2] == 125 {
-            return Short::One {
-                sign: Sign::Byte(b),
-                next: n + 3,
-                inside: Inside::Plain,
-            };
-        }
-        return Short::Other;
-    }
-    short_pair(classes, s, n + 1, n)
-}
-
-// The next sign, where it can be told at once.
-fn told_at_once(classes: &[u8; 256], s: &[u8], inside: Inside, n: usize) -> Short
-    requires { ⌜ Classes (now classes) ⌝ }
-    ensures { λ r. ⌜ ShortAt (now (s .entry)) inside n r ⌝ }
-{
-    if s.len() < 4 {
-        return Short::Other;
-    }
-    if s.len() - 4 < n {
-        return Short::Other;
-    }
-    match inside {
-        Inside::Plain => short_form(classes, s, n),
-        Inside::Opened(_) => Short::Other,
-        Inside::Shut(_) => Short::Other,
-        Inside::Ell(_) => Short::Other,
-        Inside::Pair(o) => short_pair(classes, s, n, o),
-        Inside::Low(_) => Short::Other,
     }
 }
 
@@ -270,42 +251,31 @@ fn measure(classes: &[u8; 256], s: &[u8], at: usize) -> Extent
     let mut inside = Inside::Plain;
     let mut count: usize = 0;
     loop {
-        let run = pass(s, inside, n);
+        let run = pass(classes, s, inside, n);
         count += run.count;
-        let m = run.next;
-        match told_at_once(classes, s, inside, m) {
-            Short::One {
-                sign: _,
+        match step(classes, s, inside, run.next) {
+            Pace::On {
+                count: k,
                 next,
                 inside: t,
             } => {
-                count += 1;
+                count += k;
                 inside = t;
                 n = next;
             }
-            Short::Other => match step(classes, s, inside, m) {
-                Pace::On {
-                    count: k,
-                    next,
-                    inside: t,
-                } => {
-                    count += k;
-                    inside = t;
-                    n = next;
-                }
-                Pace::Wrong => {
-                    return Extent::NotText;
-                }
-                Pace::Over => {
-                    return ended(inside, count);
-                }
-            },
+            Pace::Wrong => {
+                return Extent::NotText;
+            }
+            Pace::Over => {
+                return ended(inside, count);
+            }
         }
     }
 }
 
-// Writes plain bytes up to a quote or a brace into the list, from k on.
-fn copy_plain(s: &[u8], n: usize, list: &mut [i64], k: usize) -> Run
+// Writes plain bytes, and brace forms that are told at once, into the list from k on.
+fn copy_plain(classes: &[u8; 256], s: &[u8], n: usize, list: &mut [i64], k: usize) -> Run
+    requires { ⌜ Classes (now classes) ⌝ }
     requires { ⌜ k + length (decodeOf Inside.Plain 0 (text (now s) n)) ≤ length (now list) ⌝ }
     ensures { λ r. ⌜ Copied (now (s .entry)) Inside.Plain n k (now (list .entry)) (now (list .exit)) r ⌝ }
 {
@@ -315,28 +285,64 @@ fn copy_plain(s: &[u8], n: usize, list: &mut [i64], k: usize) -> Run
         let at = i;
         let b = s[at];
         if marked(b) {
-            return Run { next: at, count: m };
-        }
-        i += 1;
-        if 32 <= b {
-            list[m] = cells::cell_of(signs::number_of(Sign::Byte(b)));
+            let e = form_end(classes, s, at);
+            if e == at {
+                return Run { next: at, count: m };
+            }
+            list[m] = cells::cell_of(signs::number_of(form_sign(classes, s, at, e)));
             m += 1;
+            i = e;
+        } else {
+            i += 1;
+            if 32 <= b {
+                list[m] = cells::cell_of(signs::number_of(Sign::Byte(b)));
+                m += 1;
+            }
         }
     }
     Run { next: i, count: m }
 }
 
-// In plain text writes what is plain, in a brace form nothing.
-fn copy(s: &[u8], inside: Inside, n: usize, list: &mut [i64], k: usize) -> Run
+// Writes hex pairs into it, in a form that opened at o.
+fn copy_pairs(classes: &[u8; 256], s: &[u8], n: usize, o: usize, list: &mut [i64], k: usize) -> Run
+    requires { ⌜ Classes (now classes) ⌝ }
+    requires { ⌜ k + length (decodeOf (Inside.Pair o) 0 (text (now s) n)) ≤ length (now list) ⌝ }
+    ensures { λ r. ⌜ Copied (now (s .entry)) (Inside.Pair o) n k (now (list .entry)) (now (list .exit)) r ⌝ }
+{
+    let mut i = n;
+    let mut m = k;
+    while i < s.len() {
+        if s.len() - i < 2 {
+            return Run { next: i, count: m };
+        }
+        let a = s[i];
+        let b = s[i + 1];
+        if !marks::is_hex(classes, a) {
+            return Run { next: i, count: m };
+        }
+        if !marks::is_hex(classes, b) {
+            return Run { next: i, count: m };
+        }
+        let high = hex_of(classes, a);
+        list[m] = cells::cell_of(signs::number_of(Sign::Byte(high * 16 + hex_of(classes, b))));
+        m += 1;
+        i += 2;
+    }
+    Run { next: i, count: m }
+}
+
+// Writes what can be written at once.
+fn copy(classes: &[u8; 256], s: &[u8], inside: Inside, n: usize, list: &mut [i64], k: usize) -> Run
+    requires { ⌜ Classes (now classes) ⌝ }
     requires { ⌜ k + length (decodeOf inside 0 (text (now s) n)) ≤ length (now list) ⌝ }
     ensures { λ r. ⌜ Copied (now (s .entry)) inside n k (now (list .entry)) (now (list .exit)) r ⌝ }
 {
     match inside {
-        Inside::Plain => copy_plain(s, n, list, k),
+        Inside::Plain => copy_plain(classes, s, n, list, k),
         Inside::Opened(_) => Run { next: n, count: k },
         Inside::Shut(_) => Run { next: n, count: k },
         Inside::Ell(_) => Run { next: n, count: k },
-        Inside::Pair(_) => Run { next: n, count: k },
+        Inside::Pair(o) => copy_pairs(classes, s, n, o, list, k),
         Inside::Low(_) => Run { next: n, count: k },
     }
 }
@@ -352,11 +358,10 @@ fn write(classes: &[u8; 256], s: &[u8], at: usize, count: usize, list: &mut [i64
     let mut inside = Inside::Plain;
     let mut k: usize = 0;
     while k < count {
-        let run = copy(s, inside, n, list, k);
+        let run = copy(classes, s, inside, n, list, k);
         let m = run.count;
-        let p = run.next;
-        match told_at_once(classes, s, inside, p) {
-            Short::One {
+        match marks::next_part(classes, s, run.next, inside) {
+            Part::Said {
                 sign,
                 next,
                 inside: t,
@@ -366,21 +371,9 @@ fn write(classes: &[u8; 256], s: &[u8], at: usize, count: usize, list: &mut [i64
                 n = next;
                 inside = t;
             }
-            Short::Other => match marks::next_part(classes, s, p, inside) {
-                Part::Said {
-                    sign,
-                    next,
-                    inside: t,
-                } => {
-                    list[m] = cells::cell_of(signs::number_of(sign));
-                    k = m + 1;
-                    n = next;
-                    inside = t;
-                }
-                Part::Over => {
-                    return;
-                }
-            },
+            Part::Over => {
+                return;
+            }
         }
     }
 }

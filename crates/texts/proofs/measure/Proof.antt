@@ -25,50 +25,32 @@ add-count-2 : tie.Need-add-count-2 Inv-loop μ-loop
 add-count-2 c =
     let l = c .before .before .before .before .before .before .loop in
     let p = c .before .before .before .before .before .pass .ensures in
-    omega (arith, p .few, p .inside (l .inv .2))
-
-loop-less : tie.Need-loop-less Inv-loop μ-loop
-loop-less c =
-    let s = c .before .before .before .told-at-once .ensures .told (c .before .next .given .1) in
-    omega (arith, s .ahead, s .within, c .before .before .before .before .before .pass .ensures .onward)
-
-loop-again : tie.Need-loop-again Inv-loop μ-loop
-loop-again c =
-    let l = c .before .before .before .before .before .before .loop in
-    let p = c .before .before .before .before .before .pass .ensures in
-    let s = c .before .before .before .told-at-once .ensures .told (c .before .next .given .1) in
-    (l .inv .0 ∙ p .same _ ∙ s .counts _, omega (arith, p .few, s .ahead), s .within)
-
-add-count-3 : tie.Need-add-count-3 Inv-loop μ-loop
-add-count-3 c =
-    let l = c .before .before .before .before .before .before .before .before .before .loop in
-    let p = c .before .before .before .before .before .before .before .before .pass .ensures in
     let s = c .before .before .before .step .ensures .onwards (c .before .k .given .1) in
     omega (arith, p .few, p .inside (l .inv .2), s .2)
 
-loop-less-2 : tie.Need-loop-less-2 Inv-loop μ-loop
-loop-less-2 c =
+loop-less : tie.Need-loop-less Inv-loop μ-loop
+loop-less c =
     let s = c .before .before .before .step .ensures .onwards (c .before .k .given .1) in
-    omega (arith, s .0, s .1, c .before .before .before .before .before .before .before .before .pass .ensures .onward)
+    omega (arith, s .0, s .1, c .before .before .before .before .before .pass .ensures .onward)
 
-loop-again-2 : tie.Need-loop-again-2 Inv-loop μ-loop
+loop-again : tie.Need-loop-again Inv-loop μ-loop
 unfolding pacedOf
-loop-again-2 c =
-    let l = c .before .before .before .before .before .before .before .before .before .loop in
-    let p = c .before .before .before .before .before .before .before .before .pass .ensures in
+loop-again c =
+    let l = c .before .before .before .before .before .before .loop in
+    let p = c .before .before .before .before .before .pass .ensures in
     let q = c .before .before .before .step .ensures in
     let s = q .onwards (c .before .k .given .1) in
     (l .inv .0 ∙ p .same _ ∙ paced q (c .before .k .given .1) _, omega (arith, p .few, s .0, s .2), s .1)
 
 returns : tie.Need-returns Inv-loop μ-loop
 unfolding pacedOf
-returns c = sym (c .before .before .before .before .before .before .before .before .loop .inv .0 ∙ c .before .before .before .before .before .before .before .pass .ensures .same _ ∙ paced (c .before .before .step .ensures) (c .enum-told2 .given .1) _)
+returns c = sym (c .before .before .before .before .before .loop .inv .0 ∙ c .before .before .before .before .pass .ensures .same _ ∙ paced (c .before .before .step .ensures) (c .enum-told .given .1) _)
 
 returns-2 : tie.Need-returns-2 Inv-loop μ-loop
 unfolding pacedOf
 returns-2 c =
     c .ended .ensures
-    ∙ sym (c .before .before .before .before .before .before .before .before .before .loop .inv .0 ∙ c .before .before .before .before .before .before .before .before .pass .ensures .same _ ∙ paced (c .before .before .before .step .ensures) (c .before .enum-told3 .given .1) _)
+    ∙ sym (c .before .before .before .before .before .before .loop .inv .0 ∙ c .before .before .before .before .before .pass .ensures .same _ ∙ paced (c .before .before .before .step .ensures) (c .before .enum-told2 .given .1) _)
 
 pub measure-spec : {M : Type 1} → statement M
 measure-spec =
@@ -77,19 +59,13 @@ measure-spec =
     Inv-loop
     μ-loop
     (λ c. (refl, omega arith, c .before .pre .1))
-    (λ c κs. search needs)
+    (λ c κs. c .before .before .pre .0)
     add-count
     (λ c κs. c .before .before .before .before .pre .0)
     (λ c. search needs)
     add-count-2
     loop-less
     loop-again
-    (λ c. search needs)
-    (λ c κs. c .before .before .before .before .before .before .before .pre .0)
-    (λ c. search needs)
-    add-count-3
-    loop-less-2
-    loop-again-2
     (λ c. search needs)
     returns
     (λ c. search needs)

@@ -22,6 +22,9 @@ stays d s n = record {
 returns : tie.Need-returns
 returns c = rw (c .before .enum-told .given .1) (c .pass-plain .ensures)
 
+returns-5 : tie.Need-returns-5
+returns-5 c = rw (c .before .before .inside .given .1) (c .pass-pairs .ensures)
+
 pub pass-spec : {M : Type 1} → statement M
 pass-spec =
     tie.close
@@ -32,10 +35,11 @@ pass-spec =
     (λ c. search needs)
     (λ c. search needs)
     (λ c. search needs)
+    (λ c κs. search needs)
     (λ c. search needs)
     returns
     (λ c. stays _ _ _)
     (λ c. stays _ _ _)
     (λ c. stays _ _ _)
-    (λ c. stays _ _ _)
+    returns-5
     (λ c. stays _ _ _))

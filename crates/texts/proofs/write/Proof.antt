@@ -33,17 +33,17 @@ unfolding idle
 loop-holds c = (refl, omega (arith, c .before .pre .1 .0), refl, refl)
 
 copy-requires : tie.Need-copy-requires Inv-loop μ-loop
-copy-requires c κs = let l = c .before .before .loop in omega (arith, l .inv .1, l .inv .2, c .before .before .before .before .pre .1 .1)
+copy-requires c κs = let l = c .before .before .loop in (c .before .before .before .before .pre .0, omega (arith, l .inv .1, l .inv .2, c .before .before .before .before .pre .1 .1))
 
 next-part-requires : tie.Need-next-part-requires Inv-loop μ-loop
-next-part-requires c κs = (c .before .before .before .before .before .before .before .before .before .pre .0, c .before .before .before .before .before .before .before .loop .inv .3)
+next-part-requires c κs = (c .before .before .before .before .before .before .pre .0, c .before .before .before .before .loop .inv .3)
 
--- a sign that was said has room, and is the next to store: told at once
-mul-t24 : tie.Need-mul-t24 Inv-loop μ-loop
-mul-t24 c =
+-- a sign that was said has room, and is the next to store
+mul-t20 : tie.Need-mul-t20 Inv-loop μ-loop
+mul-t20 c =
     let l = c .before .before .before .before .before .before .before .before .before .before .loop in
     let p = c .before .before .before .before .before .before .before .copy .ensures in
-    let s = c .before .before .before .before .before .told-at-once .ensures .told (c .before .before .before .sign .given .1) in
+    let s = part-said _ _ _ _ _ _ (c .before .before .before .before .before .next-part .ensures) (c .before .before .before .sign .given .1) in
     let n = ap length (s .split) in
     omega (arith, n, p .same-count, p .same-room, p .ahead, l .inv .1, l .inv .2, c .before .before .before .before .before .before .before .before .before .before .before .before .pre .1 .1)
 
@@ -51,7 +51,7 @@ slice-set-from-list : tie.Need-slice-set-from-list Inv-loop μ-loop
 slice-set-from-list c =
     let l = c .before .before .before .before .before .before .before .before .before .before .loop in
     let p = c .before .before .before .before .before .before .before .copy .ensures in
-    let s = c .before .before .before .before .before .told-at-once .ensures .told (c .before .before .before .sign .given .1) in
+    let s = part-said _ _ _ _ _ _ (c .before .before .before .before .before .next-part .ensures) (c .before .before .before .sign .given .1) in
     let n = ap length (s .split) in
     omega (arith, n, p .same-count, p .same-room, p .ahead, l .inv .1, l .inv .2, c .before .before .before .before .before .before .before .before .before .before .before .before .pre .1 .1)
 
@@ -59,7 +59,7 @@ add-k : tie.Need-add-k Inv-loop μ-loop
 add-k c =
     let l = c .before .before .before .before .before .before .before .before .before .before .loop in
     let p = c .before .before .before .before .before .before .before .copy .ensures in
-    let s = c .before .before .before .before .before .told-at-once .ensures .told (c .before .before .before .sign .given .1) in
+    let s = part-said _ _ _ _ _ _ (c .before .before .before .before .before .next-part .ensures) (c .before .before .before .sign .given .1) in
     let n = ap length (s .split) in
     omega (arith, n, p .same-count, p .same-room, p .ahead, l .inv .1, l .inv .2, c .before .before .before .before .before .before .before .before .before .before .before .before .pre .1 .1)
 
@@ -67,7 +67,7 @@ loop-less : tie.Need-loop-less Inv-loop μ-loop
 loop-less c =
     let l = c .before .before .before .before .before .before .before .before .before .before .loop in
     let p = c .before .before .before .before .before .before .before .copy .ensures in
-    let s = c .before .before .before .before .before .told-at-once .ensures .told (c .before .before .before .sign .given .1) in
+    let s = part-said _ _ _ _ _ _ (c .before .before .before .before .before .next-part .ensures) (c .before .before .before .sign .given .1) in
     let n = ap length (s .split) in
     omega (arith, n, p .same-count, p .same-room, p .ahead, l .inv .1, l .inv .2, c .before .before .before .before .before .before .before .before .before .before .before .before .pre .1 .1)
 
@@ -75,7 +75,7 @@ loop-again : tie.Need-loop-again Inv-loop μ-loop
 loop-again c =
     let l = c .before .before .before .before .before .before .before .before .before .before .loop in
     let p = c .before .before .before .before .before .before .before .copy .ensures in
-    let s = c .before .before .before .before .before .told-at-once .ensures .told (c .before .before .before .sign .given .1) in
+    let s = part-said _ _ _ _ _ _ (c .before .before .before .before .before .next-part .ensures) (c .before .before .before .sign .given .1) in
     let n = ap length (s .split) in (
       l .inv .0
           ∙ p .same-left
@@ -86,60 +86,12 @@ loop-again c =
       s .rests,
     )
 
--- or byte by byte
-mul-t29 : tie.Need-mul-t29 Inv-loop μ-loop
-mul-t29 c =
-    let l = c .before .before .before .before .before .before .before .before .before .before .before .before .before .loop in
-    let p = c .before .before .before .before .before .before .before .before .before .before .copy .ensures in
-    let s = part-said _ _ _ _ _ _ (c .before .before .before .before .before .next-part .ensures) (c .before .before .before .sign2 .given .1) in
-    let n = ap length (s .split) in
-    omega (arith, n, p .same-count, p .same-room, p .ahead, l .inv .1, l .inv .2, c .before .before .before .before .before .before .before .before .before .before .before .before .before .before .before .pre .1 .1)
-
-slice-set-from-list-2 : tie.Need-slice-set-from-list-2 Inv-loop μ-loop
-slice-set-from-list-2 c =
-    let l = c .before .before .before .before .before .before .before .before .before .before .before .before .before .loop in
-    let p = c .before .before .before .before .before .before .before .before .before .before .copy .ensures in
-    let s = part-said _ _ _ _ _ _ (c .before .before .before .before .before .next-part .ensures) (c .before .before .before .sign2 .given .1) in
-    let n = ap length (s .split) in
-    omega (arith, n, p .same-count, p .same-room, p .ahead, l .inv .1, l .inv .2, c .before .before .before .before .before .before .before .before .before .before .before .before .before .before .before .pre .1 .1)
-
-add-k-2 : tie.Need-add-k-2 Inv-loop μ-loop
-add-k-2 c =
-    let l = c .before .before .before .before .before .before .before .before .before .before .before .before .before .loop in
-    let p = c .before .before .before .before .before .before .before .before .before .before .copy .ensures in
-    let s = part-said _ _ _ _ _ _ (c .before .before .before .before .before .next-part .ensures) (c .before .before .before .sign2 .given .1) in
-    let n = ap length (s .split) in
-    omega (arith, n, p .same-count, p .same-room, p .ahead, l .inv .1, l .inv .2, c .before .before .before .before .before .before .before .before .before .before .before .before .before .before .before .pre .1 .1)
-
-loop-less-2 : tie.Need-loop-less-2 Inv-loop μ-loop
-loop-less-2 c =
-    let l = c .before .before .before .before .before .before .before .before .before .before .before .before .before .loop in
-    let p = c .before .before .before .before .before .before .before .before .before .before .copy .ensures in
-    let s = part-said _ _ _ _ _ _ (c .before .before .before .before .before .next-part .ensures) (c .before .before .before .sign2 .given .1) in
-    let n = ap length (s .split) in
-    omega (arith, n, p .same-count, p .same-room, p .ahead, l .inv .1, l .inv .2, c .before .before .before .before .before .before .before .before .before .before .before .before .before .before .before .pre .1 .1)
-
-loop-again-2 : tie.Need-loop-again-2 Inv-loop μ-loop
-loop-again-2 c =
-    let l = c .before .before .before .before .before .before .before .before .before .before .before .before .before .loop in
-    let p = c .before .before .before .before .before .before .before .before .before .before .copy .ensures in
-    let s = part-said _ _ _ _ _ _ (c .before .before .before .before .before .next-part .ensures) (c .before .before .before .sign2 .given .1) in
-    let n = ap length (s .split) in (
-      l .inv .0
-          ∙ p .same-left
-          ∙ rw (toZ-ofZ (sfits-of (c .cell-of2 .ok)), c .cell-of2 .ensures, c .before .number-of2 .ensures .0, add-one (c .before .before .before .before .before .before .before .before .before .before .copy .result .count))
-          (next-stored _ _ (s .split)),
-      omega (arith, n, p .same-count, l .inv .1),
-      simp length-set (p .same-room ∙ l .inv .2),
-      s .rests,
-    )
-
 returns : tie.Need-returns Inv-loop μ-loop
 returns c =
-    let l = c .before .before .before .before .before .before .before .before .before .before .loop in
-    let p = c .before .before .before .before .before .before .before .copy .ensures in
-    let e = part-over _ _ _ (c .before .before .next-part .ensures) (c .enum-told2 .given .1) in
-    all-written _ _ _ _ _ _ (l .inv .0 ∙ p .same-left) (ap length e) (c .before .before .before .before .before .before .before .before .before .before .before .before .pre .1 .0) (c .before .before .before .before .before .before .before .before .before .before .before .before .pre .1 .1)
+    let l = c .before .before .before .before .before .before .before .loop in
+    let p = c .before .before .before .before .copy .ensures in
+    let e = part-over _ _ _ (c .before .before .next-part .ensures) (c .enum-told .given .1) in
+    all-written _ _ _ _ _ _ (l .inv .0 ∙ p .same-left) (ap length e) (c .before .before .before .before .before .before .before .before .before .pre .1 .0) (c .before .before .before .before .before .before .before .before .before .pre .1 .1)
 
 returns-2 : tie.Need-returns-2 Inv-loop μ-loop
 returns-2 c = let l = c .before .loop in all-written _ _ _ _ _ _ (l .inv .0) (omega (arith, l .inv .1)) (c .before .before .before .pre .1 .0) (c .before .before .before .pre .1 .1)
@@ -152,27 +104,17 @@ write-spec =
     μ-loop
     loop-holds
     copy-requires
-    (λ c κs. c .before .before .before .before .before .before .pre .0)
+    next-part-requires
     (λ c. search needs)
     (λ c κs. search needs)
     (λ c κs. omega (arith, c .number-of .ensures .1))
-    mul-t24
+    mul-t20
     slice-set-from-list
     add-k
     loop-less
     loop-again
     (λ c. search needs)
-    next-part-requires
-    (λ c. search needs)
-    (λ c κs. search needs)
-    (λ c κs. omega (arith, c .number-of2 .ensures .1))
-    mul-t29
-    slice-set-from-list-2
-    add-k-2
-    loop-less-2
-    loop-again-2
-    (λ c. search needs)
-    (λ c. c .before .before .before .before .before .before .before .copy .ensures .same-room ∙ c .before .before .before .before .before .before .before .before .before .before .loop .inv .2)
+    (λ c. c .before .before .before .before .copy .ensures .same-room ∙ c .before .before .before .before .before .before .before .loop .inv .2)
     returns
     (λ c. c .before .loop .inv .2)
     returns-2)
