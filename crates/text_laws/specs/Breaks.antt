@@ -18,10 +18,10 @@ use Rattle.marks.specs.declared.Skip.the-variants.{Past}
 use Rattle.marks.specs.rule.Marks.{isHex, insideOf, stringOf}
 use Rattle.marks.specs.rule.Spelling.{givesOf, decodeOf}
 use Rattle.marks.specs.Spelling.{Pairs, last, more, Piece, plain, quote, brace, line, bytes, Spelt, closed, piece}
-use Rattle.marks.proofs.Complete.{skip-piece, string-decoded}
+use Rattle.marks.proofs.Complete.{skip-piece, string-decoded, string-complete}
 use Rattle.marks.proofs.Spellings.{string-exactly}
 use Rattle.texts.specs.rule.Decode.{cutOff, insideText, signsAt, numbersOf, decodedAs, Outcome, signs, refused, fitting}
-use Rattle.text_laws.specs.Cut.{none}
+use Rattle.text_laws.specs.Cut.{none, inside-exactly}
 
 -- ---- by computation, over bytes
 -- `{NL}` is a break, `{0A}` is byte 10, `{0D0A}` bytes 13 and 10, and CR LF between them is nothing
@@ -144,3 +144,10 @@ from-line n (behind {u = u} {m = m} {k = k} x r) e =
 -- BREAK: sign k of what a string says is a break exactly when the piece that says it is {NL}
 pub break-exactly : (t : Text) (n k : ℕ) → stringOf Plain t ≡ Past n → (breakAt (decodeOf Plain 0 t) k ≡ true) ↔ LineAt t k
 break-exactly t n k e = (to-line (string-exactly t n .0 e) k, λ r. from-line n r e)
+
+-- so of what the call decodes: its sign k is a break exactly when the piece of the text that says it is {NL}
+pub text-break-exactly : (d : List ℕ) (place long k : ℕ) → insideText d place long ≡ true
+    → (breakAt (signsAt d place long) k ≡ true) ↔ LineAt (text (cutOff d place long ++ 34 ∷ []) place) k
+text-break-exactly d place long k e =
+    let s = inside-exactly d place long .0 e .1 in
+    (to-line s k, λ r. rw (← string-decoded s) (from-line (place + long + 1) r (string-complete s)))

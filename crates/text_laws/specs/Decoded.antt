@@ -57,7 +57,7 @@ pub record Decodes (d : List ℕ) (q : Text) : Type 0 where
   pub answers : {list list′ : List ℤ} {r : Decoded} → TextDecoded d (q .place) (q .length) list list′ r
       → said r ≡ fitting (length list) (decodeOf Plain 0 (text d (q .place)))
 
-decodes-of : (d : List ℕ) (q : Text) → Says d (q .place) (q .length) → Decodes d q
+pub decodes-of : (d : List ℕ) (q : Text) → Says d (q .place) (q .length) → Decodes d q
 unfolding decodedAs
 decodes-of d q s = record {
   inside = s .inside;

@@ -3,3 +3,4 @@ pub mod Breaks
 pub mod Stand
 pub mod Decoded
 pub mod Same
+pub mod Tables
