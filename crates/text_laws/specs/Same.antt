@@ -1,13 +1,15 @@
 -- No refusal of any definition changed when {NL} became a break. Before, it was byte 10: the outcome with every break of a name put as byte
 -- 10 is the outcome. For neither is a letter or digit.
 use mathlib.Core.Path.{_≡_, refl, _∙_, sym, ap}
+use mathlib.Core.Logic.{⊎-elim}
 use mathlib.Core.Bool.{Bool, true, false, cond, not, _&&_, _||_, and-false}
 use mathlib.Core.List.{List, [], _∷_}
 use Prim.Native.Nat.{ℕ, zero, suc, _+_, _≤_, _<_}
 use native.Mathlib.Omega.{arith}
+use native.Mathlib.Nat.{eq-or-lt-of-le}
 use lib.Dec.{eqb, ltb, leb}
 use lib.ListN.{length, getD}
-use borrow.Author.Tests.{ne-eqb}
+use borrow.Author.Tests.{ne-eqb, le-ltb, lt-ltb}
 use Rattle.below.specs.rule.Below.{anyBelow}
 use Rattle.below.specs.Below.{holds-not, and-left, and-right, either-true}
 use Rattle.ascii.specs.rule.Class.{classOf, upperOf, within}
@@ -169,3 +171,29 @@ break-letters (Byte b ∷ s) (suc k) e = rw (break-letters s k e, and-false (isL
 pub break-refused : (s : List Sign) (k : ℕ) → breakAt s k ≡ true → wellNamed s ≡ false
 unfolding wellNamed
 break-refused s k e = rw (break-letters s k e, and-false (leb (length s) 8), and-false (leb 1 (length s)))
+
+-- a wrong name i is at or behind the first fault
+fault-before : (l : List (List Sign)) (f k i : ℕ) → k ≤ i → i < k + f → nameWrong l i ≡ true → nameFaultFrom l f k ≤ i
+unfolding nameFaultFrom
+fault-before l zero k i h g e = absurd (omega arith)
+fault-before l (suc f) k i h g e = by (nameWrong l k) refl (λ j. fault-before l f (k + 1) i j (omega arith) e) where
+  by : (x : Bool) → nameWrong l k ≡ x → (k + 1 ≤ i → nameFaultFrom l f (k + 1) ≤ i) → cond x k (nameFaultFrom l f (k + 1)) ≤ i
+  by true q ih = h
+  by false q ih = ⊎-elim (λ j. let z : true ≡ false = sym e ∙ ap (nameWrong l) (sym j) ∙ q in none cc) (λ j. ih (omega arith)) (eq-or-lt-of-le h)
+
+names-count : (d : List ℕ) (l : List Variable) → length (namesOf d l) ≡ length l
+unfolding namesOf
+names-count d [] = refl
+names-count d (v ∷ l) = ap suc (names-count d l)
+
+-- UNDER 9: a definition that is read with STANDARD NAMES, and has a break in name i, is refused with 9, at that name or one before it
+pub break-nine : (d : List ℕ) (n : ℕ) (s : Survey) (m i k : ℕ) → length d ≤ 1048576 → surveyOf d ≡ Is s m → s .heading .standard ≡ true
+    → i < length (s .variables) → breakAt (nameAt (namesOf d (s .variables)) i) k ≡ true
+    → (j : ℕ) × (j ≤ i) × (outcomeOf d n ≡ Refusal 9 (quoteAt (s .variables) j))
+unfolding outcomeOf judgeNames nameFault nameWrong
+break-nine d n s m i k long read standard few e =
+    let l = namesOf d (s .variables) in
+    let w : nameWrong l i ≡ true = rw (break-refused (nameAt l i) k e) in
+    let c : length l ≡ length (s .variables) = names-count d (s .variables) in
+    let j : nameFault l ≤ i = fault-before l (length l) 0 i (omega arith) (omega arith) w in
+    (nameFault l, j, rw (le-ltb 1048576 (length d) long, read, standard, lt-ltb (nameFault l) (length (s .variables)) (omega arith)))
