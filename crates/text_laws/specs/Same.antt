@@ -179,7 +179,8 @@ fault-before l zero k i h g e = absurd (omega arith)
 fault-before l (suc f) k i h g e = by (nameWrong l k) refl (λ j. fault-before l f (k + 1) i j (omega arith) e) where
   by : (x : Bool) → nameWrong l k ≡ x → (k + 1 ≤ i → nameFaultFrom l f (k + 1) ≤ i) → cond x k (nameFaultFrom l f (k + 1)) ≤ i
   by true q ih = h
-  by false q ih = ⊎-elim (λ j. let z : true ≡ false = sym e ∙ ap (nameWrong l) (sym j) ∙ q in none cc) (λ j. ih (omega arith)) (eq-or-lt-of-le h)
+  by false q ih =
+      ⊎-elim (λ j. let z : true ≡ false = sym e ∙ ap (nameWrong l) (sym j) ∙ q in none cc) (λ j. ih (omega arith)) (eq-or-lt-of-le h)
 
 names-count : (d : List ℕ) (l : List Variable) → length (namesOf d l) ≡ length l
 unfolding namesOf
