@@ -32,8 +32,8 @@
  *             the first of them is the value returned.
  *   Counting  Rows, lines, byte places and text places count from 0; records, and the locations of POSITION, from 1.
  *   Encoding  Data and definitions are bytes. Outside its texts a definition means what it means in ASCII. Names, labels and
- *             texts of values are handed on undecoded, as place and length in the definition: bytes below 32 are to be
- *             dropped and brace forms ({"} {{} {NL} {hex}) to be decoded, in the encoding that the sender used.
+ *             texts of values are handed on undecoded, as place and length in the definition; zarfolin_decode_text drops
+ *             bytes below 32 and decodes brace forms ({"} {{} {NL} {hex}), in the encoding that the sender used.
  *   Table     The numbers of a table are int64_t in the machine's own byte order. It is for memory, not for files: its shape
  *             belongs to ZARFOLIN_VERSION.
  *
@@ -73,7 +73,8 @@ enum {
     /* of a definition */
     ZARFOLIN_E_TOO_LONG = 1,    /* definition too long: over ZARFOLIN_MAX_DEFINITION bytes */
     ZARFOLIN_E_TOKEN = 2,       /* another token was due */
-    ZARFOLIN_E_MARK = 3,        /* string or comment unclosed, bad brace form, comment of level 33 */
+    ZARFOLIN_E_MARK = 3,        /* string or comment unclosed, bad brace form, comment of level 33; not the inside of a text
+                                 * (zarfolin_decode_text) */
     ZARFOLIN_E_VERSION = 4,     /* version not 1.1 */
     ZARFOLIN_E_IDENT = 5,       /* ident 0, over four digits, or repeated */
     ZARFOLIN_E_VALUES = 6,      /* value form wrong for its type, range reversed, decimals differ, value repeated */
@@ -88,7 +89,8 @@ enum {
     ZARFOLIN_E_SHORT = 22,     /* record shorter than ZARFOLIN_H_RECORD says */
     ZARFOLIN_E_LOW_BYTE = 23,  /* byte below 32 in the record (whole record only) */
     ZARFOLIN_E_FIELD = 24,     /* field illegal */
-    ZARFOLIN_E_LIST_ROOM = 25, /* lent list shorter than the set; can't come where it has ZARFOLIN_MAX_SET numbers */
+    ZARFOLIN_E_LIST_ROOM = 25, /* lent list shorter than the set, or than the text; can't come of a set where it has
+                                * ZARFOLIN_MAX_SET numbers */
     ZARFOLIN_E_TYPE = 26,      /* value of another type */
     ZARFOLIN_E_VALUE = 27,     /* value not legal */
     ZARFOLIN_E_MEMBERS = 28,   /* more members than subfields */
@@ -96,6 +98,9 @@ enum {
     ZARFOLIN_E_UNENDED = 30, /* last record has no terminator */
     ZARFOLIN_E_LENGTH = 31   /* length differs from the first record's */
 };
+
+/* The number of a break, a new line, in a decoded text, beside the bytes 0 to 255. */
+enum { ZARFOLIN_BREAK = 256 };
 
 /* What zarfolin_next_record returns. */
 enum {
@@ -242,6 +247,19 @@ zarfolin_number zarfolin_read_value(const int64_t *table, size_t table_len, uint
 zarfolin_number zarfolin_read_record(const int64_t *table, size_t table_len, const uint8_t *record, size_t record_len,
                                      int64_t *out, size_t out_len, int64_t *list, size_t list_len, int64_t *answer);
 
+/* Decodes a text of a definition: a name, a label or a line's text, by its place and length in the table.
+ *
+ * Answers 0, or the first of 3, 25 that holds.
+ * answer: the number; the count of signs; 0; 0. On a refusal all behind the number are 0.
+ * list:   on 0 the signs stand at its start, a byte as itself, a new line {NL} as ZARFOLIN_BREAK; the rest is kept. On a refusal
+ *         all of it is kept. A text has at most as many signs as bytes: room for `length` numbers is enough.
+ * place, length: any. 3 where the bytes of that length from that place are not the inside of a text: they pass the definition's
+ *         end, hold a quote outside a brace form, or a bad or unfinished form. What a table that was read from this definition
+ *         has of a text is never 3.
+ * def:    only read. */
+zarfolin_number zarfolin_decode_text(const uint8_t *def, size_t def_len, uint64_t place, uint64_t length, int64_t *list,
+                                     size_t list_len, int64_t *answer);
+
 /* Judges a whole record.
  *
  * Answers 0, or the first of 20, 22, 23, 24 that holds.
@@ -302,6 +320,7 @@ zarfolin_number zarfolin_next_record(const uint8_t *data, size_t data_len, uint6
  * counted is what the dynamic linker takes where it binds memcpy at a first call. No function of the archive calls itself
  * but the one that skips comments, at most ZARFOLIN_MAX_LEVEL deep, so leave some room and no more. */
 #define ZARFOLIN_STACK_READ_DEFINITION 261000
+#define ZARFOLIN_STACK_DECODE_TEXT 600
 #define ZARFOLIN_STACK_READ_VALUE 38000
 #define ZARFOLIN_STACK_READ_RECORD 102000
 #define ZARFOLIN_STACK_JUDGE_RECORD 27500
@@ -337,7 +356,8 @@ ZARFOLIN_INLINE const char *zarfolin_message(zarfolin_number number) {
     case ZARFOLIN_OK: return "done";
     case ZARFOLIN_E_TOO_LONG: return "the definition is longer than 1,048,576 bytes";
     case ZARFOLIN_E_TOKEN: return "another word, number or text was due here";
-    case ZARFOLIN_E_MARK: return "a string or comment is not closed, has a bad brace form, or is a comment of level 33";
+    case ZARFOLIN_E_MARK:
+        return "a string or comment is not closed, has a bad brace form, or is a comment of level 33, or these bytes are no text";
     case ZARFOLIN_E_VERSION: return "the version is not 1.1";
     case ZARFOLIN_E_IDENT: return "the ident is 0, has over four digits, or is repeated";
     case ZARFOLIN_E_VALUES:
@@ -353,7 +373,7 @@ ZARFOLIN_INLINE const char *zarfolin_message(zarfolin_number number) {
     case ZARFOLIN_E_SHORT: return "the record is shorter than its definition needs";
     case ZARFOLIN_E_LOW_BYTE: return "the record has a byte below 32";
     case ZARFOLIN_E_FIELD: return "the field holds no legal value";
-    case ZARFOLIN_E_LIST_ROOM: return "the lent list is too short for this set";
+    case ZARFOLIN_E_LIST_ROOM: return "the lent list is too short for this set or text";
     case ZARFOLIN_E_TYPE: return "the value does not fit the variable's type";
     case ZARFOLIN_E_VALUE: return "the value is not legal for this variable";
     case ZARFOLIN_E_MEMBERS: return "the set has more members than the variable has subfields";

@@ -10,9 +10,11 @@ columns that stand with the case, and its text places and lengths from the `~` a
 variable, in the order of the file; texts of the heading and of notes have none). No reader is run. The independent Rust readers
 are held against the same two files by rust/compare/tests/vectors.rs.
 
-stdin:  for each case a line `LEN ROOM` (bytes of the definition, numbers of table lent), LEN bytes, LF.
+stdin:  for each case a line `LEN ROOM` (bytes of the definition, numbers of table lent), or `LEN ROOM PLACE LENGTH` for a text of it
+        that is decoded into a list of ROOM numbers; LEN bytes, LF.
 stdout: `case N: read V E kept` and a line with the numbers of the table, or `case N: NUMBER PLACE kept`. `kept` says that
-        every other number of the table holds what it held before; the program would print `touched`.
+        every other number of the table holds what it held before; the program would print `touched`. Of a text: `case N: text COUNT
+        kept` and a line with its signs, a break as 256, or `case N: NUMBER kept`.
 """
 import os
 import sys
@@ -736,8 +738,64 @@ refused("room for all but the last line's length", 10, values('1 "a" 2 "b"'), si
 sound("room for the last line's length", values('1 "~a~" 2 "~b~"'), row(1, SINGLE, 1, 9, 1, lines=(1, 2)), room=0)
 
 
+# ---- texts decoded (document 02, C-17)
+def decoded(title, text, signs=None, number=0, room=None, beyond=0):
+    """The text between `~` is decoded, `beyond` bytes more than stand there: its signs (letters as themselves), or the refusal."""
+    parts = text.split("~")
+    assert len(parts) == 3, title
+    place, length = len(parts[0].encode("latin-1")), len(parts[1].encode("latin-1")) + beyond
+    if number:
+        answer = f"{number} kept\n"
+        lent = 8 if room is None else room
+    else:
+        numbers = [ord(x) if isinstance(x, str) else x for x in signs]
+        answer = f"text {len(numbers)} kept\n" + "".join(f"{' '.join(map(str, numbers))}\n" for _ in range(bool(numbers)))
+        lent = len(numbers) + 2 if room is None else room
+    CASES.append((title, bare(text), f"{lent} {place} {length}", answer))
+
+
+BREAK = 256
+
+
+def label(text):
+    return HEAD + 'VARIABLE 1 NAME "n" LABEL "~' + text + '~" TYPE LOGICAL POSITION 1 END VARIABLE' + TAIL
+
+
+decoded("an empty label", label(""), "")
+decoded("a label of plain bytes, a closing brace and angles among them", label("a} <b>"), "a} <b>")
+decoded("{NL} is a break", label("a{NL}b"), ["a", BREAK, "b"])
+decoded("{0A} is byte 10", label("a{0A}b"), ["a", 10, "b"])
+decoded("{NL} and {0A} side by side", label("{NL}{0A}{0a}{NL}"), [BREAK, 10, 10, BREAK])
+decoded("{0D0A} is bytes 13 and 10", label("{0D0A}"), [13, 10])
+decoded("CR LF in a label is nothing", label("a\r\nb"), "ab")
+decoded("CR LF within {NL} and within a pair are nothing", label("{N\r\nL}{0\r\nA\t}"), [BREAK, 10])
+decoded("a quote and an open brace", label('{"}{{}'), '"{')
+decoded("hex pairs of every kind", label("{00fF7e}"), [0, 255, 126])
+decoded("bytes above 127", label("\xe4\xff"), "\xe4\xff")
+decoded("a name", HEAD + 'VARIABLE 1 NAME "~{4142}c~" LABEL "l" TYPE LOGICAL POSITION 1 END VARIABLE' + TAIL, "ABc")
+decoded("a line's text", HEAD + 'VARIABLE 1 NAME "n" LABEL "l" TYPE SINGLE POSITION 1 VALUES 1 "~yes{NL}~" END VALUES END VARIABLE' + TAIL, ["y", "e", "s", BREAK])
+decoded("a list that just holds it", label("a{NL}"), ["a", BREAK], room=2)
+decoded("a list that is shorter", label("a{NL}"), number=25, room=1)
+decoded("no room, and nothing to store", label("\r\n"), "", room=0)
+decoded("{nl} is no form", "~a{nl}~", number=3)
+decoded("an empty form", "~{}~", number=3)
+decoded("half a pair", "~{0}~", number=3)
+decoded("a pair and a half", "~{0A0}~", number=3)
+decoded("{NL} with more in it", "~{NL0A}~", number=3)
+decoded("a space in a form", "~{0A 0A}~", number=3)
+decoded("a quote outside a form", '~a"b~', number=3)
+decoded("a label and its closing quote", label("ab"), number=3, beyond=1)
+decoded("an unfinished form, which goes on in the definition", 'x "~{N~L}"', number=3)
+decoded("an unfinished pair", 'x "~{0A~}"', number=3)
+decoded("the quote of {\"} behind the stretch", 'x "~{~"}"', number=3)
+decoded("past the definition's end", "~ab~", number=3, beyond=1)
+decoded("up to the definition's end", "x~ab~", "ab")
+decoded("nothing, at the definition's end", "ab~~", "")
+decoded("3 comes before 25", '~ab"~', number=3, room=0)
+
+
 def made():
-    asked = b"".join(b"%d %d\n%s\n" % (len(text), room, text) for _, text, room, _ in CASES)
+    asked = b"".join(b"%d %s\n%s\n" % (len(text), str(room).encode(), text) for _, text, room, _ in CASES)
     told = "".join(f"case {n}: {answer}" for n, (_, _, _, answer) in enumerate(CASES, 1)).encode()
     return {"stdin": asked, "stdout": told}
 

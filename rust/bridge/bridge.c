@@ -15,7 +15,7 @@
 #define ANSWER INT64_C(0x7a6172666f6c696e)
 
 enum { READ_DEFINITION, READ_VALUE, JUDGE_RECORD, WRITE_MISSING, WRITE_NUMBER, WRITE_TRUTH, WRITE_SET, WRITE_TEXT, JUDGE_FILE, NEXT_RECORD,
-       READ_RECORD };
+       READ_RECORD, DECODE_TEXT };
 
 static int take(void *to, size_t length) { return length == 0 || fread(to, 1, length, stdin) == length; }
 
@@ -124,6 +124,10 @@ int main(void) {
             may_change = &list;
             may_too = &out;
             number = zarfolin_read_record(t, head[3], b, head[5], (int64_t *)(void *)inner(&out), head[7], l, head[4], a);
+            break;
+        case DECODE_TEXT:
+            may_change = &list;
+            number = zarfolin_decode_text(b, head[5], row, head[2], l, head[4], a);
             break;
         default:
             return 2;

@@ -143,6 +143,28 @@ static void readings(void) {
     CHECK(zarfolin_judge_record(table, table_len, record, 3, answer) == ZARFOLIN_E_SHORT);
 }
 
+/* A label decoded, by the place and length that the table has of it: a new line is no byte 10. */
+static void texts(void) {
+    static const char labelled[] = "SSS VERSION 1.1 SURVEY RECORD R VARIABLE 1 NAME \"q\" LABEL \"a{NL}{0A}\r\n{\"}\" "
+                                   "TYPE LOGICAL POSITION 1 END VARIABLE END RECORD END SURVEY END SSS";
+    const size_t length = sizeof labelled - 1;
+    int64_t answer[4];
+    int64_t small[6 + ZARFOLIN_ROW];
+    int64_t list[6] = {-1, -1, -1, -1, -1, -1};
+
+    CHECK(zarfolin_read_definition(bytes(labelled), length, small, 6 + ZARFOLIN_ROW, answer) == 0);
+    const uint64_t place = (uint64_t)small[6 + ZARFOLIN_LABEL];
+    const uint64_t size = (uint64_t)small[6 + ZARFOLIN_LABEL_LENGTH];
+    CHECK(zarfolin_decode_text(bytes(labelled), length, place, size, list, 3, answer) == 25);
+    CHECK(is(answer, 25, 0, 0, 0) && list[0] == -1);
+    CHECK(zarfolin_decode_text(bytes(labelled), length, place, size + 1, list, 6, answer) == 3);
+    CHECK(zarfolin_decode_text(bytes(labelled), length, UINT64_MAX, 2, list, 6, answer) == 3);
+    CHECK(is(answer, 3, 0, 0, 0) && list[0] == -1);
+    CHECK(zarfolin_decode_text(bytes(labelled), length, place, size, list, 6, answer) == 0);
+    CHECK(is(answer, 0, 4, 0, 0));
+    CHECK(list[0] == 'a' && list[1] == ZARFOLIN_BREAK && list[2] == 10 && list[3] == '"' && list[4] == -1 && list[5] == -1);
+}
+
 static void writes(void) {
     uint8_t record[] = " 710x1x-1.0ab   120 1";
     const size_t length = sizeof record - 1;
@@ -227,6 +249,7 @@ int main(void) {
     messages();
     definitions();
     readings();
+    texts();
     writes();
     files();
     printf("face for C: %d checks, all as they should be\n", checks);

@@ -33,6 +33,7 @@ static int64_t members[4 * ZARFOLIN_MAX_LOCATION];
 static uint8_t record[ZARFOLIN_MAX_LOCATION + 8];
 static size_t record_len;
 static uint64_t row;
+static uint64_t place, length;
 static int64_t number;
 static int64_t answer[ZARFOLIN_ANSWER];
 static volatile zarfolin_number got;
@@ -42,6 +43,7 @@ static volatile zarfolin_number got;
 static void nothing(void) { got = 0; }
 static void version(void) { got = zarfolin_version(); }
 static void read_definition(void) { got = zarfolin_read_definition(TEXT, TABLE, answer); }
+static void decode_text(void) { got = zarfolin_decode_text(TEXT, place, length, list, list_len, answer); }
 static void read_value(void) { got = zarfolin_read_value(TABLE, row, record, record_len, list, list_len, answer); }
 static void read_record(void) {
     got = zarfolin_read_record(TABLE, record, record_len, out, sizeof out / sizeof out[0], members, 4 * ZARFOLIN_MAX_LOCATION, answer);
@@ -64,6 +66,7 @@ static struct measured {
 } calls[] = {
     {"zarfolin_version", version, ZARFOLIN_STACK_VERSION, 0, 0},
     {"zarfolin_read_definition", read_definition, ZARFOLIN_STACK_READ_DEFINITION, 0, 0},
+    {"zarfolin_decode_text", decode_text, ZARFOLIN_STACK_DECODE_TEXT, 0, 0},
     {"zarfolin_read_value", read_value, ZARFOLIN_STACK_READ_VALUE, 0, 0},
     {"zarfolin_read_record", read_record, ZARFOLIN_STACK_READ_RECORD, 0, 0},
     {"zarfolin_judge_record", judge_record, ZARFOLIN_STACK_JUDGE_RECORD, 0, 0},
@@ -141,6 +144,22 @@ static zarfolin_number end(void) {
     add("END RECORD END SURVEY END SSS");
     measure(read_definition);
     return got;
+}
+
+/* The texts of the first row: with room, with none, cut short, and one byte too long. */
+static void texts(void) {
+    const int64_t *const first = zarfolin_row(table, 0);
+    for (int column = ZARFOLIN_NAME; column <= ZARFOLIN_LABEL; column += ZARFOLIN_LABEL - ZARFOLIN_NAME) {
+        const uint64_t whole = (uint64_t)first[column + 1];
+        place = (uint64_t)first[column];
+        for (length = 0; length <= whole + 1; length++) {
+            list_len = ZARFOLIN_MAX_SET;
+            measure(decode_text);
+            list_len = 0;
+            measure(decode_text);
+        }
+    }
+    list_len = ZARFOLIN_MAX_SET;
 }
 
 /* Every way a record may look, each judged, read and written by every row. */
@@ -234,6 +253,7 @@ int main(void) {
         begin(t % 2 ? "STANDARD NAMES" : "DATE \"3/NOV/98\" NOTE \"x\"");
         variable(1, types[t]);
         if (end() == ZARFOLIN_OK) {
+            texts();
             records();
             files();
         }

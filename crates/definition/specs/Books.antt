@@ -7,6 +7,7 @@ use lib.Dec.{ltb}
 use lib.IntN.{ℤ}
 use lib.ListN.{length}
 use Rattle.cells.specs.rule.Cell.{pasted}
+use Rattle.signs.specs.declared.Sign.{Sign}
 use Rattle.scan.specs.rule.Text.{text}
 use Rattle.scan.specs.rule.Loop.{Next, Again, Done, loopOf}
 use Rattle.marks.specs.declared.Inside.the-variants.{Plain}
@@ -87,7 +88,7 @@ unfoldable pub surveyOf : List ℕ → Read
 surveyOf d = closed d (frontOn d) (variablesFrom d (course (frontOn d .next) []))
 
 -- ---- STANDARD NAMES, judged after END SSS: 9 at the opening quote of the first name at fault
-unfoldable pub namesOf : List ℕ → List Variable → List (List ℕ)
+unfoldable pub namesOf : List ℕ → List Variable → List (List Sign)
 namesOf d [] = []
 namesOf d (v ∷ l) = decodeOf Plain 0 (text d (v .head .name .place)) ∷ namesOf d l
 

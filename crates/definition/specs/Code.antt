@@ -7,6 +7,7 @@ use lib.Dec.{ltb}
 use lib.IntN.{ℤ}
 use lib.ListN.{length, take}
 use Rattle.cells.specs.rule.Cell.{cell, countOf, pasted}
+use Rattle.signs.specs.declared.Sign.{Sign}
 use Rattle.scan.specs.rule.Text.{text}
 use Rattle.marks.specs.declared.Inside.the-variants.{Plain}
 use Rattle.marks.specs.rule.Spelling.{decodeOf}
@@ -88,11 +89,11 @@ pub record Held (l : List Variable) (y : Tally) (rows lines : List ℤ) : Type 0
   pub good : Good l
 
 -- the name of row i, by its place in the room
-unfoldable pub nameIn : List ℕ → List ℤ → ℕ → List ℕ
+unfoldable pub nameIn : List ℕ → List ℤ → ℕ → List Sign
 nameIn d rows i = decodeOf Plain 0 (text d (countOf (cell rows (rowSize * i + nameColumn))))
 
 pub record NamesJudged (d : List ℕ) (rows : List ℤ) (count r : ℕ) : Type 0 where
-  pub fault-is : (names : List (List ℕ)) → length names ≡ count → ((i : ℕ) → i < count → nameIn d rows i ≡ nameAt names i)
+  pub fault-is : (names : List (List Sign)) → length names ≡ count → ((i : ℕ) → i < count → nameIn d rows i ≡ nameAt names i)
       → r ≡ nameFault names
 
 unfoldable pub headerBy : Tally → Header

@@ -51,6 +51,7 @@ use Rattle.laws.specs.ReadBack as back
 use Rattle.laws.specs.rule.WriteBack.{Answered}
 use Rattle.laws.specs.WriteBack as again
 use Rattle.zarfolin.specs.rule.Face.{RecordTold, ValueTold, FileTold, DefinitionTold, NextTold}
+use Rattle.zarfolin.specs.rule.Texts.{TextTold}
 use Rattle.zarfolin.specs.rule.Truth.{TruthTold}
 use Rattle.zarfolin.specs.Settled as face
 
@@ -101,6 +102,11 @@ module _ {d : List ℕ} {t : List ℤ} where
 
   pub refused-definition-keeps : {t′ : List ℤ} {n p : ℕ} → DefinitionRead d t t′ (definition.Refused n p) → t′ ≡ t
   refused-definition-keeps = settled.definition-refused-keeps
+
+module _ {d : List ℕ} {place long : ℕ} {l : List ℤ} where
+  pub one-text-told : {l₁ l₂ a₁ a₂ : List ℤ} {r₁ r₂ : ℕ} → TextTold d place long l l₁ a₁ r₁ → TextTold d place long l l₂ a₂ r₂
+      → ((r₁ ≡ r₂) × (a₁ ≡ a₂)) × (l₁ ≡ l₂)
+  one-text-told = face.text-told-one
 
 module _ {t : List ℤ} {i : ℕ} {old : List ℕ} where
   -- the exported functions but that for a truth promise `Written` too

@@ -5,6 +5,7 @@ use mathlib.Core.List.{List}
 use Prim.Native.Nat.{ℕ, _+_, _≤_}
 use native.Mathlib.Omega.{arith}
 use Rattle.ascii.specs.rule.Class.{classOf, upperOf}
+use Rattle.signs.specs.declared.Sign.{Sign}
 use Rattle.scan.specs.rule.Text.{Text, stop, sign, text}
 use Rattle.scan.proofs.Texts.{From, at-stop, at-sign, from-text}
 use Rattle.scan.specs.rule.Number.{isDigit}
@@ -57,7 +58,7 @@ closable (sign p b t) s e = by (closable t) (insideOf s b p) refl e where
   by on (Wrong o) q e = never-bad e
 
 abbrev Never : Text → Type 0
-Never t = (m : List ℕ) (n : ℕ) → Spelt t m n → ⊥
+Never t = (m : List Sign) (n : ℕ) → Spelt t m n → ⊥
 
 no-string : {n : ℕ} {t : Text} → Never t → String n t → ⊥
 no-string {n} h (says {m = m} s) = h m n s
@@ -84,11 +85,11 @@ module _ (d : List ℕ) where
   behind : {at p b : ℕ} {u : Text} → From d at (sign p b u) → From d at u
   behind {at} (at-sign {p = p} h w e r) = let g : at ≤ p + 1 = omega arith in later g r
 
-  past-pairs : {at : ℕ} {t u : Text} {m : List ℕ} → Pairs t m u → From d at t → From d at u
+  past-pairs : {at : ℕ} {t u : Text} {m : List Sign} → Pairs t m u → From d at t → From d at u
   past-pairs (last f h) r = behind (behind (behind r))
   past-pairs (more f h i) r = past-pairs i (behind (behind r))
 
-  past-piece : {at : ℕ} {t u : Text} {m : List ℕ} → Piece t m u → From d at t → From d at u
+  past-piece : {at : ℕ} {t u : Text} {m : List Sign} → Piece t m u → From d at t → From d at u
   past-piece (plain f h) r = behind r
   past-piece quote r = behind (behind (behind r))
   past-piece brace r = behind (behind (behind r))
@@ -99,7 +100,7 @@ module _ (d : List ℕ) where
   tail (at-sign h w e r) = r
 
   -- what follows a piece stands after its first byte
-  past-first : {at p b : ℕ} {u w : Text} {m : List ℕ} → Piece (sign p b u) m w → From d at (sign p b u) → From d (p + 1) w
+  past-first : {at p b : ℕ} {u w : Text} {m : List Sign} → Piece (sign p b u) m w → From d at (sign p b u) → From d (p + 1) w
   past-first (plain f h) r = tail r
   past-first quote r = behind (behind (tail r))
   past-first brace r = behind (behind (tail r))
@@ -126,15 +127,15 @@ pub bad-at-exactly : (d : List ℕ) (at o : ℕ) → (stringOf Plain (text d at)
 bad-at-exactly d at o = (λ e. (bad-exactly (text d at) .0 (o, e), broken-at d (bad-place e) (from-text d at) e), λ b. let e = bad-exactly (text d at) .1 (b .0) in one-brace (b .1) (bad-place (e .1)) (e .1))
 
 -- UNCLOSED: a string is unclosed exactly when it is none, and something that could follow makes it one
-pub unclosed-exactly : (t : Text) → (stringOf Plain t ≡ Unclosed) ↔ (Never t × ((v : Text) × (m : List ℕ) × (n : ℕ) × Spelt (joined t v) m n))
+pub unclosed-exactly : (t : Text) → (stringOf Plain t ≡ Unclosed) ↔ (Never t × ((v : Text) × (m : List Sign) × (n : ℕ) × Spelt (joined t v) m n))
 unclosed-exactly t = (λ e. (λ m n s. never (sym (string-complete s) ∙ e), on (closable t Plain e)), λ h. by h (stringOf Plain t) refl) where
-  spelt : {n : ℕ} {u : Text} → String n u → (m : List ℕ) × Spelt u m n
+  spelt : {n : ℕ} {u : Text} → String n u → (m : List Sign) × Spelt u m n
   spelt (says {m = m} s) = (m, s)
 
-  on : Closes Plain t → (v : Text) × (m : List ℕ) × (n : ℕ) × Spelt (joined t v) m n
+  on : Closes Plain t → (v : Text) × (m : List Sign) × (n : ℕ) × Spelt (joined t v) m n
   on (closes v n q) = let s = spelt (string-sound q) in (v, s .0, n, s .1)
 
-  by : Never t × ((v : Text) × (m : List ℕ) × (n : ℕ) × Spelt (joined t v) m n) → (r : Skip) → stringOf Plain t ≡ r → stringOf Plain t ≡ Unclosed
+  by : Never t × ((v : Text) × (m : List Sign) × (n : ℕ) × Spelt (joined t v) m n) → (r : Skip) → stringOf Plain t ≡ r → stringOf Plain t ≡ Unclosed
   by h Unclosed e = e
   by h (Past n) e = absurd (no-string (h .0) (string-sound e))
   by h (Bad o) e = absurd (bad-exactly t .0 (o, e) (h .1 .0) (h .1 .1) (h .1 .2) (h .1 .3))

@@ -1,4 +1,4 @@
--- What a string says, one byte at a time, is what it says as a whole.
+-- What a string says, one sign at a time, is what it says as a whole.
 use mathlib.Core.Path.{_≡_, refl, _∙_, sym, ap}
 use mathlib.Core.Bool.{Bool, true, false, cond, _&&_}
 use mathlib.Core.List.{List, [], _∷_, _++_}
@@ -9,6 +9,8 @@ use lib.ListN.{length}
 use borrow.Author.Tests.{ltb-false, leb-true}
 use Rattle.ascii.specs.rule.Class.{upperOf}
 use Rattle.scan.specs.rule.Number.{isDigit}
+use Rattle.signs.specs.declared.Sign.{Sign}
+use Rattle.signs.specs.declared.Sign.the-variants.{Byte, Break}
 use Rattle.scan.specs.rule.Text.{Text, stop, sign, text}
 use Rattle.scan.proofs.Texts.{From, at-stop, at-sign, from-text}
 use Rattle.marks.specs.declared.Inside.{Inside}
@@ -116,45 +118,45 @@ module _ (b p : ℕ) where
     by true false h e = not e
     by false k h e = let z : _≡_ {A = ℕ} 0 1 = cc in absurd (omega arith)
 
-  -- behind a byte that is said the byte before is no longer part of what follows
+  -- behind a sign that is said the byte before is no longer part of what follows
   to-idle : {s t : Inside} → idle s ≡ true → Go s ≡ Go t → idle t ≡ true
   to-idle {s} {t} h e = let q : s ≡ t = cc in rw (← q) h
 
-  nothing : {A : Type 0} {x : ℕ} {m : List ℕ} → [] ≡ x ∷ m → A
+  nothing : {A : Type 0} {x : Sign} {m : List Sign} → [] ≡ x ∷ m → A
   nothing e = let z : _≡_ {A = ℕ} 0 1 = cc in absurd (omega arith)
 
-  pub said-idle : (s : Inside) (a : ℕ) {t : Inside} {x : ℕ} {m : List ℕ} → insideOf s b p ≡ Go t → givesOf s a b ≡ x ∷ m → idle t ≡ true
+  pub said-idle : (s : Inside) (a : ℕ) {t : Inside} {x : Sign} {m : List Sign} → insideOf s b p ≡ Go t → givesOf s a b ≡ x ∷ m → idle t ≡ true
   unfolding insideOf givesOf idle
   said-idle Plain a {t} {x} {m} = by (eqb b 34) (eqb b 123) where
-    by : (y z : Bool) → cond y Closed (cond z (Go (Opened p)) (Go Plain)) ≡ Go t → cond z [] (b ∷ []) ≡ x ∷ m → idle t ≡ true
+    by : (y z : Bool) → cond y Closed (cond z (Go (Opened p)) (Go Plain)) ≡ Go t → cond z [] (Byte b ∷ []) ≡ x ∷ m → idle t ≡ true
     by true z e f = no e
     by false true e f = nothing f
     by false false e f = to-idle {s = Plain} refl e
   said-idle (Opened o) a {t} {x} {m} = by (eqb b 34) (eqb b 123) (eqb b 78) (isHex b) where
-    by : (u v w k : Bool) → cond u (Go (Shut o)) (cond v (Go (Shut o)) (cond w (Go (Ell o)) (cond k (Go (Low o)) (Wrong o)))) ≡ Go t → cond u (b ∷ []) (cond v (b ∷ []) []) ≡ x ∷ m → idle t ≡ true
+    by : (u v w k : Bool) → cond u (Go (Shut o)) (cond v (Go (Shut o)) (cond w (Go (Ell o)) (cond k (Go (Low o)) (Wrong o)))) ≡ Go t → cond u (Byte b ∷ []) (cond v (Byte b ∷ []) []) ≡ x ∷ m → idle t ≡ true
     by true v w k e f = to-idle {s = Shut o} refl e
     by false true w k e f = to-idle {s = Shut o} refl e
     by false false w k e f = nothing f
   said-idle (Shut o) a = λ e f. nothing f
   said-idle (Ell o) a {t} {x} {m} = by (eqb b 76) where
-    by : (y : Bool) → cond y (Go (Shut o)) (Wrong o) ≡ Go t → 10 ∷ [] ≡ x ∷ m → idle t ≡ true
+    by : (y : Bool) → cond y (Go (Shut o)) (Wrong o) ≡ Go t → Break ∷ [] ≡ x ∷ m → idle t ≡ true
     by true e f = to-idle {s = Shut o} refl e
     by false e f = not e
   said-idle (Pair o) a = λ e f. nothing f
   said-idle (Low o) a {t} {x} {m} = by (isHex b) where
-    by : (k : Bool) → cond k (Go (Pair o)) (Wrong o) ≡ Go t → pairOf a b ∷ [] ≡ x ∷ m → idle t ≡ true
+    by : (k : Bool) → cond k (Go (Pair o)) (Wrong o) ≡ Go t → Byte (pairOf a b) ∷ [] ≡ x ∷ m → idle t ≡ true
     by true e f = to-idle {s = Pair o} refl e
     by false e f = not e
 
--- a byte completes one byte at most
-gives-one : (s : Inside) (a b : ℕ) {x : ℕ} {m : List ℕ} → givesOf s a b ≡ x ∷ m → m ≡ []
+-- a byte completes one sign at most
+gives-one : (s : Inside) (a b : ℕ) {x : Sign} {m : List Sign} → givesOf s a b ≡ x ∷ m → m ≡ []
 unfolding givesOf
 gives-one Plain a b {x} {m} = by (eqb b 123) where
-  by : (y : Bool) → cond y [] (b ∷ []) ≡ x ∷ m → m ≡ []
+  by : (y : Bool) → cond y [] (Byte b ∷ []) ≡ x ∷ m → m ≡ []
   by true e = let z : _≡_ {A = ℕ} 0 1 = cc in absurd (omega arith)
   by false e = cc
 gives-one (Opened o) a b {x} {m} = by (eqb b 34) (eqb b 123) where
-  by : (y z : Bool) → cond y (b ∷ []) (cond z (b ∷ []) []) ≡ x ∷ m → m ≡ []
+  by : (y z : Bool) → cond y (Byte b ∷ []) (cond z (Byte b ∷ []) []) ≡ x ∷ m → m ≡ []
   by true z e = cc
   by false true e = cc
   by false false e = let z : _≡_ {A = ℕ} 0 1 = cc in absurd (omega arith)
@@ -173,19 +175,19 @@ decode-idle (Ell o) x y (sign p b t) e = refl
 decode-idle (Pair o) x y (sign p b t) e = refl
 decode-idle (Low o) x y (sign p b t) e = let z : _≡_ {A = ℕ} 0 1 = cc in absurd (omega arith)
 
--- what a byte that was said says of the rest: the bytes behind it, from the place and in the state that came with it
-pub record Told (d : List ℕ) (at : ℕ) (l : List ℕ) (x n : ℕ) (s : Inside) : Type 0 where
+-- what a sign that was said says of the rest: the signs behind it, from the place and in the state that came with it
+pub record Told (d : List ℕ) (at : ℕ) (l : List Sign) (x : Sign) (n : ℕ) (s : Inside) : Type 0 where
   pub split : l ≡ x ∷ decodeOf s 0 (text d n)
   pub rests : idle s ≡ true
   pub ahead : at < n
   pub within : n ≤ length d
 
-module _ (d : List ℕ) (x n : ℕ) (r : Inside) where
+module _ (d : List ℕ) (x : Sign) (n : ℕ) (r : Inside) where
   told : {at : ℕ} {t : Text} → From d at t → (s : Inside) (a : ℕ) → partFrom s a t ≡ Said x n r → Told d at (decodeOf s a t) x n r
   unfolding partFrom decodeOf
   told at-stop s a e = let z : _≡_ {A = ℕ} 0 1 = cc in absurd (omega arith)
   told {at} (at-sign {p = p} {b = b} {u = u} h w q f) s a e = by (λ s. told f s b) (insideOf s b p) (givesOf s a b) refl refl e where
-    by : ((s : Inside) → partFrom s b u ≡ Said x n r → Told d (p + 1) (decodeOf s b u) x n r) → (m : Move) (g : List ℕ) → insideOf s b p ≡ m → givesOf s a b ≡ g → parted m g (p + 1) (λ s. partFrom s b u) ≡ Said x n r → Told d at (gone m g (λ s. decodeOf s b u)) x n r
+    by : ((s : Inside) → partFrom s b u ≡ Said x n r → Told d (p + 1) (decodeOf s b u) x n r) → (m : Move) (g : List Sign) → insideOf s b p ≡ m → givesOf s a b ≡ g → parted m g (p + 1) (λ s. partFrom s b u) ≡ Said x n r → Told d at (gone m g (λ s. decodeOf s b u)) x n r
     by ih (Go t) [] i j e = let k = ih t e in record { split = k .split; rests = k .rests; ahead = omega arith; within = k .within }
     by ih (Go t) (y ∷ l) i j e =
         let v : y ≡ x = cc in
@@ -196,7 +198,7 @@ module _ (d : List ℕ) (x n : ℕ) (r : Inside) where
     by ih Closed g i j e = let z : _≡_ {A = ℕ} 0 1 = cc in absurd (omega arith)
     by ih (Wrong o) g i j e = let z : _≡_ {A = ℕ} 0 1 = cc in absurd (omega arith)
 
-  -- SAID: the next byte of what a string says
+  -- SAID: the next sign of what a string says
   pub part-said : (at : ℕ) (s : Inside) {v : Part} → v ≡ partFrom s 0 (text d at) → v ≡ Said x n r → Told d at (decodeOf s 0 (text d at)) x n r
   part-said at s e f = told (from-text d at) s 0 (sym e ∙ f)
 
@@ -204,7 +206,7 @@ over : (t : Text) (s : Inside) (a : ℕ) → partFrom s a t ≡ Over → decodeO
 unfolding partFrom decodeOf
 over (stop p) s a e = refl
 over (sign p b t) s a e = by (λ s. over t s b) (insideOf s b p) (givesOf s a b) e where
-  by : ((s : Inside) → partFrom s b t ≡ Over → decodeOf s b t ≡ []) → (m : Move) (g : List ℕ) → parted m g (p + 1) (λ s. partFrom s b t) ≡ Over → gone m g (λ s. decodeOf s b t) ≡ []
+  by : ((s : Inside) → partFrom s b t ≡ Over → decodeOf s b t ≡ []) → (m : Move) (g : List Sign) → parted m g (p + 1) (λ s. partFrom s b t) ≡ Over → gone m g (λ s. decodeOf s b t) ≡ []
   by ih (Go s) [] e = ih s e
   by ih (Go s) (y ∷ l) e = let z : _≡_ {A = ℕ} 0 1 = cc in absurd (omega arith)
   by ih Closed g e = refl
@@ -216,7 +218,7 @@ part-over d at s e f = over (text d at) s 0 (sym e ∙ f)
 
 -- ---- steps of the decoder's loop
 module _ (s : Inside) (a : ℕ) {t : Text} where
-  pub part-gives : {p b x : ℕ} {u : Text} {m : Move} {v : Inside} → t ≡ sign p b u → m ≡ insideOf s b p → m ≡ Go v → givesOf s a b ≡ x ∷ [] → partFrom s a t ≡ Said x (p + 1) v
+  pub part-gives : {p b : ℕ} {x : Sign} {u : Text} {m : Move} {v : Inside} → t ≡ sign p b u → m ≡ insideOf s b p → m ≡ Go v → givesOf s a b ≡ x ∷ [] → partFrom s a t ≡ Said x (p + 1) v
   unfolding partFrom
   part-gives e f g h = rw (e, sym f ∙ g, h)
 

@@ -3,6 +3,8 @@ use mathlib.Core.Path.{_≡_}
 use mathlib.Core.Bool.{Bool, true, false, _&&_}
 use mathlib.Core.List.{List, [], _∷_, _++_}
 use Prim.Native.Nat.{ℕ, _+_, _<_}
+use Rattle.signs.specs.declared.Sign.{Sign}
+use Rattle.signs.specs.declared.Sign.the-variants.{Byte, Break}
 use Rattle.scan.specs.rule.Text.{Text, stop, sign, text}
 use Rattle.marks.specs.rule.Marks.{isHex, insideOf}
 use Rattle.marks.specs.declared.Inside.{Inside}
@@ -15,37 +17,37 @@ use Rattle.marks.specs.declared.Part.{Part}
 use Rattle.marks.specs.declared.Part.the-variants.{Said, Over}
 use Rattle.marks.specs.rule.Spelling.{pairOf, givesOf}
 
--- a text is hex pairs, one or more, and a closing brace, which say the bytes m, and then u
-pub data Pairs : Text → List ℕ → Text → Type 0 where
-  last : {p q r a b : ℕ} {u : Text} → isHex a ≡ true → isHex b ≡ true → Pairs (sign p a (sign q b (sign r 125 u))) (pairOf a b ∷ []) u
-  more : {p q a b : ℕ} {m : List ℕ} {t u : Text} → isHex a ≡ true → isHex b ≡ true → Pairs t m u
-      → Pairs (sign p a (sign q b t)) (pairOf a b ∷ m) u
+-- a text is hex pairs, one or more, and a closing brace, which say the signs m, and then u
+pub data Pairs : Text → List Sign → Text → Type 0 where
+  last : {p q r a b : ℕ} {u : Text} → isHex a ≡ true → isHex b ≡ true → Pairs (sign p a (sign q b (sign r 125 u))) (Byte (pairOf a b) ∷ []) u
+  more : {p q a b : ℕ} {m : List Sign} {t u : Text} → isHex a ≡ true → isHex b ≡ true → Pairs t m u
+      → Pairs (sign p a (sign q b t)) (Byte (pairOf a b) ∷ m) u
 
--- a text is a piece of a string, which says the bytes m, and then u
-pub data Piece : Text → List ℕ → Text → Type 0 where
-  plain : {p b : ℕ} {u : Text} → (b ≡ 34 → ⊥) → (b ≡ 123 → ⊥) → Piece (sign p b u) (b ∷ []) u
-  quote : {p q r : ℕ} {u : Text} → Piece (sign p 123 (sign q 34 (sign r 125 u))) (34 ∷ []) u
-  brace : {p q r : ℕ} {u : Text} → Piece (sign p 123 (sign q 123 (sign r 125 u))) (123 ∷ []) u
-  line : {p q r s : ℕ} {u : Text} → Piece (sign p 123 (sign q 78 (sign r 76 (sign s 125 u)))) (10 ∷ []) u
-  bytes : {p : ℕ} {m : List ℕ} {t u : Text} → Pairs t m u → Piece (sign p 123 t) m u
+-- a text is a piece of a string, which says the signs m, and then u
+pub data Piece : Text → List Sign → Text → Type 0 where
+  plain : {p b : ℕ} {u : Text} → (b ≡ 34 → ⊥) → (b ≡ 123 → ⊥) → Piece (sign p b u) (Byte b ∷ []) u
+  quote : {p q r : ℕ} {u : Text} → Piece (sign p 123 (sign q 34 (sign r 125 u))) (Byte 34 ∷ []) u
+  brace : {p q r : ℕ} {u : Text} → Piece (sign p 123 (sign q 123 (sign r 125 u))) (Byte 123 ∷ []) u
+  line : {p q r s : ℕ} {u : Text} → Piece (sign p 123 (sign q 78 (sign r 76 (sign s 125 u)))) (Break ∷ []) u
+  bytes : {p : ℕ} {m : List Sign} {t u : Text} → Pairs t m u → Piece (sign p 123 t) m u
 
--- a text is pieces, which say the bytes m, and then a quote, with n the place after it
-pub data Spelt : Text → List ℕ → ℕ → Type 0 where
+-- a text is pieces, which say the signs m, and then a quote, with n the place after it
+pub data Spelt : Text → List Sign → ℕ → Type 0 where
   closed : {p : ℕ} {u : Text} → Spelt (sign p 34 u) [] (p + 1)
-  piece : {t u : Text} {m s : List ℕ} {n : ℕ} → Piece t m u → Spelt u s n → Spelt t (m ++ s) n
+  piece : {t u : Text} {m s : List Sign} {n : ℕ} → Piece t m u → Spelt u s n → Spelt t (m ++ s) n
 
 -- a text is pieces, and then an open brace at o
 pub data Braced (o : ℕ) : Text → Type 0 where
   here : {u : Text} → Braced o (sign o 123 u)
-  after-piece : {t u : Text} {m : List ℕ} → Piece t m u → Braced o u → Braced o t
+  after-piece : {t u : Text} {m : List Sign} → Piece t m u → Braced o u → Braced o t
 
 -- a text is pieces, and then an open brace at o, where no piece stands
 pub data Broken (o : ℕ) : Text → Type 0 where
-  breaks : {u : Text} → ((m : List ℕ) (w : Text) → Piece (sign o 123 u) m w → ⊥) → Broken o (sign o 123 u)
-  breaks-after : {t u : Text} {m : List ℕ} → Piece t m u → Broken o u → Broken o t
+  breaks : {u : Text} → ((m : List Sign) (w : Text) → Piece (sign o 123 u) m w → ⊥) → Broken o (sign o 123 u)
+  breaks-after : {t u : Text} {m : List Sign} → Piece t m u → Broken o u → Broken o t
 
-abbrev pub givenList : Given → List ℕ
-givenList (One b) = b ∷ []
+abbrev pub givenList : Given → List Sign
+givenList (One x) = x ∷ []
 givenList Nothing = []
 
 -- in a pair's second half both bytes are hex digits
@@ -66,12 +68,12 @@ idle (Ell o) = true
 idle (Pair o) = true
 idle (Low o) = false
 
--- one byte of a string: what it completes is said; where it completes nothing the reader goes on
-abbrev pub said : List ℕ → ℕ → Inside → Part → Part
+-- one byte of a string: the sign that it completes is said; where it completes nothing the reader goes on
+abbrev pub said : List Sign → ℕ → Inside → Part → Part
 said [] n s k = k
 said (x ∷ m) n s k = Said x n s
 
-abbrev pub parted : Move → List ℕ → ℕ → (Inside → Part) → Part
+abbrev pub parted : Move → List Sign → ℕ → (Inside → Part) → Part
 parted (Go s) m n k = said m n s (k s)
 parted Closed m n k = Over
 parted (Wrong o) m n k = Over
@@ -87,7 +89,7 @@ pub data Comment (d : List ℕ) : ℕ → ℕ → ℕ → Type 0 where
   over : {l at p : ℕ} → text d at ≡ sign p 62 (text d (p + 1)) → Comment d l at (p + 1)
   byte : {l at n p b : ℕ} → text d at ≡ sign p b (text d (p + 1)) → (b ≡ 62 → ⊥) → (b ≡ 34 → ⊥) → (b ≡ 60 → ⊥)
       → Comment d l (p + 1) n → Comment d l at n
-  string : {l at n p k : ℕ} {m : List ℕ} → text d at ≡ sign p 34 (text d (p + 1)) → Spelt (text d (p + 1)) m k → Comment d l k n
+  string : {l at n p k : ℕ} {m : List Sign} → text d at ≡ sign p 34 (text d (p + 1)) → Spelt (text d (p + 1)) m k → Comment d l k n
       → Comment d l at n
   comment : {l at n p k : ℕ} → text d at ≡ sign p 60 (text d (p + 1)) → l < 32 → Comment d (l + 1) (p + 1) k → Comment d l k n
       → Comment d l at n

@@ -1,6 +1,7 @@
-// Strings and comments: what stands between two marks is skipped, or for a string decoded, one byte at a time. Above it stand the
+// Strings and comments: what stands between two marks is skipped, or for a string decoded, one sign at a time. Above it stand the
 // tokens of a definition, and whoever reads a text of it.
 use scan::Step;
+use signs::Sign;
 ghost use mathlib.Core.Path.{_≡_};
 ghost use Rattle.ascii.specs.Class.{Classes};
 ghost use Prim.Native.Nat.{_+_, _<_, _≤_};
@@ -247,11 +248,11 @@ fn hex_value(classes: &[u8; 256], b: u8) -> u8
 
 // What a string's byte completes.
 pub enum Given {
-    One(u8),
+    One(Sign),
     Nothing,
 }
 
-// The byte that a string's byte b completes, read in the state s behind the byte a.
+// The sign that a string's byte b completes, read in the state s behind the byte a.
 fn completed(classes: &[u8; 256], s: Inside, a: u8, b: u8) -> Given
     requires { ⌜ Classes (now classes) ⌝ }
     requires { ⌜ ready s a b ≡ true ⌝ }
@@ -261,32 +262,32 @@ fn completed(classes: &[u8; 256], s: Inside, a: u8, b: u8) -> Given
         Inside::Plain => if b == 123 {
             Given::Nothing
         } else {
-            Given::One(b)
+            Given::One(Sign::Byte(b))
         },
         Inside::Opened(_) => {
             if b == 34 {
-                return Given::One(b);
+                return Given::One(Sign::Byte(b));
             }
             if b == 123 {
-                Given::One(b)
+                Given::One(Sign::Byte(b))
             } else {
                 Given::Nothing
             }
         }
         Inside::Shut(_) => Given::Nothing,
-        Inside::Ell(_) => Given::One(10),
+        Inside::Ell(_) => Given::One(Sign::Break),
         Inside::Pair(_) => Given::Nothing,
         Inside::Low(_) => {
             let high = hex_value(classes, a);
-            Given::One(high * 16 + hex_value(classes, b))
+            Given::One(Sign::Byte(high * 16 + hex_value(classes, b)))
         }
     }
 }
 
-// What stands next in a string: a byte that it says, with the place and the state to read on from; or its end.
+// What stands next in a string: a sign that it says, with the place and the state to read on from; or its end.
 pub enum Part {
     Said {
-        byte: u8,
+        sign: Sign,
         next: usize,
         inside: Inside,
     },
@@ -309,7 +310,7 @@ pub fn next_part(classes: &[u8; 256], d: &[u8], at: usize, inside: Inside) -> Pa
                     Move::Go(t) => match completed(classes, s, a, byte) {
                         Given::One(x) => {
                             return Part::Said {
-                                byte: x,
+                                sign: x,
                                 next,
                                 inside: t,
                             };

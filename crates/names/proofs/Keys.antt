@@ -1,4 +1,4 @@
--- A name's number, byte by byte.
+-- A name's number, sign by sign.
 use mathlib.Core.Path.{_≡_, refl, _∙_, sym}
 use mathlib.Core.Bool.{Bool, true, false, cond}
 use mathlib.Core.List.{List, [], _∷_}
@@ -8,21 +8,27 @@ use native.Mathlib.Numerals.{add-one}
 use native.Mathlib.Omega.{arith}
 use lib.Dec.{ltb}
 use borrow.Author.Tests.{lt-ltb, le-ltb}
+use Rattle.signs.specs.declared.Sign.{Sign}
+use Rattle.signs.specs.declared.Sign.the-variants.{Byte, Break}
 use Rattle.ascii.specs.rule.Class.{upperOf}
 use Rattle.names.specs.Name.{fits, keyOf}
 
-module _ (c k : ℕ) {l : List ℕ} where
-  pub key-bad : {b : ℕ} {s : List ℕ} → l ≡ b ∷ s → fits c b ≡ false → keyOf c k l ≡ 0
+module _ (c k : ℕ) {l : List Sign} where
+  pub key-bad : {b : ℕ} {s : List Sign} → l ≡ Byte b ∷ s → fits c b ≡ false → keyOf c k l ≡ 0
   unfolding keyOf
   key-bad e f = rw (e, f)
 
-  pub key-long : {b : ℕ} {s : List ℕ} → l ≡ b ∷ s → fits c b ≡ true → c ≡ 8 → keyOf c k l ≡ 0
+  pub key-long : {b : ℕ} {s : List Sign} → l ≡ Byte b ∷ s → fits c b ≡ true → c ≡ 8 → keyOf c k l ≡ 0
   unfolding keyOf
   key-long e f h = rw (e, f, le-ltb c 8 (omega arith))
 
-  pub key-next : {b : ℕ} {s : List ℕ} → l ≡ b ∷ s → fits c b ≡ true → c < 8 → keyOf c k l ≡ keyOf (c + 1) (k * 256 + upperOf b) s
+  pub key-next : {b : ℕ} {s : List Sign} → l ≡ Byte b ∷ s → fits c b ≡ true → c < 8 → keyOf c k l ≡ keyOf (c + 1) (k * 256 + upperOf b) s
   unfolding keyOf
   key-next e f h = rw (e, f, lt-ltb c 8 h)
+
+  pub key-break : {s : List Sign} → l ≡ Break ∷ s → keyOf c k l ≡ 0
+  unfolding keyOf
+  key-break e = rw e
 
   pub key-done : l ≡ [] → keyOf c k l ≡ k
   unfolding keyOf

@@ -3,6 +3,7 @@
 // the definition as a whole.
 use marks::Inside;
 use marks::Part;
+use signs::Sign;
 ghost use mathlib.Core.Path.{_≡_};
 ghost use mathlib.Core.Bool.{cond};
 ghost use Prim.Native.Nat.{_≤_};
@@ -33,18 +34,23 @@ pub fn name_key(classes: &[u8; 256], d: &[u8], at: usize) -> u64
     let mut key: u64 = 0;
     while count < 9 {
         match marks::next_part(classes, d, n, s) {
-            Part::Said { byte, next, inside } => {
-                if !may_stand(classes, count, byte) {
+            Part::Said { sign, next, inside } => match sign {
+                Sign::Byte(byte) => {
+                    if !may_stand(classes, count, byte) {
+                        return 0;
+                    }
+                    if count == 8 {
+                        return 0;
+                    }
+                    key = key * 256 + wide(ascii::upper(byte));
+                    count += 1;
+                    n = next;
+                    s = inside;
+                }
+                Sign::Break => {
                     return 0;
                 }
-                if count == 8 {
-                    return 0;
-                }
-                key = key * 256 + wide(ascii::upper(byte));
-                count += 1;
-                n = next;
-                s = inside;
-            }
+            },
             Part::Over => {
                 return key;
             }

@@ -1,10 +1,12 @@
 // The vectors of the definition reader: each case of standard input, a definition and the room of a table, is read by the public call, and
-// the answer is printed with the table, and whether every other number of the table holds what it held. `cases.py` beside this makes
-// the cases and the answers.
+// the answer is printed with the table, and whether every other number of the table holds what it held. Where a place and a length stand
+// with the case, the text there is decoded into the room, and its signs are printed. `cases.py` beside this makes the cases and the
+// answers.
 use definition::Answer;
 use layout::Header;
 use layout::Line;
 use layout::Row;
+use texts::Decoded;
 ghost use Prim.Native.Nat.{_≤_, _<_};
 ghost use lib.ListN.{length};
 
@@ -135,7 +137,33 @@ fn put_refused(out: &mut [u8], at: usize, table: &[i64], number: usize, place: u
     put_held(out, n, held(table, 0))
 }
 
-fn run_case(out: &mut [u8], at: usize, d: &[u8], table: &mut [i64]) -> usize {
+fn put_signs(out: &mut [u8], at: usize, list: &[i64], count: usize) -> usize {
+    let used = bounded(count, list.len());
+    let mut n = put_all(out, at, b"text ");
+    n = put_count(out, n, used as u64);
+    n = put_held(out, n, held(list, used));
+    put_table(out, n, &list[..used])
+}
+
+fn put_no_text(out: &mut [u8], at: usize, list: &[i64], number: u64) -> usize {
+    let n = put_count(out, at, number);
+    put_held(out, n, held(list, 0))
+}
+
+// A text of the definition decoded, by its place and length.
+fn run_text(out: &mut [u8], at: usize, d: &[u8], h: Head, list: &mut [i64]) -> usize {
+    fill(list);
+    match texts::decode_text(d, h.place, h.long, list) {
+        Decoded::Signs(count) => put_signs(out, at, list, count),
+        Decoded::NotText => put_no_text(out, at, list, 3),
+        Decoded::ShortList => put_no_text(out, at, list, 25),
+    }
+}
+
+fn run_case(out: &mut [u8], at: usize, d: &[u8], h: Head, table: &mut [i64]) -> usize {
+    if h.decode {
+        return run_text(out, at, d, h, table);
+    }
     fill(table);
     match definition::read_definition(d, table) {
         Answer::Read { rows, lines } => put_read(out, at, table, rows, lines),
@@ -190,7 +218,53 @@ fn behind(at: usize, end: usize, most: usize) -> usize
     if end < most { end + 1 } else { most }
 }
 
-// The case that starts at a place: `LEN ROOM`, LF, the definition, LF.
+// The first line of a case: how many bytes the definition has, the room, and the place and length of a text that is to be decoded.
+struct Head {
+    length: usize,
+    room: usize,
+    decode: bool,
+    place: usize,
+    long: usize,
+    next: usize,
+}
+
+// Whether another number stands in the line before a place.
+fn goes_on(text: &[u8], next: usize) -> bool {
+    if 0 < next {
+        let last = next - 1;
+        if last < text.len() {
+            return text[last] == b' ';
+        }
+    }
+    false
+}
+
+fn head_at(text: &[u8], at: usize) -> Head {
+    let length = figure_at(text, at);
+    let room = figure_at(text, length.next);
+    if goes_on(text, room.next) {
+        let place = figure_at(text, room.next);
+        let long = figure_at(text, place.next);
+        return Head {
+            length: length.value,
+            room: room.value,
+            decode: true,
+            place: place.value,
+            long: long.value,
+            next: long.next,
+        };
+    }
+    Head {
+        length: length.value,
+        room: room.value,
+        decode: false,
+        place: 0,
+        long: 0,
+        next: room.next,
+    }
+}
+
+// The case that starts at a place: `LEN ROOM` or `LEN ROOM PLACE LENGTH`, LF, the definition, LF.
 fn one_case(
     text: &[u8],
     at: usize,
@@ -202,16 +276,15 @@ fn one_case(
     requires { ⌜ at < length (now text) ⌝ }
     ensures { λ r. ⌜ at < r .at ⌝ }
 {
-    let length = figure_at(text, at);
-    let room = figure_at(text, length.next);
-    let start = between(at, room.next, text.len());
-    let end = between(start, with_length(start, length.value), text.len());
+    let head = head_at(text, at);
+    let start = between(at, head.next, text.len());
+    let end = between(start, with_length(start, head.length), text.len());
     let next = behind(at, end, text.len());
-    let lent = bounded(room.value, table.len());
+    let lent = bounded(head.room, table.len());
     let a = put_all(out, n, b"case ");
     let b = put_count(out, a, case as u64);
     let c = put_all(out, b, b": ");
-    let out = run_case(out, c, &text[start..end], &mut table[..lent]);
+    let out = run_case(out, c, &text[start..end], head, &mut table[..lent]);
     Progress { at: next, out }
 }
 

@@ -15,6 +15,7 @@ use Rattle.writes.specs.rule.Public.{Written}
 use Rattle.zarfolin.specs.rule.Face.{Telling, verdictCells, outcomeCells, fileCells, definitionCells, nextCells}
 use Rattle.zarfolin.specs.rule.Face.{RecordTold, ValueTold, FileTold, DefinitionTold, NextTold}
 use Rattle.zarfolin.specs.rule.Whole.{wholeCells, WholeTold}
+use Rattle.zarfolin.specs.rule.Texts.{textCells, TextTold}
 use Rattle.zarfolin.specs.rule.Truth.{noTruth, TruthTold}
 use Rattle.zarfolin.specs.declared.Told.{Told}
 
@@ -59,6 +60,14 @@ pub whole-told-one : {t : List ℤ} {bytes : List ℕ} {out out₁ out₂ list l
 whole-told-one x y = (
   telling-one (ap wholeCells (x .promise .says ∙ sym (y .promise .says))) (x .tells) (y .tells),
   (x .promise .rows ∙ sym (y .promise .rows), x .promise .leaves ∙ sym (y .promise .leaves)),
+)
+
+-- ---- zarfolin_decode_text: the list too
+pub text-told-one : {d : List ℕ} {place long : ℕ} {list list₁ list₂ a₁ a₂ : List ℤ} {r₁ r₂ : ℕ}
+    → TextTold d place long list list₁ a₁ r₁ → TextTold d place long list list₂ a₂ r₂ → ((r₁ ≡ r₂) × (a₁ ≡ a₂)) × (list₁ ≡ list₂)
+text-told-one x y = (
+  telling-one (ap textCells (x .promise .says ∙ sym (y .promise .says))) (x .tells) (y .tells),
+  x .promise .leaves ∙ sym (y .promise .leaves),
 )
 
 -- ---- zarfolin_write_missing, _number, _set, _text promise `Written`, as the call does: the number and the record

@@ -3,3 +3,4 @@ pub mod Face
 pub mod Truth
 pub mod Version
 pub mod Whole
+pub mod Texts

@@ -16,6 +16,8 @@ ghost use Rattle.zarfolin.specs.rule.Face as face;
 ghost use Rattle.zarfolin.specs.rule.Truth.{badTruth, TruthTold};
 ghost use Rattle.zarfolin.specs.rule.Whole.{wholeCells, WholeTold};
 ghost use Rattle.zarfolin.specs.Truth.{kindNumber};
+ghost use Rattle.texts.specs.rule.Decode as texts;
+ghost use Rattle.zarfolin.specs.rule.Texts.{textCells, TextTold};
 
 mod version;
 
@@ -27,6 +29,7 @@ use layout::Row;
 use readings::Answer;
 use record_values::Whole;
 use records::Judged;
+use texts::Decoded;
 use writes::Value;
 use writes::Wrote;
 
@@ -200,6 +203,16 @@ fn next_cells(n: Next) -> Told
     }
 }
 
+fn text_cells(a: Decoded) -> Told
+    ensures { λ r. ⌜ r ≡ textCells (texts.said a) ⌝ }
+{
+    match a {
+        Decoded::Signs(n) => with_one(0, cell(n)),
+        Decoded::NotText => bare(3),
+        Decoded::ShortList => bare(25),
+    }
+}
+
 fn number_of(w: Wrote) -> u64
     ensures { λ r. ⌜ r ≡ numberOf w ⌝ }
 {
@@ -291,6 +304,23 @@ pub extern "C" fn zarfolin_read_definition(
     tell(
         answer,
         definition_cells(definition::read_definition(d, table)),
+    )
+}
+
+// Decodes a text of a definition: the signs of a name, a label or a line's text.
+#[no_mangle]
+pub extern "C" fn zarfolin_decode_text(
+    d: &[u8],
+    place: u64,
+    long: u64,
+    list: &mut [i64],
+    answer: &mut [i64; 4],
+) -> u64
+    ensures { λ r. ⌜ TextTold (now (d .entry)) place long (now (list .entry)) (now (list .exit)) (now (answer .exit)) r ⌝ }
+{
+    tell(
+        answer,
+        text_cells(texts::decode_text(d, place as usize, long as usize, list)),
     )
 }
 

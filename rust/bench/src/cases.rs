@@ -22,6 +22,7 @@ pub fn cases() -> Vec<Maker> {
     let mut cases = vec![];
     definitions(&mut cases);
     odd_definitions(&mut cases);
+    texts(&mut cases);
     tables(&mut cases);
     readings(&mut cases);
     whole_records(&mut cases);
@@ -89,6 +90,25 @@ fn odd_definitions(cases: &mut Vec<Maker>) {
         def.push(b'<');
         definition(def, 3)
     });
+}
+
+/// Texts decoded: long and short ones, plain and with many brace forms, and one that is refused.
+fn texts(cases: &mut Vec<Maker>) {
+    let mixed = "Which of these{NL}did you see? {\"}Post{\"}, {\"}Times{\"}.{0D0A}";
+    for (name, text, number) in [
+        ("decode 8 bytes", "Question".to_string(), 0),
+        ("decode 40 bytes, a break", "Which of these papers{NL}did you see last?".to_string(), 0),
+        ("decode 64 KiB, plain", "x".repeat(1 << 16), 0),
+        ("decode 1 MB, plain", "x".repeat(1_000_000), 0),
+        ("decode 1 MB, words with CR LF", "a few words here\r\n".repeat(1_000_000 / 18), 0),
+        ("decode 1 MB, breaks", "{NL}".repeat(250_000), 0),
+        ("decode 1 MB, hex pairs, one a form", "{0A}".repeat(250_000), 0),
+        ("decode 1 MB, hex pairs, one form", format!("{{{}}}", "7e".repeat(500_000)), 0),
+        ("decode 1 MB, text with forms", mixed.repeat(1_000_000 / mixed.len()), 0),
+        ("decode 1 MB, refused at its end", format!("{}\"", "x".repeat(1_000_000)), 3),
+    ] {
+        add(cases, name, move || decode(text.into_bytes(), number));
+    }
 }
 
 /// The test of a table.
@@ -224,6 +244,17 @@ fn definition(def: Vec<u8>, number: u64) -> Case {
     let mut lent = vec![0i64; 30_000];
     let mut answer = [0; 4];
     Case { bytes, number, step: Box::new(move |face| face.read_definition(black_box(&def), &mut lent, &mut answer)) }
+}
+
+fn decode(def: Vec<u8>, number: u64) -> Case {
+    let (bytes, mut list) = (def.len(), vec![0; def.len()]);
+    let step = move |face: &dyn Face| {
+        let mut answer = [0; 4];
+        let number = face.decode_text(black_box(&def), 0, def.len() as u64, black_box(&mut list), &mut answer);
+        black_box(&answer);
+        number
+    };
+    Case { bytes, number, step: Box::new(step) }
 }
 
 /// The test behind 20: an empty record is 22 right after it.

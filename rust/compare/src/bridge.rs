@@ -159,4 +159,10 @@ impl Face for Bridge {
             numbers(out, changed_out);
         })
     }
+
+    fn decode_text(&self, def: &[u8], place: u64, length: u64, list: &mut [i64], answer: &mut [i64; 4]) -> u64 {
+        let copy = list.to_vec();
+        let inputs = Inputs { bytes: def, row: place, number: length as i64, list: &copy, ..Inputs::default() };
+        self.call(Call::DecodeText, inputs, answer, 8 * copy.len(), |changed| numbers(list, changed))
+    }
 }

@@ -18,6 +18,8 @@ pub enum Call {
     JudgeFile,
     NextRecord,
     ReadRecord,
+    /// The place stands in `row`, the length in `number`.
+    DecodeText,
 }
 
 /// A call and its inputs; those that the call doesn't take are empty or 0.
@@ -98,6 +100,7 @@ pub fn run(face: &dyn Face, case: &Case) -> Outcome {
         Call::JudgeFile => face.judge_file(t, b, a),
         Call::NextRecord => face.next_record(b, case.row, a),
         Call::ReadRecord => face.read_record(t, b, out.inner(), l, a),
+        Call::DecodeText => face.decode_text(b, case.row, case.number as u64, l, a),
     };
     Outcome { number, answer, table: table.all, list: list.all, bytes: bytes.all, text: text.all, out: out.all }
 }
@@ -122,7 +125,7 @@ pub fn keeps(case: &Case, outcome: &Outcome) -> bool {
         && outcome.out[..GUARD].iter().chain(&outcome.out[outcome.out.len() - GUARD..]).all(|&x| x == -0x6b6b_6b6b);
     let (table_lent, list_lent, bytes_lent) = match case.call {
         Call::ReadDefinition => (!refused, false, false),
-        Call::ReadValue | Call::ReadRecord => (false, !refused, false),
+        Call::ReadValue | Call::ReadRecord | Call::DecodeText => (false, !refused, false),
         Call::JudgeRecord | Call::JudgeFile | Call::NextRecord => (false, false, false),
         _ => (false, false, !refused),
     };

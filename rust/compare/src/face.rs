@@ -15,6 +15,7 @@ pub trait Face {
     fn judge_file(&self, table: &[i64], data: &[u8], answer: &mut [i64; 4]) -> u64;
     fn next_record(&self, data: &[u8], from: u64, answer: &mut [i64; 4]) -> u64;
     fn read_record(&self, t: &[i64], record: &[u8], out: &mut [i64], list: &mut [i64], answer: &mut [i64; 4]) -> u64;
+    fn decode_text(&self, def: &[u8], place: u64, length: u64, list: &mut [i64], answer: &mut [i64; 4]) -> u64;
 }
 
 /// The plain Rust implementation.
@@ -90,6 +91,14 @@ impl Face for Plain {
     fn read_record(&self, t: &[i64], record: &[u8], out: &mut [i64], list: &mut [i64], answer: &mut [i64; 4]) -> u64 {
         let numbers = match plain::read_record(t, record, out, list) {
             Ok((members, refused)) => [0, members as i64, refused as i64, 0],
+            Err(number) => [number as i64, 0, 0, 0],
+        };
+        give(answer, numbers)
+    }
+
+    fn decode_text(&self, def: &[u8], place: u64, length: u64, list: &mut [i64], answer: &mut [i64; 4]) -> u64 {
+        let numbers = match plain::decode_text(def, place, length, list) {
+            Ok(count) => [0, count as i64, 0, 0],
             Err(number) => [number as i64, 0, 0, 0],
         };
         give(answer, numbers)
@@ -231,6 +240,20 @@ impl Face for Library {
                 record.len(),
                 out.as_mut_ptr(),
                 out.len(),
+                list.as_mut_ptr(),
+                list.len(),
+                answer.as_mut_ptr(),
+            )
+        }
+    }
+
+    fn decode_text(&self, def: &[u8], place: u64, length: u64, list: &mut [i64], answer: &mut [i64; 4]) -> u64 {
+        unsafe {
+            zarfolin::ffi::zarfolin_decode_text(
+                def.as_ptr(),
+                def.len(),
+                place,
+                length,
                 list.as_mut_ptr(),
                 list.len(),
                 answer.as_mut_ptr(),

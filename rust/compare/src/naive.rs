@@ -246,32 +246,40 @@ fn canonical_length(v: i64, decimals: usize, point: bool) -> usize {
     digits.len() + point as usize + (v < 0) as usize
 }
 
+/// A break, beside the bytes 0 to 255.
+const BREAK: i64 = 256;
+
+/// A text's bytes, a break as one byte 10, as an export writes it.
 pub(crate) fn decoded(def: &[u8], place: usize, length: usize) -> Vec<u8> {
-    let text: Vec<u8> = def[place..place + length].iter().copied().filter(|&x| x >= 32).collect();
+    let signs = signs(&def[place..place + length]).unwrap();
+    signs.iter().map(|&sign| if sign == BREAK { 10 } else { sign as u8 }).collect()
+}
+
+/// The signs of a text's inside, if it is one.
+fn signs(inside: &[u8]) -> Option<Vec<i64>> {
+    let mut rest: Vec<u8> = inside.iter().copied().filter(|&x| x >= 32).collect();
     let mut out = vec![];
-    let mut i = 0;
-    while i < text.len() {
-        if text[i] != b'{' {
-            out.push(text[i]);
-            i += 1;
-            continue;
-        }
-        // A brace form ends at its first closing brace.
-        let end = i + text[i..].iter().position(|&x| x == b'}').unwrap();
-        let inner = String::from_utf8(text[i + 1..end].to_vec()).unwrap();
-        match inner.as_str() {
-            "\"" => out.push(b'"'),
-            "{" => out.push(b'{'),
-            "NL" => out.push(10),
-            hex => {
-                for j in (0..hex.len()).step_by(2) {
-                    out.push(u8::from_str_radix(&hex[j..j + 2], 16).unwrap());
+    while !rest.is_empty() {
+        let piece = match rest[0] {
+            b'"' => return None,
+            b'{' => rest.iter().skip(2).position(|&x| x == b'}')? + 3,
+            _ => 1,
+        };
+        let piece: Vec<u8> = rest.drain(..piece).collect();
+        match piece.as_slice() {
+            b"{\"}" => out.push(b'"' as i64),
+            b"{{}" => out.push(b'{' as i64),
+            b"{NL}" => out.push(BREAK),
+            [b'{', hex @ .., b'}'] if hex.len() % 2 == 0 && hex.iter().all(|x| x.is_ascii_hexdigit()) => {
+                for pair in String::from_utf8(hex.to_vec()).unwrap().as_bytes().chunks(2) {
+                    out.push(i64::from_str_radix(std::str::from_utf8(pair).unwrap(), 16).unwrap());
                 }
             }
+            [x] => out.push(*x as i64),
+            _ => return None,
         }
-        i = end + 1;
     }
-    out
+    Some(out)
 }
 
 pub(crate) fn read(def: &[u8], room: usize) -> Result<Vec<i64>, Fault> {
@@ -345,8 +353,14 @@ pub(crate) fn read(def: &[u8], room: usize) -> Result<Vec<i64>, Fault> {
     if met.contains(&"STANDARD") {
         let mut names: Vec<Vec<u8>> = vec![];
         for row in &rows {
-            let name = decoded(def, row[14] as usize, row[15] as usize).to_ascii_lowercase();
-            let good = (1..=8).contains(&name.len())
+            let (place, length) = (row[14] as usize, row[15] as usize);
+            let signs = signs(&def[place..place + length]).unwrap();
+            // A break is no byte, and so neither letter nor digit.
+            let bytes: Option<Vec<u8>> = signs.into_iter().map(|x| u8::try_from(x).ok()).collect();
+            let broken = bytes.is_none();
+            let name = bytes.unwrap_or_default().to_ascii_lowercase();
+            let good = !broken
+                && (1..=8).contains(&name.len())
                 && name[0].is_ascii_alphabetic()
                 && name.iter().all(|x| x.is_ascii_alphanumeric())
                 && !names.contains(&name);
@@ -862,6 +876,19 @@ impl Face for Naive {
             }
         };
         give(answer, numbers)
+    }
+
+    fn decode_text(&self, def: &[u8], place: u64, length: u64, list: &mut [i64], answer: &mut [i64; 4]) -> u64 {
+        let (place, end) = (place as u128, place as u128 + length as u128);
+        if end > def.len() as u128 {
+            return give(answer, [3, 0, 0, 0]);
+        }
+        let Some(signs) = signs(&def[place as usize..end as usize]) else { return give(answer, [3, 0, 0, 0]) };
+        if list.len() < signs.len() {
+            return give(answer, [25, 0, 0, 0]);
+        }
+        list[..signs.len()].copy_from_slice(&signs);
+        give(answer, [0, signs.len() as i64, 0, 0])
     }
 
     fn judge_record(&self, table: &[i64], record: &[u8], answer: &mut [i64; 4]) -> u64 {

@@ -565,6 +565,93 @@ fn next_records() {
     tally.end("next records", 30_000, &[0, 1, 2]);
 }
 
+/// A stretch of bytes with texts, forms good and bad, quotes and dropped bytes.
+fn stretch(r: &mut Rng) -> Vec<u8> {
+    let most = r.pick(&[0, 3, 12, 60, 400]);
+    let mut b = definitions::body(r, most);
+    for _ in 0..r.pick(&[0, 0, 1, 2, 5]) {
+        let form = r.pick(&[
+            &b"{NL}"[..],
+            b"{0A}",
+            b"{0d0A}",
+            b"{\r0\nD\t}",
+            b"{N\rL\n}",
+            b"{\"\x00}",
+            b"{{\x1f}",
+            b"{nl}",
+            b"{}",
+            b"{0}",
+            b"{0AG}",
+            b"{0A0}",
+            b"{NL0A}",
+            b"{\"\"}",
+            b"{",
+            b"{N",
+            b"{4",
+            b"}",
+            b"\"",
+            b"\r\n",
+            b"\xff",
+        ]);
+        let at = r.below(b.len() + 1);
+        b.splice(at..at, form.iter().copied());
+    }
+    b
+}
+
+#[test]
+fn texts_decoded() {
+    let mut tally = Tally::default();
+    for seed in seeds(20_000) {
+        let mut r = Rng::new(seed ^ 0x7e47);
+        let bytes = stretch(&mut r);
+        let n = bytes.len() as u64;
+        let (place, length) = match r.below(8) {
+            0 => (r.below(bytes.len() + 2) as u64, r.below(bytes.len() + 2) as u64),
+            1 => (r.pick(&[n, n + 1, u64::MAX, 1 << 63]), r.pick(&[0, 1, n, u64::MAX, 1 << 63])),
+            2 => (r.below(bytes.len() + 1) as u64, r.pick(&[u64::MAX, u64::MAX - 1, 1 << 63, n + 1])),
+            3 => {
+                let place = r.below(bytes.len() + 1) as u64;
+                (place, n - place)
+            }
+            _ => (0, n),
+        };
+        let room = if r.once_in(3) { r.below(bytes.len() + 1) } else { bytes.len() + r.below(3) };
+        let list = vec![-0x2222; room];
+        let case = Case { bytes, row: place, number: length as i64, list, ..Case::new(Call::DecodeText) };
+        check(&mut tally, seed, &case);
+    }
+    tally.end("texts decoded", 20_000, &[0, 3, 25]);
+}
+
+#[test]
+fn texts_of_tables_decoded() {
+    let mut tally = Tally::default();
+    for seed in seeds(2_000) {
+        let mut r = Rng::new(seed ^ 0x7ab1e);
+        let model = definitions::model(&mut r, SMALL);
+        let style = Style::any(&mut r);
+        let (bytes, table) = definitions::sound(&mut r, style, &model);
+        let (rows, lines) = (table[1] as usize, table[2] as usize);
+        let texts = (0..rows)
+            .flat_map(|i| [6 + 18 * i + 14, 6 + 18 * i + 16])
+            .chain((0..lines).map(|i| 6 + 18 * rows + 4 * i + 2));
+        for at in texts {
+            let (place, length) = (table[at] as u64, table[at + 1]);
+            let list = vec![-0x2222; length as usize];
+            let case = Case { bytes: bytes.clone(), row: place, number: length, list, ..Case::new(Call::DecodeText) };
+            // What stands in a table is a text, and has no more signs than bytes.
+            assert_eq!(
+                check(&mut tally, seed, &case).number,
+                0,
+                "seed {seed}: {}",
+                zarfolin_compare::case::show(&case)
+            );
+        }
+    }
+    tally.end("texts of tables decoded", 10_000, &[0]);
+}
+
 /// The comparison itself: faults put into a copy of the plain Rust are found and cut down.
 mod planted {
     use super::*;
@@ -641,11 +728,18 @@ mod planted {
             }
             number
         }
+        fn decode_text(&self, def: &[u8], place: u64, length: u64, list: &mut [i64], answer: &mut [i64; 4]) -> u64 {
+            let number = Plain.decode_text(def, place, length, list, answer);
+            if self.0 == 7 && number == 0 {
+                list[..answer[1] as usize].iter_mut().filter(|x| **x == 256).for_each(|x| *x = 10);
+            }
+            number
+        }
     }
 
     #[test]
     fn faults_are_found() {
-        for fault in 0..7 {
+        for fault in 0..8 {
             let found = (0..2_000).any(|seed| {
                 let mut r = Rng::new(seed);
                 let model = definitions::model(&mut r, SMALL);
@@ -665,6 +759,11 @@ mod planted {
                     6 => {
                         let out = vec![-9; 4 * table[1] as usize];
                         Case { table, bytes: record, out, list: vec![-7; 50], ..Case::new(Call::ReadRecord) }
+                    }
+                    7 => {
+                        let bytes = stretch(&mut r);
+                        let (number, list) = (bytes.len() as i64, vec![-7; bytes.len()]);
+                        Case { bytes, number, list, ..Case::new(Call::DecodeText) }
                     }
                     _ => Case { bytes: records::file(&mut r, &table), table, ..Case::new(Call::JudgeFile) },
                 };

@@ -16,6 +16,7 @@ mod mend;
 mod normal;
 mod scan;
 mod table;
+mod text;
 mod write;
 
 pub use clean::write_definition;
@@ -28,6 +29,7 @@ pub use matrix::matrix;
 pub use mend::mend;
 pub use normal::normal;
 pub use table::well_formed;
+pub use text::{BREAK, decode_text};
 pub use write::{write_missing, write_number, write_set, write_text, write_truth};
 
 /// The most bytes a definition may have; also the bound of text places and lengths in a table.

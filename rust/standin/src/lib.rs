@@ -160,6 +160,26 @@ pub unsafe extern "C" fn zarfolin_judge_file(
 }
 
 #[unsafe(no_mangle)]
+pub unsafe extern "C" fn zarfolin_decode_text(
+    def: *const u8,
+    def_len: usize,
+    place: u64,
+    length: u64,
+    list: *mut i64,
+    list_len: usize,
+    answer: *mut i64,
+) -> Number {
+    unsafe {
+        let (def, list) = (from_raw_parts(def, def_len), from_raw_parts_mut(list, list_len));
+        let numbers = match plain::decode_text(def, place, length, list) {
+            Ok(count) => [0, count as i64, 0, 0],
+            Err(number) => [number as i64, 0, 0, 0],
+        };
+        give(answer, numbers)
+    }
+}
+
+#[unsafe(no_mangle)]
 pub unsafe extern "C" fn zarfolin_next_record(data: *const u8, data_len: usize, from: u64, answer: *mut i64) -> Number {
     unsafe {
         let numbers = match plain::next_record(from_raw_parts(data, data_len), from) {

@@ -20,7 +20,7 @@
 
 use crate::ffi::*;
 use crate::table::{self, next, value};
-use crate::{DefinitionError, FileFault, Number, RecordFault, Refusal, Value};
+use crate::{DefinitionError, FileFault, Number, RecordFault, Refusal, Text, Value};
 
 /// How many rows and lines a definition was read into.
 #[derive(Clone, Copy, Debug, PartialEq, Eq)]
@@ -132,6 +132,28 @@ pub fn read_record(
         )
     };
     Refusal::of(number).map_or(Ok((answer[1] as usize, answer[2] as usize)), Err)
+}
+
+/// Decodes a text of a definition, a name, a label or a line's text, by the place and length that the table has of it. Its signs go
+/// to the start of the list and are answered as a part of it. [`Refusal::Mark`] where those bytes are not the inside of a text,
+/// [`Refusal::ListRoom`] where the list is shorter than it; it has at most `length` signs.
+///
+/// ```
+/// use zarfolin::{Refusal, calls};
+/// let definition = b"..\"a{NL}b\"..";
+/// let mut list = [0; 6];
+/// let text = calls::decode_text(definition, 3, 6, &mut list)?;
+/// assert!(text.bytes(b' ').eq(*b"a b"));
+/// assert_eq!(calls::decode_text(definition, 3, 4, &mut list), Err(Refusal::Mark));
+/// # Ok::<(), Refusal>(())
+/// ```
+pub fn decode_text<'a>(def: &[u8], place: u64, length: u64, list: &'a mut [i64]) -> Result<Text<'a>, Refusal> {
+    let mut answer = [0i64; 4];
+    // SAFETY: as above.
+    let number = unsafe {
+        zarfolin_decode_text(def.as_ptr(), def.len(), place, length, list.as_mut_ptr(), list.len(), answer.as_mut_ptr())
+    };
+    Refusal::of(number).map_or(Ok(Text::of(&list[..answer[1] as usize])), Err)
 }
 
 /// Judges a whole record.

@@ -102,6 +102,17 @@ unsafe extern "C" {
         answer: *mut i64,
     ) -> Number;
 
+    /// Decodes a text of a definition. [`calls::decode_text`](crate::calls::decode_text).
+    pub fn zarfolin_decode_text(
+        def: *const u8,
+        def_len: usize,
+        place: u64,
+        length: u64,
+        list: *mut i64,
+        list_len: usize,
+        answer: *mut i64,
+    ) -> Number;
+
     /// Finds the record that starts at `from`. [`calls::next_record`](crate::calls::next_record).
     pub fn zarfolin_next_record(data: *const u8, data_len: usize, from: u64, answer: *mut i64) -> Number;
 

@@ -44,7 +44,7 @@
 //!
 //! The feature `ffi`, on unless it is turned off, links `libzarfolin.a` from `target/staticlib` of the repository, where
 //! `rt staticlib zarfolin` puts it, or from the folder that `ZARFOLIN_LIB_DIR` names. When the crate is built it holds its
-//! [`VERSION`] against the header's and the archive's. Without the feature only [`table`], [`Refusal`] and [`Value`] are there.
+//! [`VERSION`] against the header's and the archive's. Without the feature only [`table`], [`Refusal`], [`Text`] and [`Value`] are there.
 
 #![no_std]
 
@@ -53,8 +53,10 @@ extern crate alloc;
 
 mod refusal;
 pub mod table;
+mod text;
 
 pub use refusal::{DefinitionError, FileFault, Number, RecordFault, Refusal};
+pub use text::{Sign, Text};
 
 /// The version of the face that this crate is written for.
 pub const VERSION: u64 = 1;

@@ -65,8 +65,8 @@ refusals! {
     TooLong = 1, "the definition is longer than 1,048,576 bytes";
     /// 2: another token was due.
     Token = 2, "another word, number or text was due here";
-    /// 3: string or comment unclosed, bad brace form, level 33.
-    Mark = 3, "a string or comment is not closed, has a bad brace form, or is a comment of level 33";
+    /// 3: string or comment unclosed, bad brace form, level 33; bytes to be decoded that are not the inside of a text.
+    Mark = 3, "a string or comment is not closed, has a bad brace form, or is a comment of level 33, or these bytes are no text";
     /// 4: version not 1.1.
     Version = 4, "the version is not 1.1";
     /// 5: ident 0, over four digits, or repeated.
@@ -91,8 +91,8 @@ refusals! {
     LowByte = 23, "the record has a byte below 32";
     /// 24: field illegal.
     Field = 24, "the field holds no legal value";
-    /// 25: set list shorter than the set.
-    ListRoom = 25, "the lent list is too short for this set";
+    /// 25: list shorter than the set, or than the text.
+    ListRoom = 25, "the lent list is too short for this set or text";
     /// 26: value of another type.
     Type = 26, "the value does not fit the variable's type";
     /// 27: value not legal.

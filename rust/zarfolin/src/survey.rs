@@ -2,7 +2,7 @@
 
 use crate::calls;
 use crate::table::{self, column, header, kind, limit, line};
-use crate::{DefinitionError, FileFault, RecordFault, Refusal, Value};
+use crate::{DefinitionError, FileFault, RecordFault, Refusal, Text, Value};
 use alloc::vec;
 use alloc::vec::Vec;
 use core::fmt;
@@ -138,8 +138,8 @@ impl fmt::Debug for Definition<'_> {
     }
 }
 
-/// A text of a definition as it stands there: undecoded. Bytes below 32 are to be dropped, and `{"}`, `{{}`, `{NL}` and `{hex}`
-/// stand for other bytes. No proved call decodes it yet.
+/// A text of a definition as it stands there: undecoded. Bytes below 32 are to be dropped, `{"}`, `{{}` and `{hex}` stand for other
+/// bytes, and `{NL}` for a new line. [`decode`](RawText::decode) does so.
 #[derive(Clone, Copy, PartialEq, Eq, Hash, PartialOrd, Ord)]
 pub struct RawText<'t>(&'t [u8]);
 
@@ -147,6 +147,22 @@ impl<'t> RawText<'t> {
     /// The undecoded bytes.
     pub fn as_bytes(self) -> &'t [u8] {
         self.0
+    }
+
+    /// Decodes it: its signs go to the start of the lent list, which is long enough where it has as many numbers as there are undecoded bytes.
+    ///
+    /// ```
+    /// # use zarfolin::{Definition, Refusal, Sign};
+    /// let text = b"SSS VERSION 1.1 SURVEY RECORD R VARIABLE 1 NAME \"q\" LABEL \"a{NL}{0A}\" TYPE LOGICAL POSITION 1 END VARIABLE
+    ///     END RECORD END SURVEY END SSS";
+    /// let definition = Definition::read(text).unwrap();
+    /// let label = definition.variable(0).unwrap().label();
+    /// let mut list = vec![0; label.as_bytes().len()];
+    /// assert!(label.decode(&mut list)?.signs().eq([Sign::Byte(b'a'), Sign::Break, Sign::Byte(10)]));
+    /// # Ok::<(), Refusal>(())
+    /// ```
+    pub fn decode(self, list: &mut [i64]) -> Result<Text<'_>, Refusal> {
+        calls::decode_text(self.0, 0, self.0.len() as u64, list)
     }
 }
 

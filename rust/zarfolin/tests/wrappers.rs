@@ -24,6 +24,28 @@ fn versions() {
     assert_eq!(calls::version(), VERSION);
 }
 
+/// A new line and byte 10 are told apart: in a label, by the place and length that the table has of it.
+#[test]
+fn texts() {
+    let def = b"SSS VERSION 1.1 SURVEY RECORD R VARIABLE 1 NAME \"q\" LABEL \"a{NL}b{0A}\r\nc\" TYPE LOGICAL POSITION 1 END VARIABLE
+        END RECORD END SURVEY END SSS";
+    let definition = Definition::read(def).unwrap();
+    let row = &definition.table()[table::row_at(0)..];
+    let (place, length) = (row[table::column::LABEL] as u64, row[table::column::LABEL_LENGTH] as u64);
+    let mut list = vec![-1; length as usize];
+    let label = calls::decode_text(def, place, length, &mut list).unwrap();
+    let signs = [Sign::Byte(b'a'), Sign::Break, Sign::Byte(b'b'), Sign::Byte(10), Sign::Byte(b'c')];
+    assert!(label.signs().eq(signs));
+    assert!(label.lines().map(Text::len).eq([1, 3]));
+    assert!(list[5..].iter().all(|&x| x == -1));
+    let label = definition.variable(0).unwrap().label();
+    assert!(label.decode(&mut list).unwrap().signs().eq(signs));
+    assert_eq!(label.decode(&mut []), Err(Refusal::ListRoom));
+    assert_eq!(calls::decode_text(def, place, length, &mut [0; 4]), Err(Refusal::ListRoom));
+    assert_eq!(calls::decode_text(def, place, length + 1, &mut [0; 40]), Err(Refusal::Mark));
+    assert_eq!(calls::decode_text(def, u64::MAX, u64::MAX, &mut [0; 4]), Err(Refusal::Mark));
+}
+
 /// Every call over slices.
 #[test]
 fn read_judge_write() {

@@ -9,6 +9,7 @@ use lib.Dec.{ltb}
 use lib.IntN.{ℤ}
 use lib.ListN.{length}
 use Rattle.cells.specs.rule.Cell.{pasted}
+use Rattle.signs.specs.declared.Sign.{Sign}
 use Rattle.scan.specs.rule.Text.{text}
 use Rattle.marks.specs.declared.Inside.the-variants.{Plain}
 use Rattle.marks.specs.rule.Spelling.{decodeOf}
@@ -29,7 +30,7 @@ unfoldable pub fitting : ℕ → List Variable → Outcome
 fitting n l = cond (ltb n (length (tableOf l))) (Refusal 10 0) (Built l)
 
 -- "With STANDARD NAMES, each decoded name ..", in the order of the file
-unfoldable pub namesOf : List ℕ → List Variable → List (List ℕ)
+unfoldable pub namesOf : List ℕ → List Variable → List (List Sign)
 namesOf d l = map (λ v. decodeOf Plain 0 (text d (v .name .place))) l
 
 -- "Refusal 9 stands at the opening quote of the name at fault": of name i

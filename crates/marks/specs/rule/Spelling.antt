@@ -1,8 +1,10 @@
--- Strings and comments as the paper has them, and the bytes that a string says. 34 is a quote, 123 and 125 are { and }, 78 and 76 are
+-- The signs that a string says, a byte or a break each. 34 is a quote, 123 and 125 are { and }, 78 and 76 are
 -- N and L, 60 and 62 are < and >.
 use mathlib.Core.Bool.{cond}
 use mathlib.Core.List.{List, [], _∷_, _++_}
 use Prim.Native.Nat.{ℕ, _+_, _*_, _-_}
+use Rattle.signs.specs.declared.Sign.{Sign}
+use Rattle.signs.specs.declared.Sign.the-variants.{Byte, Break}
 use Rattle.scan.specs.rule.Text.{Text, stop, sign}
 use Rattle.ascii.specs.rule.Class.{upperOf}
 use Rattle.scan.specs.rule.Number.{isDigit}
@@ -20,21 +22,21 @@ hexOf b = cond (isDigit b) (b - 48) (upperOf b - 55)
 abbrev pub pairOf : ℕ → ℕ → ℕ
 pairOf a b = hexOf a * 16 + hexOf b
 
--- the byte that a string's byte b ends, where b follows a: none or one
-unfoldable pub givesOf : Inside → ℕ → ℕ → List ℕ
-givesOf Plain a b = cond (eqb b 123) [] (b ∷ [])
-givesOf (Opened o) a b = cond (eqb b 34) (b ∷ []) (cond (eqb b 123) (b ∷ []) [])
+-- the sign that a string's byte b ends, where b follows a: none or one; {NL} is a break, and no other form has one
+unfoldable pub givesOf : Inside → ℕ → ℕ → List Sign
+givesOf Plain a b = cond (eqb b 123) [] (Byte b ∷ [])
+givesOf (Opened o) a b = cond (eqb b 34) (Byte b ∷ []) (cond (eqb b 123) (Byte b ∷ []) [])
 givesOf (Shut o) a b = []
-givesOf (Ell o) a b = 10 ∷ []
+givesOf (Ell o) a b = Break ∷ []
 givesOf (Pair o) a b = []
-givesOf (Low o) a b = pairOf a b ∷ []
+givesOf (Low o) a b = Byte (pairOf a b) ∷ []
 
-abbrev pub gone : Move → List ℕ → (Inside → List ℕ) → List ℕ
+abbrev pub gone : Move → List Sign → (Inside → List Sign) → List Sign
 gone (Go s) m k = m ++ k s
 gone Closed m k = []
 gone (Wrong o) m k = []
 
--- the bytes that a string says, read on from s, where a was the byte before
-unfoldable pub decodeOf : Inside → ℕ → Text → List ℕ
+-- the signs that a string says, read on from s, where a was the byte before
+unfoldable pub decodeOf : Inside → ℕ → Text → List Sign
 decodeOf s a (stop p) = []
 decodeOf s a (sign p b t) = gone (insideOf s b p) (givesOf s a b) (λ s. decodeOf s b t)
