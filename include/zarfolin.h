@@ -105,7 +105,12 @@ enum {
 enum { ZARFOLIN_BREAK = 256 };
 
 /* The terminators, as zarfolin_judge_part takes them. */
-enum { ZARFOLIN_CR_LF = 1, ZARFOLIN_LF_CR = 2, ZARFOLIN_CR = 3, ZARFOLIN_LF = 4 };
+enum {
+    ZARFOLIN_CR_LF = 1,
+    ZARFOLIN_LF_CR = 2,
+    ZARFOLIN_CR = 3,
+    ZARFOLIN_LF = 4
+};
 
 /* What zarfolin_next_record returns. */
 enum {
@@ -347,6 +352,7 @@ zarfolin_number zarfolin_next_record(const uint8_t *data, size_t data_len, uint6
 /* A write to a row that is no MULTIPLE, where the idents and each row's values rise, or are 24 at most. */
 #define ZARFOLIN_STACK_WRITE_PLAIN 1000
 #define ZARFOLIN_STACK_JUDGE_FILE 27500
+#define ZARFOLIN_STACK_JUDGE_PART 27500
 #define ZARFOLIN_STACK_NEXT_RECORD 128
 #define ZARFOLIN_STACK_VERSION 16
 
