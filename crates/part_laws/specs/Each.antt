@@ -1,5 +1,4 @@
--- A FILE AS EACH OF ITS RECORDS: found one by one by the next-record call, and judged one by one by the record call, its records give the
--- file's own verdict.
+-- A FILE AS EACH OF ITS RECORDS (rule/Each): found one by one and judged one by one they give the file's own verdict.
 use mathlib.Core.Path.{_≡_, refl, sym, ap, _∙_}
 use mathlib.Core.Bool.{Bool, true, false, cond}
 use mathlib.Core.List.{List}
@@ -22,18 +21,7 @@ use Rattle.files.specs.rule.File.{FileVerdict, soundWith, badTable, faultIn, re
 use Rattle.files.specs.rule.File.{isSound}
 use Rattle.files.specs.File.{go-sound, go-fault, verdict-other, records-over, records-unended, records-next}
 use Rattle.file_laws.specs.Files.{record-as-judged}
-
--- whoever goes through d from a place on, behind n records, the first of `first` bytes, and ends at v: at each place the next record is
--- found, its length held beside the first one's, and its bytes are judged
-pub data Driven (t : List ℤ) (d : List ℕ) : ℕ → ℕ → ℕ → FileVerdict → Type 0 where
-  at-end : {from n first : ℕ} → nextOf d from ≡ Nothing → Driven t d from n first (soundWith n)
-  without-end : {from n first a e : ℕ} → nextOf d from ≡ Unended a e → Driven t d from n first (faultIn (n + 1) (refused 30))
-  other-length : {from n first a e next : ℕ} → nextOf d from ≡ Ended a e next → (e - a ≡ firstLength n first (e - a) → ⊥)
-      → Driven t d from n first (faultIn (n + 1) (refused 31))
-  at-fault : {from n first a e next : ℕ} → nextOf d from ≡ Ended a e next → e - a ≡ firstLength n first (e - a)
-      → isSound (verdictOf t (part d a e)) ≡ false → Driven t d from n first (faultIn (n + 1) (verdictOf t (part d a e)))
-  goes-on : {from n first a e next : ℕ} {v : FileVerdict} → nextOf d from ≡ Ended a e next → e - a ≡ firstLength n first (e - a)
-      → isSound (verdictOf t (part d a e)) ≡ true → Driven t d next (n + 1) (firstLength n first (e - a)) v → Driven t d from n first v
+use Rattle.part_laws.specs.rule.Each.{Driven, at-end, without-end, other-length, at-fault, goes-on, Drive}
 
 module _ (t : List ℤ) (d : List ℕ) (good : wellFormed t ≡ true) where
   abbrev w : Terminator
@@ -81,11 +69,12 @@ module _ (t : List ℤ) (d : List ℕ) (good : wellFormed t ≡ true) where
   unfolding fileVerdict recordsOf
   once-as-each g = rw good (each g)
 
--- ---- and whoever goes so comes to an end
-pub record Drive (t : List ℤ) (d : List ℕ) (from n first : ℕ) : Type 0 where
-  pub verdict : FileVerdict
-  pub run : Driven t d from n first verdict
+-- a table that is not well formed is told of before any record
+pub once-bad : (t : List ℤ) (d : List ℕ) → wellFormed t ≡ false → fileVerdict t d ≡ badTable
+unfolding fileVerdict
+once-bad t d bad = rw bad
 
+-- ---- and whoever goes so comes to an end
 module _ (t : List ℤ) (d : List ℕ) where
   -- at a record that was found: its length, its bytes, and then the next place
   drive-found : {a e next : ℕ} (from n first : ℕ) → nextOf d from ≡ Ended a e next

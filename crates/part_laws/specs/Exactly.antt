@@ -1,5 +1,4 @@
--- EXACTLY WHEN, for a part of a file: 20 where the table is not well formed, 29 where the number is none of 1 to 4; else the first record
--- that fails is named, with its number, or the count of those that are ended and sound. Both ways.
+-- EXACTLY WHEN, for a part of a file (rule/Exactly): what is so has its verdict, and the verdict names what is so.
 use mathlib.Core.Path.{_≡_, refl, sym, ap, _∙_}
 use mathlib.Core.Logic.{_⊎_, inl, inr, ⊎-elim}
 use mathlib.Core.Bool.{Bool, true, false, cond, not}
@@ -21,38 +20,15 @@ use Rattle.files.specs.File.{go-sound, go-fault, verdict-other}
 use Rattle.file_laws.specs.rule.Files.{before, AllSound, none-yet, one-more}
 use Rattle.file_laws.specs.Files.{record-as-judged}
 use Rattle.file_laws.specs.Files.{not-sound, is-sound, sound-not, before-more, sound-more}
-use Rattle.parts.specs.rule.Part.{numbered, partRecords, PartVerdict, noTerminator, judgedAs, partVerdict}
+use Rattle.parts.specs.rule.Part.{numbered, partRecords, PartVerdict, noTerminator, judgedAs, partVerdict, PartJudged}
 use Rattle.parts.specs.Part.{part-bad, part-none, part-judged}
+use Rattle.part_laws.specs.rule.Exactly.{IsNumber, SoundIn, PartOutcome, not-formed, no-number, all-sound, left-alone, not-ended}
+use Rattle.part_laws.specs.rule.Exactly.{other-length, record-fault}
 
--- ---- the words
--- 1 CR LF, 2 LF CR, 3 CR, 4 LF
-pub record IsNumber (k : ℕ) : Type 0 where
-  pub least : 1 ≤ k
-  pub most : k ≤ 4
-
--- the records rs of a part, by a well-formed table and a terminator's number, are sound, and `rest` follows them
-pub record SoundIn (t : List ℤ) (d : List ℕ) (terminator first : ℕ) (rs : List (List ℕ)) (rest : Records) : Type 0 where
-  pub formed : wellFormed t ≡ true
-  pub number : IsNumber terminator
-  pub records : recordsFrom (numbered terminator) d ≡ before rs rest
-  pub all : AllSound t first rs
-
-pub data PartOutcome (t : List ℤ) (d : List ℕ) (terminator first last : ℕ) : PartVerdict → Type 0 where
-  not-formed : wellFormed t ≡ false → PartOutcome t d terminator first last (judgedAs badTable)
-  no-number : wellFormed t ≡ true → (IsNumber terminator → ⊥) → PartOutcome t d terminator first last noTerminator
-  -- all records are ended and sound: their count
-  all-sound : (rs : List (List ℕ)) → SoundIn t d terminator first rs over
-      → PartOutcome t d terminator first last (judgedAs (soundWith (length rs)))
-  -- more of the file follows: a record that the part ends without is left alone, in the last part it is refused
-  left-alone : (rs : List (List ℕ)) (r : List ℕ) → last ≡ 0 → SoundIn t d terminator first rs (unended r)
-      → PartOutcome t d terminator first last (judgedAs (soundWith (length rs)))
-  not-ended : (rs : List (List ℕ)) (r : List ℕ) → (last ≡ 0 → ⊥) → SoundIn t d terminator first rs (unended r)
-      → PartOutcome t d terminator first last (judgedAs (faultIn (length rs + 1) (refused 30)))
-  other-length : (rs : List (List ℕ)) (r : List ℕ) (rest : Records) → SoundIn t d terminator first rs (record-and r rest)
-      → (length r ≡ first → ⊥) → PartOutcome t d terminator first last (judgedAs (faultIn (length rs + 1) (refused 31)))
-  record-fault : (rs : List (List ℕ)) (r : List ℕ) (rest : Records) → SoundIn t d terminator first rs (record-and r rest)
-      → length r ≡ first → (verdictOf t r ≡ sound → ⊥)
-      → PartOutcome t d terminator first last (judgedAs (faultIn (length rs + 1) (verdictOf t r)))
+-- ---- one answer
+pub part-one : {t : List ℤ} {d : List ℕ} {terminator first last : ℕ} {v₁ v₂ : PartVerdict}
+    → PartJudged t d terminator first last v₁ → PartJudged t d terminator first last v₂ → v₁ ≡ v₂
+part-one a b = a .says ∙ sym (b .says)
 
 -- ---- the numbers
 chosen : (a b c d : Bool) → Terminator

@@ -1,5 +1,4 @@
--- A FILE IN PARTS: cut at any places into parts, each beginning where the one before left off, it gets its own verdict. Where a part left
--- off is told by its count: each sound record has the first one's length and its terminator.
+-- A FILE IN PARTS (rule/Parts) gets its own verdict; where a part left off; the number of a file's terminator.
 use mathlib.Core.Path.{_≡_, refl, sym, ap, _∙_}
 use mathlib.Core.Bool.{Bool, true, false, cond, not, _&&_}
 use mathlib.Core.List.{List, [], _∷_, _++_}
@@ -27,24 +26,10 @@ use Rattle.files.specs.File.{go-sound, go-fault}
 use Rattle.file_laws.specs.rule.Files.{firstOf, before, AllSound, none-yet, one-more}
 use Rattle.parts.specs.rule.Part.{numbered, partRecords, PartVerdict, noTerminator, judgedAs, partVerdict}
 use Rattle.parts.specs.Part.{part-bad, part-judged}
-use Rattle.part_laws.specs.Exactly.{IsNumber, number-some, PartOutcome, not-formed, no-number, all-sound, left-alone, not-ended}
-use Rattle.part_laws.specs.Exactly.{other-length, record-fault, part-named}
-
--- ---- the words
--- what is told of a part behind n records: its fault, shifted by them, or, where it is sound, what `rest` says behind its own
-unfoldable pub followed : ℕ → PartVerdict → (ℕ → PartVerdict) → PartVerdict
-followed n noTerminator rest = noTerminator
-followed n (judgedAs (soundWith m)) rest = rest m
-followed n (judgedAs badTable) rest = judgedAs badTable
-followed n (judgedAs (faultIn j v)) rest = judgedAs (faultIn (n + j) v)
-
--- the verdict on s, which is left of a file behind n records, part by part: each but the last takes so many bytes, if there are so many,
--- and the next begins where it left off; the last takes all that is left, and is marked as the last
-unfoldable pub inParts : List ℤ → ℕ → ℕ → ℕ → List ℕ → List ℕ → PartVerdict
-inParts t terminator first n s [] = followed n (partVerdict t s terminator first 1) (λ m. judgedAs (soundWith (n + m)))
-inParts t terminator first n s (size ∷ sizes) =
-    followed n (partVerdict t (take size s) terminator first 0)
-    (λ m. inParts t terminator first (n + m) (drop (m * (first + numbered terminator .size)) s) sizes)
+use Rattle.part_laws.specs.rule.Exactly.{IsNumber, PartOutcome, not-formed, no-number, all-sound, left-alone, not-ended}
+use Rattle.part_laws.specs.rule.Exactly.{other-length, record-fault}
+use Rattle.part_laws.specs.rule.Parts.{followed, inParts, FileNumber, has-none, has}
+use Rattle.part_laws.specs.Exactly.{number-some, part-named}
 
 -- ---- the records of a part are the first of those that are left, but for one that it ends without
 pub data Begins : Records → Records → Type 0 where
@@ -334,10 +319,6 @@ left-off t d terminator first last m e = go (part-named t d terminator first las
     go (record-fault rs r rest s l n) q = let z : _≡_ {A = ℕ} 0 1 = cc in absurd (omega arith)
 
 -- ---- every file that has a CR or a LF has a terminator with a number
-pub data FileNumber (d : List ℕ) : Type 0 where
-  has-none : terminatorOf d ≡ none → FileNumber d
-  has : (k : ℕ) → IsNumber k → terminatorOf d ≡ numbered k → FileNumber d
-
 number-at : (k l : ℕ) (a b : ℕ) (s : List ℕ) → numbered k ≡ pair a b → numbered l ≡ single a b
     → terminatorAt a b s ≡ numbered (cond (beginsWith b s) k l)
 unfolding terminatorAt
