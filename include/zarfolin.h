@@ -94,6 +94,8 @@ enum {
     ZARFOLIN_E_TYPE = 26,      /* value of another type */
     ZARFOLIN_E_VALUE = 27,     /* value not legal */
     ZARFOLIN_E_MEMBERS = 28,   /* more members than subfields */
+    /* of a part of a data file */
+    ZARFOLIN_E_TERMINATOR = 29, /* number of no terminator: none of ZARFOLIN_CR_LF to ZARFOLIN_LF */
     /* of a data file */
     ZARFOLIN_E_UNENDED = 30, /* last record has no terminator */
     ZARFOLIN_E_LENGTH = 31   /* length differs from the first record's */
@@ -101,6 +103,14 @@ enum {
 
 /* The number of a break, a new line, in a decoded text, beside the bytes 0 to 255. */
 enum { ZARFOLIN_BREAK = 256 };
+
+/* The terminators, as zarfolin_judge_part takes them. */
+enum {
+    ZARFOLIN_CR_LF = 1,
+    ZARFOLIN_LF_CR = 2,
+    ZARFOLIN_CR = 3,
+    ZARFOLIN_LF = 4
+};
 
 /* What zarfolin_next_record returns. */
 enum {
@@ -305,6 +315,20 @@ zarfolin_number zarfolin_write_text(const int64_t *table, size_t table_len, uint
 zarfolin_number zarfolin_judge_file(const int64_t *table, size_t table_len, const uint8_t *data, size_t data_len,
                                     int64_t *answer);
 
+/* Judges a part of a data file: for files read in blocks, or judged on many cores.
+ *
+ * The part begins where a record does. terminator: that of the file, ZARFOLIN_CR_LF to ZARFOLIN_LF; first_len: the length of
+ * the file's first record, without its terminator. last: 0 where more of the file follows: a record that the part ends
+ * without is then left alone; any other number: it is 30.
+ * Answers 0, or 20, or 29, or for the part's first faulty record the first of 30, 31, 22, 23, 24 that holds.
+ * answer: as zarfolin_judge_file's, the records counted in the part; zeros behind 29.
+ * On 0 the part left off behind its count of records: `count * (first_len + size)` bytes from its start, where size is 2 for
+ * ZARFOLIN_CR_LF and ZARFOLIN_LF_CR, 1 for the others. The next part begins there. The parts of a file give its own answer:
+ * the first fault, its record counted on by the parts before, or the sum of the counts.
+ * table, data: only read. */
+zarfolin_number zarfolin_judge_part(const int64_t *table, size_t table_len, const uint8_t *data, size_t data_len,
+                                    uint64_t terminator, uint64_t first_len, uint64_t last, int64_t *answer);
+
 /* Finds the record that starts at `from`, by the terminator that the file's first CR or LF settles.
  *
  * Answers ZARFOLIN_RECORD, ZARFOLIN_OPEN_RECORD or ZARFOLIN_NO_RECORD; there is no refusal.
@@ -328,6 +352,7 @@ zarfolin_number zarfolin_next_record(const uint8_t *data, size_t data_len, uint6
 /* A write to a row that is no MULTIPLE, where the idents and each row's values rise, or are 24 at most. */
 #define ZARFOLIN_STACK_WRITE_PLAIN 1000
 #define ZARFOLIN_STACK_JUDGE_FILE 27500
+#define ZARFOLIN_STACK_JUDGE_PART 27500
 #define ZARFOLIN_STACK_NEXT_RECORD 128
 #define ZARFOLIN_STACK_VERSION 16
 
@@ -377,6 +402,7 @@ ZARFOLIN_INLINE const char *zarfolin_message(zarfolin_number number) {
     case ZARFOLIN_E_TYPE: return "the value does not fit the variable's type";
     case ZARFOLIN_E_VALUE: return "the value is not legal for this variable";
     case ZARFOLIN_E_MEMBERS: return "the set has more members than the variable has subfields";
+    case ZARFOLIN_E_TERMINATOR: return "no terminator has this number";
     case ZARFOLIN_E_UNENDED: return "the last record has no terminator";
     case ZARFOLIN_E_LENGTH: return "the record's length differs from the first record's";
     default: return "refused for a reason that this header does not know";

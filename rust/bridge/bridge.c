@@ -1,7 +1,7 @@
 /* The library behind two pipes, for comparing where it can't be linked: the archive is for x86-64, and on another machine
  * this program runs under an emulator while the tests run outside it.
  *
- * A request: eight 64-bit numbers (call, row or from, number, then the lengths of table, list, bytes, text and out), then
+ * A request: nine 64-bit numbers (call, row or from, number, the lengths of table, list, bytes, text and out, last), then
  * the table, the list, the bytes, the text and out themselves. A reply: the number returned, the four answers, 1 if
  * anything changed that the call may not change (an input, or a byte around a buffer), then the buffer that the call may
  * change (of two the list, then out). All numbers as this machine lays them out: little-endian. Ends when its input ends. */
@@ -15,7 +15,7 @@
 #define ANSWER INT64_C(0x7a6172666f6c696e)
 
 enum { READ_DEFINITION, READ_VALUE, JUDGE_RECORD, WRITE_MISSING, WRITE_NUMBER, WRITE_TRUTH, WRITE_SET, WRITE_TEXT, JUDGE_FILE, NEXT_RECORD,
-       READ_RECORD, DECODE_TEXT };
+       READ_RECORD, DECODE_TEXT, JUDGE_PART };
 
 static int take(void *to, size_t length) { return length == 0 || fread(to, 1, length, stdin) == length; }
 
@@ -68,7 +68,7 @@ static int kept(const struct lent *b, int may_change) {
 
 int main(void) {
     static struct lent table, list, bytes, text, out;
-    uint64_t head[8];
+    uint64_t head[9];
     while (take(head, sizeof head)) {
         if (!fill(&table, head[3] * 8) || !fill(&list, head[4] * 8) || !fill(&bytes, head[5]) || !fill(&text, head[6]) ||
             !fill(&out, head[7] * 8)) {
@@ -128,6 +128,9 @@ int main(void) {
         case DECODE_TEXT:
             may_change = &list;
             number = zarfolin_decode_text(b, head[5], row, head[2], l, head[4], a);
+            break;
+        case JUDGE_PART:
+            number = zarfolin_judge_part(t, head[3], b, head[5], row, head[2], head[8], a);
             break;
         default:
             return 2;

@@ -230,13 +230,53 @@ static void files(void) {
     CHECK(is(answer, 2, 23, 44, 44));
 }
 
+/* Parts of files: a part's own answers, and a file cut at every place, whose parts give its own. */
+static void parts(void) {
+    static const char data[] = " 710x1x-1.0ab   120 1\r\n    x x              \r\n12  x x              \r\n";
+    static const char field[] = " 710x1x-1.0ab   120 1\r\n13  x x              \r\n";
+    const size_t length = sizeof data - 1;
+    int64_t answer[4];
+
+    CHECK(zarfolin_judge_part(table, table_len, bytes(data), length, ZARFOLIN_CR_LF, 21, 0, answer) == ZARFOLIN_OK);
+    CHECK(is(answer, 0, 3, 0, 0));
+    CHECK(zarfolin_judge_part(table, table_len, bytes(data), length - 1, ZARFOLIN_CR_LF, 21, 0, answer) == ZARFOLIN_OK);
+    CHECK(is(answer, 0, 2, 0, 0));
+    CHECK(zarfolin_judge_part(table, table_len, bytes(data), length - 1, ZARFOLIN_CR_LF, 21, 256, answer) == ZARFOLIN_E_UNENDED);
+    CHECK(is(answer, 30, 3, 0, 0));
+    CHECK(zarfolin_judge_part(table, table_len, bytes(data), length, ZARFOLIN_CR_LF, 20, 0, answer) == ZARFOLIN_E_LENGTH);
+    CHECK(is(answer, 31, 1, 0, 0));
+    CHECK(zarfolin_judge_part(table, table_len, bytes(data), length, ZARFOLIN_CR, 21, 0, answer) == ZARFOLIN_E_LENGTH);
+    CHECK(is(answer, 31, 2, 0, 0));
+    CHECK(zarfolin_judge_part(table, table_len, bytes("x\n"), 2, ZARFOLIN_LF, 1, 0, answer) == ZARFOLIN_E_SHORT);
+    CHECK(is(answer, 22, 1, 0, 0));
+    CHECK(zarfolin_judge_part(table, table_len, bytes(data), length, ZARFOLIN_LF, 22, 0, answer) == ZARFOLIN_E_LOW_BYTE);
+    CHECK(is(answer, 23, 1, 0, 21));
+    CHECK(zarfolin_judge_part(table, table_len, bytes(field), sizeof field - 1, ZARFOLIN_CR_LF, 21, 1, answer) == ZARFOLIN_E_FIELD);
+    CHECK(is(answer, 24, 2, 0, 0));
+    CHECK(zarfolin_judge_part(table, table_len, bytes(""), 0, ZARFOLIN_LF_CR, 21, 1, answer) == ZARFOLIN_OK);
+    CHECK(is(answer, 0, 0, 0, 0));
+    CHECK(zarfolin_judge_part(table, table_len, bytes(data), length, 0, 21, 1, answer) == ZARFOLIN_E_TERMINATOR);
+    CHECK(zarfolin_judge_part(table, table_len, bytes(data), length, 257, 21, 1, answer) == ZARFOLIN_E_TERMINATOR);
+    CHECK(is(answer, 29, 0, 0, 0));
+    CHECK(zarfolin_judge_part(table, 5, bytes(data), length, 5, 21, 1, answer) == ZARFOLIN_E_TABLE);
+    CHECK(is(answer, 20, 0, 0, 0));
+
+    for (size_t stop = 0; stop <= length; stop++) {
+        CHECK(zarfolin_judge_part(table, table_len, bytes(data), stop, ZARFOLIN_CR_LF, 21, 0, answer) == ZARFOLIN_OK);
+        const int64_t count = answer[1];
+        const size_t done = (size_t)count * (21 + 2);
+        CHECK(zarfolin_judge_part(table, table_len, bytes(data) + done, length - done, ZARFOLIN_CR_LF, 21, 1, answer) == ZARFOLIN_OK);
+        CHECK(count + answer[1] == 3);
+    }
+}
+
 /* Every refusal has words of its own, and a number of none has some too. */
 static void messages(void) {
     CHECK(zarfolin_version() == ZARFOLIN_VERSION);
     const char *unknown = zarfolin_message(99);
-    CHECK(strlen(unknown) > 0 && zarfolin_message(UINT64_MAX) == unknown && zarfolin_message(29) == unknown);
+    CHECK(strlen(unknown) > 0 && zarfolin_message(UINT64_MAX) == unknown);
     for (zarfolin_number a = 0; a <= ZARFOLIN_E_LENGTH; a++) {
-        const int none = (a > ZARFOLIN_E_TABLE_ROOM && a < ZARFOLIN_E_TABLE) || a == 29;
+        const int none = a > ZARFOLIN_E_TABLE_ROOM && a < ZARFOLIN_E_TABLE;
         CHECK((strcmp(zarfolin_message(a), unknown) == 0) == none);
         for (zarfolin_number b = 0; b < a && !none; b++) {
             CHECK(strcmp(zarfolin_message(a), zarfolin_message(b)) != 0);
@@ -252,6 +292,7 @@ int main(void) {
     texts();
     writes();
     files();
+    parts();
     printf("face for C: %d checks, all as they should be\n", checks);
     return 0;
 }

@@ -34,6 +34,7 @@ static uint8_t record[ZARFOLIN_MAX_LOCATION + 8];
 static size_t record_len;
 static uint64_t row;
 static uint64_t place, length;
+static uint64_t terminator, first_len, last;
 static int64_t number;
 static int64_t answer[ZARFOLIN_ANSWER];
 static volatile zarfolin_number got;
@@ -55,6 +56,7 @@ static void write_truth(void) { got = zarfolin_write_truth(TABLE, row, (uint8_t)
 static void write_set(void) { got = zarfolin_write_set(TABLE, row, list, list_len, record, record_len); }
 static void write_text(void) { got = zarfolin_write_text(TABLE, row, (const uint8_t *)def, (size_t)number, record, record_len); }
 static void judge_file(void) { got = zarfolin_judge_file(TABLE, record, record_len, answer); }
+static void judge_part(void) { got = zarfolin_judge_part(TABLE, record, record_len, terminator, first_len, last, answer); }
 static void next_record(void) { got = zarfolin_next_record(record, record_len, row, answer); }
 
 static struct measured {
@@ -76,6 +78,7 @@ static struct measured {
     {"zarfolin_write_set", write_set, ZARFOLIN_STACK_WRITE, 0, 0},
     {"zarfolin_write_text", write_text, ZARFOLIN_STACK_WRITE, 0, 0},
     {"zarfolin_judge_file", judge_file, ZARFOLIN_STACK_JUDGE_FILE, 0, 0},
+    {"zarfolin_judge_part", judge_part, ZARFOLIN_STACK_JUDGE_PART, 0, 0},
     {"zarfolin_next_record", next_record, ZARFOLIN_STACK_NEXT_RECORD, 0, 0},
 };
 enum { CALLS = sizeof calls / sizeof calls[0] };
@@ -213,6 +216,14 @@ static void files(void) {
                 memcpy(record + record_len, ends[e], strlen(ends[e]));
                 record_len += strlen(ends[e]);
                 measure(judge_file);
+                for (terminator = 0; terminator <= 5; terminator++) {
+                    for (last = 0; last < 2; last++) {
+                        first_len = length;
+                        measure(judge_part);
+                        first_len = record_len;
+                        measure(judge_part);
+                    }
+                }
                 for (row = 0; row <= record_len; row += record_len / 3 + 1) {
                     measure(next_record);
                 }

@@ -37,6 +37,7 @@ static void write_set(void) { got = zarfolin_write_set(TABLE, row, list, list_le
 static void read_value(void) { got = zarfolin_read_value(TABLE, row, WHOLE, out, 9999, answer); }
 static void judge_record(void) { got = zarfolin_judge_record(TABLE, WHOLE, answer); }
 static void judge_file(void) { got = zarfolin_judge_file(TABLE, record, RECORD + 2, answer); }
+static void judge_part(void) { got = zarfolin_judge_part(TABLE, record, RECORD + 2, ZARFOLIN_CR_LF, RECORD, 1, answer); }
 static void next_record(void) { got = zarfolin_next_record(record, RECORD + 2, 0, answer); }
 
 static void (*to_run)(void);
@@ -119,6 +120,7 @@ static const struct {
     {"read value, spread", read_value, 7, 0},
     {"judge record", judge_record, 0, 0},
     {"judge file", judge_file, 0, 0},
+    {"judge part", judge_part, 0, 0},
     {"next record", next_record, 0, 0},
 };
 

@@ -14,12 +14,18 @@ use Rattle.lows.specs.Lows.{Clear}
 use Rattle.cuts.specs.declared.Terminator.{Terminator}
 use Rattle.cuts.specs.declared.Next.the-variants.{Ended, Unended, Nothing}
 use Rattle.cuts.specs.rule.Cut.{single, pair, none, beginsWith, terminatorAt, terminatorOf, wholeAt, beginsAt, endFrom, nextFrom}
+use Rattle.cuts.specs.rule.Cut.{Found}
 
 -- a place of d from `from` on, with no byte between that a terminator begins with
 pub record Unbroken (d : List ℕ) (w : Terminator) (from to : ℕ) : Type 0 where
   pub on : from ≤ to
   pub within : to ≤ length d
   pub no-first : (j : ℕ) → from ≤ j → j < to → getD d j 0 ≡ w .first → ⊥
+
+-- a terminator that records can be cut by: its first byte is below 32, and it has two bytes at most
+pub record Ending (w : Terminator) : Type 0 where
+  pub low : w .first < 32
+  pub few : w .size ≤ 2
 
 -- ---- laws, place by place
 module _ (d : List ℕ) (i : ℕ) where
@@ -104,6 +110,10 @@ first-low (b ∷ s) = go (eqb b 13) (eqb b 10) (first-low s)
     go true q h = at-low 13 10 s (omega arith)
     go false true h = at-low 10 13 s (omega arith)
     go false false h = h
+
+-- the file's terminator is one that its records can be cut by
+pub found-ending : {d : List ℕ} {w : Terminator} → Found d w → Ending w
+found-ending {d} f = record { low = rw (f .is) (first-low d); few = f .few }
 
 -- ---- places that nothing begins at are passed together
 pub unbroken-none : (d : List ℕ) (w : Terminator) (from : ℕ) → from ≤ length d → Unbroken d w from from

@@ -4,7 +4,7 @@ ghost use mathlib.Core.Bool.{true};
 ghost use Prim.Native.Nat.{_+_, _≤_, _<_};
 ghost use lib.ListN.{length, drop};
 ghost use Rattle.cuts.specs.rule.Cut.{terminatorAt, terminatorOf, wholeAt, beginsAt, nextFrom, NextFound, Found};
-ghost use Rattle.cuts.specs.Cut.{Unbroken};
+ghost use Rattle.cuts.specs.Cut.{Unbroken, Ending};
 ghost use Rattle.cuts.specs.Records.{PlainNext};
 
 // A file's terminator: one byte or two, and how many; none where the file has no CR and no LF.
@@ -134,7 +134,7 @@ pub fn next_from(d: &[u8], w: Terminator, from: usize) -> Next
 
 // Does the next record from a place on have so many bytes, none of them below 32? Where it has, nobody need search for its end.
 pub fn next_plain(d: &[u8], w: Terminator, from: usize, size: usize) -> bool
-    requires { ⌜ Found (now d) w ⌝ }
+    requires { ⌜ Ending w ⌝ }
     requires { ⌜ from ≤ length (now d) ⌝ }
     ensures { λ r. ⌜ (r ≡ true → PlainNext (now (d .entry)) w from size) ⌝ }
 {

@@ -1,11 +1,11 @@
 -- THE DEMANDS, one by one: the final theorems over the promises of the public calls, restated here and each proved by name elsewhere. The
 -- promises stand in specs/rule of their crates: TableTested (sound), ValueRead and RecordJudged (records), Written (writes), NextFound
--- (cuts), FileJudged (files), DefinitionRead (definition); those of the exported functions (zarfolin) hold them, or are they.
+-- (cuts), FileJudged (files), PartJudged (parts), DefinitionRead (definition); those of the exported functions (zarfolin) hold them, or are they.
 use mathlib.Core.Path.{_≡_}
 use mathlib.Core.Logic.{⊎-elim}
-use mathlib.Core.Bool.{Bool, true}
+use mathlib.Core.Bool.{Bool, true, false}
 use mathlib.Core.List.{List}
-use Prim.Native.Nat.{ℕ, _-_}
+use Prim.Native.Nat.{ℕ, _+_, _*_, _-_}
 use lib.Dec.{eqb}
 use lib.IntN.{ℤ}
 use lib.ListN.{length, getD, take, drop}
@@ -20,12 +20,13 @@ use Rattle.sound.specs.rule.Sound.{wellFormed, TableTested}
 use Rattle.sound.specs.rule.Rows.{rowsOf}
 use Rattle.cuts.specs.declared.Next.{Next}
 use Rattle.cuts.specs.rule.Cut.{NextFound, terminatorOf}
-use Rattle.cuts.specs.rule.Records.{Records, recordsOf, laid, countEnded}
+use Rattle.cuts.specs.rule.Records.{Records, recordsFrom, recordsOf, laid, countEnded}
 use Rattle.cuts.specs.Records.{laid-again}
 use Rattle.records.specs.rule.Value.{Outcome, refused, outcomeOf, readingAt, ValueRead}
 use Rattle.sets.specs.rule.Sets.{listAfter}
 use Rattle.records.specs.rule.Verdict.{Verdict, RecordJudged}
-use Rattle.files.specs.rule.File.{FileVerdict, soundWith, fileVerdict, FileJudged}
+use Rattle.files.specs.rule.File.{FileVerdict, soundWith, badTable, fileVerdict, FileJudged}
+use Rattle.parts.specs.rule.Part.{numbered, PartVerdict, judgedAs, partVerdict, PartJudged}
 use Rattle.writes.specs.rule.Public.{refusalOf, Written}
 use Rattle.definition.specs.declared.Answer.{Answer}
 use Rattle.definition.specs.declared.Answer.the-variants as definition
@@ -40,10 +41,16 @@ use Rattle.read_laws.specs.rule.Reading.{ReadOutcome}
 use Rattle.read_laws.specs.Reading as reading
 use Rattle.read_laws.specs.rule.Refused.{RecordOutcome}
 use Rattle.read_laws.specs.Refused as judging
-use Rattle.file_laws.specs.rule.Files.{FileOutcome}
+use Rattle.file_laws.specs.rule.Files.{firstOf, FileOutcome}
 use Rattle.file_laws.specs.Files as files
 use Rattle.file_laws.specs.rule.Only.{Clean}
 use Rattle.file_laws.specs.Only as cutting
+use Rattle.part_laws.specs.rule.Exactly.{IsNumber, PartOutcome}
+use Rattle.part_laws.specs.Exactly as part
+use Rattle.part_laws.specs.rule.Parts.{inParts, FileNumber}
+use Rattle.part_laws.specs.Parts as parts
+use Rattle.part_laws.specs.rule.Each.{Driven, Drive}
+use Rattle.part_laws.specs.Each as each
 use Rattle.laws.specs.Settled as settled
 use Rattle.laws.specs.rule.Writing as rule
 use Rattle.laws.specs.Writing as writing
@@ -52,6 +59,7 @@ use Rattle.laws.specs.rule.WriteBack.{Answered}
 use Rattle.laws.specs.WriteBack as again
 use Rattle.zarfolin.specs.rule.Face.{RecordTold, ValueTold, FileTold, DefinitionTold, NextTold}
 use Rattle.zarfolin.specs.rule.Texts.{TextTold}
+use Rattle.zarfolin.specs.rule.Part.{PartTold}
 use Rattle.zarfolin.specs.rule.Truth.{TruthTold}
 use Rattle.zarfolin.specs.Settled as face
 
@@ -84,6 +92,14 @@ module _ {t : List ℤ} {d : List ℕ} where
 
   pub one-file-told : {a₁ a₂ : List ℤ} {r₁ r₂ : ℕ} → FileTold t d a₁ r₁ → FileTold t d a₂ r₂ → (r₁ ≡ r₂) × (a₁ ≡ a₂)
   one-file-told = face.file-told-one
+
+module _ {t : List ℤ} {d : List ℕ} {terminator first last : ℕ} where
+  pub one-part : {v₁ v₂ : PartVerdict} → PartJudged t d terminator first last v₁ → PartJudged t d terminator first last v₂ → v₁ ≡ v₂
+  one-part = part.part-one
+
+  pub one-part-told : {a₁ a₂ : List ℤ} {r₁ r₂ : ℕ} → PartTold t d terminator first last a₁ r₁ → PartTold t d terminator first last a₂ r₂
+      → (r₁ ≡ r₂) × (a₁ ≡ a₂)
+  one-part-told = face.part-told-one
 
 module _ {d : List ℕ} {from : ℕ} where
   pub one-next : {n₁ n₂ : Next} → NextFound d from n₁ → NextFound d from n₂ → n₁ ≡ n₂
@@ -151,6 +167,40 @@ file-so = files.file-named
 
 pub so-file : {t : List ℤ} {d : List ℕ} {v : FileVerdict} → FileOutcome t d v → fileVerdict t d ≡ v
 so-file = files.file-only
+
+-- a part of a file gets its verdict exactly when what the verdict says is so
+pub part-so : (t : List ℤ) (d : List ℕ) (terminator first last : ℕ)
+    → PartOutcome t d terminator first last (partVerdict t d terminator first last)
+part-so = part.part-named
+
+pub so-part : (t : List ℤ) (d : List ℕ) (terminator first last : ℕ) {v : PartVerdict}
+    → PartOutcome t d terminator first last v → partVerdict t d terminator first last ≡ v
+so-part = part.part-only
+
+-- a file cut into parts of any sizes, each beginning where the one before left off, gets its own verdict; where a part left off, behind its
+-- count of records, none of it is ended; every file's terminator has a number, but for one that has none
+pub file-in-parts : (t : List ℤ) (d : List ℕ) (terminator : ℕ) (sizes : List ℕ) → terminatorOf d ≡ numbered terminator
+    → IsNumber terminator → inParts t terminator (firstOf (recordsOf d)) 0 d sizes ≡ judgedAs (fileVerdict t d)
+file-in-parts = parts.in-parts
+
+pub part-left-off : (t : List ℤ) (d : List ℕ) (terminator first last m : ℕ)
+    → partVerdict t d terminator first last ≡ judgedAs (soundWith m)
+    → countEnded (recordsFrom (numbered terminator) (drop (m * (first + numbered terminator .size)) d)) ≡ 0
+part-left-off = parts.left-off
+
+pub file-numbered : (d : List ℕ) → FileNumber d
+file-numbered = parts.file-number
+
+-- a file's verdict, its table tested once, is that of each of its records, found by the next-record call and judged by the record call; by a
+-- table that is not well formed it is 20
+pub file-as-each : (t : List ℤ) (d : List ℕ) → wellFormed t ≡ true → {v : FileVerdict} → Driven t d 0 0 0 v → fileVerdict t d ≡ v
+file-as-each = each.once-as-each
+
+pub each-ends : (t : List ℤ) (d : List ℕ) → Drive t d 0 0 0
+each-ends = each.drives
+
+pub bad-told-once : (t : List ℤ) (d : List ℕ) → wellFormed t ≡ false → fileVerdict t d ≡ badTable
+bad-told-once = each.once-bad
 
 -- the count is that of the terminators passed; a file is cut at each whole terminator, and only so
 pub count-so : (t : List ℤ) (d : List ℕ) (n : ℕ) → fileVerdict t d ≡ soundWith n → n ≡ countEnded (recordsOf d)

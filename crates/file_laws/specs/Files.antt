@@ -24,21 +24,21 @@ pub record-as-judged : (t : List ℤ) (first : ℕ) (r : List ℕ) → wellForme
 unfolding recordVerdict verdictOf
 record-as-judged t first r g e = rw (eq-eqb (length r) first e, g)
 
-not-sound : (v : Verdict) → (v ≡ sound → ⊥) → isSound v ≡ false
+pub not-sound : (v : Verdict) → (v ≡ sound → ⊥) → isSound v ≡ false
 unfolding isSound
 not-sound sound h = absurd (h refl)
 not-sound (refused k) h = refl
 not-sound (lowByte p) h = refl
 not-sound (badField i) h = refl
 
-is-sound : (v : Verdict) → isSound v ≡ true → v ≡ sound
+pub is-sound : (v : Verdict) → isSound v ≡ true → v ≡ sound
 unfolding isSound
 is-sound sound e = refl
 is-sound (refused k) e = holds-not e refl
 is-sound (lowByte p) e = holds-not e refl
 is-sound (badField i) e = holds-not e refl
 
-sound-not : (v : Verdict) → isSound v ≡ false → v ≡ sound → ⊥
+pub sound-not : (v : Verdict) → isSound v ≡ false → v ≡ sound → ⊥
 unfolding isSound
 sound-not v e q = holds-not refl (rw q at e)
 
@@ -113,12 +113,12 @@ file-only {t} {d} (record-fault rs r rest s e n) =
     rw (zero-plus (length rs)) at (file-is s ∙ q)
 
 -- ---- AND THE VERDICT NAMES WHAT IS SO
-before-more : (rs : List (List ℕ)) (r : List ℕ) (rest : Records) → before (rs ++ r ∷ []) rest ≡ before rs (record-and r rest)
+pub before-more : (rs : List (List ℕ)) (r : List ℕ) (rest : Records) → before (rs ++ r ∷ []) rest ≡ before rs (record-and r rest)
 unfolding before
 before-more [] r rest = refl
 before-more (x ∷ rs) r rest = ap (record-and x) (before-more rs r rest)
 
-sound-more : {t : List ℤ} {first : ℕ} {rs : List (List ℕ)} (r : List ℕ) → AllSound t first rs → length r ≡ first → verdictOf t r ≡ sound
+pub sound-more : {t : List ℤ} {first : ℕ} {rs : List (List ℕ)} (r : List ℕ) → AllSound t first rs → length r ≡ first → verdictOf t r ≡ sound
     → AllSound t first (rs ++ r ∷ [])
 sound-more r none-yet e s = one-more e s none-yet
 sound-more r (one-more f q a) e s = one-more f q (sound-more r a e s)

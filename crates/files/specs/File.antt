@@ -7,13 +7,16 @@ use borrow.Author.Tests.{eq-eqb, ne-eqb, le-leb, lt-leb}
 use Rattle.below.specs.Below.{holds-not}
 use lib.IntN.{ℤ}
 use lib.ListN.{length}
-use Rattle.cuts.specs.rule.Records.{Records, over, unended, record-and}
+use Rattle.cuts.specs.declared.Terminator.{Terminator}
+use Rattle.cuts.specs.rule.Cut.{Found}
+use Rattle.cuts.specs.rule.Records.{Records, over, unended, record-and, recordsFrom, recordsOf}
+use Rattle.sound.specs.rule.Sound.{wellFormed}
 use Rattle.sound.specs.rule.Rows.{rowsOf, lengthOf}
 use Rattle.records.specs.rule.Verdict.{Verdict, sound, refused, lowByte, badField, rowsVerdict}
 use Rattle.records.specs.declared.Judged.{Judged}
 use Rattle.records.specs.declared.Judged.the-variants as judged
 use Rattle.files.specs.rule.File.{FileVerdict, soundWith, badTable, faultIn, recordVerdict, goOn, firstLength, recordsVerdict}
-use Rattle.files.specs.rule.File.{isSound}
+use Rattle.files.specs.rule.File.{isSound, fileVerdict}
 
 -- whether a file is sound as far as it was judged
 unfoldable pub soundSoFar : FileVerdict → Bool
@@ -75,3 +78,9 @@ so-far (badField i) n = refl
 
 pub go-same : (v : Verdict) (n : ℕ) (a b : FileVerdict) → isSound v ≡ false → goOn v n a ≡ goOn v n b
 go-same v n a b e = go-fault v n a e ∙ sym (go-fault v n b e)
+
+-- by a table that was tested and the terminator that was found, the file's verdict is that on its records
+pub file-found : (t : List ℤ) {d : List ℕ} {w : Terminator} → wellFormed t ≡ true → Found d w
+    → recordsVerdict t 0 0 (recordsFrom w d) ≡ fileVerdict t d
+unfolding fileVerdict recordsOf
+file-found t g f = rw (g, f .is)

@@ -26,7 +26,7 @@ pub record SoundNext (t : List ℤ) (d : List ℕ) (w : Terminator) (first from 
 -- from one place of a file to another: the verdict on the records that are left, each after its count of others, is the same
 pub record Passed (t : List ℤ) (d : List ℕ) (w : Terminator) (first : ℕ) (a b : Place) : Type 0 where
   pub on : a .from ≤ b .from
-  pub fewer : b .n ≤ b .from
+  pub fewer : b .n ≤ b .from + 1
   pub same : recordsVerdict t (a .n) first (recordsFrom w (drop (a .from) d)) ≡ recordsVerdict t (b .n) first (recordsFrom w (drop (b .from) d))
 
 -- ---- laws

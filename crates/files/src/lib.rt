@@ -3,8 +3,8 @@ ghost use mathlib.Core.Path.{_≡_};
 ghost use mathlib.Core.Bool.{true};
 ghost use Prim.Native.Nat.{_+_, _≤_, _<_};
 ghost use lib.ListN.{length};
-ghost use Rattle.cuts.specs.rule.Cut.{Found};
-ghost use Rattle.cuts.specs.rule.Records.{recordsOf};
+ghost use Rattle.cuts.specs.Cut.{Ending};
+ghost use Rattle.cuts.specs.rule.Records.{recordsFrom};
 ghost use Rattle.records.specs.rule.Verdict.{judgedAs};
 ghost use Rattle.files.specs.rule.File.{fileSaid, recordVerdict, goOn, soundWith, firstLength, recordsVerdict, FileJudged};
 ghost use Rattle.files.specs.rule.File.{isSound};
@@ -102,7 +102,7 @@ fn next_sound(
     scratch: &mut [u8],
 ) -> bool
     requires { ⌜ Tested (now t) h × (lengthOf (now t) ≤ first) ⌝ }
-    requires { ⌜ Found (now d) w × (from ≤ length (now d)) ⌝ }
+    requires { ⌜ Ending w × (from ≤ length (now d)) ⌝ }
     requires { ⌜ length (now scratch) ≤ 10000 ⌝ }
     ensures { λ r. ⌜ (r ≡ true → SoundNext (now (t .entry)) (now (d .entry)) w first from) ⌝ }
 {
@@ -124,7 +124,7 @@ fn pass_sound(
     scratch: &mut [u8],
 ) -> Place
     requires { ⌜ Tested (now t) h × (lengthOf (now t) ≤ first) ⌝ }
-    requires { ⌜ Found (now d) w × (1 ≤ at .n) × (at .n ≤ at .from) ⌝ }
+    requires { ⌜ Ending w × (1 ≤ at .n) × (at .n ≤ at .from + 1) ⌝ }
     requires { ⌜ length (now scratch) ≤ 10000 ⌝ }
     ensures { λ r. ⌜ Passed (now (t .entry)) (now (d .entry)) w first at r ⌝ }
 {
@@ -140,16 +140,25 @@ fn pass_sound(
     Place { from, n }
 }
 
-// The records of a file, by a table that was tested and the file's terminator.
-pub fn judge_records(t: &[i64], h: Header, d: &[u8], w: Terminator, scratch: &mut [u8]) -> Judgement
+// The records of some data, by a table that was tested and the file's terminator: from the file's start, or behind one record, whose
+// length is then known.
+pub fn judge_records(
+    t: &[i64],
+    h: Header,
+    d: &[u8],
+    w: Terminator,
+    past: usize,
+    known: usize,
+    scratch: &mut [u8],
+) -> Judgement
     requires { ⌜ Tested (now t) h ⌝ }
-    requires { ⌜ Found (now d) w ⌝ }
+    requires { ⌜ Ending w × (past ≤ 1) ⌝ }
     requires { ⌜ length (now scratch) ≤ 10000 ⌝ }
-    ensures { λ r. ⌜ fileSaid r ≡ recordsVerdict (now (t .entry)) 0 0 (recordsOf (now (d .entry))) ⌝ }
+    ensures { λ r. ⌜ fileSaid r ≡ recordsVerdict (now (t .entry)) past known (recordsFrom w (now (d .entry))) ⌝ }
 {
     let mut from: usize = 0;
-    let mut n: usize = 0;
-    let mut first: usize = 0;
+    let mut n = past;
+    let mut first = known;
     while from < d.len() {
         match cuts::next_from(d, w, from) {
             Next::Ended { start, end, next } => {
@@ -187,10 +196,10 @@ pub fn judge_file(t: &[i64], d: &[u8]) -> Judgement
         // Where there are few lines to search, little is ever marked, and room for more need not be cleared.
         if h.lines <= 16 {
             let mut few = [0u8; 128];
-            return judge_records(t, h, d, w, &mut few);
+            return judge_records(t, h, d, w, 0, 0, &mut few);
         }
         let mut many = [0u8; 10000];
-        return judge_records(t, h, d, w, &mut many);
+        return judge_records(t, h, d, w, 0, 0, &mut many);
     }
     Judgement::BadTable
 }

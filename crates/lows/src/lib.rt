@@ -1,5 +1,5 @@
-// How far bytes go on with none below 32: sixteen are looked at together, so that long stretches of text cost little. Above it stand
-// the records of a file and the judge of a record.
+// How far bytes go on with none below 32: sixty-four are looked at together, then sixteen, so that long stretches of text cost little.
+// Above it stand the records of a file and the judge of a record.
 ghost use mathlib.Core.Path.{_≡_};
 ghost use mathlib.Core.Bool.{true};
 ghost use Prim.Native.Nat.{_+_, _≤_};
@@ -20,6 +20,36 @@ fn low_among(s: &[u8], i: usize) -> bool
     low
 }
 
+// The same for sixty-four: long records are mostly these.
+fn low_among_many(s: &[u8], i: usize) -> bool
+    requires { ⌜ i + 64 ≤ length (now s) ⌝ }
+    ensures { λ r. ⌜ r ≡ lowAmong (now (s .entry)) i 64 ⌝ }
+{
+    let mut low = false;
+    let mut k: usize = 0;
+    while k < 64 {
+        low = low | (s[i + k] < 32);
+        k += 1;
+    }
+    low
+}
+
+// A place from `from` on with no byte below 32 before it: less than sixty-four bytes before the end, or before the first such byte.
+fn plain_far(s: &[u8], from: usize) -> usize
+    requires { ⌜ from ≤ length (now s) ⌝ }
+    ensures { λ r. ⌜ Clear (now (s .entry)) from r ⌝ }
+{
+    let n = s.len();
+    let mut i = from;
+    while n - i >= 64 {
+        if low_among_many(s, i) {
+            return i;
+        }
+        i += 64;
+    }
+    i
+}
+
 // A place from `from` on with no byte below 32 before it: the end, or at most fifteen bytes before the first such byte.
 pub fn plain_to(s: &[u8], from: usize) -> usize
     requires { ⌜ from ≤ length (now s) ⌝ }
@@ -30,7 +60,7 @@ pub fn plain_to(s: &[u8], from: usize) -> usize
         return from;
     }
     let last = n - 16;
-    let mut i = from;
+    let mut i = plain_far(s, from);
     while i <= last {
         if low_among(s, i) {
             return i;

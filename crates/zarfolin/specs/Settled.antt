@@ -14,6 +14,7 @@ use Rattle.fields.specs.rule.Field.{Value, truth}
 use Rattle.writes.specs.rule.Public.{Written}
 use Rattle.zarfolin.specs.rule.Face.{Telling, verdictCells, outcomeCells, fileCells, definitionCells, nextCells}
 use Rattle.zarfolin.specs.rule.Face.{RecordTold, ValueTold, FileTold, DefinitionTold, NextTold}
+use Rattle.zarfolin.specs.rule.Part.{partCells, PartTold}
 use Rattle.zarfolin.specs.rule.Whole.{wholeCells, WholeTold}
 use Rattle.zarfolin.specs.rule.Texts.{textCells, TextTold}
 use Rattle.zarfolin.specs.rule.Truth.{noTruth, TruthTold}
@@ -25,7 +26,7 @@ telling-one {c₁} {c₂} {a₁} {a₂} {r₁} {r₂} e x y =
     let z : Telling c₁ a₂ r₂ = rw e y in
     (x .gives ∙ sym (z .gives), x .holds ∙ sym (z .holds))
 
--- ---- zarfolin_judge_record, zarfolin_judge_file, zarfolin_next_record: the number and the answer
+-- ---- zarfolin_judge_record, zarfolin_judge_file, zarfolin_judge_part, zarfolin_next_record: the number and the answer
 pub record-told-one : {t : List ℤ} {bytes : List ℕ} {a₁ a₂ : List ℤ} {r₁ r₂ : ℕ} → RecordTold t bytes a₁ r₁ → RecordTold t bytes a₂ r₂
     → (r₁ ≡ r₂) × (a₁ ≡ a₂)
 record-told-one x y = telling-one (ap verdictCells (x .promise .says ∙ sym (y .promise .says))) (x .tells) (y .tells)
@@ -33,6 +34,10 @@ record-told-one x y = telling-one (ap verdictCells (x .promise .says ∙ sym (y 
 pub file-told-one : {t : List ℤ} {d : List ℕ} {a₁ a₂ : List ℤ} {r₁ r₂ : ℕ} → FileTold t d a₁ r₁ → FileTold t d a₂ r₂
     → (r₁ ≡ r₂) × (a₁ ≡ a₂)
 file-told-one x y = telling-one (ap fileCells (x .promise .says ∙ sym (y .promise .says))) (x .tells) (y .tells)
+
+pub part-told-one : {t : List ℤ} {d : List ℕ} {terminator first last : ℕ} {a₁ a₂ : List ℤ} {r₁ r₂ : ℕ}
+    → PartTold t d terminator first last a₁ r₁ → PartTold t d terminator first last a₂ r₂ → (r₁ ≡ r₂) × (a₁ ≡ a₂)
+part-told-one x y = telling-one (ap partCells (x .promise .says ∙ sym (y .promise .says))) (x .tells) (y .tells)
 
 pub next-told-one : {d : List ℕ} {from : ℕ} {a₁ a₂ : List ℤ} {r₁ r₂ : ℕ} → NextTold d from a₁ r₁ → NextTold d from a₂ r₂
     → (r₁ ≡ r₂) × (a₁ ≡ a₂)

@@ -13,6 +13,8 @@ ghost use Rattle.zarfolin.specs.rule.Face.{cellOf, flagOf, Telling};
 ghost use Rattle.zarfolin.specs.rule.Face.{RecordTold, ValueTold, FileTold, DefinitionTold, NextTold};
 ghost use Rattle.zarfolin.specs.rule.Face.{verdictCells, outcomeCells, faultCells, fileCells, nextCells, definitionCells};
 ghost use Rattle.zarfolin.specs.rule.Face as face;
+ghost use Rattle.parts.specs.rule.Part.{partSaid};
+ghost use Rattle.zarfolin.specs.rule.Part.{partCells, PartTold};
 ghost use Rattle.zarfolin.specs.rule.Truth.{badTruth, TruthTold};
 ghost use Rattle.zarfolin.specs.rule.Whole.{wholeCells, WholeTold};
 ghost use Rattle.zarfolin.specs.Truth.{kindNumber};
@@ -26,6 +28,7 @@ use files::Judgement;
 use layout::Header;
 use layout::Kind;
 use layout::Row;
+use parts::Part;
 use readings::Answer;
 use record_values::Whole;
 use records::Judged;
@@ -169,6 +172,15 @@ fn file_cells(j: Judgement) -> Told
     }
 }
 
+fn part_cells(p: Part) -> Told
+    ensures { λ r. ⌜ r ≡ partCells (partSaid p) ⌝ }
+{
+    match p {
+        Part::NoTerminator => bare(29),
+        Part::Judged(j) => file_cells(j),
+    }
+}
+
 fn definition_cells(a: definition::Answer) -> Told
     ensures { λ r. ⌜ r ≡ definitionCells a ⌝ }
 {
@@ -290,6 +302,24 @@ pub extern "C" fn zarfolin_judge_file(table: &[i64], d: &[u8], answer: &mut [i64
     ensures { λ r. ⌜ FileTold (now (table .entry)) (now (d .entry)) (now (answer .exit)) r ⌝ }
 {
     tell(answer, file_cells(files::judge_file(table, d)))
+}
+
+// Judges a part of a data file that begins where a record does. A `last` of 0 says that more of the file follows.
+#[no_mangle]
+pub extern "C" fn zarfolin_judge_part(
+    table: &[i64],
+    d: &[u8],
+    terminator: u64,
+    first: u64,
+    last: u64,
+    answer: &mut [i64; 4],
+) -> u64
+    ensures { λ r. ⌜ PartTold (now (table .entry)) (now (d .entry)) terminator first last (now (answer .exit)) r ⌝ }
+{
+    tell(
+        answer,
+        part_cells(parts::judge_part(table, d, terminator, first, last)),
+    )
 }
 
 // Reads a definition into a table.

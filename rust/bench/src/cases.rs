@@ -29,6 +29,7 @@ pub fn cases() -> Vec<Maker> {
     judgements(&mut cases);
     writes(&mut cases);
     files(&mut cases);
+    judged_files(&mut cases);
     cases
 }
 
@@ -230,12 +231,81 @@ fn files(cases: &mut Vec<Maker>) {
     add(cases, "judge file 1 MiB, 5 rows, CR LF", || file(short(), 1 << 20, "\r\n", false));
     add(cases, "judge file 1 MiB, 512 rows, CR LF", || file(long(), 1 << 20, "\r\n", false));
     add(cases, "judge file 1 MiB, 512 rows, 30 at its end", || file(long(), 1 << 20, "\n", true));
+    add(cases, "judge part of 4 KiB, 5 rows", || part(short(), 1 << 12));
+    add(cases, "judge part of 1 MiB, 5 rows", || part(short(), 1 << 20));
+    add(cases, "judge part of 1 MiB, 512 rows", || part(long(), 1 << 20));
     add(cases, "next record of 16 KiB", || {
         let mut data = vec![b'x'; 16_384];
         data.extend(b"\r\n");
         let mut answer = [0; 4];
         Case { bytes: data.len(), number: 1, step: Box::new(move |f| f.next_record(black_box(&data), 0, &mut answer)) }
     });
+}
+
+/// Files judged as a whole, the table tested once; and as each of their records, found and judged one by one.
+fn judged_files(cases: &mut Vec<Maker>) {
+    type Table = fn() -> Vec<i64>;
+    let few: [(usize, Table); 3] = [(1, single), (5, short), (512, crowded)];
+    let many: [(usize, Table); 3] = [(1, single), (5, short), (512, long)];
+    for (size, length, tables) in [("27 bytes", 27, few), ("16 KiB", 16_384, many)] {
+        for (rows, table) in tables {
+            let bytes = if length > 27 { 1 << 20 } else { 1 << 18 } / if rows > 5 && length < 100 { 8 } else { 1 };
+            for flaw in Flaw::ALL {
+                let name = format!("{rows} rows, {size}, {}", flaw.name());
+                let data = move || flawed(&table(), length, bytes / length, flaw);
+                add(cases, &format!("judged whole: {name}"), move || judge_data(table(), data(), flaw, whole_file));
+                add(cases, &format!("judged by record: {name}"), move || {
+                    judge_data(table(), data(), flaw, each_record)
+                });
+            }
+        }
+    }
+}
+
+type Judge = fn(&dyn Face, &[i64], &[u8]) -> u64;
+
+fn judge_data(table: Vec<i64>, data: Vec<u8>, flaw: Flaw, judge: Judge) -> Case {
+    let number = flaw.number();
+    Case { bytes: data.len(), number, step: Box::new(move |face| judge(face, black_box(&table), black_box(&data))) }
+}
+
+fn whole_file(face: &dyn Face, table: &[i64], data: &[u8]) -> u64 {
+    face.judge_file(table, data, &mut [0; 4])
+}
+
+/// The file's answer by the next-record call and the record call.
+fn each_record(face: &dyn Face, table: &[i64], data: &[u8]) -> u64 {
+    let (mut from, mut first) = (0, None);
+    loop {
+        let mut cut = [0; 4];
+        let found = face.next_record(data, from, &mut cut);
+        let [_, start, end, next] = cut;
+        if found == 0 {
+            return 0;
+        } else if found == 2 {
+            return 30;
+        } else if *first.get_or_insert(end - start) != end - start {
+            return 31;
+        }
+        let number = face.judge_record(table, &data[start as usize..end as usize], &mut [0; 4]);
+        if number != 0 {
+            return number;
+        }
+        from = next as u64;
+    }
+}
+
+/// A part of a file: what stands between a record's start and a place within a record.
+fn part(table: Vec<i64>, bytes: usize) -> Case {
+    let data = flawed(&table, table[3] as usize, bytes / table[3] as usize, Flaw::None);
+    let (first, mut answer) = (table[3] as u64, [0; 4]);
+    Case {
+        bytes: data.len() - 3,
+        number: 0,
+        step: Box::new(move |face| {
+            face.judge_part(black_box(&table), black_box(&data[..data.len() - 3]), 1, first, 0, &mut answer)
+        }),
+    }
 }
 
 fn definition(def: Vec<u8>, number: u64) -> Case {

@@ -2,7 +2,7 @@
 
 use zarfolin_compare::face::{Face, Plain};
 use zarfolin_compare::rng::Rng;
-use zarfolin_compare::shape::{ROW, length, row_at};
+use zarfolin_compare::shape::{ROW, length, line_at, row_at};
 
 /// A survey of this many variables of all types in turn, with lines and texts of these sizes.
 pub struct Survey {
@@ -107,16 +107,127 @@ pub fn small() -> Survey {
     Survey { variables: 5, lines: 4, text: 10, roomy: false, standard: false }
 }
 
+pub fn few_rows() -> Survey {
+    Survey { text: 4, ..small() }
+}
+
+pub fn many_rows() -> Survey {
+    Survey { variables: 512, lines: 6, text: 4, ..small() }
+}
+
 pub fn short() -> Vec<i64> {
-    Survey { text: 4, ..small() }.table()
+    few_rows().table()
 }
 
 pub fn long() -> Vec<i64> {
-    Survey { variables: 512, lines: 6, text: 4, ..small() }.table()
+    many_rows().table()
 }
 
 pub fn single() -> Vec<i64> {
     Survey { variables: 1, text: 4, ..small() }.table()
+}
+
+/// 512 rows in 27 bytes: those of `short`, one behind the other at the same places again and again.
+pub fn crowded() -> Vec<i64> {
+    let five = short();
+    let mut rows: Vec<i64> = vec![];
+    let mut lines: Vec<i64> = vec![];
+    for i in 0..512 {
+        let row = &five[row_at(i % 5)..][..ROW];
+        let (before, count) = (row[12] as usize, row[13] as usize);
+        let start = rows.len();
+        rows.extend(row);
+        rows[start] = i as i64 + 1;
+        rows[start + 12] = lines.len() as i64 / 4;
+        lines.extend(&five[line_at(5, before)..line_at(5, before + count)]);
+    }
+    let mut table = vec![11, 512, lines.len() as i64 / 4, five[3], row_at(0) as i64, row_at(512) as i64];
+    table.extend(rows);
+    table.extend(lines);
+    table
+}
+
+/// What is wrong with a file that is judged, and whether it is near the file's start.
+#[derive(Clone, Copy, PartialEq, Eq)]
+pub enum Flaw {
+    None,
+    /// 22: every record is a byte too short; a later one alone can't be, for it would be 31.
+    Short,
+    /// 23 at a record's last byte.
+    LowByte(bool),
+    /// 24 in the last row.
+    Field(bool),
+    /// 31: one byte more.
+    Length(bool),
+    /// 30: no terminator at all, or none behind the last record.
+    Open(bool),
+}
+
+impl Flaw {
+    pub const ALL: [Flaw; 10] = [
+        Flaw::None,
+        Flaw::Short,
+        Flaw::LowByte(true),
+        Flaw::LowByte(false),
+        Flaw::Field(true),
+        Flaw::Field(false),
+        Flaw::Length(true),
+        Flaw::Length(false),
+        Flaw::Open(true),
+        Flaw::Open(false),
+    ];
+
+    pub fn number(self) -> u64 {
+        match self {
+            Flaw::None => 0,
+            Flaw::Short => 22,
+            Flaw::LowByte(_) => 23,
+            Flaw::Field(_) => 24,
+            Flaw::Length(_) => 31,
+            Flaw::Open(_) => 30,
+        }
+    }
+
+    pub fn name(self) -> String {
+        match self {
+            Flaw::None => "sound".to_string(),
+            Flaw::Short => "22 in record 1".to_string(),
+            Flaw::Length(true) => "31 in record 2".to_string(),
+            Flaw::Open(true) => "30, no terminator".to_string(),
+            Flaw::LowByte(true) | Flaw::Field(true) => format!("{} in record 1", self.number()),
+            _ => format!("{} at the end", self.number()),
+        }
+    }
+}
+
+/// A file of so many records of this length, CR LF, with a flaw.
+pub fn flawed(table: &[i64], length: usize, count: usize, flaw: Flaw) -> Vec<u8> {
+    let length = if flaw == Flaw::Short { table[3] as usize - 1 } else { length };
+    let few: Vec<Vec<u8>> = (0..4)
+        .map(|seed| {
+            let mut record = record(table, seed);
+            record.resize(length, b'y');
+            record
+        })
+        .collect();
+    let finish = table[row_at(table[1] as usize - 1) + 3] as usize;
+    let mut data = Vec::with_capacity(count * (length + 2) + 1);
+    for i in 0..count {
+        let start = data.len();
+        data.extend(&few[i % 4]);
+        let (first, second, last) = (i == 0, i == 1, i == count - 1);
+        match flaw {
+            Flaw::LowByte(early) if if early { first } else { last } => data[start + length - 1] = 1,
+            Flaw::Field(early) if if early { first } else { last } => data[start + finish - 1] = b'?',
+            Flaw::Length(early) if if early { second } else { last } => data.push(b'y'),
+            _ => {}
+        }
+        match flaw {
+            Flaw::Open(early) if early || last => data.extend(if early { &b"yy"[..] } else { b"" }),
+            _ => data.extend(b"\r\n"),
+        }
+    }
+    data
 }
 
 pub fn one_variable(rest: &str) -> Vec<u8> {

@@ -21,6 +21,10 @@ fn main() {
         one(&args[1], args[2] == "other");
         return;
     }
+    if args.first().is_some_and(|a| a == "--files") {
+        files(&args[1], args[2].parse().expect("how many megabytes"));
+        return;
+    }
     let asked = |what: &str| args.iter().any(|a| a == what);
     let counter = if asked("--time") || asked("--callgrind") { None } else { Counter::new() };
     let parts: Vec<&String> = args.iter().filter(|a| !a.starts_with("--")).collect();
@@ -54,6 +58,15 @@ fn main() {
         }
     }
     println!("\nhighest ratio: {:.2} ({})", worst.0, worst.1);
+}
+
+/// Writes definitions and sound files of so many megabytes for `rust/bench/programs`: 5 rows in 27 bytes, 512 rows in 16 KiB.
+fn files(folder: &str, megabytes: usize) {
+    for (name, survey, length) in [("5", inputs::few_rows(), 27), ("512", inputs::many_rows(), 16_384)] {
+        let data = inputs::flawed(&survey.table(), length, megabytes * 1_000_000 / (length + 2), inputs::Flaw::None);
+        std::fs::write(format!("{folder}/{name}.sss"), survey.text()).unwrap();
+        std::fs::write(format!("{folder}/{name}.asc"), data).unwrap();
+    }
 }
 
 /// Instructions for a byte, or MB/s, of what a call goes through.

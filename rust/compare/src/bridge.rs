@@ -22,6 +22,7 @@ pub struct Bridge(Mutex<Pipes>);
 struct Inputs<'a> {
     row: u64,
     number: i64,
+    last: u64,
     table: &'a [i64],
     list: &'a [i64],
     bytes: &'a [u8],
@@ -50,7 +51,7 @@ impl Bridge {
         request.clear();
         let lengths = [inputs.table.len(), inputs.list.len(), inputs.bytes.len(), inputs.text.len(), inputs.out.len()];
         let head = [call as u64, inputs.row, inputs.number as u64].into_iter().chain(lengths.map(|n| n as u64));
-        for number in head {
+        for number in head.chain([inputs.last]) {
             request.extend(number.to_le_bytes());
         }
         for number in inputs.table.iter().chain(inputs.list) {
@@ -164,5 +165,10 @@ impl Face for Bridge {
         let copy = list.to_vec();
         let inputs = Inputs { bytes: def, row: place, number: length as i64, list: &copy, ..Inputs::default() };
         self.call(Call::DecodeText, inputs, answer, 8 * copy.len(), |changed| numbers(list, changed))
+    }
+
+    fn judge_part(&self, t: &[i64], data: &[u8], end: u64, first: u64, last: u64, answer: &mut [i64; 4]) -> u64 {
+        let inputs = Inputs { table: t, bytes: data, row: end, number: first as i64, last, ..Inputs::default() };
+        self.call(Call::JudgePart, inputs, answer, 0, |_| {})
     }
 }

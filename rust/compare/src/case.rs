@@ -20,6 +20,8 @@ pub enum Call {
     ReadRecord,
     /// The place stands in `row`, the length in `number`.
     DecodeText,
+    /// The terminator stands in `row`, the first record's length in `number`.
+    JudgePart,
 }
 
 /// A call and its inputs; those that the call doesn't take are empty or 0.
@@ -29,6 +31,8 @@ pub struct Case {
     pub table: Vec<i64>,
     pub row: u64,
     pub number: i64,
+    /// Whether a part is a file's last.
+    pub last: u64,
     pub list: Vec<i64>,
     /// Definition, record or data.
     pub bytes: Vec<u8>,
@@ -39,7 +43,7 @@ pub struct Case {
 
 impl Case {
     pub fn new(call: Call) -> Case {
-        Case { call, table: vec![], row: 0, number: 0, list: vec![], bytes: vec![], text: vec![], out: vec![] }
+        Case { call, table: vec![], row: 0, number: 0, last: 0, list: vec![], bytes: vec![], text: vec![], out: vec![] }
     }
 }
 
@@ -101,6 +105,7 @@ pub fn run(face: &dyn Face, case: &Case) -> Outcome {
         Call::NextRecord => face.next_record(b, case.row, a),
         Call::ReadRecord => face.read_record(t, b, out.inner(), l, a),
         Call::DecodeText => face.decode_text(b, case.row, case.number as u64, l, a),
+        Call::JudgePart => face.judge_part(t, b, case.row, case.number as u64, case.last, a),
     };
     Outcome { number, answer, table: table.all, list: list.all, bytes: bytes.all, text: text.all, out: out.all }
 }
@@ -126,7 +131,7 @@ pub fn keeps(case: &Case, outcome: &Outcome) -> bool {
     let (table_lent, list_lent, bytes_lent) = match case.call {
         Call::ReadDefinition => (!refused, false, false),
         Call::ReadValue | Call::ReadRecord | Call::DecodeText => (false, !refused, false),
-        Call::JudgeRecord | Call::JudgeFile | Call::NextRecord => (false, false, false),
+        Call::JudgeRecord | Call::JudgeFile | Call::NextRecord | Call::JudgePart => (false, false, false),
         _ => (false, false, !refused),
     };
     let out_lent = case.call == Call::ReadRecord && !refused;
@@ -195,7 +200,8 @@ pub fn report(a: &dyn Face, b: &dyn Face, seed: u64, case: &Case) -> Difference 
 
 /// The case in a form to paste into a test.
 pub fn show(case: &Case) -> String {
-    let mut text = format!("  call {:?}, row/from {}, number {}\n", case.call, case.row, case.number);
+    let mut text =
+        format!("  call {:?}, row/from {}, number {}, last {}\n", case.call, case.row, case.number, case.last);
     text += &format!("  bytes ({}) b\"{}\"\n", case.bytes.len(), cut(case.bytes.escape_ascii().to_string()));
     if !case.text.is_empty() {
         text += &format!("  text b\"{}\"\n", cut(case.text.escape_ascii().to_string()));

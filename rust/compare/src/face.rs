@@ -16,6 +16,7 @@ pub trait Face {
     fn next_record(&self, data: &[u8], from: u64, answer: &mut [i64; 4]) -> u64;
     fn read_record(&self, t: &[i64], record: &[u8], out: &mut [i64], list: &mut [i64], answer: &mut [i64; 4]) -> u64;
     fn decode_text(&self, def: &[u8], place: u64, length: u64, list: &mut [i64], answer: &mut [i64; 4]) -> u64;
+    fn judge_part(&self, t: &[i64], data: &[u8], end: u64, first: u64, last: u64, answer: &mut [i64; 4]) -> u64;
 }
 
 /// The plain Rust implementation.
@@ -102,6 +103,10 @@ impl Face for Plain {
             Err(number) => [number as i64, 0, 0, 0],
         };
         give(answer, numbers)
+    }
+
+    fn judge_part(&self, t: &[i64], data: &[u8], end: u64, first: u64, last: u64, answer: &mut [i64; 4]) -> u64 {
+        give(answer, plain::judge_part(t, data, end, first, last))
     }
 }
 
@@ -256,6 +261,21 @@ impl Face for Library {
                 length,
                 list.as_mut_ptr(),
                 list.len(),
+                answer.as_mut_ptr(),
+            )
+        }
+    }
+
+    fn judge_part(&self, t: &[i64], data: &[u8], end: u64, first: u64, last: u64, answer: &mut [i64; 4]) -> u64 {
+        unsafe {
+            zarfolin::ffi::zarfolin_judge_part(
+                t.as_ptr(),
+                t.len(),
+                data.as_ptr(),
+                data.len(),
+                end,
+                first,
+                last,
                 answer.as_mut_ptr(),
             )
         }

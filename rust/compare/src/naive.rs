@@ -891,6 +891,10 @@ impl Face for Naive {
         give(answer, [0, signs.len() as i64, 0, 0])
     }
 
+    fn judge_part(&self, t: &[i64], data: &[u8], end: u64, first: u64, last: u64, answer: &mut [i64; 4]) -> u64 {
+        give(answer, crate::naive_02::judge_part(t, data, end, first, last))
+    }
+
     fn judge_record(&self, table: &[i64], record: &[u8], answer: &mut [i64; 4]) -> u64 {
         let Some(t) = understood(table) else { return give(answer, [20, 0, 0, 0]) };
         let (number, place) = judge(&t, record);

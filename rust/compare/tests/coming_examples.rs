@@ -2,6 +2,8 @@
 //! give them.
 
 use zarfolin_compare::coming::{Coming, Correction, sides};
+use zarfolin_compare::face::{self, Face};
+use zarfolin_compare::naive;
 
 /// The table of a definition with these variables, as the plain Rust reads it.
 fn table(variables: &str) -> Vec<i64> {
@@ -48,8 +50,14 @@ fn illegal(record: i64, row: i64) -> [i64; 4] {
 #[test]
 fn c22_a_part_is_judged_as_a_file() {
     let t = table(&variable(1, "SINGLE POSITION 1 TO 2 VALUES 1 TO 20 END VALUES"));
-    each(|side| {
-        let judge = |data: &str, terminator, first, last| side.judge_part(&t, data.as_bytes(), terminator, first, last);
+    let library = face::other();
+    for side in [&face::Plain as &dyn Face, &naive::Naive, &*library] {
+        let judge = |data: &str, terminator, first, last| {
+            let mut answer = [-7; 4];
+            let number = side.judge_part(&t, data.as_bytes(), terminator, first, last, &mut answer);
+            assert_eq!(number as i64, answer[0], "{}", side.name());
+            answer
+        };
         assert_eq!(judge("", 4, 2, 1), [0, 0, 0, 0]);
         assert_eq!(judge("07\n08\n", 4, 2, 1), [0, 2, 0, 0]);
         assert_eq!(judge("07\r\n08\r\n", 1, 2, 0), [0, 2, 0, 0]);
@@ -74,8 +82,9 @@ fn c22_a_part_is_judged_as_a_file() {
         assert_eq!(judge("07", 0, 2, 1), [29, 0, 0, 0]);
         assert_eq!(judge("07", 5, 2, 1), [29, 0, 0, 0]);
         assert_eq!(judge("07\r\n", 257, 2, 1), [29, 0, 0, 0]);
-        assert_eq!(side.judge_part(&[], b"", 0, 0, 0), [20, 0, 0, 0]);
-    });
+        let mut answer = [-7; 4];
+        assert_eq!((side.judge_part(&[], b"", 0, 0, 0, &mut answer), answer), (20, [20, 0, 0, 0]));
+    }
 }
 
 #[test]

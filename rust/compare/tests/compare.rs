@@ -9,6 +9,7 @@ use std::io::Write;
 use zarfolin_compare::case::{Call, Case, Difference, Outcome, compare, report, run};
 use zarfolin_compare::definitions::{self, SMALL, Size, Style};
 use zarfolin_compare::face::{Face, Plain, other};
+use zarfolin_compare::naive::Naive;
 use zarfolin_compare::records;
 use zarfolin_compare::rng::Rng;
 use zarfolin_compare::shape::{length, row_at};
@@ -549,6 +550,121 @@ fn files() {
     tally.end("files", 20_000, &[0, 20, 22, 23, 24, 30, 31]);
 }
 
+/// A file as each of its records, found by the next-record call and judged by the record call: the file's own answer.
+fn record_by_record(face: &dyn Face, table: &[i64], data: &[u8]) -> [i64; 4] {
+    let (mut from, mut count, mut first) = (0, 0, 0);
+    loop {
+        let (mut cut, mut judged) = ([0; 4], [0; 4]);
+        let found = face.next_record(data, from, &mut cut);
+        let [_, start, end, next] = cut;
+        if found == 0 {
+            return [0, count, 0, 0];
+        }
+        count += 1;
+        first = if count == 1 { end - start } else { first };
+        match found {
+            2 => return [30, count, 0, 0],
+            _ if end - start != first => return [31, count, 0, 0],
+            _ => {}
+        }
+        match face.judge_record(table, &data[start as usize..end as usize], &mut judged) {
+            0 => from = next as u64,
+            23 => return [23, count, 0, judged[1]],
+            _ => return [judged[0], count, judged[1], judged[2]],
+        }
+    }
+}
+
+#[test]
+fn files_record_by_record() {
+    let mut tally = Tally::default();
+    for seed in seeds(3_000) {
+        let mut r = Rng::new(seed ^ 0xeac4);
+        let table = tables::sound_table(&mut r, Size { variables: 3, lines: 4, text: 1 });
+        let data = if r.once_in(2) { records::sound_file(&mut r, &table, 6) } else { records::file(&mut r, &table) };
+        let case = Case { table, bytes: data, ..Case::new(Call::JudgeFile) };
+        let whole = check(&mut tally, seed, &case).answer;
+        for face in [&Plain as &dyn Face, &*tally.other] {
+            let each = record_by_record(face, &case.table, &case.bytes);
+            assert_eq!(each, whole, "seed {seed}, {}: {}", face.name(), zarfolin_compare::case::show(&case));
+        }
+    }
+    tally.end("files record by record", 3_000, &[0, 22, 23, 24, 30, 31]);
+}
+
+/// The number of a file's terminator, LF's where it has none, and the length of its first record.
+fn terminator_and_first(data: &[u8]) -> (u64, usize) {
+    let at = data.iter().position(|&x| x == 13 || x == 10).unwrap_or(data.len());
+    let number = match data[at..] {
+        [13, 10, ..] => 1,
+        [10, 13, ..] => 2,
+        [13, ..] => 3,
+        _ => 4,
+    };
+    (number, at)
+}
+
+/// A file cut anywhere into parts, each beginning where the one before left off.
+fn in_parts(face: &dyn Face, r: &mut Rng, table: &[i64], data: &[u8]) -> [i64; 4] {
+    let (end, first) = terminator_and_first(data);
+    let length = first + if end < 3 { 2 } else { 1 };
+    let (mut start, mut stop, mut before) = (0, 0, 0);
+    loop {
+        stop = (stop + 1 + r.below(data.len() / 2 + 2)).min(data.len());
+        let last = (stop == data.len()) as u64;
+        let mut answer = [0; 4];
+        let number = face.judge_part(table, &data[start..stop], end, first as u64, last, &mut answer);
+        if number == 20 {
+            return answer;
+        }
+        let count = answer[1];
+        answer[1] += before;
+        if number != 0 || last == 1 {
+            return answer;
+        }
+        start += count as usize * length;
+        before = answer[1];
+    }
+}
+
+#[test]
+fn parts_of_files() {
+    let mut tally = Tally::default();
+    for seed in seeds(20_000) {
+        let mut r = Rng::new(seed ^ 0x9a47);
+        let mut table = tables::sound_table(&mut r, Size { variables: 3, lines: 4, text: 1 });
+        let data = if r.once_in(2) { records::sound_file(&mut r, &table, 6) } else { records::file(&mut r, &table) };
+        if r.once_in(30) {
+            tables::changed(&mut r, &mut table);
+        }
+        let case = part_case(&mut r, table, &data);
+        let answer = check(&mut tally, seed, &case).answer;
+        let mut naive = [0; 4];
+        Naive.judge_part(&case.table, &case.bytes, case.row, case.number as u64, case.last, &mut naive);
+        assert_eq!(naive, answer, "seed {seed}: {}", zarfolin_compare::case::show(&case));
+        // In parts, on the other side: the file's own answer.
+        let whole = Case { table: case.table, bytes: data, ..Case::new(Call::JudgeFile) };
+        let whole_answer = check(&mut tally, seed, &whole).answer;
+        let parts = in_parts(&*tally.other, &mut r, &whole.table, &whole.bytes);
+        assert_eq!(parts, whole_answer, "seed {seed}, in parts: {}", zarfolin_compare::case::show(&whole));
+    }
+    tally.end("parts of files", 40_000, &[0, 20, 22, 23, 24, 29, 30, 31]);
+}
+
+/// A file, or its beginning, as a part of one: mostly by its own terminator and first record.
+fn part_case(r: &mut Rng, table: Vec<i64>, data: &[u8]) -> Case {
+    let (own, first) = terminator_and_first(data);
+    let row = if r.once_in(8) { r.pick(&[0, 1, 2, 3, 4, 5, 257, 1 << 32, u64::MAX]) } else { own };
+    let first = first as u64;
+    let number = if r.once_in(8) { r.pick(&[0, first + 1, (1 << 32) + first, u64::MAX]) } else { first } as i64;
+    let last = r.pick(&[0, 0, 1, 256, 1 << 32]);
+    let mut bytes = data.to_vec();
+    if r.once_in(3) {
+        bytes.truncate(r.below(data.len() + 1));
+    }
+    Case { table, bytes, row, number, last, ..Case::new(Call::JudgePart) }
+}
+
 #[test]
 fn next_records() {
     let mut tally = Tally::default();
@@ -735,11 +851,26 @@ mod planted {
             }
             number
         }
+        fn judge_part(&self, t: &[i64], data: &[u8], end: u64, first: u64, last: u64, answer: &mut [i64; 4]) -> u64 {
+            match self.0 {
+                // A `last` of 8 bits; a first record of 32; a record left alone that counts; a part judged by a first of its own.
+                8 => Plain.judge_part(t, data, end, first, last as u8 as u64, answer),
+                9 => Plain.judge_part(t, data, end, first as u32 as u64, last, answer),
+                10 => {
+                    let number = Plain.judge_part(t, data, end, first, last, answer);
+                    let open = Plain.judge_part(t, data, end, first, 1, &mut [0; 4]) == 30;
+                    answer[1] += (number == 0 && open) as i64;
+                    number
+                }
+                11 => Plain.judge_part(t, data, end, terminator_and_first(data).1 as u64, last, answer),
+                _ => Plain.judge_part(t, data, end, first, last, answer),
+            }
+        }
     }
 
     #[test]
     fn faults_are_found() {
-        for fault in 0..8 {
+        for fault in 0..12 {
             let found = (0..2_000).any(|seed| {
                 let mut r = Rng::new(seed);
                 let model = definitions::model(&mut r, SMALL);
@@ -759,6 +890,10 @@ mod planted {
                     6 => {
                         let out = vec![-9; 4 * table[1] as usize];
                         Case { table, bytes: record, out, list: vec![-7; 50], ..Case::new(Call::ReadRecord) }
+                    }
+                    8.. => {
+                        let data = records::file(&mut r, &table);
+                        part_case(&mut r, table, &data)
                     }
                     7 => {
                         let bytes = stretch(&mut r);

@@ -175,22 +175,25 @@ pub(crate) fn judge(t: &Table, record: &[u8]) -> Judgement {
 
 /// The lowest row whose field is illegal. The record is long enough and holds no byte below 32.
 pub(crate) fn first_illegal(t: &Table, record: &[u8]) -> Option<usize> {
-    t.rows.iter().enumerate().position(|(i, row)| !field_legal(t, i, row, record))
+    t.rows.iter().position(|row| !field_legal(t, row, record))
 }
 
 #[inline]
-fn field_legal(t: &Table, i: usize, row: &Row, record: &[u8]) -> bool {
+fn field_legal(t: &Table, row: &Row, record: &[u8]) -> bool {
     match row[column::TYPE] {
         SINGLE => match category(last_bytes(row, record)) {
             Category::Blank | Category::Number(0) => true,
             Category::Number(c) => legal(row, t.lines_of(row), c),
             Category::Bad => false,
         },
-        MULTIPLE if row[column::SUBFIELDS] == 0 && row[column::RANGE] == 0 && t.in_turn(i) => {
-            let first = t.lines_of(row)[0][0] as usize;
-            one_kind(&bit_bytes(row, record)[first - 1..])
+        MULTIPLE if row[column::SUBFIELDS] == 0 => {
+            if row[column::RANGE] == 0
+                && let Some(first) = t.codes_from(row)
+            {
+                return one_kind(&bit_bytes(row, record)[first - 1..]);
+            }
+            !matches!(bits(row, t.lines_of(row), record), Bits::Bad)
         }
-        MULTIPLE if row[column::SUBFIELDS] == 0 => !matches!(bits(row, t.lines_of(row), record), Bits::Bad),
         MULTIPLE => {
             let lines = t.lines_of(row);
             if lines.len() <= FEW || row[column::SUBFIELDS] as usize <= FEW {

@@ -9,8 +9,6 @@ pub(crate) struct Table<'a> {
     pub lines: &'a [Line],
     /// The least record length.
     pub least: usize,
-    /// A bit for each row: whether its lines count up by ones.
-    in_turn: [u64; MAX_VARIABLES / 64],
 }
 
 impl<'a> Table<'a> {
@@ -21,10 +19,15 @@ impl<'a> Table<'a> {
         &self.lines[before..before + row[column::LINES] as usize]
     }
 
-    /// Whether there are lines in this row, and they count up by ones.
+    /// The least code of a bitstring without a range, where every code from there to its width is on a line.
     #[inline]
-    pub fn in_turn(&self, row: usize) -> bool {
-        self.in_turn[row / 64] >> (row % 64) & 1 == 1
+    pub fn codes_from(&self, row: &Row) -> Option<usize> {
+        let lines = self.lines_of(row);
+        // The lines differ, and the width is the greatest of them.
+        if lines.len() == row[column::WIDTH] as usize {
+            return Some(1);
+        }
+        lines.windows(2).all(|pair| pair[0][0] + 1 == pair[1][0]).then(|| lines[0][0] as usize)
     }
 }
 
@@ -59,8 +62,7 @@ pub(crate) fn view(table: &[i64]) -> Option<Table<'_>> {
     let mut idents = [0u64; 157];
     let mut before = 0usize;
     let mut highest = 0;
-    let mut in_turn = [0; MAX_VARIABLES / 64];
-    for (i, row) in rows.iter().enumerate() {
+    for row in rows {
         let ident = row[column::IDENT];
         if !(1..=9_999).contains(&ident) {
             return None;
@@ -76,14 +78,15 @@ pub(crate) fn view(table: &[i64]) -> Option<Table<'_>> {
         }
         let own = &lines[before..before + count as usize];
         before += count as usize;
-        in_turn[i / 64] |= (row_sound(row, own)? as u64) << (i % 64);
+        if !row_sound(row, own) {
+            return None;
+        }
         highest = highest.max(row[column::FINISH]);
     }
-    (before == e && least == highest).then_some(Table { rows, lines, least: least as usize, in_turn })
+    (before == e && least == highest).then_some(Table { rows, lines, least: least as usize })
 }
 
-/// Whether the row's lines count up by ones; None for a row that is not sound.
-fn row_sound(row: &Row, lines: &[Line]) -> Option<bool> {
+fn row_sound(row: &Row, lines: &[Line]) -> bool {
     let &[
         _,
         kind,
@@ -112,104 +115,99 @@ fn row_sound(row: &Row, lines: &[Line]) -> Option<bool> {
         || !within(label_length, text)
         || !within(range, 1)
     {
-        return None;
+        return false;
     }
     let room = finish - start + 1;
     match kind {
         SINGLE | MULTIPLE => {
             if decimals != 0 || point != 0 {
-                return None;
+                return false;
             }
-            let block = block_sound(range, from, to, lines, 1, MAX_CATEGORY)?;
-            let digits = category_digits(block.most);
-            let sound = if kind == SINGLE {
+            let Some((_, most)) = block_sound(range, from, to, lines, 1, MAX_CATEGORY) else { return false };
+            let digits = category_digits(most);
+            if kind == SINGLE {
                 subfields == 0 && subwidth == 0 && w == digits && w <= room
             } else if subfields == 0 {
-                subwidth == 0 && w == block.most && w <= room
+                subwidth == 0 && w == most && w <= room
             } else {
                 // Each at most the room, so the product stays small.
                 w == digits
                     && (1..=room).contains(&subfields)
                     && (w..=room).contains(&subwidth)
                     && subfields * subwidth <= room
-            };
-            sound.then_some(block.in_turn)
+            }
         }
         QUANTITY => {
             if subfields != 0 || subwidth != 0 || !within(decimals, MAX_DECIMALS as i64) || !within(point, 1) {
-                return None;
+                return false;
             }
             if decimals > 0 && point == 0 {
-                return None;
+                return false;
             }
-            let block = block_sound(range, from, to, lines, -MAX_QUANTITY, MAX_QUANTITY)?;
-            let longest = quantity_width(block.least, decimals, point).max(quantity_width(block.most, decimals, point));
-            (w == longest && w <= room).then_some(block.in_turn)
+            let Some((lowest, most)) = block_sound(range, from, to, lines, -MAX_QUANTITY, MAX_QUANTITY) else {
+                return false;
+            };
+            w == quantity_width(lowest, decimals, point).max(quantity_width(most, decimals, point)) && w <= room
         }
         CHARACTER | LOGICAL => {
             let size = if kind == LOGICAL { 1 } else { MAX_SIZE };
-            let sound = decimals | point | subfields | subwidth | range | from | to == 0
+            decimals | point | subfields | subwidth | range | from | to == 0
                 && lines.is_empty()
                 && 1 <= w
                 && w <= size
-                && w <= room;
-            sound.then_some(false)
+                && w <= room
         }
-        _ => None,
+        _ => false,
     }
 }
 
-/// A block whose range and lines are sound: its least and greatest number, and whether its lines count up by ones.
-struct Block {
-    least: i64,
-    most: i64,
-    in_turn: bool,
-}
-
-fn block_sound(range: i64, from: i64, to: i64, lines: &[Line], low: i64, high: i64) -> Option<Block> {
+/// The least and greatest number of a block whose range and lines are sound.
+#[inline]
+fn block_sound(range: i64, from: i64, to: i64, lines: &[Line], low: i64, high: i64) -> Option<(i64, i64)> {
     if range == 1 {
         if from < low || to < from || high < to {
             return None;
         }
+        if lines.is_empty() {
+            return Some((from, to));
+        }
     } else if from != 0 || to != 0 || lines.is_empty() {
         return None;
     }
-    let (mut least, mut most) = if range == 1 { (from, to) } else { (i64::MAX, i64::MIN) };
-    let mut in_turn = false;
-    if let (Some(first), Some(last)) = (lines.first(), lines.last()) {
-        // Places and lengths are at most a power of two: with all but one of it added no bit above it may be set, and none before.
-        const ADDED: u64 = MAX_DEFINITION as u64 - 1;
-        let (mut flags, mut texts) = (0, 0);
-        let mut rising = true;
-        let mut before = i64::MIN;
-        for &[value, special, place, length] in lines {
-            flags |= special as u64;
-            texts |= place as u64 | length as u64;
-            texts |= (place as u64).wrapping_add(ADDED) | (length as u64).wrapping_add(ADDED);
-            // i64::MIN itself is below every bound, so that a first line never looks like a fall.
-            rising &= before < value;
-            before = value;
+    // Lines mostly rise: the first is then the least, the last the greatest, and no two are equal.
+    let (mut flags, mut texts) = (0, 0);
+    let mut last = low - 1;
+    for &[value, special, place, length] in lines {
+        flags |= special as u64;
+        texts = (place as u64).max(length as u64).max(texts);
+        if value <= last {
+            return unordered(range, from, to, lines, low, high);
         }
-        if flags > 1 || texts >= 2 * MAX_DEFINITION as u64 {
-            return None;
-        }
-        let (mut lowest, mut highest) = (first[0], last[0]);
-        if !rising {
-            lowest = lines.iter().map(|line| line[0]).min()?;
-            highest = lines.iter().map(|line| line[0]).max()?;
-        }
-        if lowest < low || high < highest || (!rising && repeated(lines, low == 1)) {
-            return None;
-        }
-        least = least.min(lowest);
-        most = most.max(highest);
-        in_turn = rising && highest - lowest == lines.len() as i64 - 1;
+        last = value;
     }
-    Some(Block { least, most, in_turn })
+    if flags > 1 || texts > MAX_DEFINITION as u64 || high < last {
+        return None;
+    }
+    let first = lines[0][0];
+    Some(if range == 1 { (first.min(from), last.max(to)) } else { (first, last) })
+}
+
+/// The same, of lines that don't rise or begin too low. The range is sound.
+#[cold]
+fn unordered(range: i64, from: i64, to: i64, lines: &[Line], low: i64, high: i64) -> Option<(i64, i64)> {
+    let (mut least, mut most) = if range == 1 { (from, to) } else { (i64::MAX, i64::MIN) };
+    let (mut flags, mut texts) = (0, 0);
+    for &[value, special, place, length] in lines {
+        least = least.min(value);
+        most = most.max(value);
+        flags |= special as u64;
+        texts = (place as u64).max(length as u64).max(texts);
+    }
+    let sound = flags <= 1 && texts <= MAX_DEFINITION as u64 && low <= least && most <= high;
+    (sound && !repeated(lines, low == 1)).then_some((least, most))
 }
 
 /// Whether two lines have the same value. All values are within their bounds.
-#[cold]
 fn repeated(lines: &[Line], categories: bool) -> bool {
     if lines.len() <= 16 {
         return lines.iter().enumerate().any(|(i, line)| lines[..i].iter().any(|other| other[0] == line[0]));

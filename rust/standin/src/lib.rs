@@ -160,6 +160,23 @@ pub unsafe extern "C" fn zarfolin_judge_file(
 }
 
 #[unsafe(no_mangle)]
+pub unsafe extern "C" fn zarfolin_judge_part(
+    table: *const i64,
+    table_len: usize,
+    data: *const u8,
+    data_len: usize,
+    terminator: u64,
+    first_len: u64,
+    last: u64,
+    answer: *mut i64,
+) -> Number {
+    unsafe {
+        let (table, data) = (from_raw_parts(table, table_len), from_raw_parts(data, data_len));
+        give(answer, plain::judge_part(table, data, terminator, first_len, last))
+    }
+}
+
+#[unsafe(no_mangle)]
 pub unsafe extern "C" fn zarfolin_decode_text(
     def: *const u8,
     def_len: usize,

@@ -198,12 +198,53 @@ pub fn judge_file(table: &[i64], data: &[u8]) -> Result<u64, FileFault> {
     // SAFETY: as above.
     let number =
         unsafe { zarfolin_judge_file(table.as_ptr(), table.len(), data.as_ptr(), data.len(), answer.as_mut_ptr()) };
+    counted(number, answer)
+}
+
+/// The count of records, or the first fault, of a file or a part of one.
+fn counted(number: Number, answer: [i64; 4]) -> Result<u64, FileFault> {
     let [_, record, row, place] = answer;
     let record = record as u64;
     match Refusal::of(number) {
         None => Ok(record),
         Some(refusal) => Err(FileFault { record, fault: record_fault(refusal, row, place) }),
     }
+}
+
+/// Judges a part of a data file that begins where a record does: the count of the records that end in it, or its first fault, its
+/// record counted in the part. `terminator` is that of the file, one of [`table::terminator`], else [`Refusal::Terminator`]; `first`
+/// the length of the file's first record. Where `last` is 0 more of the file follows, and a record that the part ends without is
+/// left alone; else it is [`Refusal::Unended`].
+///
+/// The part is done with up to its count of records, each of `first` bytes and a terminator: the next part begins there.
+/// [`Blocks`](crate::Blocks) and [`Parts`](crate::Parts) keep the books.
+///
+/// ```
+/// use zarfolin::{Definition, Refusal, calls, table::terminator};
+/// let definition = b"SSS VERSION 1.1 SURVEY RECORD R VARIABLE 1 NAME \"desk\" LABEL \"Desk\" TYPE SINGLE POSITION 1 TO 2 \
+///     VALUES 1 TO 12 END VALUES END VARIABLE END RECORD END SURVEY END SSS";
+/// let definition = Definition::read(definition).unwrap();
+/// let judge = |data, last| calls::judge_part(definition.table(), data, terminator::LF, 2, last);
+/// assert_eq!(judge(b" 7\n 8\n 1", 0), Ok(2));
+/// assert_eq!(judge(b" 7\n 8\n 1", 1).unwrap_err().to_string(), "record 3, the last record has no terminator [30]");
+/// assert_eq!(judge(b" 7\n13\n", 0).unwrap_err().fault.refusal, Refusal::Field);
+/// ```
+pub fn judge_part(table: &[i64], data: &[u8], terminator: u64, first: u64, last: u64) -> Result<u64, FileFault> {
+    let mut answer = [0i64; 4];
+    // SAFETY: as above.
+    let number = unsafe {
+        zarfolin_judge_part(
+            table.as_ptr(),
+            table.len(),
+            data.as_ptr(),
+            data.len(),
+            terminator,
+            first,
+            last,
+            answer.as_mut_ptr(),
+        )
+    };
+    counted(number, answer)
 }
 
 /// The record that starts at `from`, if the data reaches that far. The terminator is the one that the data's first CR or

@@ -113,6 +113,18 @@ unsafe extern "C" {
         answer: *mut i64,
     ) -> Number;
 
+    /// Judges a part of a data file. [`calls::judge_part`](crate::calls::judge_part).
+    pub fn zarfolin_judge_part(
+        table: *const i64,
+        table_len: usize,
+        data: *const u8,
+        data_len: usize,
+        terminator: u64,
+        first_len: u64,
+        last: u64,
+        answer: *mut i64,
+    ) -> Number;
+
     /// Finds the record that starts at `from`. [`calls::next_record`](crate::calls::next_record).
     pub fn zarfolin_next_record(data: *const u8, data_len: usize, from: u64, answer: *mut i64) -> Number;
 

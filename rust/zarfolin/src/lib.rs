@@ -81,8 +81,12 @@ pub mod calls;
 #[cfg(feature = "ffi")]
 pub mod ffi;
 #[cfg(feature = "ffi")]
+mod parts;
+#[cfg(feature = "ffi")]
 mod survey;
 
+#[cfg(feature = "ffi")]
+pub use parts::{Blocks, Parts, Shape, Terminator};
 #[cfg(feature = "ffi")]
 pub use survey::{Definition, Kind, Line, Lines, RawText, Record, Records, Values, Variable, Variables};
 

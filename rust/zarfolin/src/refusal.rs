@@ -99,6 +99,8 @@ refusals! {
     Value = 27, "the value is not legal for this variable";
     /// 28: more members than subfields.
     Members = 28, "the set has more members than the variable has subfields";
+    /// 29: a number of no terminator, for a part of a file.
+    Terminator = 29, "no terminator has this number";
     /// 30: last record has no terminator.
     Unended = 30, "the last record has no terminator";
     /// 31: length differs from the first record's.
@@ -139,7 +141,7 @@ pub struct RecordFault {
 #[derive(Clone, Copy, Debug, PartialEq, Eq)]
 #[non_exhaustive]
 pub struct FileFault {
-    /// The record, from 1; 0 where none is meant (20).
+    /// The record, from 1; 0 where none is meant (20, 29).
     pub record: u64,
     /// What is wrong with it.
     pub fault: RecordFault,

@@ -141,6 +141,18 @@ pub mod next {
     pub const OPEN_RECORD: u64 = 2;
 }
 
+/// The terminators, as [`zarfolin_judge_part`](crate::ffi::zarfolin_judge_part) takes them.
+pub mod terminator {
+    /// CR LF
+    pub const CR_LF: u64 = 1;
+    /// LF CR
+    pub const LF_CR: u64 = 2;
+    /// CR
+    pub const CR: u64 = 3;
+    /// LF
+    pub const LF: u64 = 4;
+}
+
 /// The limits of definitions and tables.
 pub mod limit {
     /// Bytes of a definition.

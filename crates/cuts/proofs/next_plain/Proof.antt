@@ -1,10 +1,9 @@
 -- `cuts::next_plain` meets its contract: no terminator begins before the one that stands there.
 use mathlib.Core.Path.{_≡_, sym, ap, _∙_}
-use Prim.Native.Nat.{ℕ, _-_, _<_}
+use Prim.Native.Nat.{ℕ, _-_}
 use native.Mathlib.Omega.{arith}
 use borrow.Author.Needs.{needs}
 use Rattle.cuts.specs.declared.Terminator.{Terminator}
-use Rattle.cuts.specs.Cut.{first-low}
 use Rattle.cuts.specs.Records.{plain-next}
 use Rattle.cuts.proofs.next_plain.Statement.{statement}
 use Rattle.cuts.proofs.next_plain.Tie as tie
@@ -15,8 +14,7 @@ returns c e = let z : _≡_ {A = ℕ} 0 1 = cc in absurd (omega arith)
 returns-2 : tie.Need-returns-2
 returns-2 c e =
     let a = c .before .before .before .before .before .before .args in
-    let low : a .w .first < 32 = rw (c .before .before .before .before .before .before .pre .0 .is) (first-low (a .d .now)) in
-    plain-next (a .d .now) (a .w) (a .from) (a .size) low (omega arith) (sym (c .before .before .before .begins-at .ensures) ∙ c .before .before .if2 .taken) (c .all-plain .ensures e)
+    plain-next (a .d .now) (a .w) (a .from) (a .size) (c .before .before .before .before .before .before .pre .0 .low) (omega arith) (sym (c .before .before .before .begins-at .ensures) ∙ c .before .before .if2 .taken) (c .all-plain .ensures e)
 
 returns-3 : tie.Need-returns-3
 returns-3 c e = let z : _≡_ {A = ℕ} 0 1 = cc in absurd (omega arith)

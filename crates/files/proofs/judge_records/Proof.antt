@@ -8,7 +8,7 @@ use borrow.Author.Needs.{needs}
 use borrow.Author.Tests.{not-true, not-false}
 use lib.ListN.{length, take, drop, length-take, length-drop}
 use Rattle.cuts.specs.rule.Cut.{nextFrom}
-use Rattle.cuts.specs.rule.Records.{recordsOf, recordsFrom}
+use Rattle.cuts.specs.rule.Records.{recordsFrom}
 use Rattle.cuts.specs.Records.{part, EndedAt, UnendedAt, next-ended, next-unended, next-nothing, over-past}
 use Rattle.files.specs.rule.File.{fileSaid, goOn, isSound, recordVerdict, firstLength, recordsVerdict, soundWith}
 use Rattle.files.specs.File.{soundSoFar, records-over, records-unended, records-next, so-far, go-sound, go-same}
@@ -17,15 +17,14 @@ use Rattle.files.proofs.judge_records.Statement.{statement}
 use Rattle.files.proofs.judge_records.Tie as tie
 
 abbrev Inv-loop : tie.InvT-loop
-Inv-loop t h d w scratch₀ from₀ n₀ first₀ scratch from n first =
-    (n ≤ from) × (length scratch ≡ length scratch₀) × (recordsVerdict t 0 0 (recordsOf d) ≡ recordsVerdict t n first (recordsFrom w (drop from d)))
+Inv-loop t h d w past known scratch₀ from₀ n₀ first₀ scratch from n first =
+    (n ≤ from + 1) × (length scratch ≡ length scratch₀) × (recordsVerdict t past known (recordsFrom w d) ≡ recordsVerdict t n first (recordsFrom w (drop from d)))
 
 abbrev μ-loop : tie.MeasureT-loop
-μ-loop t h d w scratch₀ from₀ n₀ first₀ scratch from n first = length d - from
+μ-loop t h d w past known scratch₀ from₀ n₀ first₀ scratch from n first = length d - from
 
 loop-holds : tie.Need-loop-holds Inv-loop μ-loop
-unfolding recordsOf
-loop-holds c = (omega arith, refl, rw (c .before .before .pre .1 .0 .is))
+loop-holds c = (omega (arith, c .before .before .pre .1 .0 .1), refl, refl)
 
 -- what was found of the record that starts here
 ended : (c : tie.After-known-told Inv-loop μ-loop) → EndedAt (c .before .before .before .before .before .before .before .before .args .d .now) (c .before .before .before .before .before .before .before .before .args .w) (c .before .before .before .before .before .loop .from) (recordsFrom (c .before .before .before .before .before .before .before .before .args .w) (drop (c .before .before .before .before .before .loop .from) (c .before .before .before .before .before .before .before .before .args .d .now))) (c .before .start .given .0 .0) (c .before .start .given .0 .1 .0) (c .before .start .given .0 .1 .1 .0)
@@ -79,7 +78,7 @@ pass-sound-requires : tie.Need-pass-sound-requires Inv-loop μ-loop
 pass-sound-requires c κs =
     let e = ended (c .before .before .before .before .before .before .before .before .before) in
     let l = sound-long _ _ _ (sym (going (c .before .before)) ∙ not-false _ (c .before .if1 .left)) in
-    ((c .before .before .before .before .before .before .before .before .before .before .before .before .before .before .before .before .before .pre .0, rw (first-here (c .before .before .before .before .before .before .before .before)) l), ((c .before .before .before .before .before .before .before .before .before .before .before .before .before .before .before .before .before .pre .1 .0, omega arith, omega (arith, e .starts, e .after, e .next, e .sized)), rw (c .before .before .before .before .before .judge-one .kept .1 .1 .1 .1 .1 .0 ∙ c .before .before .before .before .before .before .before .before .before .before .before .before .before .before .loop .inv .1) (c .before .before .before .before .before .before .before .before .before .before .before .before .before .before .before .before .before .pre .1 .1)))
+    ((c .before .before .before .before .before .before .before .before .before .before .before .before .before .before .before .before .before .pre .0, rw (first-here (c .before .before .before .before .before .before .before .before)) l), ((c .before .before .before .before .before .before .before .before .before .before .before .before .before .before .before .before .before .pre .1 .0 .0, omega arith, omega (arith, e .starts, e .after, e .next, e .sized)), rw (c .before .before .before .before .before .judge-one .kept .1 .1 .1 .1 .1 .0 ∙ c .before .before .before .before .before .before .before .before .before .before .before .before .before .before .loop .inv .1) (c .before .before .before .before .before .before .before .before .before .before .before .before .before .before .before .before .before .pre .1 .1)))
 
 loop-less : tie.Need-loop-less Inv-loop μ-loop
 loop-less c =

@@ -18,7 +18,7 @@ returns : tie.Need-returns Inv-loop μ-loop
 returns c = clear-none _ _ (omega arith)
 
 loop-holds : tie.Need-loop-holds Inv-loop μ-loop
-loop-holds c = (omega arith, omega arith, clear-none _ _ (omega arith))
+loop-holds c = (omega arith, omega (arith, c .plain-far .ensures .within), c .plain-far .ensures)
 
 low-among-requires : tie.Need-low-among-requires Inv-loop μ-loop
 low-among-requires c κs = omega arith
@@ -40,4 +40,4 @@ returns-4 c = clear-end _ _ _ _ 16 (c .before .before .before .loop .inv .2) (sy
 
 pub plain-to-spec : {M : Type 1} → statement M
 plain-to-spec =
-    tie.close (tie.spec Inv-loop μ-loop returns loop-holds low-among-requires returns-2 (λ c. omega arith) (λ c. omega arith) loop-again low-among-requires-2 returns-3 returns-4)
+    tie.close (tie.spec Inv-loop μ-loop returns (λ c κs. omega arith) loop-holds low-among-requires returns-2 (λ c. omega arith) (λ c. omega arith) loop-again low-among-requires-2 returns-3 returns-4)

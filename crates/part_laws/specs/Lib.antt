@@ -1,0 +1,4 @@
+pub mod rule
+pub mod Exactly
+pub mod Parts
+pub mod Each
