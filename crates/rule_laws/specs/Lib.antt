@@ -1,0 +1,9 @@
+pub mod Ahead
+pub mod Fits
+pub mod Judged
+pub mod Names
+pub mod Table
+pub mod Terminators
+pub mod Tokens
+pub mod Values
+pub mod Widths
