@@ -1,3 +1,4 @@
+pub mod rule
 pub mod Ahead
 pub mod Fits
 pub mod Judged
