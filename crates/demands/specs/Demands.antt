@@ -2,7 +2,7 @@
 -- promises stand in specs/rule of their crates: TableTested (sound), ValueRead and RecordJudged (records), Written (writes), NextFound
 -- (cuts), FileJudged (files), PartJudged (parts), DefinitionRead (definition); those of the exported functions (zarfolin) hold them, or are they.
 use mathlib.Core.Path.{_≡_}
-use mathlib.Core.Logic.{⊎-elim}
+use mathlib.Core.Logic.{_↔_, ⊎-elim}
 use mathlib.Core.Bool.{Bool, true, false}
 use mathlib.Core.List.{List}
 use Prim.Native.Nat.{ℕ, _+_, _*_, _-_}
@@ -15,10 +15,11 @@ use Rattle.layout.specs.rule.Row.{rowAt}
 use Rattle.layout.specs.declared.Kind.{Kind}
 use Rattle.layout.specs.declared.Row.{Row}
 use Rattle.fields.specs.rule.Field.{Value, holds, illegal, text, truth}
-use Rattle.fields.specs.rule.Row.{placesOf, fieldBy}
+use Rattle.fields.specs.rule.Row.{placesOf, fieldBy, Fit, fitsBy}
 use Rattle.sound.specs.rule.Sound.{wellFormed, TableTested}
 use Rattle.sound.specs.rule.Rows.{rowsOf}
 use Rattle.cuts.specs.declared.Next.{Next}
+use Rattle.cuts.specs.declared.Terminator.{Terminator}
 use Rattle.cuts.specs.rule.Cut.{NextFound, terminatorOf}
 use Rattle.cuts.specs.rule.Records.{Records, recordsFrom, recordsOf, laid, countEnded}
 use Rattle.cuts.specs.Records.{laid-again}
@@ -57,6 +58,10 @@ use Rattle.laws.specs.Writing as writing
 use Rattle.laws.specs.ReadBack as back
 use Rattle.laws.specs.rule.WriteBack.{Answered}
 use Rattle.laws.specs.WriteBack as again
+use Rattle.rule_laws.specs.rule.Fits.{Fitting}
+use Rattle.rule_laws.specs.Fits as fits
+use Rattle.rule_laws.specs.rule.Terminators.{First}
+use Rattle.rule_laws.specs.Terminators as terminators
 use Rattle.zarfolin.specs.rule.Face.{RecordTold, ValueTold, FileTold, DefinitionTold, NextTold}
 use Rattle.zarfolin.specs.rule.Texts.{TextTold}
 use Rattle.zarfolin.specs.rule.Part.{PartTold}
@@ -206,6 +211,10 @@ bad-told-once = each.once-bad
 pub count-so : (t : List ℤ) (d : List ℕ) (n : ℕ) → fileVerdict t d ≡ soundWith n → n ≡ countEnded (recordsOf d)
 count-so = files.count-passed
 
+-- a file's terminator is the first one met
+pub terminator-so : (d : List ℕ) (w : Terminator) → (terminatorOf d ≡ w) ↔ First d w
+terminator-so = terminators.terminator-exactly
+
 pub cut-clean : (d : List ℕ) → Clean (terminatorOf d) (recordsOf d)
 cut-clean = cutting.no-terminator-inside
 
@@ -221,6 +230,13 @@ write-so = writing.named
 
 pub so-write : (t : List ℤ) (i : ℕ) (x : Value) (n : ℕ) {k : ℕ} → rule.Outcome t i x n k → refusalOf t i x n ≡ k
 so-write = writing.only
+
+-- and a value fits a row, is of another type (26), not legal (27) or of too many members (28) exactly when, in the paper's words
+pub fit-so : (t : List ℤ) (v : ℕ) (r : Row) (k : Kind) (x : Value) → Fitting t v r k x (fitsBy k t v r x)
+fit-so = fits.fit-named
+
+pub so-fit : (t : List ℤ) (v : ℕ) (r : Row) {k : Kind} {x : Value} {f : Fit} → Fitting t v r k x f → fitsBy k t v r x ≡ f
+so-fit = fits.fit-only
 
 -- of a well-formed table no number is negative but a quantity's from, to and line values
 pub table-signs : (t : List ℤ) → wellFormed t ≡ true → TableSigns t

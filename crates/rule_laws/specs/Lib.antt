@@ -1,0 +1,10 @@
+pub mod rule
+pub mod Ahead
+pub mod Fits
+pub mod Judged
+pub mod Names
+pub mod Table
+pub mod Terminators
+pub mod Tokens
+pub mod Values
+pub mod Widths
