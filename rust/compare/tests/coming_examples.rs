@@ -42,7 +42,6 @@ fn each(try_it: impl Fn(&dyn Coming)) {
     }
 }
 
-
 #[test]
 fn c22_a_part_is_judged_as_a_file() {
     let t = table(&variable(1, "SINGLE POSITION 1 TO 2 VALUES 1 TO 20 END VALUES"));

@@ -157,9 +157,15 @@ fn proved_readings() {
         assert_eq!(read(&t, record), value, "{record:?}");
     }
     let t = one("QUANTITY POSITION 1 TO 2 VALUES 1 TO 9. END VALUES");
-    for (record, value) in
-        [("7.", "N 7"), ("07", "243 1"), (" 7", "241 0"), (" .", "241 0"), ("  ", "missing"), ("0.", "242 0"), ("-.", "241 0")]
-    {
+    for (record, value) in [
+        ("7.", "N 7"),
+        ("07", "243 1"),
+        (" 7", "241 0"),
+        (" .", "241 0"),
+        ("  ", "missing"),
+        ("0.", "242 0"),
+        ("-.", "241 0"),
+    ] {
         assert_eq!(read(&t, record), value, "{record:?}");
     }
     let t = one("QUANTITY POSITION 1 TO 2 VALUES 0 TO 50 WITH 99 \"\" END VALUES");

@@ -521,7 +521,8 @@ impl<'a> Values<'a> {
     /// Each variable with its value, or why it holds none.
     pub fn iter(&self) -> impl ExactSizeIterator<Item = (Variable<'a>, Result<Value<'_>, ReadError>)> {
         let definition: &'a Definition<'a> = self.definition;
-        (0..self.rows.len()).map(move |row| (Variable { definition, row }, self.get(row).unwrap_or(Err(Refusal::Row.into()))))
+        (0..self.rows.len())
+            .map(move |row| (Variable { definition, row }, self.get(row).unwrap_or(Err(Refusal::Row.into()))))
     }
 
     /// The rows that hold no legal value: all faults of the record's fields at once.
