@@ -258,8 +258,8 @@ static void parts(void) {
     CHECK(is(answer, 22, 1, 0, 0));
     CHECK(zarfolin_judge_part(table, table_len, bytes(data), length, ZARFOLIN_LF, 22, 0, answer) == ZARFOLIN_E_LOW_BYTE);
     CHECK(is(answer, 23, 1, 0, 21));
-    CHECK(zarfolin_judge_part(table, table_len, bytes(field), sizeof field - 1, ZARFOLIN_CR_LF, 21, 1, answer) == ZARFOLIN_E_FIELD);
-    CHECK(is(answer, 24, 2, 0, 0));
+    CHECK(zarfolin_judge_part(table, table_len, bytes(field), sizeof field - 1, ZARFOLIN_CR_LF, 21, 1, answer) == ZARFOLIN_E_NOT_LEGAL);
+    CHECK(is(answer, 242, 2, 0, 13));
     CHECK(zarfolin_judge_part(table, table_len, bytes(""), 0, ZARFOLIN_LF_CR, 21, 1, answer) == ZARFOLIN_OK);
     CHECK(is(answer, 0, 0, 0, 0));
     CHECK(zarfolin_judge_part(table, table_len, bytes(data), length, 0, 21, 1, answer) == ZARFOLIN_E_TERMINATOR);

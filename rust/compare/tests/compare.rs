@@ -589,7 +589,7 @@ fn files_record_by_record() {
             assert_eq!(each, whole, "seed {seed}, {}: {}", face.name(), zarfolin_compare::case::show(&case));
         }
     }
-    tally.end("files record by record", 3_000, &[0, 22, 23, 24, 30, 31]);
+    tally.end("files record by record", 3_000, &[0, 22, 23, 30, 31, 241, 242, 243]);
 }
 
 /// The number of a file's terminator, LF's where it has none, and the length of its first record.
@@ -648,7 +648,7 @@ fn parts_of_files() {
         let parts = in_parts(&*tally.other, &mut r, &whole.table, &whole.bytes);
         assert_eq!(parts, whole_answer, "seed {seed}, in parts: {}", zarfolin_compare::case::show(&whole));
     }
-    tally.end("parts of files", 40_000, &[0, 20, 22, 23, 24, 29, 30, 31]);
+    tally.end("parts of files", 40_000, &[0, 20, 22, 23, 29, 30, 31, 241, 242, 243]);
 }
 
 /// A file, or its beginning, as a part of one: mostly by its own terminator and first record.

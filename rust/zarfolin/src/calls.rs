@@ -234,7 +234,7 @@ fn counted(number: Number, answer: [i64; 4]) -> Result<u64, FileFault> {
 /// let judge = |data, last| calls::judge_part(definition.table(), data, terminator::LF, 2, last);
 /// assert_eq!(judge(b" 7\n 8\n 1", 0), Ok(2));
 /// assert_eq!(judge(b" 7\n 8\n 1", 1).unwrap_err().to_string(), "record 3, the last record has no terminator [30]");
-/// assert_eq!(judge(b" 7\n13\n", 0).unwrap_err().fault.refusal, Refusal::Field);
+/// assert_eq!(judge(b" 7\n13\n", 0).unwrap_err().fault.refusal, Refusal::NotLegal);
 /// ```
 pub fn judge_part(table: &[i64], data: &[u8], terminator: u64, first: u64, last: u64) -> Result<u64, FileFault> {
     let mut answer = [0i64; 4];
