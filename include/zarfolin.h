@@ -54,7 +54,7 @@ extern "C" {
 
 /* The version of this face. It is raised by each change that a program compiled before it would not survive: another shape
  * of the table, another meaning of a call or a number. A new call, or a refusal met in a new case, doesn't raise it. */
-#define ZARFOLIN_VERSION 1
+#define ZARFOLIN_VERSION 2
 
 /* The version of the archive that is linked. A program asks once, when it starts:
  *
@@ -88,7 +88,6 @@ enum {
     ZARFOLIN_E_ROW = 21,       /* no such row */
     ZARFOLIN_E_SHORT = 22,     /* record shorter than ZARFOLIN_H_RECORD says */
     ZARFOLIN_E_LOW_BYTE = 23,  /* byte below 32 in the record (whole record only) */
-    ZARFOLIN_E_FIELD = 24,     /* field illegal */
     ZARFOLIN_E_LIST_ROOM = 25, /* lent list shorter than the set, or than the text; can't come of a set where it has
                                 * ZARFOLIN_MAX_SET numbers */
     ZARFOLIN_E_TYPE = 26,      /* value of another type */
@@ -98,7 +97,11 @@ enum {
     ZARFOLIN_E_TERMINATOR = 29, /* number of no terminator: none of ZARFOLIN_CR_LF to ZARFOLIN_LF */
     /* of a data file */
     ZARFOLIN_E_UNENDED = 30, /* last record has no terminator */
-    ZARFOLIN_E_LENGTH = 31   /* length differs from the first record's */
+    ZARFOLIN_E_LENGTH = 31,  /* length differs from the first record's */
+    /* of a field, before 25 in the order of the calls: what is wrong with it (up to version 1 they were one number, 24) */
+    ZARFOLIN_E_STRAY = 241,     /* stray byte: it cannot stand there after those to its left */
+    ZARFOLIN_E_NOT_LEGAL = 242, /* not a legal value: the field's form is sound, its number neither in the range nor on a line */
+    ZARFOLIN_E_POINT = 243      /* decimal point: none at its place, or one elsewhere, in a QUANTITY */
 };
 
 /* The number of a break, a new line, in a decoded text, beside the bytes 0 to 255. */
@@ -227,14 +230,15 @@ zarfolin_number zarfolin_read_definition(const uint8_t *def, size_t def_len, int
 
 /* Reads one row's value from a record.
  *
- * Answers 0, or the first of 20, 21, 22, 24, 25 that holds.
+ * Answers 0, or the first of 20, 21, 22, a fault of the field (241, 242 or 243), 25 that holds.
  * answer: the number; the kind (ZARFOLIN_MISSING to ZARFOLIN_IS_TRUTH); then
  *         missing      0, 0
  *         number       the number, scaled by the row's decimals; 0
  *         set          the count of members; 0
  *         text         its place in the record; its length, spaces at its end left out
  *         truth        0 or 1; 0
- *         On a refusal kind and both others are 0.
+ *         With 241 and 243 comes the place of the byte in the record, with 242 the number, scaled, that is not legal, in the
+ *         kind's stead, and both others are 0. On any other refusal all three are 0.
  * list:   a set's members stand at its start, rising; the rest is kept. Any other value and any refusal keep all of it.
  *         With ZARFOLIN_MAX_SET numbers 25 can't come.
  * table, record: only read. No byte outside the row's value places decides anything. */
@@ -246,8 +250,8 @@ zarfolin_number zarfolin_read_value(const int64_t *table, size_t table_len, uint
  * Answers 0, or the first of 20, 22, 25 that holds; 25 if out has fewer than ZARFOLIN_ANSWER * V numbers, or the list has no
  * room for the members of all sets together.
  * answer: the number; the members in the list; the rows refused; 0. On a refusal all three are 0.
- * out:    on 0 four numbers for each row, from out[ZARFOLIN_ANSWER * row] on: just those that zarfolin_read_value answers for it (24
- *         for an illegal field, so that all faults of a record come at once), but for a set
+ * out:    on 0 four numbers for each row, from out[ZARFOLIN_ANSWER * row] on: just those that zarfolin_read_value answers for it (a
+ *         field's fault too, so that all faults of a record come at once), but for a set
  *             0; ZARFOLIN_IS_SET; the count of members; where they start in the list
  *         What lies beyond ZARFOLIN_ANSWER * V numbers is kept. On a refusal all of it is kept.
  * list:   on 0 the members of the sets, row after row, rising inside each; an empty set starts where the next one does.
@@ -272,8 +276,9 @@ zarfolin_number zarfolin_decode_text(const uint8_t *def, size_t def_len, uint64_
 
 /* Judges a whole record.
  *
- * Answers 0, or the first of 20, 22, 23, 24 that holds.
- * answer: the number; the place of the first byte below 32 for 23, the lowest illegal row for 24, otherwise 0; 0; 0.
+ * Answers 0, or the first of 20, 22, 23, a fault of the lowest faulty row (241, 242 or 243) that holds.
+ * answer: the number; the place of the first byte below 32 for 23, the row of a fault, otherwise 0; of a fault the byte's place
+ *         (241, 243) or the number, scaled, that is not legal (242), otherwise 0; 0.
  * table, record: only read. */
 zarfolin_number zarfolin_judge_record(const int64_t *table, size_t table_len, const uint8_t *record,
                                       size_t record_len, int64_t *answer);
@@ -308,9 +313,10 @@ zarfolin_number zarfolin_write_text(const int64_t *table, size_t table_len, uint
 
 /* Judges a whole data file.
  *
- * Answers 0, or 20, or for the first faulty record the first of 30, 31, 22, 23, 24 that holds.
- * answer: the number; the count of records on 0, otherwise the faulty record from 1 (0 for 20); the row for 24,
- *         otherwise 0; the byte's place in the record for 23, otherwise 0.
+ * Answers 0, or 20, or for the first faulty record the first of 30, 31, 22, 23, a fault of its lowest faulty row (241, 242 or
+ * 243) that holds.
+ * answer: the number; the count of records on 0, otherwise the faulty record from 1 (0 for 20); the row of 241 to 243,
+ *         otherwise 0; the byte's place in the record for 23, 241 and 243, the number, scaled, for 242, otherwise 0.
  * table, data: only read. */
 zarfolin_number zarfolin_judge_file(const int64_t *table, size_t table_len, const uint8_t *data, size_t data_len,
                                     int64_t *answer);
@@ -320,7 +326,7 @@ zarfolin_number zarfolin_judge_file(const int64_t *table, size_t table_len, cons
  * The part begins where a record does. terminator: that of the file, ZARFOLIN_CR_LF to ZARFOLIN_LF; first_len: the length of
  * the file's first record, without its terminator. last: 0 where more of the file follows: a record that the part ends
  * without is then left alone; any other number: it is 30.
- * Answers 0, or 20, or 29, or for the part's first faulty record the first of 30, 31, 22, 23, 24 that holds.
+ * Answers 0, or 20, or 29, or for the part's first faulty record the first of 30, 31, 22, 23, 241 to 243 that holds.
  * answer: as zarfolin_judge_file's, the records counted in the part; zeros behind 29.
  * On 0 the part left off behind its count of records: `count * (first_len + size)` bytes from its start, where size is 2 for
  * ZARFOLIN_CR_LF and ZARFOLIN_LF_CR, 1 for the others. The next part begins there. The parts of a file give its own answer:
@@ -397,7 +403,6 @@ ZARFOLIN_INLINE const char *zarfolin_message(zarfolin_number number) {
     case ZARFOLIN_E_ROW: return "there is no such row";
     case ZARFOLIN_E_SHORT: return "the record is shorter than its definition needs";
     case ZARFOLIN_E_LOW_BYTE: return "the record has a byte below 32";
-    case ZARFOLIN_E_FIELD: return "the field holds no legal value";
     case ZARFOLIN_E_LIST_ROOM: return "the lent list is too short for this set or text";
     case ZARFOLIN_E_TYPE: return "the value does not fit the variable's type";
     case ZARFOLIN_E_VALUE: return "the value is not legal for this variable";
@@ -405,6 +410,9 @@ ZARFOLIN_INLINE const char *zarfolin_message(zarfolin_number number) {
     case ZARFOLIN_E_TERMINATOR: return "no terminator has this number";
     case ZARFOLIN_E_UNENDED: return "the last record has no terminator";
     case ZARFOLIN_E_LENGTH: return "the record's length differs from the first record's";
+    case ZARFOLIN_E_STRAY: return "the field has a byte that cannot stand there";
+    case ZARFOLIN_E_NOT_LEGAL: return "the field holds a number that is neither in the range nor on a line";
+    case ZARFOLIN_E_POINT: return "the field has no decimal point at its place, or one elsewhere";
     default: return "refused for a reason that this header does not know";
     }
 }

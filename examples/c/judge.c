@@ -67,10 +67,11 @@ int main(int argc, char **argv) {
         return 0;
     }
     printf("%s: record %" PRId64, argv[2], answer[1]);
-    if (number == ZARFOLIN_E_FIELD) {
+    if (number == ZARFOLIN_E_STRAY || number == ZARFOLIN_E_NOT_LEGAL || number == ZARFOLIN_E_POINT) {
         const int64_t *row = zarfolin_row(table, (size_t)answer[2]);
         printf(", variable %" PRId64 " \"%.*s\", columns %" PRId64 " to %" PRId64, row[ZARFOLIN_IDENT],
                (int)row[ZARFOLIN_NAME_LENGTH], (const char *)def + row[ZARFOLIN_NAME], row[ZARFOLIN_START], row[ZARFOLIN_FINISH]);
+        printf(number == ZARFOLIN_E_NOT_LEGAL ? ", number %" PRId64 : ", column %" PRId64, answer[3] + (number != ZARFOLIN_E_NOT_LEGAL));
     } else if (number == ZARFOLIN_E_LOW_BYTE) {
         printf(", column %" PRId64, answer[3] + 1);
     }

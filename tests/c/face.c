@@ -116,7 +116,12 @@ static void readings(void) {
     CHECK(zarfolin_read_value(table, table_len, 6, record, length, list, 4, answer) == ZARFOLIN_E_ROW);
     CHECK(zarfolin_read_value(table, table_len, 0, record, length - 1, list, 4, answer) == ZARFOLIN_E_SHORT);
     CHECK(zarfolin_read_value(table + 1, table_len - 1, 0, record, length, list, 4, answer) == ZARFOLIN_E_TABLE);
-    CHECK(zarfolin_read_value(table, table_len, 0, bytes("7 10x1x-1.0ab   120 1"), length, list, 4, answer) == ZARFOLIN_E_FIELD);
+    CHECK(zarfolin_read_value(table, table_len, 0, bytes("7 10x1x-1.0ab   120 1"), length, list, 4, answer) == ZARFOLIN_E_STRAY);
+    CHECK(is(answer, 241, 1, 0, 0));
+    CHECK(zarfolin_read_value(table, table_len, 0, bytes("9910x1x-1.0ab   120 1"), length, list, 4, answer) == ZARFOLIN_E_NOT_LEGAL);
+    CHECK(is(answer, 242, 99, 0, 0));
+    CHECK(zarfolin_read_value(table, table_len, 2, bytes(" 710x1x-100ab   120 1"), length, list, 4, answer) == ZARFOLIN_E_POINT);
+    CHECK(is(answer, 243, 9, 0, 0) && list[0] == 1 && list[1] == 20 && list[2] == -1);
 
     /* All rows at once: as one by one, but that a set says where it starts in the list. */
     int64_t out[ZARFOLIN_ANSWER * 6 + 1], all[5] = {-1, -1, -1, -1, -1};
@@ -132,14 +137,16 @@ static void readings(void) {
     CHECK(is(out + ZARFOLIN_ANSWER * 3, 0, ZARFOLIN_IS_TEXT, 11, 2) && is(out + ZARFOLIN_ANSWER * 5, 0, ZARFOLIN_IS_SET, 2, 2));
     CHECK(all[0] == 1 && all[1] == 4 && all[2] == 1 && all[3] == 20 && all[4] == -1);
     CHECK(zarfolin_read_record(table, table_len, bytes("7 10x1x-1.0ab   220 1"), length, out, ZARFOLIN_ANSWER * 6, all, 5, answer) == 0);
-    CHECK(is(answer, 0, 4, 2, 0) && is(out, 24, 0, 0, 0) && is(out + ZARFOLIN_ANSWER * 4, 24, 0, 0, 0));
+    CHECK(is(answer, 0, 4, 2, 0) && is(out, 241, 1, 0, 0) && is(out + ZARFOLIN_ANSWER * 4, 241, 16, 0, 0));
 
     CHECK(zarfolin_judge_record(table, table_len, record, length, answer) == ZARFOLIN_OK);
     CHECK(is(answer, 0, 0, 0, 0));
     CHECK(zarfolin_judge_record(table, table_len, bytes(" 710x1x-1.0a\tb  120 1"), length, answer) == ZARFOLIN_E_LOW_BYTE);
     CHECK(is(answer, 23, 12, 0, 0));
-    CHECK(zarfolin_judge_record(table, table_len, bytes(" 710x1x-1.0ab   220 1"), length, answer) == ZARFOLIN_E_FIELD);
-    CHECK(is(answer, 24, 4, 0, 0));
+    CHECK(zarfolin_judge_record(table, table_len, bytes(" 710x1x-1.0ab   220 1"), length, answer) == ZARFOLIN_E_STRAY);
+    CHECK(is(answer, 241, 4, 16, 0));
+    CHECK(zarfolin_judge_record(table, table_len, bytes(" 710x1x99.9ab   220 1"), length, answer) == ZARFOLIN_E_NOT_LEGAL);
+    CHECK(is(answer, 242, 2, 999, 0));
     CHECK(zarfolin_judge_record(table, table_len, record, 3, answer) == ZARFOLIN_E_SHORT);
 }
 
@@ -215,8 +222,8 @@ static void files(void) {
     CHECK(is(answer, 31, 2, 0, 0));
     CHECK(zarfolin_judge_file(table, table_len, bytes(low), sizeof low - 1, answer) == ZARFOLIN_E_LOW_BYTE);
     CHECK(is(answer, 23, 2, 0, 15));
-    CHECK(zarfolin_judge_file(table, table_len, bytes(illegal), sizeof illegal - 1, answer) == ZARFOLIN_E_FIELD);
-    CHECK(is(answer, 24, 3, 0, 0));
+    CHECK(zarfolin_judge_file(table, table_len, bytes(illegal), sizeof illegal - 1, answer) == ZARFOLIN_E_NOT_LEGAL);
+    CHECK(is(answer, 242, 3, 0, 13));
     CHECK(zarfolin_judge_file(table, 5, bytes(good), sizeof good - 1, answer) == ZARFOLIN_E_TABLE);
     CHECK(is(answer, 20, 0, 0, 0));
 
@@ -251,8 +258,8 @@ static void parts(void) {
     CHECK(is(answer, 22, 1, 0, 0));
     CHECK(zarfolin_judge_part(table, table_len, bytes(data), length, ZARFOLIN_LF, 22, 0, answer) == ZARFOLIN_E_LOW_BYTE);
     CHECK(is(answer, 23, 1, 0, 21));
-    CHECK(zarfolin_judge_part(table, table_len, bytes(field), sizeof field - 1, ZARFOLIN_CR_LF, 21, 1, answer) == ZARFOLIN_E_FIELD);
-    CHECK(is(answer, 24, 2, 0, 0));
+    CHECK(zarfolin_judge_part(table, table_len, bytes(field), sizeof field - 1, ZARFOLIN_CR_LF, 21, 1, answer) == ZARFOLIN_E_NOT_LEGAL);
+    CHECK(is(answer, 242, 2, 0, 13));
     CHECK(zarfolin_judge_part(table, table_len, bytes(""), 0, ZARFOLIN_LF_CR, 21, 1, answer) == ZARFOLIN_OK);
     CHECK(is(answer, 0, 0, 0, 0));
     CHECK(zarfolin_judge_part(table, table_len, bytes(data), length, 0, 21, 1, answer) == ZARFOLIN_E_TERMINATOR);
@@ -274,9 +281,11 @@ static void parts(void) {
 static void messages(void) {
     CHECK(zarfolin_version() == ZARFOLIN_VERSION);
     const char *unknown = zarfolin_message(99);
-    CHECK(strlen(unknown) > 0 && zarfolin_message(UINT64_MAX) == unknown);
+    CHECK(strlen(unknown) > 0 && zarfolin_message(UINT64_MAX) == unknown && zarfolin_message(24) == unknown);
+    CHECK(zarfolin_message(ZARFOLIN_E_STRAY) != unknown && zarfolin_message(ZARFOLIN_E_NOT_LEGAL) != unknown);
+    CHECK(zarfolin_message(ZARFOLIN_E_POINT) != unknown);
     for (zarfolin_number a = 0; a <= ZARFOLIN_E_LENGTH; a++) {
-        const int none = a > ZARFOLIN_E_TABLE_ROOM && a < ZARFOLIN_E_TABLE;
+        const int none = (a > ZARFOLIN_E_TABLE_ROOM && a < ZARFOLIN_E_TABLE) || a == 24;
         CHECK((strcmp(zarfolin_message(a), unknown) == 0) == none);
         for (zarfolin_number b = 0; b < a && !none; b++) {
             CHECK(strcmp(zarfolin_message(a), zarfolin_message(b)) != 0);

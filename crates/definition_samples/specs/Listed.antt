@@ -26,7 +26,7 @@ lines = bytes "1 1 N 7\n" ++ bytes "1 2 S 1,4\n" ++ bytes "1 3 N -10\n"
 
 -- what is listed by a table
 abbrev Lists : List ℤ → Type 0
-Lists t = (listingOf t first ≡ lines ++ bytes "ok 1\n") × (listingOf t (first ++ second) ≡ lines ++ bytes "fault 24 2 2\n")
+Lists t = (listingOf t first ≡ lines ++ bytes "ok 1\n") × (listingOf t (first ++ second) ≡ lines ++ bytes "fault 241 2 2\n")
 
 long-enough : (rest : List ℤ) → 72 ≤ length (sampleTable ++ rest)
 unfolding rowCells headerCells

@@ -7,7 +7,8 @@ use Prim.Native.String.{String}
 use lib.IntN.{ℤ, pos, negsuc}
 use lib.ListN.{replicate}
 use Rattle.definition.specs.rule.Definition.{outcomeOf, tableAfter}
-use Rattle.records.specs.rule.Value.{nothing, numberIs, setOf, truthIs, refused, readAs, listAs}
+use Rattle.faults.specs.declared.Fault.the-variants.{Stray}
+use Rattle.records.specs.rule.Value.{nothing, numberIs, setOf, truthIs, badField, readAs, listAs}
 use Rattle.definition_samples.specs.Bytes.{bytes}
 use Rattle.definition_samples.specs.Definitions.{definitions}
 use Rattle.definition_samples.specs.Tables.{tables}
@@ -55,7 +56,7 @@ pub proved-readings :
     × (readAs single 0 (bytes " 7") 9 ≡ numberIs (pos 7))
     × (readAs single 0 (bytes "  ") 9 ≡ nothing)
     × (readAs single 0 (bytes "00") 9 ≡ nothing)
-    × (readAs single 0 (bytes "7 ") 9 ≡ refused 24)
+    × (readAs single 0 (bytes "7 ") 9 ≡ badField (Stray 1))
     × (readAs bitsOfFour 0 (bytes "100xxxxx0") 9 ≡ setOf 1)
     × (listAs bitsOfFour 0 (bytes "100xxxxx0") nine
     ≡ (pos 1 ∷ pos 71 ∷ pos 72 ∷ pos 73 ∷ pos 74 ∷ pos 75 ∷ pos 76 ∷ pos 77 ∷ pos 78 ∷ []))

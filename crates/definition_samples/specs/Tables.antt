@@ -16,13 +16,15 @@ use Rattle.fields.specs.rule.Field.{numberField, singleSays, quantitySays, allB
 use Rattle.fields.specs.rule.Field.{someEntry, passing, spreadField, truthField}
 use Rattle.fields.specs.rule.Row.{defined, bitPlaces, placesBy, fieldBy, readingOf, spreadPlaces}
 use Rattle.sets.specs.rule.Sets.{isIllegal, filledOf, listAfter}
+use Rattle.faults.specs.rule.Fault.{faultNumber, orElse, fixedWhole, fixedOf, pointPlace, mayStand, faultAt, numberFrom, numberForm}
+use Rattle.faults.specs.rule.Fault.{spreadForm, passes, firstFailing, plainForm, valueFault, usable, spreadValue, formBy, valueBy, faultOf}
 use Rattle.records.specs.rule.First.{firstFrom}
 use Rattle.records.specs.rule.Verdict.{rowVerdict, byteVerdict, rowsVerdict}
 use Rattle.cuts.specs.rule.Cut.{beginsWith, terminatorAt, terminatorOf, wholeAt, beginsAt}
 use Rattle.cuts.specs.rule.Records.{atEnd, cut, recordsOf}
 use Rattle.files.specs.rule.File.{recordVerdict, goOn, firstLength, isSound}
 use Rattle.lines.specs.rule.Text.{numeral, numberText, codesAfter, codes, valueText, lineText, fieldText, okText, faultText}
-use Rattle.listing.specs.rule.Listing.{rowText, rowsText, identOf, faultOf, lastText, recordsText}
+use Rattle.listing.specs.rule.Listing.{rowText, rowsText, identOf, faultLine, lastText, recordsText}
 use Rattle.listing.specs.Listing.{listingOf}
 use Rattle.records.specs.rule.Value.{outcomeOf, readAs, listAs}
 
@@ -34,6 +36,7 @@ unfolding countFrom digitsOf _and_ allBelow anyBelow sumBelow maxBelow countOf s
     numberField singleSays quantitySays allBits setBits bitsField entryGood entryIs allEntries someEntry passing spreadField truthField
     defined bitPlaces placesBy fieldBy readingOf spreadPlaces isIllegal filledOf listAfter firstFrom rowVerdict byteVerdict rowsVerdict
     beginsWith terminatorAt terminatorOf wholeAt beginsAt atEnd cut recordsOf recordVerdict goOn firstLength isSound numeral numberText
-    codesAfter codes valueText lineText fieldText okText faultText rowText rowsText identOf faultOf lastText recordsText listingOf
-    outcomeOf readAs listAs
+    codesAfter codes valueText lineText fieldText okText faultText rowText rowsText identOf faultLine lastText recordsText listingOf
+    outcomeOf readAs listAs faultNumber orElse fixedWhole fixedOf pointPlace mayStand faultAt numberFrom numberForm spreadForm passes
+    firstFailing plainForm valueFault usable spreadValue formBy valueBy faultOf
 tables = tt

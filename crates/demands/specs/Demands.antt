@@ -5,7 +5,7 @@ use mathlib.Core.Path.{_≡_}
 use mathlib.Core.Logic.{_↔_, ⊎-elim}
 use mathlib.Core.Bool.{Bool, true, false}
 use mathlib.Core.List.{List}
-use Prim.Native.Nat.{ℕ, _+_, _*_, _-_}
+use Prim.Native.Nat.{ℕ, _+_, _*_, _-_, _<_}
 use lib.Dec.{eqb}
 use lib.IntN.{ℤ}
 use lib.ListN.{length, getD, take, drop}
@@ -23,9 +23,13 @@ use Rattle.cuts.specs.declared.Terminator.{Terminator}
 use Rattle.cuts.specs.rule.Cut.{NextFound, terminatorOf}
 use Rattle.cuts.specs.rule.Records.{Records, recordsFrom, recordsOf, laid, countEnded}
 use Rattle.cuts.specs.Records.{laid-again}
+use Rattle.faults.specs.rule.Fault.{faultNumber}
+use Rattle.faults.specs.declared.Fault.{Fault}
+use Rattle.records.specs.rule.First.{rowFault}
+use Rattle.records.specs.rule.Value as value
 use Rattle.records.specs.rule.Value.{Outcome, refused, outcomeOf, readingAt, ValueRead}
 use Rattle.sets.specs.rule.Sets.{listAfter}
-use Rattle.records.specs.rule.Verdict.{Verdict, RecordJudged}
+use Rattle.records.specs.rule.Verdict.{Verdict, RecordJudged, badField}
 use Rattle.files.specs.rule.File.{FileVerdict, soundWith, badTable, fileVerdict, FileJudged}
 use Rattle.parts.specs.rule.Part.{numbered, PartVerdict, judgedAs, partVerdict, PartJudged}
 use Rattle.writes.specs.rule.Public.{refusalOf, Written}
@@ -43,6 +47,8 @@ use Rattle.read_laws.specs.Reading as reading
 use Rattle.read_laws.specs.rule.Refused.{RecordOutcome}
 use Rattle.read_laws.specs.Refused as judging
 use Rattle.file_laws.specs.rule.Files.{firstOf, FileOutcome}
+use Rattle.read_laws.specs.rule.Faults.{Told}
+use Rattle.read_laws.specs.Faults as faults
 use Rattle.file_laws.specs.Files as files
 use Rattle.file_laws.specs.rule.Only.{Clean}
 use Rattle.file_laws.specs.Only as cutting
@@ -251,7 +257,7 @@ pub read-back : {t : List ℤ} {i : ℕ} {x : Value} {old new : List ℕ} → Wr
 read-back = writing.read-back
 
 pub call-read-back : {t : List ℤ} {i : ℕ} {x : Value} {old new : List ℕ} → Written t i x old new 0 → {l l′ : List ℤ} {o : Outcome}
-    → ValueRead t i new l l′ o → o ≡ outcomeOf (rowAt t i .start - 1) (length l) (holds x)
+    → ValueRead t i new l l′ o → o ≡ outcomeOf (rowAt t i .start - 1) (length l) (rowFault t (rowsOf t) new i) (holds x)
 call-read-back = back.reads-written
 
 pub list-read-back : {t : List ℤ} {i : ℕ} {x : Value} {old new : List ℕ} → Written t i x old new 0 → {l l′ : List ℤ} {o : Outcome}
@@ -299,3 +305,18 @@ module _ {t : List ℤ} {i : ℕ} {x : Value} {old new : List ℕ} {l l′ : Lis
 -- a truth given as a number: what is done is the write of a truth
 pub truth-laws : {t : List ℤ} {i b : ℕ} {old new : List ℕ} → TruthTold t i b old new 0 → Written t i (truth (eqb b 1)) old new 0
 truth-laws = face.truth-written
+
+-- ==== C-18 OF DOCUMENT 02: WHAT IS WRONG WITH A FIELD
+-- where a field is refused, its fault is 241, 242 or 243, the record's by a row of the table; and the list is kept. (That a row is refused in
+-- the same cases as before is in `read-so` and `record-so`: they go by the reading, as before.)
+pub judged-fault-told : {t : List ℤ} {bytes : List ℕ} {i : ℕ} {x : Fault} → RecordJudged t bytes (badField i x)
+    → (i < rowsOf t) × Told x (faultNumber x)
+judged-fault-told = faults.judged-fault
+
+pub read-fault-told : {t : List ℤ} {i : ℕ} {bytes : List ℕ} {l : List ℤ} {x : Fault} {l′ : List ℤ}
+    → ValueRead t i bytes l l′ (value.badField x) → Told x (faultNumber x)
+read-fault-told = faults.read-fault
+
+pub fault-read-keeps : {t : List ℤ} {i : ℕ} {bytes : List ℕ} {l l′ : List ℤ} {x : Fault}
+    → ValueRead t i bytes l l′ (value.badField x) → l′ ≡ l
+fault-read-keeps = reading.read-fault-keeps

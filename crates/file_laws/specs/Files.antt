@@ -29,14 +29,14 @@ unfolding isSound
 not-sound sound h = absurd (h refl)
 not-sound (refused k) h = refl
 not-sound (lowByte p) h = refl
-not-sound (badField i) h = refl
+not-sound (badField i x) h = refl
 
 pub is-sound : (v : Verdict) → isSound v ≡ true → v ≡ sound
 unfolding isSound
 is-sound sound e = refl
 is-sound (refused k) e = holds-not e refl
 is-sound (lowByte p) e = holds-not e refl
-is-sound (badField i) e = holds-not e refl
+is-sound (badField i x) e = holds-not e refl
 
 pub sound-not : (v : Verdict) → isSound v ≡ false → v ≡ sound → ⊥
 unfolding isSound

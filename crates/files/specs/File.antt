@@ -30,14 +30,14 @@ unfolding isSound goOn
 go-sound sound n rest e = refl
 go-sound (refused k) n rest e = holds-not e refl
 go-sound (lowByte p) n rest e = holds-not e refl
-go-sound (badField i) n rest e = holds-not e refl
+go-sound (badField i x) n rest e = holds-not e refl
 
 pub go-fault : (v : Verdict) (n : ℕ) (rest : FileVerdict) → isSound v ≡ false → goOn v n rest ≡ faultIn (n + 1) v
 unfolding isSound goOn
 go-fault sound n rest e = holds-not refl e
 go-fault (refused k) n rest e = refl
 go-fault (lowByte p) n rest e = refl
-go-fault (badField i) n rest e = refl
+go-fault (badField i x) n rest e = refl
 
 module _ (t : List ℤ) (first : ℕ) (r : List ℕ) where
   pub verdict-other : (length r ≡ first → ⊥) → recordVerdict t first r ≡ refused 31
@@ -74,7 +74,7 @@ unfolding soundSoFar goOn isSound
 so-far sound n = refl
 so-far (refused k) n = refl
 so-far (lowByte p) n = refl
-so-far (badField i) n = refl
+so-far (badField i x) n = refl
 
 pub go-same : (v : Verdict) (n : ℕ) (a b : FileVerdict) → isSound v ≡ false → goOn v n a ≡ goOn v n b
 go-same v n a b e = go-fault v n a e ∙ sym (go-fault v n b e)

@@ -40,7 +40,7 @@ pub fn is_sound(j: Judged) -> bool
         Judged::BadTable => false,
         Judged::ShortRecord => false,
         Judged::LowByte(_) => false,
-        Judged::Illegal(_) => false,
+        Judged::Faulty(_, _) => false,
     }
 }
 
@@ -108,7 +108,7 @@ fn next_sound(
 {
     if cuts::next_plain(d, w, from, first) {
         let end = from + first;
-        return is_sound(records::judge_plain(t, h.rows, &d[from..end], scratch));
+        return records::plain_sound(t, h.rows, &d[from..end], scratch);
     }
     false
 }

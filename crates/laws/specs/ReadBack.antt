@@ -24,6 +24,7 @@ use Rattle.sound.specs.rule.Rows.{rowsOf, lengthOf}
 use Rattle.sound.specs.Rows.{row-facts}
 use Rattle.sets.specs.rule.Sets.{filledOf, listAfter}
 use Rattle.records.specs.rule.Value.{Outcome, nothing, numberIs, setOf, textAt, truthIs, refused, outcomeOf}
+use Rattle.records.specs.rule.First.{rowFault}
 use Rattle.records.specs.rule.Value.{readAs, listAs, ValueRead}
 use Rattle.writes.specs.rule.Public.{Written}
 use Rattle.laws.specs.Writing.{done-accepted, keeps-length, read-back, bytes-put}
@@ -34,7 +35,7 @@ module _ {t : List ℤ} {i : ℕ} {x : Value} {old new : List ℕ} (w : Written 
   long = rw (keeps-length w) (done-accepted w .sound .long)
 
   -- what is read is what was written
-  pub reads-written : o ≡ outcomeOf (rowAt t i .start - 1) (length list) (holds x)
+  pub reads-written : o ≡ outcomeOf (rowAt t i .start - 1) (length list) (rowFault t (rowsOf t) new i) (holds x)
   unfolding readAs
   reads-written =
       let s = done-accepted w .sound in

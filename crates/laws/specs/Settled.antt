@@ -33,7 +33,7 @@ unfault n sound = J.Fault n judged.Sound
 unfault n (refused k) =
     cond (eqb k 30) (J.Unended n) (cond (eqb k 31) (J.OtherLength n) (J.Fault n (cond (eqb k 20) judged.BadTable judged.ShortRecord)))
 unfault n (lowByte p) = J.Fault n (judged.LowByte p)
-unfault n (badField i) = J.Fault n (judged.Illegal i)
+unfault n (badField i x) = J.Fault n (judged.Faulty i x)
 
 abbrev unsaid : FileVerdict → Judgement
 unsaid (soundWith n) = J.Sound n
@@ -46,7 +46,7 @@ fault-back n judged.Sound = refl
 fault-back n judged.BadTable = refl
 fault-back n judged.ShortRecord = refl
 fault-back n (judged.LowByte p) = refl
-fault-back n (judged.Illegal i) = refl
+fault-back n (judged.Faulty i x) = refl
 
 said-back : (a : Judgement) → unsaid (fileSaid a) ≡ a
 unfolding fileSaid

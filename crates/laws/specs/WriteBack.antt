@@ -27,8 +27,11 @@ use Rattle.sound.specs.rule.Sound.{wellFormed}
 use Rattle.sound.specs.rule.Rows.{rowsOf, lengthOf}
 use Rattle.sound.specs.Rows.{row-facts}
 use Rattle.sets.specs.rule.Sets.{filledOf, listAfter}
-use Rattle.records.specs.rule.Value.{Outcome, nothing, numberIs, setOf, textAt, truthIs, refused, outcomeOf, readingAt}
+use Rattle.faults.specs.declared.Fault.{Fault}
+use Rattle.records.specs.rule.First.{rowFault}
+use Rattle.records.specs.rule.Value.{Outcome, nothing, numberIs, setOf, textAt, truthIs, refused, badField, outcomeOf, readingAt}
 use Rattle.records.specs.rule.Value.{readAs, listAs, ValueRead}
+use Rattle.records.specs.Value.{held-outcome}
 use Rattle.writes.specs.rule.Public.{Written}
 use Rattle.laws.specs.rule.Writing.{Sound}
 use Rattle.laws.specs.Writing.{keeps-length, write-back-accepted, write-back}
@@ -43,6 +46,13 @@ module _ {list : List ℤ} {bytes : List ℕ} where
   not-refused k set-answered e = let z : _≡_ {A = ℕ} 0 1 = cc in absurd (omega arith)
   not-refused k text-answered e = let z : _≡_ {A = ℕ} 0 1 = cc in absurd (omega arith)
   not-refused k truth-answered e = let z : _≡_ {A = ℕ} 0 1 = cc in absurd (omega arith)
+
+  not-faulty : {A : Type 0} {o : Outcome} {x : Value} (y : Fault) → Answered list bytes o x → o ≡ badField y → A
+  not-faulty y missing-answered e = let z : _≡_ {A = ℕ} 0 1 = cc in absurd (omega arith)
+  not-faulty y number-answered e = let z : _≡_ {A = ℕ} 0 1 = cc in absurd (omega arith)
+  not-faulty y set-answered e = let z : _≡_ {A = ℕ} 0 1 = cc in absurd (omega arith)
+  not-faulty y text-answered e = let z : _≡_ {A = ℕ} 0 1 = cc in absurd (omega arith)
+  not-faulty y truth-answered e = let z : _≡_ {A = ℕ} 0 1 = cc in absurd (omega arith)
 
   is-missing : {o : Outcome} {x : Value} → Answered list bytes o x → o ≡ nothing → x ≡ missing
   is-missing missing-answered e = refl
@@ -120,7 +130,7 @@ module _ {t : List ℤ} {i : ℕ} {bytes : List ℕ} {list list′ : List ℤ} {
   answered-sound = formed (wellFormed t) refl (read .says)
     where
       here : Outcome
-      here = outcomeOf (rowAt t i .start - 1) (length list) (readingAt t i bytes)
+      here = outcomeOf (rowAt t i .start - 1) (length list) (rowFault t (rowsOf t) bytes i) (readingAt t i bytes)
 
       longer : wellFormed t ≡ true → i < rowsOf t → (b : Bool) → leb (lengthOf t) (length bytes) ≡ b → o ≡ cond b here (refused 22)
           → Sound t i (length bytes)
@@ -138,7 +148,7 @@ module _ {t : List ℤ} {i : ℕ} {bytes : List ℕ} {list list′ : List ℤ} {
       formed true g q = rowed g (ltb i (rowsOf t)) refl q
       formed false g q = not-refused 20 answered q
 
-  outcome-is : o ≡ outcomeOf (rowAt t i .start - 1) (length list) (readingAt t i bytes)
+  outcome-is : o ≡ outcomeOf (rowAt t i .start - 1) (length list) (rowFault t (rowsOf t) bytes i) (readingAt t i bytes)
   unfolding readAs
   outcome-is =
       let s = answered-sound in
@@ -150,10 +160,10 @@ module _ {t : List ℤ} {i : ℕ} {bytes : List ℕ} {list list′ : List ℤ} {
       let s = answered-sound in
       read .leaves ∙ rw (s .formed, lt-ltb i (rowsOf t) (s .row), le-leb (lengthOf t) (length bytes) (s .long))
 
-  held-by : (f : Field) → readingAt t i bytes ≡ f → o ≡ outcomeOf (rowAt t i .start - 1) (length list) f → list′ ≡ listAfter f list
-      → f ≡ holds x
+  held-by : (f : Field) → readingAt t i bytes ≡ f → o ≡ outcomeOf (rowAt t i .start - 1) (length list) (rowFault t (rowsOf t) bytes i) f
+      → list′ ≡ listAfter f list → f ≡ holds x
   unfolding outcomeOf listAfter filledOf
-  held-by illegal r e l = not-refused 24 answered e
+  held-by illegal r e l = not-faulty (rowFault t (rowsOf t) bytes i) answered e
   held-by (holds missing) r e l = ap holds (sym (is-missing answered e))
   held-by (holds (number z)) r e l = ap holds (sym (is-number z answered e))
   held-by (holds (truth b)) r e l = ap holds (sym (is-truth b answered e))
@@ -185,7 +195,12 @@ module _ {t : List ℤ} {i : ℕ} {x : Value} {old new : List ℕ} {list list′
   pub back-read : {l l′ : List ℤ} {o′ : Outcome} → ValueRead t i new l l′ o′ → ValueRead t i old l l′ o′
   unfolding readAs listAs
   back-read r = record {
-    says = r .says ∙ rw (keeps-length w, back-reading);
+    says = r .says ∙ rw (
+      keeps-length w,
+      back-reading,
+      answered-held read answered,
+      held-outcome _ _ (rowFault t (rowsOf t) new i) (rowFault t (rowsOf t) old i) x,
+    );
     leaves = r .leaves ∙ rw (keeps-length w, back-reading);
   }
 

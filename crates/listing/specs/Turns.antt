@@ -177,4 +177,4 @@ unfolding countIn goOn
 count-on sound n = refl
 count-on (refused k) n = refl
 count-on (lowByte p) n = refl
-count-on (badField i) n = refl
+count-on (badField i x) n = refl

@@ -10,7 +10,7 @@ ghost use Rattle.files.specs.rule.File.{fileSaid};
 ghost use Rattle.files.specs.rule.Tested.{Tested};
 ghost use Rattle.lines.specs.rule.Appended.{Appended};
 ghost use Rattle.lines.specs.rule.Lines.{lineRoom};
-ghost use Rattle.listing.specs.rule.Listing.{rowText, identOf, faultOf, lastText};
+ghost use Rattle.listing.specs.rule.Listing.{rowText, identOf, faultLine, lastText};
 ghost use Rattle.listing.specs.rule.Turns.{Ready};
 ghost use Rattle.listing.specs.Turns.{Rows, countIn, Taken, TakenRows};
 ghost use Rattle.listing.specs.rule.Places.{PlaceGood, ListedOn};
@@ -135,14 +135,17 @@ fn append_judged(
 ) -> usize
     requires { ⌜ Tens (now powers) × Tested (now t) h ⌝ }
     requires { ⌜ (n < 10 ^ 16) × (at + lineRoom ≤ length (now out)) ⌝ }
-    ensures { λ r. ⌜ Appended (now (out .entry)) at (faultOf (now (t .entry)) n (judgedAs j)) (now (out .exit)) r ⌝ }
+    ensures { λ r. ⌜ Appended (now (out .entry)) at (faultLine (now (t .entry)) n (judgedAs j)) (now (out .exit)) r ⌝ }
 {
     match j {
         Judged::Sound => lines::append_ok(powers, out, at, n),
         Judged::BadTable => lines::append_fault(powers, out, at, 20, n, 0),
         Judged::ShortRecord => lines::append_fault(powers, out, at, 22, n, 0),
         Judged::LowByte(_) => lines::append_fault(powers, out, at, 23, n, 0),
-        Judged::Illegal(i) => { lines::append_fault(powers, out, at, 24, n, ident_of(t, h, i)) }
+        Judged::Faulty(i, x) => {
+            let number = faults::fault_number(x) as usize;
+            lines::append_fault(powers, out, at, number, n, ident_of(t, h, i))
+        }
     }
 }
 

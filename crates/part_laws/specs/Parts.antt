@@ -220,7 +220,7 @@ unfolding followed goOn
 shift-go sound n m a b e = e
 shift-go (refused k) n m a b e = let z : n + (m + 1) ≡ n + m + 1 = omega arith in rw z
 shift-go (lowByte p) n m a b e = let z : n + (m + 1) ≡ n + m + 1 = omega arith in rw z
-shift-go (badField i) n m a b e = let z : n + (m + 1) ≡ n + m + 1 = omega arith in rw z
+shift-go (badField i x) n m a b e = let z : n + (m + 1) ≡ n + m + 1 = omega arith in rw z
 
 shift : (t : List ℤ) (first n : ℕ) (rs : Records) (m : ℕ)
     → followed n (judgedAs (partRecords t m first true rs)) (later n) ≡ judgedAs (partRecords t (n + m) first true rs)

@@ -19,7 +19,7 @@ use Rattle.records.specs.declared.Found.{Found}
 use Rattle.records.specs.declared.Found.the-variants.{At, Nothing}
 use Rattle.records.specs.declared.Judged.{Judged}
 use Rattle.records.specs.declared.Judged.the-variants as J
-use Rattle.records.specs.rule.First.{firstFrom, badRow}
+use Rattle.records.specs.rule.First.{firstFrom, badRow, rowFault}
 use Rattle.records.specs.rule.Verdict.{Verdict, sound, refused, lowByte, badField, rowVerdict, byteVerdict, rowsVerdict}
 use Rattle.records.specs.rule.Verdict as verdict
 use Rattle.files.specs.rule.File.{FileVerdict, soundWith, badTable, faultIn, recordVerdict, goOn, firstLength, recordsVerdict}
@@ -36,7 +36,7 @@ unfoldable pub isUnended : Verdict → Bool
 isUnended sound = false
 isUnended (refused k) = eqb k 30
 isUnended (lowByte p) = false
-isUnended (badField i) = false
+isUnended (badField i x) = false
 
 -- the verdict counted without the one record before; where more follows, a record without its terminator is left alone
 unfoldable pub recounted : Bool → FileVerdict → FileVerdict
@@ -52,13 +52,13 @@ judged-ended J.Sound = refl
 judged-ended J.BadTable = refl
 judged-ended J.ShortRecord = refl
 judged-ended (J.LowByte p) = refl
-judged-ended (J.Illegal i) = refl
+judged-ended (J.Faulty i x) = refl
 
 rows-ended : (t : List ℤ) (v : ℕ) (r : List ℕ) → isUnended (rowsVerdict t v r) ≡ false
 unfolding isUnended rowsVerdict rowVerdict byteVerdict
 rows-ended t v r = go (firstFrom (lowAt r) 0 (length r)) (firstFrom (badRow t v r) 0 v)
   where
-    go : (a b : Found) → isUnended (byteVerdict a (rowVerdict b)) ≡ false
+    go : (a b : Found) → isUnended (byteVerdict a (rowVerdict (rowFault t v r) b)) ≡ false
     go (At p) b = refl
     go Nothing (At i) = refl
     go Nothing Nothing = refl
@@ -89,7 +89,7 @@ module _ (t : List ℤ) (first : ℕ) where
   go-behind sound n (faultIn k v) b = omega arith
   go-behind (refused k) n rest b = omega arith
   go-behind (lowByte p) n rest b = omega arith
-  go-behind (badField i) n rest b = omega arith
+  go-behind (badField i x) n rest b = omega arith
 
   pub behind : (rs : Records) (n f : ℕ) → Behind n (recordsVerdict t n f rs)
   unfolding recordsVerdict Behind
@@ -104,7 +104,7 @@ module _ (t : List ℤ) (first : ℕ) where
   go-recounted last sound n a b u e = e
   go-recounted last (refused k) n a b u e = let z : n + 1 + 1 - 1 ≡ n + 1 = omega arith in rw (u, and-none (not last), z)
   go-recounted last (lowByte p) n a b u e = let z : n + 1 + 1 - 1 ≡ n + 1 = omega arith in rw (and-none (not last), z)
-  go-recounted last (badField i) n a b u e = let z : n + 1 + 1 - 1 ≡ n + 1 = omega arith in rw (and-none (not last), z)
+  go-recounted last (badField i x) n a b u e = let z : n + 1 + 1 - 1 ≡ n + 1 = omega arith in rw (and-none (not last), z)
 
   -- THE PART IS JUDGED as the file's records behind the first are, and its own are counted
   pub recounts : (last : Bool) (rs : Records) (n : ℕ) → recounted last (recordsVerdict t (n + 1) first rs) ≡ partRecords t n first last rs

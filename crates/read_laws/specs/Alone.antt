@@ -1,4 +1,4 @@
--- "Reading one row looks at no byte outside its value places": two records that agree there read equal.
+-- "Reading one row looks at no byte outside its value places": two records that agree there read equal, or have the same fault.
 use mathlib.Core.Path.{_≡_, refl, ap}
 use mathlib.Core.List.{List, [], _∷_}
 use Prim.Native.Nat.{ℕ, _-_, _≤_}
@@ -10,6 +10,8 @@ use Rattle.layout.specs.declared.Row.{Row}
 use Rattle.places.specs.rule.Places.{pick}
 use Rattle.fields.specs.rule.Row.{placesOf, fieldOf, readingOf}
 use Rattle.sound.specs.rule.Rows.{rowsOf, lengthOf}
+use Rattle.fault_laws.specs.Alone.{fault-alone}
+use Rattle.records.specs.rule.First.{rowFault}
 use Rattle.records.specs.rule.Value.{readingAt, readAs, listAs}
 
 -- two records hold the same byte at each of the places
@@ -32,9 +34,12 @@ module _ (t : List ℤ) (i : ℕ) (a b : List ℕ) (agree : Agree (placesOf t (r
   same-reading : readingAt t i a ≡ readingAt t i b
   same-reading = reading-alone t (rowsOf t) (rowAt t i) a b agree
 
+  same-fault : rowFault t (rowsOf t) a i ≡ rowFault t (rowsOf t) b i
+  same-fault = fault-alone a b t (rowsOf t) (rowAt t i) (pick-agree (placesOf t (rowsOf t) (rowAt t i)) a b agree)
+
   pub read-alone : (n : ℕ) → readAs t i a n ≡ readAs t i b n
   unfolding readAs
-  read-alone n = rw (le-leb _ _ long-a, le-leb _ _ long-b, same-reading)
+  read-alone n = rw (le-leb _ _ long-a, le-leb _ _ long-b, same-reading, same-fault)
 
   pub list-alone : (list : List ℤ) → listAs t i a list ≡ listAs t i b list
   unfolding listAs

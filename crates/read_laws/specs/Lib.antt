@@ -8,3 +8,4 @@ pub mod Others
 pub mod Missing
 pub mod Exactly
 pub mod Reading
+pub mod Faults

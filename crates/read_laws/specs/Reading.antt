@@ -23,7 +23,9 @@ use Rattle.sound.specs.rule.Sound.{wellFormed}
 use Rattle.sound.specs.rule.Rows.{rowsOf, lengthOf}
 use Rattle.sound.specs.Rows.{row-facts}
 use Rattle.sets.specs.rule.Sets.{filledOf, listAfter}
-use Rattle.records.specs.rule.Value.{Outcome, setOf, refused, outcomeOf, readingAt, readAs, listAs, ValueRead}
+use Rattle.faults.specs.declared.Fault.{Fault}
+use Rattle.records.specs.rule.First.{rowFault}
+use Rattle.records.specs.rule.Value.{Outcome, setOf, refused, badField, outcomeOf, readingAt, readAs, listAs, ValueRead}
 use Rattle.read_laws.specs.rule.Exactly.{Given}
 use Rattle.read_laws.specs.Exactly.{field-named, field-only}
 use Rattle.read_laws.specs.rule.Reading.{Readable, Row-says, ReadOutcome, not-formed, no-row, too-short, is-illegal, is-missing}
@@ -55,7 +57,8 @@ module _ (t : List ℤ) (i : ℕ) (bytes : List ℕ) where
   row-only s h = field-only t (rowsOf t) (rowAt t i) (pick bytes (placesOf t (rowsOf t) (rowAt t i))) (given s) h
 
   module _ (list : List ℤ) where
-    read-sound : Readable t i bytes → readAs t i bytes (length list) ≡ outcomeOf (rowAt t i .start - 1) (length list) (readingAt t i bytes)
+    read-sound : Readable t i bytes → readAs t i bytes (length list)
+        ≡ outcomeOf (rowAt t i .start - 1) (length list) (rowFault t (rowsOf t) bytes i) (readingAt t i bytes)
     unfolding readAs
     read-sound s = rw (s .formed, lt-ltb i (rowsOf t) (s .row), le-leb (lengthOf t) (length bytes) (s .long))
 
@@ -65,7 +68,7 @@ module _ (t : List ℤ) (i : ℕ) (bytes : List ℕ) where
 
     -- ---- WHAT IS SO HAS ITS OUTCOME
     by-field : Readable t i bytes → {f : Field} → Row-says t i bytes f
-        → ValueRead t i bytes list (listAfter f list) (outcomeOf (rowAt t i .start - 1) (length list) f)
+        → ValueRead t i bytes list (listAfter f list) (outcomeOf (rowAt t i .start - 1) (length list) (rowFault t (rowsOf t) bytes i) f)
     by-field s {f} h = record {
       says = rw (read-sound s, row-only s h);
       leaves = rw (list-sound s, row-only s h);
@@ -89,7 +92,7 @@ module _ (t : List ℤ) (i : ℕ) (bytes : List ℕ) where
 
     -- ---- AND THE OUTCOME NAMES WHAT IS SO
     named-by : Readable t i bytes → (f : Field) → Row-says t i bytes f
-        → ReadOutcome t i bytes list (listAfter f list) (outcomeOf (rowAt t i .start - 1) (length list) f)
+        → ReadOutcome t i bytes list (listAfter f list) (outcomeOf (rowAt t i .start - 1) (length list) (rowFault t (rowsOf t) bytes i) f)
     unfolding outcomeOf listAfter filledOf
     named-by s illegal h = is-illegal s h
     named-by s (holds missing) h = is-missing s h
@@ -108,7 +111,7 @@ module _ (t : List ℤ) (i : ℕ) (bytes : List ℕ) where
     outcome-named = formed (wellFormed t) refl
       where
         here : Outcome
-        here = outcomeOf (rowAt t i .start - 1) (length list) (readingAt t i bytes)
+        here = outcomeOf (rowAt t i .start - 1) (length list) (rowFault t (rowsOf t) bytes i) (readingAt t i bytes)
 
         after : List ℤ
         after = listAfter (readingAt t i bytes) list
@@ -142,6 +145,23 @@ pub read-refused-keeps : {t : List ℤ} {i : ℕ} {bytes : List ℕ} {list list�
 read-refused-keeps {t} {i} {bytes} {list} {list′} {k} w = go (read-named t i bytes list w) refl
   where
     go : {l : List ℤ} {o : Outcome} → ReadOutcome t i bytes list l o → o ≡ refused k → l ≡ list
+    go (is-set s h n) e = let z : _≡_ {A = ℕ} 0 1 = cc in absurd (omega arith)
+    go (not-formed g) e = refl
+    go (no-row g h) e = refl
+    go (too-short g h l) e = refl
+    go (is-illegal s h) e = refl
+    go (is-missing s h) e = refl
+    go (is-number s h) e = refl
+    go (short-list s h n) e = refl
+    go (is-text s h) e = refl
+    go (is-truth s h) e = refl
+
+-- and so does a field with a fault
+pub read-fault-keeps : {t : List ℤ} {i : ℕ} {bytes : List ℕ} {list list′ : List ℤ} {x : Fault}
+    → ValueRead t i bytes list list′ (badField x) → list′ ≡ list
+read-fault-keeps {t} {i} {bytes} {list} {list′} {x} w = go (read-named t i bytes list w) refl
+  where
+    go : {l : List ℤ} {o : Outcome} → ReadOutcome t i bytes list l o → o ≡ badField x → l ≡ list
     go (is-set s h n) e = let z : _≡_ {A = ℕ} 0 1 = cc in absurd (omega arith)
     go (not-formed g) e = refl
     go (no-row g h) e = refl

@@ -14,7 +14,7 @@ use Rattle.sets.specs.rule.Sets.{isIllegal}
 use Rattle.sound.specs.rule.Sound.{wellFormed}
 use Rattle.sound.specs.rule.Rows.{rowsOf, lengthOf}
 use Rattle.lows.specs.rule.Lows.{lowAt}
-use Rattle.records.specs.rule.First.{firstFrom, badRow}
+use Rattle.records.specs.rule.First.{firstFrom, badRow, rowFault}
 use Rattle.records.specs.rule.Value.{readingAt}
 use Rattle.records.specs.rule.Verdict.{Verdict, sound, refused, lowByte, badField, rowVerdict, byteVerdict, rowsVerdict}
 use Rattle.records.specs.rule.Verdict.{verdictOf, RecordJudged}
@@ -74,7 +74,7 @@ module _ (t : List ℤ) (good : wellFormed t ≡ true) (bytes : List ℕ) where
 
   by-rows : lengthOf t ≤ length bytes → firstFrom (lowAt bytes) 0 (length bytes) ≡ Nothing → (x : Found)
       → firstFrom (badRow t (rowsOf t) bytes) 0 (rowsOf t) ≡ x
-      → rowVerdict x ≡ sound → Passes t good bytes
+      → rowVerdict (rowFault t (rowsOf t) bytes) x ≡ sound → Passes t good bytes
   unfolding rowVerdict
   by-rows l q (At i) r v = let z : _≡_ {A = ℕ} 0 1 = cc in absurd (omega arith)
   by-rows l q Nothing r v = record {
@@ -84,7 +84,8 @@ module _ (t : List ℤ) (good : wellFormed t ≡ true) (bytes : List ℕ) where
   }
 
   by-bytes : lengthOf t ≤ length bytes → (x : Found) → firstFrom (lowAt bytes) 0 (length bytes) ≡ x
-      → byteVerdict x (rowVerdict (firstFrom (badRow t (rowsOf t) bytes) 0 (rowsOf t))) ≡ sound → Passes t good bytes
+      → byteVerdict x (rowVerdict (rowFault t (rowsOf t) bytes) (firstFrom (badRow t (rowsOf t) bytes) 0 (rowsOf t))) ≡ sound
+      → Passes t good bytes
   unfolding byteVerdict
   by-bytes l (At p) q v = let z : _≡_ {A = ℕ} 0 1 = cc in absurd (omega arith)
   by-bytes l Nothing q v = by-rows l q (firstFrom (badRow t (rowsOf t) bytes) 0 (rowsOf t)) refl v
@@ -113,9 +114,10 @@ module _ (t : List ℤ) (good : wellFormed t ≡ true) (bytes : List ℕ) where
     pub low-first : (p : ℕ) → firstFrom (lowAt bytes) 0 (length bytes) ≡ At p → IsFirst (lowAt bytes) 0 (length bytes) p
     low-first p e = first-is (lowAt bytes) (length bytes) 0 p e
 
-    -- 24 with the lowest illegal row, where no byte is below 32
+    -- the lowest illegal row with what is wrong with it, where no byte is below 32
     pub row-refused : (i : ℕ) → firstFrom (lowAt bytes) 0 (length bytes) ≡ Nothing
-        → firstFrom (badRow t (rowsOf t) bytes) 0 (rowsOf t) ≡ At i → verdictOf t bytes ≡ badField i
+        → firstFrom (badRow t (rowsOf t) bytes) 0 (rowsOf t) ≡ At i
+        → verdictOf t bytes ≡ badField i (rowFault t (rowsOf t) bytes i)
     unfolding verdictOf rowsVerdict byteVerdict rowVerdict
     row-refused i q e = rw (good, le-leb _ _ long, q, e)
 
@@ -161,25 +163,27 @@ module _ (t : List ℤ) (bytes : List ℕ) where
       rows = firstFrom (badRow t (rowsOf t) bytes) 0 (rowsOf t)
 
       rowed : wellFormed t ≡ true → lengthOf t ≤ length bytes → lows ≡ Nothing → (x : Found) → rows ≡ x
-          → RecordOutcome t bytes (rowVerdict x)
+          → RecordOutcome t bytes (rowVerdict (rowFault t (rowsOf t) bytes) x)
       rowed g l q (At i) e =
           bad-field g l (λ p h. none-found (lowAt bytes) (length bytes) 0 q p (omega arith) (omega arith))
           (first-is (badRow t (rowsOf t) bytes) (rowsOf t) 0 i e)
       rowed g l q Nothing e = no-fault g (by-rows t g bytes l q Nothing e refl)
 
       byted : wellFormed t ≡ true → lengthOf t ≤ length bytes → (x : Found) → lows ≡ x
-          → RecordOutcome t bytes (byteVerdict x (rowVerdict rows))
+          → RecordOutcome t bytes (byteVerdict x (rowVerdict (rowFault t (rowsOf t) bytes) rows))
       byted g l (At p) e = low-byte g l (first-is (lowAt bytes) (length bytes) 0 p e)
       byted g l Nothing e = rowed g l e rows refl
 
       longer : wellFormed t ≡ true → (b : Bool) → leb (lengthOf t) (length bytes) ≡ b
-          → RecordOutcome t bytes (cond b (byteVerdict lows (rowVerdict rows)) (refused 22))
+          → RecordOutcome t bytes (cond b (byteVerdict lows (rowVerdict (rowFault t (rowsOf t) bytes) rows)) (refused 22))
       longer g true e = byted g (leb-true (lengthOf t) (length bytes) e) lows refl
       longer g false e = too-short g (leb-false (lengthOf t) (length bytes) e)
 
       formed : (b : Bool) → wellFormed t ≡ b
           → RecordOutcome t bytes
-          (cond b (cond (leb (lengthOf t) (length bytes)) (byteVerdict lows (rowVerdict rows)) (refused 22)) (refused 20))
+          (cond b
+          (cond (leb (lengthOf t) (length bytes)) (byteVerdict lows (rowVerdict (rowFault t (rowsOf t) bytes) rows)) (refused 22))
+          (refused 20))
       formed true g = longer g (leb (lengthOf t) (length bytes)) refl
       formed false g = not-formed g
 

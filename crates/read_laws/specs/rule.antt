@@ -5,3 +5,4 @@ pub mod Kinds
 pub mod Others
 pub mod Exactly
 pub mod Reading
+pub mod Faults

@@ -1,7 +1,9 @@
 // The tables of source document 003 for SINGLE, both forms of MULTIPLE, QUANTITY, CHARACTER and LOGICAL, run through the public call that
 // reads one row and compared with the document's column of data values. A line a case: what the document has, and whether the call
-// says the same. `x` stands in the bytes that are ignored, and all round the field.
-use readings::Answer;
+// says the same. `x` stands in the bytes that are ignored, and all round the field. Behind them the same tables with a byte, a point or a
+// number that may not stand there, each with the number of its fault and the place, or the number that is not legal.
+use faults::Fault;
+use records::Reading;
 
 // A table of one row whose position starts at 21, with up to four lines: f is its decimals, point, subfields and their width; range is
 // whether it has one, and its ends; lines are how many and what they say.
@@ -53,7 +55,7 @@ fn number(label: &[u8], t: &[i64; 40], data: &[u8], want: i64) {
     let r = record_of(data);
     let mut list = [0i64; 4];
     match records::read_value(t, 0, &r, &mut list) {
-        Answer::Number(z) => say(label, z == want),
+        Reading::Number(z) => say(label, z == want),
         _ => say(label, false),
     }
 }
@@ -62,7 +64,7 @@ fn missing(label: &[u8], t: &[i64; 40], data: &[u8]) {
     let r = record_of(data);
     let mut list = [0i64; 4];
     match records::read_value(t, 0, &r, &mut list) {
-        Answer::Missing => say(label, true),
+        Reading::Missing => say(label, true),
         _ => say(label, false),
     }
 }
@@ -72,7 +74,26 @@ fn refused(label: &[u8], t: &[i64; 40], data: &[u8]) {
     let r = record_of(data);
     let mut list = [0i64; 4];
     match records::read_value(t, 0, &r, &mut list) {
-        Answer::BadTable => say(label, true),
+        Reading::BadTable => say(label, true),
+        _ => say(label, false),
+    }
+}
+
+// A fault, by its number and its place, or the number that is not legal.
+fn fault_is(x: Fault, number: u64, beside: i64) -> bool {
+    match x {
+        Fault::Sound => false,
+        Fault::Stray(p) => (number == 241) & (p == cells::count_of(beside)),
+        Fault::NotLegal(z) => (number == 242) & cells::same(z, beside),
+        Fault::Point(p) => (number == 243) & (p == cells::count_of(beside)),
+    }
+}
+
+fn fault(label: &[u8], t: &[i64; 40], data: &[u8], number: u64, beside: i64) {
+    let r = record_of(data);
+    let mut list = [0i64; 4];
+    match records::read_value(t, 0, &r, &mut list) {
+        Reading::Faulty(x) => say(label, fault_is(x, number, beside)),
         _ => say(label, false),
     }
 }
@@ -82,7 +103,7 @@ fn members(label: &[u8], t: &[i64; 40], data: &[u8], n: usize, want: [i64; 2]) {
     let r = record_of(data);
     let mut list = [0i64; 4];
     match records::read_value(t, 0, &r, &mut list) {
-        Answer::Set(k) => {
+        Reading::Set(k) => {
             let a = list[0];
             let b = list[1];
             say(label, (k == n) & (a == want[0]) & (b == want[1]))
@@ -389,13 +410,106 @@ fn others() {
     let one = record_of(b"1");
     let mut list = [0i64; 4];
     match records::read_value(&text, 0, &r, &mut list) {
-        Answer::Text(p, n) => say(b"character CHARACTER of size 10", (p == 20) & (n == 9)),
+        Reading::Text(p, n) => say(b"character CHARACTER of size 10", (p == 20) & (n == 9)),
         _ => say(b"character CHARACTER of size 10", false),
     }
     match records::read_value(&truth, 0, &one, &mut list) {
-        Answer::Truth(b) => say(b"logical true, 1", b),
+        Reading::Truth(b) => say(b"logical true, 1", b),
         _ => say(b"logical true, 1", false),
     }
+}
+
+fn single_faults() {
+    let none = [0i64; 4];
+    let no_lines = [0i64; 5];
+    let t = table(1, 22, 2, none, [1, 1, 20], no_lines);
+    fault(b"241 at 21, single of 20, 7b", &t, b"7 ", 241, 21);
+    fault(b"241 at 20, single of 20, -7", &t, b"-7", 241, 20);
+    fault(b"241 at 20, single of 20, .7", &t, b".7", 241, 20);
+    fault(b"242 of 21, single of 20, 21", &t, b"21", 242, 21);
+}
+
+fn set_faults() {
+    let none = [0i64; 4];
+    let bits = table(2, 29, 9, none, [0i64; 3], [4, 1, 2, 3, 9]);
+    let spread = table(2, 24, 2, [0, 0, 2, 2], [1, 1, 40], [0i64; 5]);
+    fault(
+        b"241 at 20, bits of 1, 2, 3 and 9, b10xxxxx0",
+        &bits,
+        b" 10xxxxx0",
+        241,
+        20,
+    );
+    fault(
+        b"241 at 28, bits of 1, 2, 3 and 9, 010xxxxx2",
+        &bits,
+        b"010xxxxx2",
+        241,
+        28,
+    );
+    fault(
+        b"241 at 22, spread 2 of 40, 99x1",
+        &spread,
+        b"99x1",
+        241,
+        22,
+    );
+    fault(
+        b"242 of 99, spread 2 of 40, 9941",
+        &spread,
+        b"9941",
+        242,
+        99,
+    );
+    fault(
+        b"242 of 41, spread 2 of 40, 0041",
+        &spread,
+        b"0041",
+        242,
+        41,
+    );
+}
+
+fn quantity_faults() {
+    let no_lines = [0i64; 5];
+    let one = table(3, 24, 4, [1, 1, 0, 0], [1, 0, 500], no_lines);
+    let two = table(3, 25, 5, [2, 1, 0, 0], [1, 0, 9999], no_lines);
+    let whole = table(3, 23, 3, [0i64; 4], [1, 0, 500], no_lines);
+    fault(b"241 at 21, quantity of 50.0, bb.5", &one, b"  .5", 241, 21);
+    fault(b"243 at 22, quantity of 50.0, 0115", &one, b"0115", 243, 22);
+    fault(b"243 at 21, quantity of 50.0, 1.15", &one, b"1.15", 243, 21);
+    fault(
+        b"242 of 501, quantity of 50.0, 50.1",
+        &one,
+        b"50.1",
+        242,
+        501,
+    );
+    fault(b"242 of -1, quantity of 50.0, -0.1", &one, b"-0.1", 242, -1);
+    fault(
+        b"241 at 21, quantity of 99.99, bb750",
+        &two,
+        b"  750",
+        241,
+        21,
+    );
+    fault(b"243 at 21, quantity of 500, 1.5", &whole, b"1.5", 243, 21);
+    fault(b"241 at 21, quantity of 500, -b5", &whole, b"- 5", 241, 21);
+    fault(b"241 at 20, quantity of 500, +15", &whole, b"+15", 241, 20);
+}
+
+fn other_faults() {
+    let text = table(4, 30, 10, [0i64; 4], [0i64; 3], [0i64; 5]);
+    let truth = table(5, 21, 1, [0i64; 4], [0i64; 3], [0i64; 5]);
+    fault(
+        b"241 at 23, character of size 10, a line feed",
+        &text,
+        b"CHA\nACTER ",
+        241,
+        23,
+    );
+    fault(b"241 at 20, logical, 2", &truth, b"2", 241, 20);
+    fault(b"241 at 20, logical, a point", &truth, b".", 241, 20);
 }
 
 fn main() {
@@ -411,4 +525,8 @@ fn main() {
     more_quantities();
     other_quantities();
     others();
+    single_faults();
+    set_faults();
+    quantity_faults();
+    other_faults();
 }

@@ -23,7 +23,8 @@ use Rattle.fields.specs.rule.Row.{readingOf}
 use Rattle.sets.specs.rule.Sets.{filledOf}
 use Rattle.readings.specs.Answer.{illegalAnswer, RowRead}
 use Rattle.readings.specs.declared.Answer.{Answer}
-use Rattle.records.specs.rule.Value.{said}
+use Rattle.faults.specs.rule.Fault.{faultOf}
+use Rattle.records.specs.Value.{saidBy}
 use Rattle.records.specs.Tables.{TableReady, table-ready}
 use Rattle.sound.specs.rule.Sound.{wellFormed}
 use Rattle.sound.specs.rule.Rows.{rowsOf, lengthOf}
@@ -97,10 +98,11 @@ module _ (t : List ℤ) (v : ℕ) (bytes : List ℕ) (i : ℕ) (low : i < v) (li
         ∙ ap (λ (l : List ℤ). pasted list₀ 0 l) (sym (members-next (rowReading t v bytes) i))
 
     pub step-out : (out₀ out out′ four : List ℤ) → 4 * v ≤ length out₀ → out ≡ pasted out₀ 0 (cellsBelow t v bytes i)
-        → four ≡ fourOf at (said a) → out′ ≡ pasted out (4 * i) four → out′ ≡ pasted out₀ 0 (cellsBelow t v bytes (i + 1))
+        → four ≡ fourOf at (saidBy (faultOf t v row bytes) a) → out′ ≡ pasted out (4 * i) four → out′ ≡ pasted out₀ 0 (cellsBelow t v bytes (i + 1))
     step-out out₀ out out′ four wide e f o =
         let n = length-cells t v bytes i in
-        let g : four ≡ fourOf (length (membersBelow (rowReading t v bytes) i)) (rowOutcome t v bytes i) = f ∙ rw (at-is, read-outcome read fits) in
+        let g : four ≡ fourOf (length (membersBelow (rowReading t v bytes) i)) (rowOutcome t v bytes i) =
+        f ∙ rw (row-is, at-is, read-outcome read fits (faultOf t v (rowAt t i) bytes)) in
         o
         ∙ pasted-more out₀ (cellsBelow t v bytes i) four out (4 * i) e (sym n) (omega arith)
         ∙ ap (λ (l : List ℤ). pasted out₀ 0 l) (ap (λ (l : List ℤ). cellsBelow t v bytes i ++ l) g ∙ sym (cells-next t v bytes i))

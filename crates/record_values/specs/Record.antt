@@ -15,6 +15,7 @@ use lib.Seq.{take-at, drop-at, drop-append-seam}
 use Rattle.layout.specs.rule.Row.{rowAt}
 use Rattle.fields.specs.rule.Field.{Field}
 use Rattle.sets.specs.rule.Sets.{filledOf}
+use Rattle.records.specs.rule.First.{rowFault}
 use Rattle.records.specs.rule.Value.{readingAt, readAs}
 use Rattle.sound.specs.rule.Sound.{wellFormed}
 use Rattle.sound.specs.rule.Rows.{rowsOf, lengthOf}
@@ -140,7 +141,7 @@ module _ (t : List ℤ) (bytes : List ℕ) where
       → readAs t i bytes n ≡ rowOutcome t (rowsOf t) bytes i
   unfolding readAs
   read-row-as i n good long low room =
-      rw (good, lt-ltb _ _ low, le-leb _ _ long) (outcome-room (rowAt t i .start - 1) n (readingAt t i bytes) room)
+      rw (good, lt-ltb _ _ low, le-leb _ _ long) (outcome-room (rowAt t i .start - 1) n (rowFault t (rowsOf t) bytes i) (readingAt t i bytes) room)
 
 -- ---- a record that was read
 module _ {t : List ℤ} {bytes : List ℕ} {out out′ list list′ : List ℤ} {m k : ℕ}

@@ -14,20 +14,21 @@ use Rattle.fields.specs.rule.Field.{missing, number, members, text, truth, Fiel
 use Rattle.sets.specs.rule.Sets.{filledOf, listAfter, isIllegal}
 use Rattle.readings.specs.Answer.{answerOf, illegalAnswer, RowRead}
 use Rattle.readings.specs.declared.Answer.{Answer}
-use Rattle.records.specs.rule.Value.{Outcome, nothing, numberIs, setOf, textAt, truthIs, refused, said, outcomeOf}
-use Rattle.records.specs.Value.{said-answer}
+use Rattle.faults.specs.declared.Fault.{Fault}
+use Rattle.records.specs.rule.Value.{Outcome, nothing, numberIs, setOf, textAt, truthIs, refused, badField, outcomeOf}
+use Rattle.records.specs.Value.{saidBy, said-answer}
 use Rattle.record_values.specs.rule.Record.{membersOf, membersBelow, refusedBelow, fourOf, rowReading, rowOutcome, cellsBelow}
 use Rattle.record_values.specs.Rows.{membersIn, refusalsIn}
 
 -- ---- a field with room for its set
-pub outcome-room : (p n : ℕ) (f : Field) → length (membersOf f) ≤ n → outcomeOf p n f ≡ outcomeOf p (length (membersOf f)) f
+pub outcome-room : (p n : ℕ) (x : Fault) (f : Field) → length (membersOf f) ≤ n → outcomeOf p n x f ≡ outcomeOf p (length (membersOf f)) x f
 unfolding outcomeOf membersOf
-outcome-room p n (holds missing) h = refl
-outcome-room p n (holds (number z)) h = refl
-outcome-room p n (holds (members ms)) h = rw (le-leb (length ms) n h, le-leb (length ms) (length ms) (omega arith))
-outcome-room p n (holds (text s)) h = refl
-outcome-room p n (holds (truth b)) h = refl
-outcome-room p n illegal h = refl
+outcome-room p n x (holds missing) h = refl
+outcome-room p n x (holds (number z)) h = refl
+outcome-room p n x (holds (members ms)) h = rw (le-leb (length ms) n h, le-leb (length ms) (length ms) (omega arith))
+outcome-room p n x (holds (text s)) h = refl
+outcome-room p n x (holds (truth b)) h = refl
+outcome-room p n x illegal h = refl
 
 members-room : (p n : ℕ) (f : Field) → length (membersOf f) ≤ n → membersIn (answerOf p n f) ≡ length (membersOf f)
 unfolding answerOf membersOf membersIn
@@ -59,8 +60,8 @@ list-room illegal list h = refl
 -- what was read of a row with room for its set
 module _ {p : ℕ} {f : Field} {list list′ : List ℤ} {r : Answer} (q : RowRead p f list list′ r)
     (h : length (membersOf f) ≤ length list) where
-  pub read-outcome : said r ≡ outcomeOf p (length (membersOf f)) f
-  read-outcome = ap said (q .answer) ∙ said-answer p (length list) f ∙ outcome-room p (length list) f h
+  pub read-outcome : (x : Fault) → saidBy x r ≡ outcomeOf p (length (membersOf f)) x f
+  read-outcome x = ap (saidBy x) (q .answer) ∙ said-answer p (length list) x f ∙ outcome-room p (length list) x f h
 
   pub read-members : membersIn r ≡ length (membersOf f)
   read-members = ap membersIn (q .answer) ∙ members-room p (length list) f h
@@ -106,6 +107,7 @@ length-four s (setOf n) = refl
 length-four s (textAt p n) = refl
 length-four s (truthIs b) = refl
 length-four s (refused k) = refl
+length-four s (badField x) = refl
 
 module _ (t : List ℤ) (v : ℕ) (bytes : List ℕ) where
   pub cells-next : (i : ℕ) → cellsBelow t v bytes (i + 1)

@@ -9,15 +9,19 @@ ghost use lib.ListN.{length};
 ghost use Rattle.layout.specs.rule.Layout.{mostRows, linesBase};
 ghost use Rattle.fields.specs.rule.Row.{readingOf};
 ghost use Rattle.readings.specs.Ready.{RowReady};
+ghost use Rattle.faults.specs.rule.Fault.{faultOf};
 ghost use Rattle.records.specs.rule.Value.{said};
+ghost use Rattle.records.specs.Value.{saidBy};
 ghost use Rattle.records.specs.Tables.{TableReady};
-ghost use Rattle.record_values.specs.rule.Record.{cellOf, flagOf, fourOf, membersOf, rowReading, membersBelow, RecordRead};
+ghost use Rattle.record_values.specs.rule.Record.{cellOf, flagOf, faultCell, fourOf, membersOf, rowReading, membersBelow, RecordRead};
 ghost use Rattle.record_values.specs.Rows.{membersIn, refusalsIn, mostOf, RowsRead};
+use faults::Fault;
 use layout::Header;
 use layout::Kind;
 use layout::Row;
 use layout::Spread;
 use readings::Answer;
+use records::Reading;
 
 // What reading a whole record answers: how many members the list holds, and how many rows are refused; or why nothing was read.
 pub enum Whole {
@@ -50,22 +54,42 @@ fn flag(b: bool) -> i64
     if b { 1 } else { 0 }
 }
 
+// What comes with a fault: its place in the record, or the number that is not legal.
+pub fn fault_cell(x: Fault) -> i64
+    ensures { λ r. ⌜ r ≡ faultCell x ⌝ }
+{
+    match x {
+        Fault::Sound => 0,
+        Fault::Stray(p) => cell(p),
+        Fault::NotLegal(z) => z,
+        Fault::Point(p) => cell(p),
+    }
+}
+
 // The four numbers of a row, whose set starts at a place of the list.
-fn four(a: Answer, start: usize) -> [i64; 4]
+fn four(a: Reading, start: usize) -> [i64; 4]
     ensures { λ r. ⌜ r ≡ fourOf start (said a) ⌝ }
 {
     match a {
-        Answer::Missing => [0, 0, 0, 0],
-        Answer::Number(z) => [0, 1, z, 0],
-        Answer::Set(n) => [0, 2, cell(n), cell(start)],
-        Answer::Text(p, n) => [0, 3, cell(p), cell(n)],
-        Answer::Truth(b) => [0, 4, flag(b), 0],
-        Answer::BadTable => [20, 0, 0, 0],
-        Answer::NoRow => [21, 0, 0, 0],
-        Answer::ShortRecord => [22, 0, 0, 0],
-        Answer::Illegal => [24, 0, 0, 0],
-        Answer::ShortList => [25, 0, 0, 0],
+        Reading::Missing => [0, 0, 0, 0],
+        Reading::Number(z) => [0, 1, z, 0],
+        Reading::Set(n) => [0, 2, cell(n), cell(start)],
+        Reading::Text(p, n) => [0, 3, cell(p), cell(n)],
+        Reading::Truth(b) => [0, 4, flag(b), 0],
+        Reading::BadTable => [20, 0, 0, 0],
+        Reading::NoRow => [21, 0, 0, 0],
+        Reading::ShortRecord => [22, 0, 0, 0],
+        Reading::ShortList => [25, 0, 0, 0],
+        Reading::Faulty(x) => [cell(faults::fault_number(x) as usize), fault_cell(x), 0, 0],
     }
+}
+
+// The four numbers of a row by its reader's answer; what is wrong with it is asked only of an illegal one.
+fn row_numbers(t: &[i64], rows: usize, row: Row, bytes: &[u8], a: Answer, start: usize) -> [i64; 4]
+    requires { ⌜ RowReady (now t) rows row (length (now bytes)) ⌝ }
+    ensures { λ r. ⌜ r ≡ fourOf start (saidBy (faultOf (now (t .entry)) rows row (now (bytes .entry))) a) ⌝ }
+{
+    four(records::with_fault(t, rows, row, bytes, a), start)
 }
 
 // How many members a row's answer puts into the list.
@@ -106,7 +130,7 @@ pub fn read_rows(t: &[i64], rows: usize, bytes: &[u8], out: &mut [i64], list: &m
     while i < rows {
         let row = Row::read(t, i);
         let a = readings::read_row(t, rows, row, bytes, &mut list[at..]);
-        let numbers = four(a, at);
+        let numbers = row_numbers(t, rows, row, bytes, a, at);
         cells::paste(out, 4 * i, &numbers);
         at += members_in(a);
         refused += refusals_in(a);

@@ -19,16 +19,18 @@ use Rattle.fields.specs.rule.Row.{readingOf}
 use Rattle.readings.specs.Answer.{RowRead}
 use Rattle.readings.specs.Ready.{RowReady, Plain}
 use Rattle.readings.specs.declared.Answer.{Answer}
-use Rattle.readings.specs.declared.Answer.the-variants as answer
+use Rattle.faults.specs.rule.Fault.{faultOf}
 use Rattle.sound.specs.rule.Sound.{wellFormed}
 use Rattle.sound.specs.rule.Rows.{rowsOf, lengthOf}
 use Rattle.lows.specs.rule.Lows.{lowAt}
 use Rattle.records.specs.rule.First.{firstFrom}
 use Rattle.records.specs.rule.Value.{said, readAs, listAs, readingAt, ValueRead}
-use Rattle.records.specs.Value.{said-answer}
+use Rattle.records.specs.Value.{saidBy, said-answer}
 use Rattle.records.specs.rule.Verdict.{Verdict, rowsVerdict, verdictOf, refused, RecordJudged}
 use Rattle.records.specs.Tables.{TableReady, table-ready}
 use Rattle.records.specs.declared.Found.the-variants.{At, Nothing}
+use Rattle.records.specs.declared.Reading.{Reading}
+use Rattle.records.specs.declared.Reading.the-variants as reading
 
 -- ---- the first number that passes
 module _ (f : ℕ → Bool) (n i : ℕ) (h : i < n) where
@@ -56,6 +58,16 @@ first-nowhere f (suc n) i e j a b = go (f i) refl e (λ q l. first-nowhere f n (
     go true z q h = let o : _≡_ {A = ℕ} 0 1 = cc in absurd (omega arith)
     go false z q h = ⊎-elim (λ m. ap f (sym m) ∙ z) (λ m. h q (omega arith)) (eq-or-lt-of-le a)
 
+-- it is one of them
+pub first-inside : (f : ℕ → Bool) (n i k : ℕ) → firstFrom f i n ≡ At k → k < i + n
+unfolding firstFrom
+first-inside f zero i k e = let o : _≡_ {A = ℕ} 0 1 = cc in absurd (omega arith)
+first-inside f (suc n) i k e = go (f i) e (first-inside f n (suc i) k)
+  where
+    go : (c : Bool) → cond c (At i) (firstFrom f (suc i) n) ≡ At k → (firstFrom f (suc i) n ≡ At k → k < suc i + n) → k < i + suc n
+    go true q h = let o : i ≡ k = cc in omega arith
+    go false q h = let l = h q in omega arith
+
 -- numbers at which it fails are passed together
 module _ (f : ℕ → Bool) (n : ℕ) where
   first-past : (k i : ℕ) → i + k ≤ n → ((j : ℕ) → i ≤ j → j < i + k → f j ≡ false) → firstFrom f i (n - i) ≡ firstFrom f (i + k) (n - (i + k))
@@ -81,12 +93,12 @@ first-of-plain bytes h =
 
 -- ---- reading one row
 module _ (t : List ℤ) (i : ℕ) (bytes : List ℕ) (list : List ℤ) where
-  pub value-table : wellFormed t ≡ false → ValueRead t i bytes list list (said answer.BadTable)
+  pub value-table : wellFormed t ≡ false → ValueRead t i bytes list list (said reading.BadTable)
   unfolding said readAs listAs
   value-table e = record { says = rw e; leaves = rw e }
 
   module _ (good : wellFormed t ≡ true) (h : Header) (head : h ≡ headerOf t) where
-    pub value-row : h .rows ≤ i → ValueRead t i bytes list list (said answer.NoRow)
+    pub value-row : h .rows ≤ i → ValueRead t i bytes list list (said reading.NoRow)
     unfolding said readAs listAs
     value-row l = let k : rowsOf t ≤ i = rw head at l in record { says = rw (good, le-ltb _ _ k); leaves = rw (good, le-ltb _ _ k) }
 
@@ -94,7 +106,7 @@ module _ (t : List ℤ) (i : ℕ) (bytes : List ℕ) (list : List ℤ) where
       low-is : i < rowsOf t
       low-is = rw head at low
 
-      pub value-short : length bytes < h .length → ValueRead t i bytes list list (said answer.ShortRecord)
+      pub value-short : length bytes < h .length → ValueRead t i bytes list list (said reading.ShortRecord)
       unfolding said readAs listAs
       value-short l =
           let k : length bytes < lengthOf t = rw head at l in
@@ -107,12 +119,14 @@ module _ (t : List ℤ) (i : ℕ) (bytes : List ℕ) (list : List ℤ) where
         pub row-ready : RowReady t (h .rows) row (length bytes)
         row-ready = rw (head, is) (table-ready t good (length bytes) long-is .row i low-is)
 
-        pub value-read : (list′ : List ℤ) (r : Answer) → RowRead (row .start - 1) (readingOf t (h .rows) row bytes) list list′ r → ValueRead t i bytes list list′ (said r)
+        pub value-read : (list′ : List ℤ) (a : Answer) (r : Reading) → RowRead (row .start - 1) (readingOf t (h .rows) row bytes) list list′ a
+            → said r ≡ saidBy (faultOf t (h .rows) row bytes) a → ValueRead t i bytes list list′ (said r)
         unfolding readAs listAs
-        value-read list′ r a =
-            let b : RowRead (rowAt t i .start - 1) (readingAt t i bytes) list list′ r = rw (head, is) at a in
+        value-read list′ a r q e =
+            let b : RowRead (rowAt t i .start - 1) (readingAt t i bytes) list list′ a = rw (head, is) at q in
+            let x : said r ≡ saidBy (faultOf t (rowsOf t) (rowAt t i) bytes) a = rw (head, is) at e in
             record {
-              says = rw (good, lt-ltb _ _ low-is, le-leb _ _ long-is) (ap said (b .answer) ∙ said-answer _ _ _);
+              says = rw (good, lt-ltb _ _ low-is, le-leb _ _ long-is) (x ∙ ap (saidBy (faultOf t (rowsOf t) (rowAt t i) bytes)) (b .answer) ∙ said-answer _ _ _ _);
               leaves = rw (good, lt-ltb _ _ low-is, le-leb _ _ long-is) (b .leaves);
             }
 

@@ -1,25 +1,44 @@
 // The public calls that read a record: one row's value, and a whole record judged. Each tests the table (refusal 20) and then calls an
 // inner function, which whoever has tested a table may call many times. Above it stand files, the lister and the face.
 ghost use mathlib.Core.Path.{_≡_};
+ghost use mathlib.Core.Bool.{true};
 ghost use Prim.Native.Nat.{_-_, _≤_, _<_};
 ghost use lib.ListN.{length};
-ghost use Rattle.readings.specs.Ready.{Plain};
+ghost use Rattle.readings.specs.Ready.{Plain, RowReady};
+ghost use Rattle.faults.specs.rule.Fault.{faultOf};
 ghost use Rattle.lows.specs.rule.Lows.{lowAt};
 ghost use Rattle.records.specs.rule.First.{firstFrom, badRow};
 ghost use Rattle.records.specs.rule.Value.{said, ValueRead};
-ghost use Rattle.records.specs.rule.Verdict.{judgedAs, rowsVerdict, RecordJudged};
+ghost use Rattle.records.specs.rule.Verdict.{judgedAs, rowsVerdict, RecordJudged, sound};
+ghost use Rattle.records.specs.Value.{saidBy};
 ghost use Rattle.records.specs.Tables.{TableReady};
+use faults::Fault;
 use layout::Header;
 use layout::Row;
 use readings::Answer;
 
-// What a record is judged to be: sound; or the test that it fails, with the place of the first byte below 32, or the lowest illegal row.
+// What a record is judged to be: sound; or the test that it fails, with the place of the first byte below 32, or the lowest illegal row
+// and what is wrong with it.
 pub enum Judged {
     Sound,
     BadTable,
     ShortRecord,
     LowByte(usize),
-    Illegal(usize),
+    Faulty(usize, Fault),
+}
+
+// What a row says: its value, a set by its count, a text by its place and length; or why there is none.
+pub enum Reading {
+    Missing,
+    Number(i64),
+    Set(usize),
+    Text(usize, usize),
+    Truth(bool),
+    BadTable,
+    NoRow,
+    ShortRecord,
+    ShortList,
+    Faulty(Fault),
 }
 
 pub enum Found {
@@ -58,7 +77,21 @@ fn illegal_row(t: &[i64], rows: usize, bytes: &[u8], scratch: &mut [u8]) -> Foun
     Found::Nothing
 }
 
-// A record that is long enough and has no byte below 32, by a table that was tested: refusal 24. The scratch is room for marks.
+// Whether such a record is sound, for whoever need not know what is wrong with it. The scratch is room for marks.
+pub fn plain_sound(t: &[i64], rows: usize, bytes: &[u8], scratch: &mut [u8]) -> bool
+    requires { ⌜ TableReady (now t) rows (length (now bytes)) ⌝ }
+    requires { ⌜ Plain (now bytes) ⌝ }
+    requires { ⌜ length (now scratch) ≤ 10000 ⌝ }
+    ensures { λ r. ⌜ (r ≡ true → rowsVerdict (now (t .entry)) rows (now (bytes .entry)) ≡ sound) ⌝ }
+{
+    match illegal_row(t, rows, bytes, scratch) {
+        Found::At(_) => false,
+        Found::Nothing => true,
+    }
+}
+
+// A record that is long enough and has no byte below 32, by a table that was tested: what is wrong is asked of the lowest illegal row
+// alone.
 pub fn judge_plain(t: &[i64], rows: usize, bytes: &[u8], scratch: &mut [u8]) -> Judged
     requires { ⌜ TableReady (now t) rows (length (now bytes)) ⌝ }
     requires { ⌜ Plain (now bytes) ⌝ }
@@ -66,12 +99,12 @@ pub fn judge_plain(t: &[i64], rows: usize, bytes: &[u8], scratch: &mut [u8]) -> 
     ensures { λ r. ⌜ judgedAs r ≡ rowsVerdict (now (t .entry)) rows (now (bytes .entry)) ⌝ }
 {
     match illegal_row(t, rows, bytes, scratch) {
-        Found::At(i) => Judged::Illegal(i),
+        Found::At(i) => Judged::Faulty(i, faults::row_fault(t, rows, Row::read(t, i), bytes)),
         Found::Nothing => Judged::Sound,
     }
 }
 
-// A record that is long enough, by a table that was tested: refusals 23 and 24.
+// A record that is long enough, by a table that was tested: a byte below 32, then the rows.
 pub fn judge_rows(t: &[i64], rows: usize, bytes: &[u8], scratch: &mut [u8]) -> Judged
     requires { ⌜ TableReady (now t) rows (length (now bytes)) ⌝ }
     requires { ⌜ length (now scratch) ≤ 10000 ⌝ }
@@ -103,19 +136,40 @@ pub fn judge_record(t: &[i64], bytes: &[u8]) -> Judged
     Judged::BadTable
 }
 
+// What a row of a record says, by the answer of its reader: of an illegal field what is wrong with it.
+pub fn with_fault(t: &[i64], rows: usize, row: Row, bytes: &[u8], a: Answer) -> Reading
+    requires { ⌜ RowReady (now t) rows row (length (now bytes)) ⌝ }
+    ensures { λ r. ⌜ said r ≡ saidBy (faultOf (now (t .entry)) rows row (now (bytes .entry))) a ⌝ }
+{
+    match a {
+        Answer::Missing => Reading::Missing,
+        Answer::Number(z) => Reading::Number(z),
+        Answer::Set(n) => Reading::Set(n),
+        Answer::Text(p, n) => Reading::Text(p, n),
+        Answer::Truth(b) => Reading::Truth(b),
+        Answer::BadTable => Reading::BadTable,
+        Answer::NoRow => Reading::NoRow,
+        Answer::ShortRecord => Reading::ShortRecord,
+        Answer::Illegal => Reading::Faulty(faults::row_fault(t, rows, row, bytes)),
+        Answer::ShortList => Reading::ShortList,
+    }
+}
+
 // Reads row i of a record by a table. A set fills the start of the list; on every other answer the list is as it was.
-pub fn read_value(t: &[i64], i: usize, bytes: &[u8], list: &mut [i64]) -> Answer
+pub fn read_value(t: &[i64], i: usize, bytes: &[u8], list: &mut [i64]) -> Reading
     ensures { λ r. ⌜ ValueRead (now (t .entry)) i (now (bytes .entry)) (now (list .entry)) (now (list .exit)) (said r) ⌝ }
 {
     if sound::well_formed(t) {
         let h = Header::read(t);
         if h.rows <= i {
-            return Answer::NoRow;
+            return Reading::NoRow;
         }
         if bytes.len() < h.length {
-            return Answer::ShortRecord;
+            return Reading::ShortRecord;
         }
-        return readings::read_row(t, h.rows, Row::read(t, i), bytes, list);
+        let row = Row::read(t, i);
+        let a = readings::read_row(t, h.rows, row, bytes, list);
+        return with_fault(t, h.rows, row, bytes, a);
     }
-    Answer::BadTable
+    Reading::BadTable
 }

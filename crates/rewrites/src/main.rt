@@ -1,6 +1,7 @@
 // Writes a value of each kind into a record of filler, prints the answer and the record after each, and reads each value back. Then
 // every refusal, after which the record is as it was.
-use readings::Answer;
+use faults::Fault;
+use records::Reading;
 use writes::Value;
 use writes::Wrote;
 
@@ -203,39 +204,48 @@ fn show_text(record: &[u8], place: usize, length: usize) {
     }
 }
 
+fn say_fault(x: Fault) {
+    match x {
+        Fault::Sound => say(b"0"),
+        Fault::Stray(_) => say(b"241"),
+        Fault::NotLegal(_) => say(b"242"),
+        Fault::Point(_) => say(b"243"),
+    }
+}
+
 // One row read, and what it holds.
 fn get(row: usize, record: &[u8]) {
     let table = TABLE;
     let mut list = [0; 4];
     match records::read_value(&table, row, record, &mut list) {
-        Answer::Missing => say(b"M"),
-        Answer::Number(z) => {
+        Reading::Missing => say(b"M"),
+        Reading::Number(z) => {
             say(b"N");
             show(z);
         }
-        Answer::Set(n) => {
+        Reading::Set(n) => {
             say(b"S");
             show_member(&list, n, 0);
             show_member(&list, n, 1);
             show_member(&list, n, 2);
             show_member(&list, n, 3);
         }
-        Answer::Text(p, n) => {
+        Reading::Text(p, n) => {
             say(b"T ");
             show_text(record, p, n);
         }
-        Answer::Truth(b) => {
+        Reading::Truth(b) => {
             if b {
                 say(b"L 1");
             } else {
                 say(b"L 0");
             }
         }
-        Answer::BadTable => say(b"20"),
-        Answer::NoRow => say(b"21"),
-        Answer::ShortRecord => say(b"22"),
-        Answer::Illegal => say(b"24"),
-        Answer::ShortList => say(b"25"),
+        Reading::BadTable => say(b"20"),
+        Reading::NoRow => say(b"21"),
+        Reading::ShortRecord => say(b"22"),
+        Reading::ShortList => say(b"25"),
+        Reading::Faulty(x) => say_fault(x),
     }
     newline();
 }

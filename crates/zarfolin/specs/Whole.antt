@@ -7,7 +7,7 @@ use borrow.Author.Tests.{lt-ltb, le-leb}
 use lib.IntN.{ℤ, pos}
 use lib.ListN.{length, take, drop}
 use lib.Seq.{take-append-seam}
-use Rattle.records.specs.rule.Value.{Outcome, nothing, numberIs, setOf, textAt, truthIs, refused, readingAt, listAs}
+use Rattle.records.specs.rule.Value.{Outcome, nothing, numberIs, setOf, textAt, truthIs, refused, badField, readingAt, listAs}
 use Rattle.sets.specs.rule.Sets.{filledOf}
 use Rattle.sound.specs.rule.Rows.{rowsOf}
 use Rattle.record_values.specs.declared.Whole.{Whole}
@@ -35,6 +35,7 @@ four-same start (setOf n) c e = rw e (set n)
 four-same start (textAt p n) c e = rw e alike
 four-same start (truthIs b) c e = rw e alike
 four-same start (refused k) c e = rw e alike
+four-same start (badField x) c e = rw e alike
 
 -- what is told for the answer 0 is that the record was read
 read-whole : (w : Whole) (answer : List ℤ) → Telling (wholeCells w) answer 0 → (P : Type 0) → ((m k : ℕ) → w ≡ whole.Read m k → P) → P

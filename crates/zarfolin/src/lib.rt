@@ -5,6 +5,8 @@ ghost use mathlib.Core.Path.{_≡_};
 ghost use lib.IntN.{pos};
 ghost use Rattle.fields.specs.rule.Field as field;
 ghost use Rattle.fields.specs.rule.Field.{missing, members};
+ghost use Rattle.faults.specs.rule.Fault.{faultNumber};
+ghost use Rattle.record_values.specs.rule.Record.{faultCell};
 ghost use Rattle.records.specs.rule.Verdict.{judgedAs};
 ghost use Rattle.records.specs.rule.Value.{said};
 ghost use Rattle.files.specs.rule.File.{fileSaid};
@@ -24,14 +26,15 @@ ghost use Rattle.zarfolin.specs.rule.Texts.{textCells, TextTold};
 mod version;
 
 use cuts::Next;
+use faults::Fault;
 use files::Judgement;
 use layout::Header;
 use layout::Kind;
 use layout::Row;
 use parts::Part;
-use readings::Answer;
 use record_values::Whole;
 use records::Judged;
+use records::Reading;
 use texts::Decoded;
 use writes::Value;
 use writes::Wrote;
@@ -107,6 +110,18 @@ fn value_told(kind: i64, second: i64, third: i64) -> Told
     }
 }
 
+// The fault of a row: the row, and the fault's place or number.
+fn row_cells(i: usize, x: Fault) -> Told
+    ensures { λ r. ⌜ r ≡ face.four (faultNumber x) (cellOf i) (faultCell x) (pos 0) ⌝ }
+{
+    Told {
+        number: faults::fault_number(x),
+        first: cell(i),
+        second: record_values::fault_cell(x),
+        third: 0,
+    }
+}
+
 fn verdict_cells(j: Judged) -> Told
     ensures { λ r. ⌜ r ≡ verdictCells (judgedAs j) ⌝ }
 {
@@ -115,28 +130,28 @@ fn verdict_cells(j: Judged) -> Told
         Judged::BadTable => bare(20),
         Judged::ShortRecord => bare(22),
         Judged::LowByte(p) => with_one(23, cell(p)),
-        Judged::Illegal(i) => with_one(24, cell(i)),
+        Judged::Faulty(i, x) => row_cells(i, x),
     }
 }
 
-fn outcome_cells(a: Answer) -> Told
+fn outcome_cells(a: Reading) -> Told
     ensures { λ r. ⌜ r ≡ outcomeCells (said a) ⌝ }
 {
     match a {
-        Answer::Missing => bare(0),
-        Answer::Number(z) => value_told(1, z, 0),
-        Answer::Set(n) => value_told(2, cell(n), 0),
-        Answer::Text(p, n) => value_told(3, cell(p), cell(n)),
-        Answer::Truth(b) => value_told(4, flag(b), 0),
-        Answer::BadTable => bare(20),
-        Answer::NoRow => bare(21),
-        Answer::ShortRecord => bare(22),
-        Answer::Illegal => bare(24),
-        Answer::ShortList => bare(25),
+        Reading::Missing => bare(0),
+        Reading::Number(z) => value_told(1, z, 0),
+        Reading::Set(n) => value_told(2, cell(n), 0),
+        Reading::Text(p, n) => value_told(3, cell(p), cell(n)),
+        Reading::Truth(b) => value_told(4, flag(b), 0),
+        Reading::BadTable => bare(20),
+        Reading::NoRow => bare(21),
+        Reading::ShortRecord => bare(22),
+        Reading::ShortList => bare(25),
+        Reading::Faulty(x) => with_one(faults::fault_number(x), record_values::fault_cell(x)),
     }
 }
 
-// The fault of record n: the row stands before the byte's place.
+// The fault of record n: the row stands before the place.
 fn fault_cells(n: usize, j: Judged) -> Told
     ensures { λ r. ⌜ r ≡ faultCells n (judgedAs j) ⌝ }
 {
@@ -151,11 +166,11 @@ fn fault_cells(n: usize, j: Judged) -> Told
             second: 0,
             third: cell(p),
         },
-        Judged::Illegal(i) => Told {
-            number: 24,
+        Judged::Faulty(i, x) => Told {
+            number: faults::fault_number(x),
             first,
             second: cell(i),
-            third: 0,
+            third: record_values::fault_cell(x),
         },
     }
 }

@@ -190,13 +190,13 @@ fn whole_records(cases: &mut Vec<Maker>) {
 /// Judging a record.
 fn judgements(cases: &mut Vec<Maker>) {
     add(cases, "judge record, 5 rows", || judge(short(), 0, Fault::None));
-    add(cases, "judge record, 5 rows, 24 at row 0", || judge(short(), 0, Fault::Row(0)));
-    add(cases, "judge record, 5 rows, 24 at row 4", || judge(short(), 0, Fault::Row(4)));
+    add(cases, "judge record, 5 rows, 241 at row 0", || judge(short(), 0, Fault::Row(0)));
+    add(cases, "judge record, 5 rows, 241 at row 4", || judge(short(), 0, Fault::Row(4)));
     add(cases, "judge record, 5 rows, 23 at its end", || judge(short(), 0, Fault::LowByte));
     add(cases, "judge record, 5 rows, 16 KiB long", || judge(short(), 16_384, Fault::None));
     add(cases, "judge record, 5 rows, 16 KiB long, 23 at its end", || judge(short(), 16_384, Fault::LowByte));
     add(cases, "judge record, 512 rows", || judge(long(), 0, Fault::None));
-    add(cases, "judge record, 512 rows, 24 at row 510", || judge(long(), 0, Fault::Row(510)));
+    add(cases, "judge record, 512 rows, 241 at row 510", || judge(long(), 0, Fault::Row(510)));
     add(cases, "judge record, 512 rows, 23 at its end", || judge(long(), 0, Fault::LowByte));
     add(cases, "judge record, bitstring of 9,999", || judge(bits(), 0, Fault::None));
     add(cases, "judge record, spread of 4,000", || judge(spread(), 0, Fault::None));
@@ -415,7 +415,7 @@ fn judge(table: Vec<i64>, more: usize, fault: Fault) -> Case {
         }
         Fault::Row(row) => {
             record[table[row_at(row) + 3] as usize - 1] = b'?';
-            24
+            241
         }
     };
     let mut answer = [0; 4];

@@ -155,7 +155,7 @@ pub enum Flaw {
     Short,
     /// 23 at a record's last byte.
     LowByte(bool),
-    /// 24 in the last row.
+    /// 241 in the last row: its last byte can't stand there.
     Field(bool),
     /// 31: one byte more.
     Length(bool),
@@ -182,7 +182,7 @@ impl Flaw {
             Flaw::None => 0,
             Flaw::Short => 22,
             Flaw::LowByte(_) => 23,
-            Flaw::Field(_) => 24,
+            Flaw::Field(_) => 241,
             Flaw::Length(_) => 31,
             Flaw::Open(_) => 30,
         }

@@ -40,7 +40,7 @@ impl Face for Plain {
 
     fn read_value(&self, table: &[i64], row: u64, record: &[u8], list: &mut [i64], answer: &mut [i64; 4]) -> u64 {
         let numbers = match plain::read_value(table, row, record, list) {
-            Err(number) => [number as i64, 0, 0, 0],
+            Err(refused) => [refused.number as i64, refused.beside, 0, 0],
             Ok(plain::Value::Missing) => [0, 0, 0, 0],
             Ok(plain::Value::Number(n)) => [0, 1, n, 0],
             Ok(plain::Value::Set(count)) => [0, 2, count as i64, 0],
@@ -51,8 +51,7 @@ impl Face for Plain {
     }
 
     fn judge_record(&self, table: &[i64], record: &[u8], answer: &mut [i64; 4]) -> u64 {
-        let j = plain::judge_record(table, record);
-        give(answer, [j.number as i64, j.place as i64, 0, 0])
+        give(answer, plain::judge_record(table, record).numbers())
     }
 
     fn write_missing(&self, table: &[i64], row: u64, record: &mut [u8]) -> u64 {
@@ -76,8 +75,7 @@ impl Face for Plain {
     }
 
     fn judge_file(&self, table: &[i64], data: &[u8], answer: &mut [i64; 4]) -> u64 {
-        let j = plain::judge_file(table, data);
-        give(answer, [j.number as i64, j.record as i64, j.row as i64, j.place as i64])
+        give(answer, plain::judge_file(table, data).numbers())
     }
 
     fn next_record(&self, data: &[u8], from: u64, answer: &mut [i64; 4]) -> u64 {

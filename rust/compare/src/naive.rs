@@ -733,19 +733,7 @@ impl Row {
                 Some(Value::Set(set))
             }
             3 => {
-                let text: String = fields[0].iter().map(|&x| x as char).collect();
-                let text = text.trim_start_matches(' ');
-                let (minus, text) = text.strip_prefix('-').map_or((false, text), |rest| (true, rest));
-                let (whole, rest) = if self.cells[6] == 1 { text.split_once('.')? } else { (text, "") };
-                let digits = format!("{whole}{rest}");
-                if whole.is_empty()
-                    || rest.len() != self.cells[5] as usize
-                    || !digits.bytes().all(|x| x.is_ascii_digit())
-                {
-                    return None;
-                }
-                let m: i64 = digits.parse().unwrap();
-                let v = if minus { -m } else { m };
+                let v = self.amount(&fields[0])?;
                 self.legal(v).then_some(Value::Number(v))
             }
             4 => {
@@ -765,6 +753,73 @@ impl Row {
             },
         }
     }
+
+    /// The number that a quantity's bytes say, legal or not; None where they have no quantity's form.
+    fn amount(&self, field: &[u8]) -> Option<i64> {
+        let text: String = field.iter().map(|&x| x as char).collect();
+        let text = text.trim_start_matches(' ');
+        let (minus, text) = text.strip_prefix('-').map_or((false, text), |rest| (true, rest));
+        let (whole, rest) = if self.cells[6] == 1 { text.split_once('.')? } else { (text, "") };
+        let digits = format!("{whole}{rest}");
+        if whole.is_empty() || rest.len() != self.cells[5] as usize || !digits.bytes().all(|x| x.is_ascii_digit()) {
+            return None;
+        }
+        let m: i64 = digits.parse().unwrap();
+        Some(if minus { -m } else { m })
+    }
+
+    /// The number that the bytes of a SINGLE, a subfield or a QUANTITY say.
+    fn said(&self, field: &[u8]) -> Option<i64> {
+        if self.cells[1] == 3 { self.amount(field) } else { category(field) }
+    }
+
+    /// The index of the point in a quantity's value places.
+    fn point(&self) -> Option<usize> {
+        (self.cells[1] == 3 && self.cells[6] != 0).then(|| (self.cells[4] - self.cells[5] - 1) as usize)
+    }
+
+    /// Whether some field that is sound in form, and not all spaces, begins with these bytes. If one does, so does the one that goes on
+    /// with zeros, and with the point in its place.
+    fn begins(&self, bytes: &[u8]) -> bool {
+        match self.cells[1] {
+            4 => bytes.iter().all(|&x| x >= 32),
+            5 => bytes.iter().all(|x| b"01".contains(x)),
+            2 if self.cells[7] == 0 => bytes.iter().all(|x| b"01".contains(x)),
+            _ => {
+                let mut field = vec![b'0'; self.cells[4] as usize];
+                if let Some(point) = self.point() {
+                    field[point] = b'.';
+                }
+                field[..bytes.len()].copy_from_slice(bytes);
+                self.said(&field).is_some()
+            }
+        }
+    }
+
+    /// What is wrong with an illegal field (document 02, C-18): 241 or 243 with the place of the leftmost byte up to which no field of
+    /// sound form goes; in a field of sound form 242 with the first number that is not legal.
+    fn fault(&self, record: &[u8]) -> (i64, i64) {
+        let mut fields = self.places();
+        if self.cells[1] == 2 && self.cells[7] == 0 {
+            fields = vec![fields.concat()];
+        }
+        let bytes = |places: &[usize]| -> Vec<u8> { places.iter().map(|&p| record[p]).collect() };
+        fields.retain(|places| bytes(places).iter().any(|&x| x != b' '));
+        for places in &fields {
+            let field = bytes(places);
+            if let Some(k) = (0..field.len()).find(|&k| !self.begins(&field[..=k])) {
+                let point = self.cells[1] == 3 && (field[k] == b'.' || self.point() == Some(k));
+                return (if point { 243 } else { 241 }, places[k] as i64);
+            }
+        }
+        for places in &fields {
+            let n = self.said(&bytes(places)).expect("an illegal field of sound form is a number");
+            if !self.legal(n) && (n != 0 || self.cells[1] == 3) {
+                return (242, n);
+            }
+        }
+        unreachable!("an illegal field has a fault")
+    }
 }
 
 fn category(field: &[u8]) -> Option<i64> {
@@ -777,16 +832,20 @@ fn row_of(t: &Table, row: u64) -> Option<&Row> {
     usize::try_from(row).ok().and_then(|row| t.rows.get(row))
 }
 
-fn judge(t: &Table, record: &[u8]) -> (i64, i64) {
+/// The number; the byte's place, or the row; and with the row the fault's place or number.
+fn judge(t: &Table, record: &[u8]) -> (i64, i64, i64) {
     if record.len() < t.least {
-        return (22, 0);
+        return (22, 0, 0);
     }
     if let Some(place) = record.iter().position(|&x| x < 32) {
-        return (23, place as i64);
+        return (23, place as i64, 0);
     }
     match t.rows.iter().position(|row| row.value(record).is_none()) {
-        Some(row) => (24, row as i64),
-        None => (0, 0),
+        Some(row) => {
+            let (number, beside) = t.rows[row].fault(record);
+            (number, row as i64, beside)
+        }
+        None => (0, 0, 0),
     }
 }
 
@@ -862,7 +921,10 @@ impl Face for Naive {
             return give(answer, [22, 0, 0, 0]);
         }
         let numbers = match row.value(record) {
-            None => [24, 0, 0, 0],
+            None => {
+                let (number, beside) = row.fault(record);
+                [number, beside, 0, 0]
+            }
             Some(Value::Missing) => [0, 0, 0, 0],
             Some(Value::Number(n)) => [0, 1, n, 0],
             Some(Value::Text(place, length)) => [0, 3, place as i64, length as i64],
@@ -897,8 +959,8 @@ impl Face for Naive {
 
     fn judge_record(&self, table: &[i64], record: &[u8], answer: &mut [i64; 4]) -> u64 {
         let Some(t) = understood(table) else { return give(answer, [20, 0, 0, 0]) };
-        let (number, place) = judge(&t, record);
-        give(answer, [number, place, 0, 0])
+        let (number, place, beside) = judge(&t, record);
+        give(answer, [number, place, beside, 0])
     }
 
     fn write_missing(&self, table: &[i64], row: u64, record: &mut [u8]) -> u64 {
@@ -994,10 +1056,9 @@ impl Face for Naive {
                 return give(answer, [31, count, 0, 0]);
             }
             match judge(&t, record) {
-                (0, _) => {}
-                (23, place) => return give(answer, [23, count, 0, place]),
-                (24, row) => return give(answer, [24, count, row, 0]),
-                (number, _) => return give(answer, [number, count, 0, 0]),
+                (0, ..) => {}
+                (23, place, _) => return give(answer, [23, count, 0, place]),
+                (number, row, beside) => return give(answer, [number, count, row, beside]),
             }
             from = next;
         }
@@ -1024,7 +1085,8 @@ impl Face for Naive {
             all.push(match row.value(record) {
                 None => {
                     refused += 1;
-                    [24, 0, 0, 0]
+                    let (number, beside) = row.fault(record);
+                    [number, beside, 0, 0]
                 }
                 Some(Value::Missing) => [0, 0, 0, 0],
                 Some(Value::Number(n)) => [0, 1, n, 0],

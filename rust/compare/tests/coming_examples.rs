@@ -42,11 +42,6 @@ fn each(try_it: impl Fn(&dyn Coming)) {
     }
 }
 
-/// The number of an illegal field, and its four numbers in a file's answer: one place to change when C-18 lands.
-fn illegal(record: i64, row: i64) -> [i64; 4] {
-    [24, record, row, 0]
-}
-
 #[test]
 fn c22_a_part_is_judged_as_a_file() {
     let t = table(&variable(1, "SINGLE POSITION 1 TO 2 VALUES 1 TO 20 END VALUES"));
@@ -77,7 +72,7 @@ fn c22_a_part_is_judged_as_a_file() {
         assert_eq!(judge("07\n", 4, 3, 1), [31, 1, 0, 0]);
         assert_eq!(judge("07x\n", 4, 3, 1), [0, 1, 0, 0]);
         assert_eq!(judge("7\n", 4, 1, 1), [22, 1, 0, 0]);
-        assert_eq!(judge("07\n21\n", 4, 2, 1), illegal(2, 0));
+        assert_eq!(judge("07\n21\n", 4, 2, 1), [242, 2, 0, 21]);
         // 20, then 29; 64 bits.
         assert_eq!(judge("07", 0, 2, 1), [29, 0, 0, 0]);
         assert_eq!(judge("07", 5, 2, 1), [29, 0, 0, 0]);
@@ -157,8 +152,8 @@ fn c21_the_normal_form() {
         assert_eq!(side.normal(&[1, 2, 3], &mut []), [20, 0, 0, 0]);
         assert_eq!(normal(" 7"), ([22, 0, 0, 0], " 7".into()));
         assert_eq!(normal("21\t             "), ([23, 2, 0, 0], "21\t             ".into()));
-        assert_eq!(normal(" 7x             ").0, [24, 1, 0, 0]);
-        assert_eq!(normal("21x             ").0, [24, 0, 0, 0]);
+        assert_eq!(normal(" 7x             ").0, [241, 1, 2, 0]);
+        assert_eq!(normal("21x             ").0, [242, 0, 21, 0]);
     });
 }
 
@@ -319,7 +314,7 @@ fn c20_refusals_in_their_order() {
         assert_eq!(matrix(&text, b"ab", 0), [30, 1, 0, 0]);
         assert_eq!(matrix(&text, b"a\n", 0), [22, 1, 0, 0]);
         assert_eq!(matrix(&text, b"ab\na\t\n", 0), [23, 2, 0, 1]);
-        assert_eq!(matrix(&logical, b"1\nx\n", 0), illegal(2, 0));
+        assert_eq!(matrix(&logical, b"1\nx\n", 0), [241, 2, 0, 0]);
         assert_eq!(matrix(&text, b"ab\n", 0), [80, 0, 0, 0]);
         assert_eq!(matrix(&wide, &b"0007\n".repeat(184), 0), [81, 0, 0, 0]);
         assert_eq!(matrix(&wide, &b"0007\n".repeat(183), 0), [82, 0, 0, 0]);
@@ -370,7 +365,7 @@ fn c16_export() {
         // A fault: the lines before it stay, and judge_file's answer is told.
         let one = " 700.50 3 1ab  1\n";
         let line = "7,0.50,1;3,ab,1\r\n";
-        assert_eq!(export(&format!("{one}{}", one.replace(" 7", "21"))), (illegal(2, 0).to_vec(), line.into(), true));
+        assert_eq!(export(&format!("{one}{}", one.replace(" 7", "21"))), (vec![242, 2, 0, 21], line.into(), true));
         assert_eq!(export(&format!("{one}x")), (vec![30, 2, 0, 0], line.into(), true));
         assert_eq!(export(&format!("{one}x{one}")), (vec![31, 2, 0, 0], line.into(), true));
         assert_eq!(export("x\n"), (vec![22, 1, 0, 0], "".into(), true));

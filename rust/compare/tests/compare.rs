@@ -388,7 +388,7 @@ fn tables_with_cells_changed() {
         let case = write_case(&mut r, table, row, record);
         check(&mut tally, seed, &case);
     }
-    tally.end("tables changed", 80_000, &[0, 20, 21, 22, 23, 24, 26, 27]);
+    tally.end("tables changed", 80_000, &[0, 20, 21, 22, 23, 241, 242, 243, 26, 27]);
 }
 
 /// A write of some value to this row, mostly of the row's own kind.
@@ -466,7 +466,7 @@ fn records_read_judged_and_written() {
             }
         }
     }
-    tally.end("records", 100_000, &[0, 21, 22, 23, 24, 25, 26, 27, 28]);
+    tally.end("records", 100_000, &[0, 21, 22, 23, 241, 242, 243, 25, 26, 27, 28]);
 }
 
 /// All rows of a record: every length of both buffers around what is due, many faults at once, tables that are none. What is
@@ -520,7 +520,7 @@ fn one_by_one(r: &mut Rng, whole: &Case, outcome: &Outcome) {
         let mut answer = [0; 4];
         let number = Plain.read_value(&whole.table, row as u64, &whole.bytes, &mut one, &mut answer);
         refused += (number != 0) as i64;
-        if answer[1] == 2 {
+        if number == 0 && answer[1] == 2 {
             let count = answer[2] as usize;
             assert_eq!(four, [0, 2, count as i64, used as i64], "row {row} of {}", zarfolin_compare::case::show(whole));
             assert_eq!(list[used..used + count], one[..count]);
@@ -547,7 +547,7 @@ fn files() {
         let data = records::file(&mut r, &table);
         check(&mut tally, seed, &Case { table: table.clone(), bytes: data, ..Case::new(Call::JudgeFile) });
     }
-    tally.end("files", 20_000, &[0, 20, 22, 23, 24, 30, 31]);
+    tally.end("files", 20_000, &[0, 20, 22, 23, 241, 242, 243, 30, 31]);
 }
 
 /// A file as each of its records, found by the next-record call and judged by the record call: the file's own answer.
@@ -589,7 +589,7 @@ fn files_record_by_record() {
             assert_eq!(each, whole, "seed {seed}, {}: {}", face.name(), zarfolin_compare::case::show(&case));
         }
     }
-    tally.end("files record by record", 3_000, &[0, 22, 23, 24, 30, 31]);
+    tally.end("files record by record", 3_000, &[0, 22, 23, 30, 31, 241, 242, 243]);
 }
 
 /// The number of a file's terminator, LF's where it has none, and the length of its first record.
@@ -648,7 +648,7 @@ fn parts_of_files() {
         let parts = in_parts(&*tally.other, &mut r, &whole.table, &whole.bytes);
         assert_eq!(parts, whole_answer, "seed {seed}, in parts: {}", zarfolin_compare::case::show(&whole));
     }
-    tally.end("parts of files", 40_000, &[0, 20, 22, 23, 24, 29, 30, 31]);
+    tally.end("parts of files", 40_000, &[0, 20, 22, 23, 29, 30, 31, 241, 242, 243]);
 }
 
 /// A file, or its beginning, as a part of one: mostly by its own terminator and first record.

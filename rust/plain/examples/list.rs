@@ -56,7 +56,7 @@ fn list(definition: &[u8], data: &[u8]) -> Vec<u8> {
     if judged.number == 0 {
         writeln!(last, "ok {sound}").unwrap();
     } else {
-        let ident = if judged.number == 24 { ident(&table, judged.row) } else { 0 };
+        let ident = if judged.number > 240 { ident(&table, judged.row) } else { 0 };
         writeln!(last, "fault {} {} {ident}", judged.number, judged.record).unwrap();
     }
     out.extend(last.bytes());

@@ -16,34 +16,59 @@ pub enum Value {
     Truth(bool),
 }
 
-/// What reading one row answers: the value, or the refusal's number.
-pub type Reading = Result<Value, u32>;
+/// Why a row was not read: the number, and beside it the place of 241 and 243, the number said of 242, otherwise 0.
+#[derive(Clone, Copy, Debug, PartialEq, Eq)]
+pub struct Refused {
+    pub number: u32,
+    pub beside: i64,
+}
 
-/// What judging a record answers. `place` is the byte for 23, the row for 24, otherwise 0.
+impl Refused {
+    fn with(number: u32, beside: i64) -> Refused {
+        Refused { number, beside }
+    }
+}
+
+/// What reading one row answers: the value, or the refusal.
+pub type Reading = Result<Value, Refused>;
+
+/// Why a row of a table that was tested has no value.
+pub(crate) enum Unread {
+    Illegal,
+    /// The list is shorter than the set.
+    Room,
+}
+
+/// What judging a record answers. `place` is the byte for 23, the row of a fault (241, 242, 243), otherwise 0; `beside` is that of the
+/// row's reading.
 #[derive(Clone, Copy, Debug, PartialEq, Eq)]
 pub struct Judgement {
     pub number: u32,
     pub place: usize,
+    pub beside: i64,
 }
 
 impl Judgement {
     /// The four numbers that a call answers with.
     pub fn numbers(self) -> [i64; 4] {
-        [self.number as i64, self.place as i64, 0, 0]
+        [self.number as i64, self.place as i64, self.beside, 0]
     }
 }
 
 /// Reads the value of one row. Only a set touches the list, and only its start.
 pub fn read_value(table: &[i64], row: u64, record: &[u8], list: &mut [i64]) -> Reading {
-    let Some(t) = view(table) else { return Err(20) };
+    let Some(t) = view(table) else { return Err(Refused::with(20, 0)) };
     if row >= t.rows.len() as u64 {
-        return Err(21);
+        return Err(Refused::with(21, 0));
     }
     if record.len() < t.least {
-        return Err(22);
+        return Err(Refused::with(22, 0));
     }
     let row = &t.rows[row as usize];
-    row_value(row, t.lines_of(row), record, list)
+    row_value(row, t.lines_of(row), record, list).map_err(|unread| match unread {
+        Unread::Illegal => fault(row, t.lines_of(row), record),
+        Unread::Room => Refused::with(25, 0),
+    })
 }
 
 /// Reads all rows of a record, the table tested once: four numbers a row at the start of `out`, as for one row, but for a
@@ -72,9 +97,10 @@ pub fn read_record(table: &[i64], record: &[u8], out: &mut [i64], list: &mut [i6
             }
             Ok(Value::Text(place, length)) => [0, 3, place as i64, length as i64],
             Ok(Value::Truth(truth)) => [0, 4, truth as i64, 0],
-            Err(number) => {
+            Err(_) => {
                 refused += 1;
-                [number as i64, 0, 0, 0]
+                let fault = fault(row, t.lines_of(row), record);
+                [fault.number as i64, fault.beside, 0, 0]
             }
         };
     }
@@ -105,19 +131,19 @@ fn count_members(row: &Row, lines: &[Line], record: &[u8]) -> usize {
 
 /// The value of a row of a table that was tested, in a record that is long enough.
 #[inline]
-pub(crate) fn row_value(row: &Row, lines: &[Line], record: &[u8], list: &mut [i64]) -> Reading {
+pub(crate) fn row_value(row: &Row, lines: &[Line], record: &[u8], list: &mut [i64]) -> Result<Value, Unread> {
     match row[column::TYPE] {
         SINGLE => match category(last_bytes(row, record)) {
             Category::Blank | Category::Number(0) => Ok(Value::Missing),
             Category::Number(c) if legal(row, lines, c) => Ok(Value::Number(c)),
-            _ => Err(24),
+            _ => Err(Unread::Illegal),
         },
         MULTIPLE if row[column::SUBFIELDS] == 0 => match bits(row, lines, record) {
-            Bits::Bad => Err(24),
+            Bits::Bad => Err(Unread::Illegal),
             Bits::Blank => Ok(Value::Missing),
             Bits::Set(count, rising) => {
                 if list.len() < count {
-                    return Err(25);
+                    return Err(Unread::Room);
                 }
                 list_bits(row, lines, record, rising, list);
                 Ok(Value::Set(count))
@@ -127,13 +153,13 @@ pub(crate) fn row_value(row: &Row, lines: &[Line], record: &[u8], list: &mut [i6
         QUANTITY => match quantity(row, last_bytes(row, record)) {
             Quantity::Blank => Ok(Value::Missing),
             Quantity::Number(v) if legal(row, lines, v) => Ok(Value::Number(v)),
-            _ => Err(24),
+            _ => Err(Unread::Illegal),
         },
         CHARACTER => {
             let start = row[column::START] as usize - 1;
             let text = &record[start..start + row[column::WIDTH] as usize];
             if controls(text) {
-                return Err(24);
+                return Err(Unread::Illegal);
             }
             match text.iter().rposition(|&x| x != b' ') {
                 None => Ok(Value::Missing),
@@ -144,16 +170,83 @@ pub(crate) fn row_value(row: &Row, lines: &[Line], record: &[u8], list: &mut [i6
             b' ' => Ok(Value::Missing),
             b'0' => Ok(Value::Truth(false)),
             b'1' => Ok(Value::Truth(true)),
-            _ => Err(24),
+            _ => Err(Unread::Illegal),
         },
     }
 }
 
-/// Judges a whole record: 20, 22, 23 with the byte's place, 24 with the lowest row.
+/// What is wrong with an illegal field. "The leftmost fault counts, with its place. Only a row sound in form is judged for values: the first
+/// number neither in range nor on a line is given."
+#[cold]
+pub(crate) fn fault(row: &Row, lines: &[Line], record: &[u8]) -> Refused {
+    let finish = row[column::FINISH] as usize;
+    let start = row[column::START] as usize - 1;
+    let w = row[column::WIDTH] as usize;
+    let stray = |place: usize| Refused::with(241, place as i64);
+    let binary = |x: u8| x == b'0' || x == b'1';
+    match row[column::TYPE] {
+        SINGLE => {
+            let places = last_bytes(row, record);
+            match number_fault(places, w - 1, None, false) {
+                Some(i) => stray(finish - w + i),
+                None => Refused::with(242, decimal(places)),
+            }
+        }
+        MULTIPLE if row[column::SUBFIELDS] == 0 => {
+            let mut places: Vec<usize> = lines.iter().map(|line| start + line[0] as usize - 1).collect();
+            let (from, to) = range_of(row);
+            places.extend((from..=to).map(|c| start + c as usize - 1));
+            stray(places.into_iter().filter(|&p| !binary(record[p])).min().expect("an illegal bitstring"))
+        }
+        MULTIPLE => {
+            let width = row[column::SUBWIDTH] as usize;
+            for (k, places) in subfields(row, record).enumerate() {
+                if places.iter().any(|&x| x != b' ')
+                    && let Some(i) = number_fault(places, w - 1, None, false)
+                {
+                    return stray(start + (k + 1) * width - w + i);
+                }
+            }
+            let mut said = subfields(row, record).map(decimal);
+            Refused::with(242, said.find(|&c| c != 0 && !legal(row, lines, c)).expect("an illegal spread"))
+        }
+        QUANTITY => {
+            let places = last_bytes(row, record);
+            let decimals = row[column::DECIMALS] as usize;
+            // "The point, the digit before it (with no point the last; none under code 2) and those after it have fixed places."
+            let point = (row[column::POINT] != 0).then(|| w - decimals - 1);
+            let before = point.unwrap_or(w) - (row[column::POINT] != 2) as usize;
+            match number_fault(places, before, point, true) {
+                Some(i) if places[i] == b'.' || point == Some(i) => Refused::with(243, (finish - w + i) as i64),
+                Some(i) => stray(finish - w + i),
+                None => Refused::with(242, if places.contains(&b'-') { -decimal(places) } else { decimal(places) }),
+            }
+        }
+        CHARACTER => stray(find_low(&record[..start + w], start)),
+        _ => stray(finish - 1),
+    }
+}
+
+/// The first of the bytes that cannot stand after those to its left, in value places that are not all spaces: "the places before take
+/// spaces, at most one minus (in a quantity only), then digits".
+fn number_fault(places: &[u8], before: usize, point: Option<usize>, quantity: bool) -> Option<usize> {
+    let mut i = places[..before].iter().take_while(|&&x| x == b' ').count();
+    if quantity && i < before && places[i] == b'-' {
+        i += 1;
+    }
+    (i..places.len()).find(|&i| if point == Some(i) { places[i] != b'.' } else { !places[i].is_ascii_digit() })
+}
+
+/// The digits among these bytes as a number.
+fn decimal(places: &[u8]) -> i64 {
+    places.iter().filter(|x| x.is_ascii_digit()).fold(0, |n, &x| n * 10 + (x - b'0') as i64)
+}
+
+/// Judges a whole record: 20, 22, 23 with the byte's place, 241 to 243 with the lowest row and what is beside its reading.
 pub fn judge_record(table: &[i64], record: &[u8]) -> Judgement {
     match view(table) {
         Some(t) => judge(&t, record),
-        None => Judgement { number: 20, place: 0 },
+        None => Judgement { number: 20, place: 0, beside: 0 },
     }
 }
 
@@ -161,15 +254,18 @@ pub fn judge_record(table: &[i64], record: &[u8]) -> Judgement {
 #[inline]
 pub(crate) fn judge(t: &Table, record: &[u8]) -> Judgement {
     if record.len() < t.least {
-        return Judgement { number: 22, place: 0 };
+        return Judgement { number: 22, place: 0, beside: 0 };
     }
     let place = find_low(record, 0);
     if place < record.len() {
-        return Judgement { number: 23, place };
+        return Judgement { number: 23, place, beside: 0 };
     }
     match first_illegal(t, record) {
-        Some(row) => Judgement { number: 24, place: row },
-        None => Judgement { number: 0, place: 0 },
+        Some(i) => {
+            let Refused { number, beside } = fault(&t.rows[i], t.lines_of(&t.rows[i]), record);
+            Judgement { number, place: i, beside }
+        }
+        None => Judgement { number: 0, place: 0, beside: 0 },
     }
 }
 
@@ -503,7 +599,7 @@ pub(crate) fn each_member(members: &[u64; 157], mut put: impl FnMut(i64)) {
     }
 }
 
-fn spread(row: &Row, lines: &[Line], record: &[u8], list: &mut [i64]) -> Reading {
+fn spread(row: &Row, lines: &[Line], record: &[u8], list: &mut [i64]) -> Result<Value, Unread> {
     let mut blank = true;
     if row[column::SUBFIELDS] as usize <= FEW {
         let mut members = [0i64; FEW];
@@ -512,14 +608,14 @@ fn spread(row: &Row, lines: &[Line], record: &[u8], list: &mut [i64]) -> Reading
             let c = match category(place) {
                 Category::Blank => continue,
                 Category::Number(c) => c,
-                Category::Bad => return Err(24),
+                Category::Bad => return Err(Unread::Illegal),
             };
             blank = false;
             if c == 0 {
                 continue;
             }
             if !legal(row, lines, c) {
-                return Err(24);
+                return Err(Unread::Illegal);
             }
             // Into its place, unless it is there.
             let mut i = count;
@@ -536,7 +632,7 @@ fn spread(row: &Row, lines: &[Line], record: &[u8], list: &mut [i64]) -> Reading
         if blank {
             return Ok(Value::Missing);
         }
-        let Some(start) = list.get_mut(..count) else { return Err(25) };
+        let Some(start) = list.get_mut(..count) else { return Err(Unread::Room) };
         start.copy_from_slice(&members[..count]);
         return Ok(Value::Set(count));
     }
@@ -550,14 +646,14 @@ fn spread(row: &Row, lines: &[Line], record: &[u8], list: &mut [i64]) -> Reading
                 blank = false;
                 members[c as usize / 64] |= 1 << (c % 64);
             }
-            _ => return Err(24),
+            _ => return Err(Unread::Illegal),
         }
     }
     if blank {
         return Ok(Value::Missing);
     }
     let count: usize = members.iter().map(|word| word.count_ones() as usize).sum();
-    let Some(start) = list.get_mut(..count) else { return Err(25) };
+    let Some(start) = list.get_mut(..count) else { return Err(Unread::Room) };
     let mut slots = start.iter_mut();
     each_member(&members, |c| {
         if let Some(slot) = slots.next() {

@@ -1,6 +1,6 @@
 //! Data files: the next record, and the judgement of a whole file.
 
-use crate::field::first_illegal;
+use crate::field::{fault, first_illegal};
 use crate::scan::{find, find_low, lanes};
 use crate::table::{Table, view};
 
@@ -16,19 +16,19 @@ pub enum NextRecord {
 }
 
 /// What judging a file answers. `number` 0: `record` is the count of records. Otherwise `record` counts from 1 (0 for 20),
-/// `row` is the row of 24 and `place` the byte of 23 in its record.
+/// `row` is the row of 241 to 243, and `place` the byte of 23, 241 and 243 in its record, or the number of 242.
 #[derive(Clone, Copy, Debug, PartialEq, Eq)]
 pub struct FileJudgement {
     pub number: u32,
     pub record: usize,
     pub row: usize,
-    pub place: usize,
+    pub place: i64,
 }
 
 impl FileJudgement {
     /// The four numbers that a call answers with.
     pub fn numbers(self) -> [i64; 4] {
-        [self.number as i64, self.record as i64, self.row as i64, self.place as i64]
+        [self.number as i64, self.record as i64, self.row as i64, self.place]
     }
 }
 
@@ -104,7 +104,7 @@ pub fn next_record(data: &[u8], from: u64) -> NextRecord {
     }
 }
 
-/// Judges a file: 20, then record by record 30, 31, 22, 23, 24.
+/// Judges a file: 20, then record by record 30, 31, 22, 23, 241 to 243.
 pub fn judge_file(table: &[i64], data: &[u8]) -> FileJudgement {
     match view(table) {
         Some(t) => judge_whole(&t, data),
@@ -157,10 +157,11 @@ fn judge_records(t: &Table, data: &[u8], terminator: Terminator, length: u64, la
             return refused(22, count, 0, 0);
         }
         if let Some(place) = low {
-            return refused(23, count, 0, place);
+            return refused(23, count, 0, place as i64);
         }
         if let Some(row) = first_illegal(t, record) {
-            return refused(24, count, row, 0);
+            let fault = fault(&t.rows[row], t.lines_of(&t.rows[row]), record);
+            return refused(fault.number, count, row, fault.beside);
         }
         start = place + terminator.length();
     }

@@ -23,7 +23,7 @@ pub use clean::write_definition;
 pub use correct::{Correction, correct};
 pub use csv::{export, import};
 pub use definition::{Definition, read_definition};
-pub use field::{Judgement, Reading, Value, judge_record, read_record, read_value};
+pub use field::{Judgement, Reading, Refused, Value, judge_record, read_record, read_value};
 pub use file::{FileJudgement, NextRecord, judge_file, judge_part, next_record};
 pub use matrix::matrix;
 pub use mend::mend;

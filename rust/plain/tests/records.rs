@@ -21,7 +21,8 @@ fn read(table: &[i64], record: &str) -> String {
     let judged = judge_record(table, record.as_bytes());
     let mut used = 0;
     let text = match answer {
-        Err(n) => n.to_string(),
+        Err(e) if e.number > 240 => format!("{} {}", e.number, e.beside),
+        Err(e) => e.number.to_string(),
         Ok(Value::Missing) => "missing".into(),
         Ok(Value::Number(n)) => format!("N {n}"),
         Ok(Value::Truth(t)) => format!("L {t}"),
@@ -31,15 +32,21 @@ fn read(table: &[i64], record: &str) -> String {
             if n > 0 {
                 // One number less is 25, and the list is kept.
                 let mut short = vec![-9; n - 1];
-                assert_eq!(read_value(table, 0, record.as_bytes(), &mut short), Err(25));
+                assert_eq!(read_value(table, 0, record.as_bytes(), &mut short), refused(25));
                 assert!(short.iter().all(|&x| x == -9));
             }
             format!("S {:?}", &list[..n])
         }
     };
     assert!(list[used..].iter().all(|&x| x == -9));
-    assert_eq!(judged.number == 24, answer == Err(24), "{record:?}");
+    let fault = answer.err().filter(|e| e.number > 240);
+    let row = Refused { number: judged.number, beside: judged.beside };
+    assert_eq!((judged.number > 240).then_some(row), fault, "{record:?}");
     text
+}
+
+fn refused(number: u32) -> Reading {
+    Err(Refused { number, beside: 0 })
 }
 
 fn block(values: &[i64]) -> String {
@@ -54,11 +61,11 @@ fn proved_readings() {
         (" 7", "N 7"),
         ("  ", "missing"),
         ("00", "missing"),
-        ("7 ", "24"),
-        ("21", "24"),
+        ("7 ", "241 1"),
+        ("21", "242 21"),
         (" 0", "missing"),
-        ("-7", "24"),
-        ("0x", "24"),
+        ("-7", "241 0"),
+        ("0x", "241 1"),
         ("20", "N 20"),
     ] {
         assert_eq!(read(&t, record), value, "{record:?}");
@@ -67,10 +74,10 @@ fn proved_readings() {
     for (record, value) in [
         ("100xxxxx0", "S [1]"),
         ("   xxxxx ", "missing"),
-        ("000xxxxx ", "24"),
+        ("000xxxxx ", "241 8"),
         ("0002", "22"),
         ("011111111", "S [2, 3, 9]"),
-        ("200000000", "24"),
+        ("200000000", "241 0"),
     ] {
         assert_eq!(read(&t, record), value, "{record:?}");
     }
@@ -80,7 +87,7 @@ fn proved_readings() {
     let t = one(&format!("MULTIPLE POSITION 1 TO 9 VALUES 3 TO 5 WITH {} END VALUES", block(&[1, 4, 8])));
     assert_eq!(read(&t, "1x111xx1x"), "S [1, 3, 4, 5, 8]");
     assert_eq!(read(&t, "1x010xx1x"), "S [1, 4, 8]");
-    assert_eq!(read(&t, "1x0 0xx1x"), "24");
+    assert_eq!(read(&t, "1x0 0xx1x"), "241 3");
     let t = one(&format!("MULTIPLE POSITION 1 TO 9 VALUES 3 TO 5 WITH {} END VALUES", block(&[8, 1, 4])));
     assert_eq!(read(&t, "1x111xx1x"), "S [1, 3, 4, 5, 8]");
     let t = one("MULTIPLE POSITION 1 TO 9 VALUES 1 TO 9 END VALUES");
@@ -96,8 +103,8 @@ fn proved_readings() {
         ("   000", "S []"),
         ("  9  9", "S [9]"),
         ("042  1", "S [1, 42]"),
-        ("1  000", "24"),
-        ("00x000", "24"),
+        ("1  000", "241 1"),
+        ("00x000", "241 2"),
     ] {
         assert_eq!(read(&t, record), value, "{record:?}");
     }
@@ -109,7 +116,7 @@ fn proved_readings() {
         ("20xx", "S [2]"),
         ("02xx", "S [2]"),
         ("13xx", "S [1, 3]"),
-        ("04xx", "24"),
+        ("04xx", "242 4"),
         ("  xx", "missing"),
         ("00xx", "S []"),
         ("11xx", "S [1]"),
@@ -121,15 +128,15 @@ fn proved_readings() {
         ("-07", "N -7"),
         (" -7", "N -7"),
         ("  7", "N 7"),
-        ("0-7", "24"),
-        ("- 7", "24"),
-        ("-  ", "24"),
-        ("7  ", "24"),
+        ("0-7", "241 1"),
+        ("- 7", "241 1"),
+        ("-  ", "241 1"),
+        ("7  ", "241 1"),
         ("-00", "N 0"),
         ("000", "N 0"),
-        ("100", "24"),
+        ("100", "242 100"),
         ("   ", "missing"),
-        ("+07", "24"),
+        ("+07", "241 0"),
     ] {
         assert_eq!(read(&t, record), value, "{record:?}");
     }
@@ -138,30 +145,36 @@ fn proved_readings() {
         ("x-1.00", "N -100"),
         ("x 7.00", "N 700"),
         ("x07.00", "N 700"),
-        ("x  .00", "24"),
-        ("x -.00", "24"),
-        ("x70000", "24"),
-        ("x7.000", "24"),
+        ("x  .00", "241 2"),
+        ("x -.00", "241 2"),
+        ("x70000", "243 3"),
+        ("x7.000", "243 2"),
         ("x     ", "missing"),
-        ("x   . ", "24"),
-        ("x-1.01", "24"),
+        ("x   . ", "241 2"),
+        ("x-1.01", "242 -101"),
         ("x-0.00", "N 0"),
     ] {
         assert_eq!(read(&t, record), value, "{record:?}");
     }
     let t = one("QUANTITY POSITION 1 TO 2 VALUES 1 TO 9. END VALUES");
-    for (record, value) in
-        [("7.", "N 7"), ("07", "24"), (" 7", "24"), (" .", "24"), ("  ", "missing"), ("0.", "24"), ("-.", "24")]
-    {
+    for (record, value) in [
+        ("7.", "N 7"),
+        ("07", "243 1"),
+        (" 7", "241 0"),
+        (" .", "241 0"),
+        ("  ", "missing"),
+        ("0.", "242 0"),
+        ("-.", "241 0"),
+    ] {
         assert_eq!(read(&t, record), value, "{record:?}");
     }
     let t = one("QUANTITY POSITION 1 TO 2 VALUES 0 TO 50 WITH 99 \"\" END VALUES");
     assert_eq!(read(&t, "99"), "N 99");
-    assert_eq!(read(&t, "98"), "24");
+    assert_eq!(read(&t, "98"), "242 98");
     assert_eq!(read(&t, "-0"), "N 0");
-    assert_eq!(read(&t, "-1"), "24");
+    assert_eq!(read(&t, "-1"), "242 -1");
     let t = one("LOGICAL POSITION 1 TO 2");
-    for (record, value) in [("x1", "L true"), ("10", "L false"), ("1 ", "missing"), ("11", "L true"), (" 2", "24")] {
+    for (record, value) in [("x1", "L true"), ("10", "L false"), ("1 ", "missing"), ("11", "L true"), (" 2", "241 1")] {
         assert_eq!(read(&t, record), value, "{record:?}");
     }
     let t = one("CHARACTER POSITION 2 TO 12 SIZE 10");
@@ -173,8 +186,8 @@ fn proved_readings() {
     ] {
         assert_eq!(read(&t, record), value, "{record:?}");
     }
-    assert_eq!(read_value(&t, 0, b"x  \n       xx", &mut []), Err(24));
-    assert_eq!(judge_record(&t, b"x  \n       xx"), Judgement { number: 23, place: 3 });
+    assert_eq!(read_value(&t, 0, b"x  \n       xx", &mut []), Err(Refused { number: 241, beside: 3 }));
+    assert_eq!(judge_record(&t, b"x  \n       xx"), Judgement { number: 23, place: 3, beside: 0 });
     assert_eq!(read_value(&t, 0, b"\0 a        \0x", &mut []), Ok(Value::Text(1, 2)));
     assert_eq!(read_value(&t, 0, b"x  \xff       xx", &mut []), Ok(Value::Text(1, 3)));
 }
@@ -219,23 +232,23 @@ fn calls_in_order() {
     let mut bad = t.clone();
     bad[3] = 3;
     let mut list = [1, 2, 3];
-    assert_eq!(read_value(&bad, u64::MAX, b"", &mut list), Err(20));
-    assert_eq!(read_value(&[], 0, b"  ", &mut list), Err(20));
-    assert_eq!(read_value(&t, 1, b"", &mut list), Err(21));
-    assert_eq!(read_value(&t, u64::MAX, b"  ", &mut list), Err(21));
-    assert_eq!(read_value(&t, 0, b"7", &mut list), Err(22));
+    assert_eq!(read_value(&bad, u64::MAX, b"", &mut list), refused(20));
+    assert_eq!(read_value(&[], 0, b"  ", &mut list), refused(20));
+    assert_eq!(read_value(&t, 1, b"", &mut list), refused(21));
+    assert_eq!(read_value(&t, u64::MAX, b"  ", &mut list), refused(21));
+    assert_eq!(read_value(&t, 0, b"7", &mut list), refused(22));
     assert_eq!(list, [1, 2, 3]);
-    assert_eq!(judge_record(&bad, b""), Judgement { number: 20, place: 0 });
-    assert_eq!(judge_record(&t, b"7"), Judgement { number: 22, place: 0 });
-    assert_eq!(judge_record(&t, b"7 \x1f\x1e"), Judgement { number: 23, place: 2 });
-    assert_eq!(judge_record(&t, b"7 "), Judgement { number: 24, place: 0 });
+    assert_eq!(judge_record(&bad, b""), Judgement { number: 20, place: 0, beside: 0 });
+    assert_eq!(judge_record(&t, b"7"), Judgement { number: 22, place: 0, beside: 0 });
+    assert_eq!(judge_record(&t, b"7 \x1f\x1e"), Judgement { number: 23, place: 2, beside: 0 });
+    assert_eq!(judge_record(&t, b"7 "), Judgement { number: 241, place: 0, beside: 1 });
     let two = table(
         "VARIABLE 1 NAME \"\" LABEL \"\" TYPE LOGICAL POSITION 1 END VARIABLE
          VARIABLE 2 NAME \"\" LABEL \"\" TYPE LOGICAL POSITION 2 END VARIABLE
          VARIABLE 3 NAME \"\" LABEL \"\" TYPE LOGICAL POSITION 3 END VARIABLE",
     );
-    assert_eq!(judge_record(&two, b"122"), Judgement { number: 24, place: 1 });
-    assert_eq!(judge_record(&two, b"0 1\xff"), Judgement { number: 0, place: 0 });
+    assert_eq!(judge_record(&two, b"122"), Judgement { number: 241, place: 1, beside: 1 });
+    assert_eq!(judge_record(&two, b"0 1\xff"), Judgement { number: 0, place: 0, beside: 0 });
 }
 
 #[test]
@@ -416,7 +429,7 @@ fn files() {
         assert_eq!(judge(format!(" 7{end} 71{end}").as_bytes()), (31, 2, 0, 0));
         assert_eq!(judge(format!("7{end}7{end}").as_bytes()), (22, 1, 0, 0));
         assert_eq!(judge(format!(" 7x{end} 7\x01{end}").as_bytes()), (23, 2, 0, 2));
-        assert_eq!(judge(format!(" 7{end}x7{end}").as_bytes()), (24, 2, 0, 0));
+        assert_eq!(judge(format!(" 7{end}x7{end}").as_bytes()), (241, 2, 0, 0));
         assert_eq!(judge(format!("{end}{end}").as_bytes()), (22, 1, 0, 0));
         assert_eq!(judge(format!(" 7{end}{end}").as_bytes()), (31, 2, 0, 0));
     }
@@ -439,4 +452,38 @@ fn files() {
     assert_eq!(next_record(b"ab\r\ncd\r\n", 3), NextRecord::Ended { start: 3, end: 6, next: 8 });
     assert_eq!(next_record(b"ab\r\ncd\r", 4), NextRecord::NotEnded { start: 4, end: 7 });
     assert_eq!(next_record(b"ab\n\n", 3), NextRecord::Ended { start: 3, end: 3, next: 4 });
+}
+
+/// The list of readings C-18, in one row of each kind: number and place, or the number that is not legal.
+#[test]
+fn faults() {
+    let spread = one("MULTIPLE POSITION 1 TO 4 SPREAD 2 OF 2 VALUES 1 TO 40 END VALUES");
+    let tenths = one("QUANTITY POSITION 1 TO 4 VALUES 0.0 TO 50.0 END VALUES");
+    let cents = one("QUANTITY POSITION 1 TO 5 VALUES 0.00 TO 99.99 END VALUES");
+    let whole = one("QUANTITY POSITION 1 TO 4 VALUES -999 TO 500 END VALUES");
+    let bits = one("MULTIPLE POSITION 1 TO 3 VALUES 1 TO 3 END VALUES");
+    for (t, record, fault) in [
+        (&bits, " 10", "241 0"),
+        (&bits, "0.1", "241 1"),
+        (&tenths, "  .5", "241 1"),
+        (&tenths, " 0 5", "243 2"),
+        (&tenths, "1.15", "243 1"),
+        (&tenths, "50.1", "242 501"),
+        (&tenths, "-0.5", "242 -5"),
+        (&cents, "  750", "241 1"),
+        (&whole, "- 15", "241 1"),
+        (&whole, "1 15", "241 1"),
+        (&whole, "--15", "241 1"),
+        (&whole, "  - ", "241 3"),
+        (&whole, "   -", "241 3"),
+        (&whole, "1.15", "243 1"),
+        (&whole, "+115", "241 0"),
+        (&spread, "99x1", "241 2"),
+        (&spread, "9941", "242 99"),
+        (&spread, "0041", "242 41"),
+        (&spread, "0.01", "241 1"),
+        (&spread, "-1 1", "241 0"),
+    ] {
+        assert_eq!(read(t, record), fault, "{record:?}");
+    }
 }

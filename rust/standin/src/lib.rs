@@ -44,7 +44,7 @@ pub unsafe extern "C" fn zarfolin_read_value(
     unsafe {
         let (table, record) = (from_raw_parts(table, table_len), from_raw_parts(record, record_len));
         let numbers = match plain::read_value(table, row, record, from_raw_parts_mut(list, list_len)) {
-            Err(number) => [number as i64, 0, 0, 0],
+            Err(refused) => [refused.number as i64, refused.beside, 0, 0],
             Ok(plain::Value::Missing) => [0, 0, 0, 0],
             Ok(plain::Value::Number(n)) => [0, 1, n, 0],
             Ok(plain::Value::Set(count)) => [0, 2, count as i64, 0],
@@ -65,7 +65,7 @@ pub unsafe extern "C" fn zarfolin_judge_record(
 ) -> Number {
     unsafe {
         let j = plain::judge_record(from_raw_parts(table, table_len), from_raw_parts(record, record_len));
-        give(answer, [j.number as i64, j.place as i64, 0, 0])
+        give(answer, j.numbers())
     }
 }
 
@@ -155,7 +155,7 @@ pub unsafe extern "C" fn zarfolin_judge_file(
 ) -> Number {
     unsafe {
         let j = plain::judge_file(from_raw_parts(table, table_len), from_raw_parts(data, data_len));
-        give(answer, [j.number as i64, j.record as i64, j.row as i64, j.place as i64])
+        give(answer, j.numbers())
     }
 }
 

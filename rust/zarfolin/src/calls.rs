@@ -20,7 +20,7 @@
 
 use crate::ffi::*;
 use crate::table::{self, next, value};
-use crate::{DefinitionError, FileFault, Number, RecordFault, Refusal, Text, Value};
+use crate::{DefinitionError, FileFault, Number, ReadError, RecordFault, Refusal, Text, Value};
 
 /// How many rows and lines a definition was read into.
 #[derive(Clone, Copy, Debug, PartialEq, Eq)]
@@ -72,7 +72,7 @@ pub fn read_definition(def: &[u8], table: &mut [i64]) -> Result<Counts, Definiti
 
 /// Reads one row's value from a record. A set goes to the start of the list and is answered as a part of it;
 /// with [`MAX_SET`](crate::table::limit::MAX_SET) numbers the list is long enough for any.
-pub fn read_value<'a>(table: &[i64], row: u64, record: &'a [u8], list: &'a mut [i64]) -> Result<Value<'a>, Refusal> {
+pub fn read_value<'a>(table: &[i64], row: u64, record: &'a [u8], list: &'a mut [i64]) -> Result<Value<'a>, ReadError> {
     let mut answer = [0i64; 4];
     // SAFETY: as above.
     unsafe {
@@ -91,10 +91,10 @@ pub fn read_value<'a>(table: &[i64], row: u64, record: &'a [u8], list: &'a mut [
 }
 
 /// What the four numbers of a value mean; a set stands at the start of the list.
-pub(crate) fn value_of<'a>(answer: &[i64; 4], record: &'a [u8], list: &'a [i64]) -> Result<Value<'a>, Refusal> {
+pub(crate) fn value_of<'a>(answer: &[i64; 4], record: &'a [u8], list: &'a [i64]) -> Result<Value<'a>, ReadError> {
     let [number, kind, first, second] = *answer;
     if let Some(refusal) = Refusal::of(number as Number) {
-        return Err(refusal);
+        return Err(ReadError::with(refusal, kind));
     }
     match kind {
         value::MISSING => Ok(Value::Missing),
@@ -103,7 +103,7 @@ pub(crate) fn value_of<'a>(answer: &[i64; 4], record: &'a [u8], list: &'a [i64])
         value::TEXT => Ok(Value::Text(&record[first as usize..][..second as usize])),
         value::TRUTH => Ok(Value::Truth(first == 1)),
         // No kind that a library of this version answers.
-        _ => Err(Refusal::Unknown(0)),
+        _ => Err(Refusal::Unknown(0).into()),
     }
 }
 
@@ -163,15 +163,22 @@ pub fn judge_record(table: &[i64], record: &[u8]) -> Result<(), RecordFault> {
     let number = unsafe {
         zarfolin_judge_record(table.as_ptr(), table.len(), record.as_ptr(), record.len(), answer.as_mut_ptr())
     };
-    Refusal::of(number).map_or(Ok(()), |refusal| Err(record_fault(refusal, answer[1], answer[1])))
+    let [_, first, second, _] = answer;
+    Refusal::of(number).map_or(Ok(()), |refusal| {
+        let place = if refusal == Refusal::LowByte { first } else { second };
+        Err(record_fault(refusal, first, place))
+    })
 }
 
-/// A fault with the row or the byte that comes with its number.
-fn record_fault(refusal: Refusal, row: i64, place: i64) -> RecordFault {
+/// A fault with the row, and the byte or the number, that come with its number.
+fn record_fault(refusal: Refusal, row: i64, beside: i64) -> RecordFault {
+    let field = ReadError::with(refusal, beside);
+    let faulty = field.place.is_some() || field.number.is_some();
     RecordFault {
         refusal,
-        row: (refusal == Refusal::Field).then_some(row as usize),
-        place: (refusal == Refusal::LowByte).then_some(place as usize),
+        row: faulty.then_some(row as usize),
+        place: if refusal == Refusal::LowByte { Some(beside as usize) } else { field.place },
+        number: field.number,
     }
 }
 
@@ -227,7 +234,7 @@ fn counted(number: Number, answer: [i64; 4]) -> Result<u64, FileFault> {
 /// let judge = |data, last| calls::judge_part(definition.table(), data, terminator::LF, 2, last);
 /// assert_eq!(judge(b" 7\n 8\n 1", 0), Ok(2));
 /// assert_eq!(judge(b" 7\n 8\n 1", 1).unwrap_err().to_string(), "record 3, the last record has no terminator [30]");
-/// assert_eq!(judge(b" 7\n13\n", 0).unwrap_err().fault.refusal, Refusal::Field);
+/// assert_eq!(judge(b" 7\n13\n", 0).unwrap_err().fault.refusal, Refusal::NotLegal);
 /// ```
 pub fn judge_part(table: &[i64], data: &[u8], terminator: u64, first: u64, last: u64) -> Result<u64, FileFault> {
     let mut answer = [0i64; 4];

@@ -29,7 +29,8 @@
 //! assert_eq!(first.values()?.get(1), Some(Ok(Value::Set(&[1, 4]))));
 //!
 //! let fault = definition.judge(data).unwrap_err();
-//! assert_eq!(fault.to_string(), "record 2, row 0: the field holds no legal value [24]");
+//! let words = "record 2, row 0, number 13: the field holds a number that is neither in the range nor on a line [242]";
+//! assert_eq!(fault.to_string(), words);
 //! # Ok::<(), Box<dyn std::error::Error>>(())
 //! ```
 //!
@@ -55,11 +56,11 @@ mod refusal;
 pub mod table;
 mod text;
 
-pub use refusal::{DefinitionError, FileFault, Number, RecordFault, Refusal};
+pub use refusal::{DefinitionError, FileFault, Number, ReadError, RecordFault, Refusal};
 pub use text::{Sign, Text};
 
 /// The version of the face that this crate is written for.
-pub const VERSION: u64 = 1;
+pub const VERSION: u64 = 2;
 
 /// A row's value: what was read from a record, or what is to be written.
 #[derive(Clone, Copy, Debug, PartialEq, Eq)]

@@ -14,11 +14,11 @@ macro_rules! refusals {
         ///
         /// ```
         /// use zarfolin::Refusal;
-        /// assert_eq!(Refusal::of(24), Some(Refusal::Field));
-        /// assert_eq!(Refusal::Field.number(), 24);
-        /// assert_eq!(Refusal::Field.to_string(), "the field holds no legal value [24]");
+        /// assert_eq!(Refusal::of(242), Some(Refusal::NotLegal));
+        /// assert_eq!(Refusal::NotLegal.number(), 242);
+        /// assert_eq!(Refusal::NotLegal.to_string(), "the field holds a number that is neither in the range nor on a line [242]");
         /// assert_eq!(Refusal::of(0), None);
-        /// assert_eq!(Refusal::of(241).map(|r| r.number()), Some(241));
+        /// assert_eq!(Refusal::of(9999).map(|r| r.number()), Some(9999));
         /// ```
         #[derive(Clone, Copy, Debug, PartialEq, Eq, Hash)]
         #[non_exhaustive]
@@ -89,8 +89,6 @@ refusals! {
     Short = 22, "the record is shorter than its definition needs";
     /// 23: byte below 32 in the record (whole record only).
     LowByte = 23, "the record has a byte below 32";
-    /// 24: field illegal.
-    Field = 24, "the field holds no legal value";
     /// 25: list shorter than the set, or than the text.
     ListRoom = 25, "the lent list is too short for this set or text";
     /// 26: value of another type.
@@ -105,6 +103,12 @@ refusals! {
     Unended = 30, "the last record has no terminator";
     /// 31: length differs from the first record's.
     Length = 31, "the record's length differs from the first record's";
+    /// 241: stray byte.
+    Stray = 241, "the field has a byte that cannot stand there";
+    /// 242: not a legal value.
+    NotLegal = 242, "the field holds a number that is neither in the range nor on a line";
+    /// 243: decimal point.
+    Point = 243, "the field has no decimal point at its place, or one elsewhere";
 }
 
 impl fmt::Display for Refusal {
@@ -125,6 +129,45 @@ pub struct DefinitionError {
     pub place: usize,
 }
 
+/// Why one row was not read.
+///
+/// ```
+/// # let text = std::fs::read("../../examples/counter/survey.sss").unwrap();
+/// # let definition = zarfolin::Definition::read(&text).unwrap();
+/// use zarfolin::calls;
+/// let read = |record: &[u8]| calls::read_value(definition.table(), 3, record, &mut []).unwrap_err().to_string();
+/// assert_eq!(read(b"  1/010---0/010400  x2.50Bad Ischl     .1"), "byte 20: the field has a byte that cannot stand there [241]");
+/// assert_eq!(read(b"  1/010---0/010400  12550Bad Ischl     .1"), "byte 22: the field has no decimal point at its place, or one elsewhere [243]");
+/// ```
+#[derive(Clone, Copy, Debug, PartialEq, Eq)]
+#[non_exhaustive]
+pub struct ReadError {
+    /// Why.
+    pub refusal: Refusal,
+    /// The byte of the record, from 0, that is at fault (241, 243).
+    pub place: Option<usize>,
+    /// The number, scaled, that is not legal (242).
+    pub number: Option<i64>,
+}
+
+impl ReadError {
+    /// The refusal with what comes beside it: a place, or the number of 242.
+    #[cfg(feature = "ffi")]
+    pub(crate) fn with(refusal: Refusal, beside: i64) -> ReadError {
+        ReadError {
+            refusal,
+            place: matches!(refusal, Refusal::Stray | Refusal::Point).then_some(beside as usize),
+            number: (refusal == Refusal::NotLegal).then_some(beside),
+        }
+    }
+}
+
+impl From<Refusal> for ReadError {
+    fn from(refusal: Refusal) -> ReadError {
+        ReadError { refusal, place: None, number: None }
+    }
+}
+
 /// What is wrong with a record.
 #[derive(Clone, Copy, Debug, PartialEq, Eq)]
 #[non_exhaustive]
@@ -133,8 +176,10 @@ pub struct RecordFault {
     pub refusal: Refusal,
     /// The row of the lowest illegal field, where a field is at fault.
     pub row: Option<usize>,
-    /// The byte of the record, from 0, where one is at fault.
+    /// The byte of the record, from 0, where one is at fault (23, 241, 243).
     pub place: Option<usize>,
+    /// The number, scaled, that is not legal, where one is at fault (242).
+    pub number: Option<i64>,
 }
 
 /// The first fault of a data file.
@@ -156,13 +201,22 @@ impl fmt::Display for DefinitionError {
     }
 }
 
-impl fmt::Display for RecordFault {
+impl fmt::Display for ReadError {
     fn fmt(&self, f: &mut fmt::Formatter) -> fmt::Result {
-        match (self.row, self.place) {
-            (Some(row), _) => write!(f, "row {row}: {}", self.refusal),
-            (None, Some(place)) => write!(f, "byte {place}: {}", self.refusal),
+        match (self.place, self.number) {
+            (Some(place), _) => write!(f, "byte {place}: {}", self.refusal),
+            (None, Some(number)) => write!(f, "number {number}: {}", self.refusal),
             (None, None) => write!(f, "{}", self.refusal),
         }
+    }
+}
+
+impl fmt::Display for RecordFault {
+    fn fmt(&self, f: &mut fmt::Formatter) -> fmt::Result {
+        if let Some(row) = self.row {
+            write!(f, "row {row}, ")?;
+        }
+        write!(f, "{}", ReadError { refusal: self.refusal, place: self.place, number: self.number })
     }
 }
 
@@ -176,6 +230,12 @@ impl fmt::Display for FileFault {
 }
 
 impl Error for DefinitionError {
+    fn source(&self) -> Option<&(dyn Error + 'static)> {
+        Some(&self.refusal)
+    }
+}
+
+impl Error for ReadError {
     fn source(&self) -> Option<&(dyn Error + 'static)> {
         Some(&self.refusal)
     }

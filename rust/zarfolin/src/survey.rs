@@ -2,7 +2,7 @@
 
 use crate::calls;
 use crate::table::{self, column, header, kind, limit, line};
-use crate::{DefinitionError, FileFault, RecordFault, Refusal, Text, Value};
+use crate::{DefinitionError, FileFault, ReadError, RecordFault, Refusal, Text, Value};
 use alloc::vec;
 use alloc::vec::Vec;
 use core::fmt;
@@ -96,7 +96,7 @@ impl<'t> Definition<'t> {
     /// assert_eq!(definition.judge(&data), Ok(4));
     /// data[40] = b'?';
     /// let fault = definition.judge(&data).unwrap_err();
-    /// assert_eq!(fault.to_string(), "record 1, row 5: the field holds no legal value [24]");
+    /// assert_eq!(fault.to_string(), "record 1, row 5, byte 40: the field has a byte that cannot stand there [241]");
     /// ```
     pub fn judge(&self, data: &[u8]) -> Result<u64, FileFault> {
         calls::judge_file(&self.table, data)
@@ -457,7 +457,7 @@ impl<'a> Record<'a> {
         self.ended
     }
 
-    /// Judges it by itself: 22, 23 and 24. That all records have one length, and the last a terminator, is judged with
+    /// Judges it by itself: 22, 23 and 241 to 243. That all records have one length, and the last a terminator, is judged with
     /// the file ([`Definition::judge`]).
     pub fn judge(&self) -> Result<(), RecordFault> {
         self.definition.judge_record(self.bytes)
@@ -512,21 +512,22 @@ impl<'a> Values<'a> {
     }
 
     /// The value of a row, or why it holds none; nothing if there is no such row.
-    pub fn get(&self, row: usize) -> Option<Result<Value<'_>, Refusal>> {
+    pub fn get(&self, row: usize) -> Option<Result<Value<'_>, ReadError>> {
         let answer = self.rows.get(row)?;
-        let start = if answer[1] == table::value::SET { answer[3] as usize } else { 0 };
+        let start = if answer[0] == 0 && answer[1] == table::value::SET { answer[3] as usize } else { 0 };
         Some(calls::value_of(answer, self.record, &self.list[start..]))
     }
 
     /// Each variable with its value, or why it holds none.
-    pub fn iter(&self) -> impl ExactSizeIterator<Item = (Variable<'a>, Result<Value<'_>, Refusal>)> {
+    pub fn iter(&self) -> impl ExactSizeIterator<Item = (Variable<'a>, Result<Value<'_>, ReadError>)> {
         let definition: &'a Definition<'a> = self.definition;
-        (0..self.rows.len()).map(move |row| (Variable { definition, row }, self.get(row).unwrap_or(Err(Refusal::Row))))
+        (0..self.rows.len())
+            .map(move |row| (Variable { definition, row }, self.get(row).unwrap_or(Err(Refusal::Row.into()))))
     }
 
     /// The rows that hold no legal value: all faults of the record's fields at once.
-    pub fn faults(&self) -> impl Iterator<Item = (Variable<'a>, Refusal)> {
-        self.iter().filter_map(|(variable, value)| value.err().map(|refusal| (variable, refusal)))
+    pub fn faults(&self) -> impl Iterator<Item = (Variable<'a>, ReadError)> {
+        self.iter().filter_map(|(variable, value)| value.err().map(|error| (variable, error)))
     }
 }
 

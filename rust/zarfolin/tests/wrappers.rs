@@ -119,8 +119,8 @@ fn read_judge_write() {
     for (row, value) in SOUND.iter().enumerate() {
         assert_eq!(calls::read_value(&table, row as u64, &record, &mut list), Ok(*value));
     }
-    assert_eq!(calls::read_value(&table, 1, &record, &mut [0]), Err(Refusal::ListRoom));
-    assert_eq!(calls::read_value(&table, 5, &record, &mut list), Err(Refusal::Row));
+    assert_eq!(calls::read_value(&table, 1, &record, &mut [0]), Err(Refusal::ListRoom.into()));
+    assert_eq!(calls::read_value(&table, 5, &record, &mut list), Err(Refusal::Row.into()));
     assert_eq!(calls::judge_record(&table, &record), Ok(()));
     assert_eq!(calls::judge_record(&table, &record[1..]).unwrap_err().refusal, Refusal::Short);
     assert_eq!(calls::judge_record(&table[1..], &record).unwrap_err().refusal, Refusal::Table);
@@ -222,7 +222,14 @@ fn files() {
         said(&format!("{good} 710x1x-1.0ab \t 1\r\n")),
         "record 4, byte 14: the record has a byte below 32 [23]"
     );
-    assert_eq!(said(&format!("{good} 710x1x-1.0ab   2\r\n")), "record 4, row 4: the field holds no legal value [24]");
+    assert_eq!(
+        said(&format!("{good} 710x1x-1.0ab   2\r\n")),
+        "record 4, row 4, byte 16: the field has a byte that cannot stand there [241]"
+    );
+    assert_eq!(
+        said(&good.replacen(" 7", "99", 1)),
+        "record 1, row 0, number 99: the field holds a number that is neither in the range nor on a line [242]"
+    );
     assert_eq!(said("\n"), "record 1, the record is shorter than its definition needs [22]");
     let low = fault(&format!("{good} 710x1x-1.0ab \t 1\r\n"));
     assert_eq!((low.record, low.fault.row, low.fault.place), (4, None, Some(14)));
@@ -237,8 +244,14 @@ fn faults_of_a_record() {
     let record = definition.records(data).next().unwrap();
     assert_eq!(record.judge().unwrap_err().row, Some(0));
     let values = record.values().unwrap();
-    let faults: Vec<_> = values.faults().map(|(variable, refusal)| (variable.ident(), refusal)).collect();
-    assert_eq!(faults, [1, 2, 3, 5].map(|ident| (ident, Refusal::Field)));
+    let faults: Vec<_> = values.faults().map(|(v, e)| (v.ident(), e.refusal, e.place, e.number)).collect();
+    let expected = [
+        (1, Refusal::NotLegal, None, Some(99)),
+        (2, Refusal::Stray, Some(3), None),
+        (3, Refusal::Point, Some(7), None),
+        (5, Refusal::Stray, Some(16), None),
+    ];
+    assert_eq!(faults, expected);
     assert_eq!(values.get(3), Some(Ok(Value::Text(b"ab"))));
     assert_eq!(definition.records(b"short\n").next().unwrap().values().unwrap_err(), Refusal::Short);
 }
@@ -292,7 +305,7 @@ fn threads() {
 /// A refusal that this version doesn't know is a refusal, with its number, and no panic.
 #[test]
 fn unknown_refusals() {
-    for number in [11, 40, 50, 241, u64::MAX] {
+    for number in [11, 24, 40, 50, u64::MAX] {
         let refusal = Refusal::of(number).unwrap();
         assert_eq!((refusal, refusal.number()), (Refusal::Unknown(number), number));
         assert!(refusal.to_string().ends_with(&format!("[{number}]")));

@@ -1,5 +1,6 @@
--- "After 20, each record is judged 30, 31, 22, 23, 24", in the file's order, up to the first fault. A fault names the record, from 1, the
--- row for 24 and the byte's place in the record for 23; a file without one, the count of its records.
+-- "After 20, each record is judged 30, 31, 22, 23" and by its fields (241, 242, 243), in the file's order, up to the first fault. A fault
+-- names the record, from 1, the byte's place in the record for 23, the row and what is wrong with it for a field; a file without one, the
+-- count of its records.
 use mathlib.Core.Path.{_≡_}
 use mathlib.Core.Bool.{Bool, true, false, cond}
 use mathlib.Core.List.{List}
@@ -28,7 +29,7 @@ fileSaid (J.Unended n) = faultIn n (refused 30)
 fileSaid (J.OtherLength n) = faultIn n (refused 31)
 fileSaid (J.Fault n j) = faultIn n (judgedAs j)
 
--- one record with a terminator, in a file whose first record has `first` bytes: 31, 22, 23, 24
+-- one record with a terminator, in a file whose first record has `first` bytes: 31, 22, 23, its fields
 unfoldable pub recordVerdict : List ℤ → ℕ → List ℕ → Verdict
 recordVerdict t first r =
     cond (eqb (length r) first) (cond (leb (lengthOf t) (length r)) (rowsVerdict t (rowsOf t) r) (refused 22)) (refused 31)
@@ -38,7 +39,7 @@ unfoldable pub goOn : Verdict → ℕ → FileVerdict → FileVerdict
 goOn sound n rest = rest
 goOn (refused k) n rest = faultIn (n + 1) (refused k)
 goOn (lowByte p) n rest = faultIn (n + 1) (lowByte p)
-goOn (badField i) n rest = faultIn (n + 1) (badField i)
+goOn (badField i x) n rest = faultIn (n + 1) (badField i x)
 
 -- the length of the first record, once it is known
 unfoldable pub firstLength : ℕ → ℕ → ℕ → ℕ
@@ -64,4 +65,4 @@ unfoldable pub isSound : Verdict → Bool
 isSound sound = true
 isSound (refused k) = false
 isSound (lowByte p) = false
-isSound (badField i) = false
+isSound (badField i x) = false

@@ -2,7 +2,7 @@
 use native.Mathlib.Omega.{arith}
 use borrow.Author.Needs.{needs}
 use Rattle.files.specs.rule.File.{fileSaid}
-use Rattle.listing.specs.rule.Listing.{faultOf, lastText}
+use Rattle.listing.specs.rule.Listing.{faultLine, lastText}
 use Rattle.listing.specs.Turns.{countIn}
 use Rattle.listing.proofs.append_last.Statement.{statement}
 use Rattle.listing.proofs.append_last.Tie as tie
@@ -24,23 +24,23 @@ unfolding countIn fileSaid
 append-judged-requires c κs = let p = c .before .before .before .before .before .pre in (p .0, (rw (c .before .before .j4 .given .1) at (p .1 .0), p .1 .1))
 
 returns : tie.Need-returns
-unfolding lastText fileSaid faultOf
+unfolding lastText fileSaid faultLine
 returns c = rw (c .before .before .before .before .before .j .given .1) (c .before .before .append-ok .ensures)
 
 returns-2 : tie.Need-returns-2
-unfolding lastText fileSaid faultOf
+unfolding lastText fileSaid faultLine
 returns-2 c = rw (c .before .before .before .before .enum-told .given .1) (c .before .before .append-fault .ensures)
 
 returns-3 : tie.Need-returns-3
-unfolding lastText fileSaid faultOf
+unfolding lastText fileSaid faultLine
 returns-3 c = rw (c .before .before .before .before .before .j2 .given .1) (c .before .before .append-fault2 .ensures)
 
 returns-4 : tie.Need-returns-4
-unfolding lastText fileSaid faultOf
+unfolding lastText fileSaid faultLine
 returns-4 c = rw (c .before .before .before .before .before .j3 .given .1) (c .before .before .append-fault3 .ensures)
 
 returns-5 : tie.Need-returns-5
-unfolding lastText fileSaid faultOf
+unfolding lastText fileSaid faultLine
 returns-5 c = rw (c .before .before .before .before .before .j4 .given .1) (c .before .before .append-judged .ensures)
 
 pub append-last-spec : {M : Type 1} → statement M

@@ -9,6 +9,7 @@ use lib.ListN.{length}
 use Rattle.layout.specs.rule.Row.{rowAt}
 use Rattle.sound.specs.rule.Rows.{rowsOf, lengthOf}
 use Rattle.cuts.specs.rule.Records.{Records, over, unended, record-and}
+use Rattle.faults.specs.rule.Fault.{faultNumber}
 use Rattle.records.specs.rule.Value.{readingAt}
 use Rattle.records.specs.rule.Verdict.{Verdict, sound, refused, lowByte, badField}
 use Rattle.files.specs.rule.File.{FileVerdict, soundWith, badTable, faultIn, recordVerdict, goOn, firstLength, isSound}
@@ -31,16 +32,16 @@ unfoldable pub identOf : List ℤ → ℕ → ℕ
 identOf t i = cond (ltb i (rowsOf t)) (rowAt t i .ident) 0
 
 -- number and ident of a record's fault: the ident is that of an illegal row. (A sound record is no fault.)
-unfoldable pub faultOf : List ℤ → ℕ → Verdict → List ℕ
-faultOf t n sound = okText n
-faultOf t n (refused k) = faultText k n 0
-faultOf t n (lowByte p) = faultText 23 n 0
-faultOf t n (badField i) = faultText 24 n (identOf t i)
+unfoldable pub faultLine : List ℤ → ℕ → Verdict → List ℕ
+faultLine t n sound = okText n
+faultLine t n (refused k) = faultText k n 0
+faultLine t n (lowByte p) = faultText 23 n 0
+faultLine t n (badField i x) = faultText (faultNumber x) n (identOf t i)
 
 unfoldable pub lastText : List ℤ → FileVerdict → List ℕ
 lastText t (soundWith n) = okText n
 lastText t badTable = faultText 20 0 0
-lastText t (faultIn n v) = faultOf t n v
+lastText t (faultIn n v) = faultLine t n v
 
 -- ---- the records, after n others, of which the first has `first` bytes: those that are sound, up to the last line
 unfoldable pub recordsText : List ℤ → ℕ → ℕ → Records → List ℕ

@@ -12,7 +12,8 @@ use Rattle.fields.specs.rule.Field.{missing, number, members, text, truth, Fiel
 use Rattle.fields.specs.rule.Row.{placesOf}
 use Rattle.sound.specs.rule.Sound.{wellFormed}
 use Rattle.sound.specs.rule.Rows.{rowsOf, lengthOf}
-use Rattle.records.specs.rule.Value.{Outcome, nothing, numberIs, setOf, textAt, truthIs, refused}
+use Rattle.records.specs.rule.First.{rowFault}
+use Rattle.records.specs.rule.Value.{Outcome, nothing, numberIs, setOf, textAt, truthIs, refused, badField}
 use Rattle.read_laws.specs.rule.Exactly.{Says}
 
 -- ---- the words
@@ -31,7 +32,7 @@ pub data ReadOutcome (t : List ℤ) (i : ℕ) (bytes : List ℕ) (list : List �
   not-formed : wellFormed t ≡ false → ReadOutcome t i bytes list list (refused 20)
   no-row : wellFormed t ≡ true → rowsOf t ≤ i → ReadOutcome t i bytes list list (refused 21)
   too-short : wellFormed t ≡ true → i < rowsOf t → length bytes < lengthOf t → ReadOutcome t i bytes list list (refused 22)
-  is-illegal : Readable t i bytes → Row-says t i bytes illegal → ReadOutcome t i bytes list list (refused 24)
+  is-illegal : Readable t i bytes → Row-says t i bytes illegal → ReadOutcome t i bytes list list (badField (rowFault t (rowsOf t) bytes i))
   is-missing : Readable t i bytes → Row-says t i bytes (holds missing) → ReadOutcome t i bytes list list nothing
   is-number : {z : ℤ} → Readable t i bytes → Row-says t i bytes (holds (number z)) → ReadOutcome t i bytes list list (numberIs z)
   is-set : {ms : List ℤ} → Readable t i bytes → Row-says t i bytes (holds (members ms)) → length ms ≤ length list

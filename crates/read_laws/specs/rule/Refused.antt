@@ -10,7 +10,7 @@ use Rattle.sets.specs.rule.Sets.{isIllegal}
 use Rattle.sound.specs.rule.Sound.{wellFormed}
 use Rattle.sound.specs.rule.Rows.{rowsOf, lengthOf}
 use Rattle.lows.specs.rule.Lows.{lowAt}
-use Rattle.records.specs.rule.First.{badRow}
+use Rattle.records.specs.rule.First.{badRow, rowFault}
 use Rattle.records.specs.rule.Value.{readingAt}
 use Rattle.records.specs.rule.Verdict.{Verdict, sound, refused, lowByte, badField}
 
@@ -37,9 +37,9 @@ NoLow bytes = (p : ℕ) → p < length bytes → lowAt bytes p ≡ false
 pub data RecordOutcome (t : List ℤ) (bytes : List ℕ) : Verdict → Type 0 where
   not-formed : wellFormed t ≡ false → RecordOutcome t bytes (refused 20)
   too-short : wellFormed t ≡ true → length bytes < lengthOf t → RecordOutcome t bytes (refused 22)
-  -- "23 comes with the byte's place, 24 with the lowest row"
+  -- "23 comes with the byte's place", a field's fault with the lowest row
   low-byte : {p : ℕ} → wellFormed t ≡ true → lengthOf t ≤ length bytes → IsFirst (lowAt bytes) 0 (length bytes) p
       → RecordOutcome t bytes (lowByte p)
   bad-field : {i : ℕ} → wellFormed t ≡ true → lengthOf t ≤ length bytes → NoLow bytes
-      → IsFirst (badRow t (rowsOf t) bytes) 0 (rowsOf t) i → RecordOutcome t bytes (badField i)
+      → IsFirst (badRow t (rowsOf t) bytes) 0 (rowsOf t) i → RecordOutcome t bytes (badField i (rowFault t (rowsOf t) bytes i))
   no-fault : (good : wellFormed t ≡ true) → Passes t good bytes → RecordOutcome t bytes sound

@@ -13,6 +13,19 @@ use Rattle.record_values.proofs.four.Tie as tie
 back : (c : tie.After-known-told) → toZ w64 (ofZ w64 (c .before .a .given .0 .0)) ≡ c .before .a .given .0 .0
 back c = search needs
 
+-- a fault's number, and its place or number
+faulty : tie.Need-returns-10
+unfolding fourOf said
+faulty c =
+    rw (
+      c .before .before .before .before .a5 .given .1,
+      toZ-ofZ (sfits-of (c .before .cell5 .ok)),
+      toZ-ofZ (sfits-of (c .fault-cell .ok)),
+      c .before .cell5 .ensures,
+      c .fault-cell .ensures,
+      c .before .before .fault-number .ensures,
+    )
+
 pub four-spec : {M : Type 1} → statement M
 unfolding fourOf said cellOf
 four-spec =
@@ -33,6 +46,9 @@ four-spec =
     (λ c. search needs)
     (λ c. search needs)
     (λ c. search needs)
+    (λ c κs. search needs)
+    (λ c κs. search needs)
+    (λ c κs. search needs)
     (λ c. rw (c .enum-told .given .1))
     (λ c. rw (c .before .a .given .1, back c))
     (λ c. rw (c .before .before .before .a2 .given .1, toZ-ofZ (sfits-of (c .before .cell .ok)), toZ-ofZ (sfits-of (c .cell2 .ok)), c .before .cell .ensures, c .cell2 .ensures))
@@ -42,4 +58,4 @@ four-spec =
     (λ c. rw (c .enum-told3 .given .1))
     (λ c. rw (c .enum-told4 .given .1))
     (λ c. rw (c .enum-told5 .given .1))
-    (λ c. rw (c .enum-told6 .given .1)))
+    faulty)

@@ -57,11 +57,11 @@ module _ (c : tie.After-read-row Inv-loop μ-loop) where
       step-fits (a .t .now) (a .rows) (a .bytes .now) (l .i) (c .before .before .before .loop-test .taken) (a .list .now) (l .list) (l .at) (l .inv .1) (l .inv .5) (c .before .before .before .before .before .before .pre .1 .1) _ (c .before .before .read .ensures) _ _ (c .read-row .ensures)
 
 slice-aggregate-paste : tie.Need-slice-aggregate-paste Inv-loop μ-loop
-slice-aggregate-paste c = sym (ap length (c .before .before .four .ensures) ∙ length-four _ _)
+slice-aggregate-paste c = sym (ap length (c .before .before .row-numbers .ensures) ∙ length-four _ _)
 
 paste-requires : tie.Need-paste-requires Inv-loop μ-loop
 paste-requires c κs =
-    let e = ap length (c .before .before .four .ensures) ∙ length-four _ _ in
+    let e = ap length (c .before .before .row-numbers .ensures) ∙ length-four _ _ in
     let l = c .before .before .before .before .before .before .before .before .loop .inv .4 in
     let p = c .before .before .before .before .before .before .before .before .before .before .pre .1 .0 in
     let i = c .before .before .before .before .before .before .before .loop-test .taken in
@@ -71,6 +71,8 @@ add-at : tie.Need-add-at Inv-loop μ-loop
 add-at c =
     let f = at-fits (c .before .before .before .before .before .before .before) in
     let e = c .members-in .ensures in
+    let q = c .before .before .before .before .before .before .before .before .before .before .before .loop .inv .5 in
+    let g = c .before .before .before .before .before .before .before .before .before .before .before .before .before .good .1 .1 .1 .1 .0 in
     omega arith
 
 add-refused : tie.Need-add-refused Inv-loop μ-loop
@@ -92,7 +94,7 @@ loop-again c =
       (let r = refusals-one (c .before .before .before .before .before .before .before .before .read-row .result) in let e = c .refusals-in .ensures in let q = l .inv .3 in omega arith),
       c .before .before .before .paste .kept .0 ∙ l .inv .4,
       same-len-mid (l .at) (length (l .list) - l .at) (l .list) (c .before .before .before .before .before .before .before .before .read-row .last .1 .1 .1 .1 .0) (c .before .before .before .before .before .before .before .before .read-row .kept .1 .1 .1 .1 .0) ∙ l .inv .5,
-      step-out (a .t .now) (a .rows) (a .bytes .now) (l .i) (c .before .before .before .before .before .before .before .before .before .before .before .loop-test .taken) (a .list .now) (l .list) (l .at) (l .inv .1) (l .inv .5) (c .before .before .before .before .before .before .before .before .before .before .before .before .before .before .pre .1 .1) _ (c .before .before .before .before .before .before .before .before .before .before .read .ensures) _ _ (c .before .before .before .before .before .before .before .before .read-row .ensures) (a .out .now) (l .out) _ _ (c .before .before .before .before .before .before .before .before .before .before .before .before .before .before .pre .1 .0) (l .inv .6) (c .before .before .before .before .before .before .four .ensures) (c .before .before .before .paste .ensures),
+      step-out (a .t .now) (a .rows) (a .bytes .now) (l .i) (c .before .before .before .before .before .before .before .before .before .before .before .loop-test .taken) (a .list .now) (l .list) (l .at) (l .inv .1) (l .inv .5) (c .before .before .before .before .before .before .before .before .before .before .before .before .before .before .pre .1 .1) _ (c .before .before .before .before .before .before .before .before .before .before .read .ensures) _ _ (c .before .before .before .before .before .before .before .before .read-row .ensures) (a .out .now) (l .out) _ _ (c .before .before .before .before .before .before .before .before .before .before .before .before .before .before .pre .1 .0) (l .inv .6) (c .before .before .before .before .before .before .row-numbers .ensures) (c .before .before .before .paste .ensures),
       step-list (a .t .now) (a .rows) (a .bytes .now) (l .i) (c .before .before .before .before .before .before .before .before .before .before .before .loop-test .taken) (a .list .now) (l .list) (l .at) (l .inv .1) (l .inv .5) (c .before .before .before .before .before .before .before .before .before .before .before .before .before .before .pre .1 .1) _ (c .before .before .before .before .before .before .before .before .before .before .read .ensures) _ _ (c .before .before .before .before .before .before .before .before .read-row .ensures) (l .inv .7),
     )
 
@@ -115,7 +117,7 @@ read-rows-spec =
     (λ c. behind (c .before))
     (λ c. omega arith)
     (λ c κs. let p = c .before .before .before .before .before .pre .0 in rw (c .before .read .ensures) (p .row (c .before .before .before .loop .i) (c .before .before .loop-test .taken)))
-    (λ c κs. search needs)
+    (λ c κs. let p = c .before .before .before .before .before .before .before .pre .0 in rw (c .before .before .before .read .ensures) (p .row (c .before .before .before .before .before .loop .i) (c .before .before .before .before .loop-test .taken)))
     (λ c. let p = c .before .before .before .before .before .before .before .before .before .pre .0 .few in let l = c .before .before .before .before .before .before .loop-test .taken in omega arith)
     slice-aggregate-paste
     paste-requires

@@ -11,7 +11,11 @@ use Rattle.layout.specs.rule.Row.{rowAt}
 use Rattle.fields.specs.rule.Field.{missing, number, members, text, truth, Field, holds, illegal}
 use Rattle.fields.specs.rule.Row.{readingOf}
 use Rattle.sets.specs.rule.Sets.{filledOf, isIllegal}
-use Rattle.records.specs.rule.Value.{Outcome, nothing, numberIs, setOf, textAt, truthIs, refused, outcomeOf}
+use Rattle.faults.specs.rule.Fault.{faultNumber}
+use Rattle.faults.specs.declared.Fault.{Fault}
+use Rattle.faults.specs.declared.Fault.the-variants.{Sound, Stray, NotLegal, Point}
+use Rattle.records.specs.rule.First.{rowFault}
+use Rattle.records.specs.rule.Value.{Outcome, nothing, numberIs, setOf, textAt, truthIs, refused, badField, outcomeOf}
 use Rattle.sound.specs.rule.Sound.{wellFormed}
 use Rattle.sound.specs.rule.Rows.{rowsOf, lengthOf}
 use Rattle.record_values.specs.declared.Whole.{Whole}
@@ -50,6 +54,13 @@ unfoldable pub flagOf : Bool → ℤ
 flagOf true = pos 1
 flagOf false = pos 0
 
+-- what comes with a fault: its place, or for 242 the number
+unfoldable pub faultCell : Fault → ℤ
+faultCell Sound = pos 0
+faultCell (Stray p) = cellOf p
+faultCell (NotLegal z) = z
+faultCell (Point p) = cellOf p
+
 -- what was read, where a set starts at a place of the list: the number, the kind (0 missing, 1 number, 2 set, 3 text, 4 truth), the value
 unfoldable pub fourOf : ℕ → Outcome → List ℤ
 fourOf start nothing = pos 0 ∷ pos 0 ∷ pos 0 ∷ pos 0 ∷ []
@@ -58,10 +69,12 @@ fourOf start (setOf n) = pos 0 ∷ pos 2 ∷ cellOf n ∷ cellOf start ∷ []
 fourOf start (textAt p n) = pos 0 ∷ pos 3 ∷ cellOf p ∷ cellOf n ∷ []
 fourOf start (truthIs b) = pos 0 ∷ pos 4 ∷ flagOf b ∷ pos 0 ∷ []
 fourOf start (refused k) = cellOf k ∷ pos 0 ∷ pos 0 ∷ pos 0 ∷ []
+fourOf start (badField x) = cellOf (faultNumber x) ∷ faultCell x ∷ pos 0 ∷ pos 0 ∷ []
 
 -- what row i says, read with room for its set
 abbrev pub rowOutcome : List ℤ → ℕ → List ℕ → ℕ → Outcome
-rowOutcome t v bytes i = outcomeOf (rowAt t i .start - 1) (length (membersOf (rowReading t v bytes i))) (rowReading t v bytes i)
+rowOutcome t v bytes i =
+    outcomeOf (rowAt t i .start - 1) (length (membersOf (rowReading t v bytes i))) (rowFault t v bytes i) (rowReading t v bytes i)
 
 -- the numbers of the first n rows; a set starts behind the members of the rows before it
 unfoldable pub cellsBelow : List ℤ → ℕ → List ℕ → ℕ → List ℤ

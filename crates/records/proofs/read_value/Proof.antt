@@ -28,11 +28,14 @@ read-requires-2 c κs =
 read-row-requires : tie.Need-read-row-requires
 read-row-requires c κs = row-ready _ _ (c .before .before .before .before .before .before .before .before .before .before .args .bytes .now) (c .before .before .before .before .before .before .before .before .before .before .args .list .now) (sym (c .before .before .before .before .before .before .before .before .well-formed .ensures .says) ∙ c .before .before .before .before .before .before .before .if1 .taken) _ (c .before .before .before .before .before .before .read .ensures) (c .before .before .before .before .if2 .left) (c .before .before .if3 .left) _ (c .before .read2 .ensures)
 
+with-fault-requires : tie.Need-with-fault-requires
+with-fault-requires c κs = row-ready _ _ (c .before .before .before .before .before .before .before .before .before .before .before .before .args .bytes .now) (c .before .before .before .before .before .before .before .before .before .before .before .before .args .list .now) (sym (c .before .before .before .before .before .before .before .before .before .before .well-formed .ensures .says) ∙ c .before .before .before .before .before .before .before .before .before .if1 .taken) _ (c .before .before .before .before .before .before .before .before .read .ensures) (c .before .before .before .before .before .before .if2 .left) (c .before .before .before .before .if3 .left) _ (c .before .before .before .read2 .ensures)
+
 returns-3 : tie.Need-returns-3
-returns-3 c = value-read _ _ _ _ (sym (c .before .before .before .before .before .before .before .before .before .before .well-formed .ensures .says) ∙ c .before .before .before .before .before .before .before .before .before .if1 .taken) _ (c .before .before .before .before .before .before .before .before .read .ensures) (c .before .before .before .before .before .before .if2 .left) (c .before .before .before .before .if3 .left) _ (c .before .before .before .read2 .ensures) _ _ (c .before .read-row .ensures)
+returns-3 c = value-read _ _ _ _ (sym (c .before .before .before .before .before .before .before .before .before .before .before .well-formed .ensures .says) ∙ c .before .before .before .before .before .before .before .before .before .before .if1 .taken) _ (c .before .before .before .before .before .before .before .before .before .read .ensures) (c .before .before .before .before .before .before .before .if2 .left) (c .before .before .before .before .before .if3 .left) _ (c .before .before .before .before .read2 .ensures) _ _ _ (c .before .before .read-row .ensures) (c .with-fault .ensures)
 
 returns-4 : tie.Need-returns-4
 returns-4 c = value-table _ _ _ _ (sym (c .before .well-formed .ensures .says) ∙ c .if1 .left)
 
 pub read-value-spec : {M : Type 1} → statement M
-read-value-spec = tie.close (tie.spec (λ c κs. tt) (λ c κs. tt) returns returns-2 read-requires-2 read-row-requires (λ c. search needs) returns-3 returns-4)
+read-value-spec = tie.close (tie.spec (λ c κs. tt) (λ c κs. tt) returns returns-2 read-requires-2 read-row-requires with-fault-requires (λ c. search needs) returns-3 returns-4)

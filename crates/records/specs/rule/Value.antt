@@ -1,4 +1,5 @@
--- What reading one row answers, in the paper's numbers and values: refusals 20, 21, 22, 24, 25, lowest first; and the list after it.
+-- What reading one row answers, in the paper's numbers and values: refusals 20, 21, 22, what is wrong with the field, 25, in
+-- this order; and the list after it.
 use mathlib.Core.Path.{_≡_}
 use mathlib.Core.Bool.{Bool, cond}
 use mathlib.Core.List.{List}
@@ -10,10 +11,12 @@ use Rattle.layout.specs.rule.Row.{rowAt}
 use Rattle.fields.specs.rule.Field.{missing, number, members, text, truth, Field, holds, illegal}
 use Rattle.fields.specs.rule.Row.{readingOf}
 use Rattle.sets.specs.rule.Sets.{listAfter}
-use Rattle.readings.specs.declared.Answer.{Answer}
-use Rattle.readings.specs.declared.Answer.the-variants as answer
+use Rattle.faults.specs.declared.Fault.{Fault}
 use Rattle.sound.specs.rule.Sound.{wellFormed}
 use Rattle.sound.specs.rule.Rows.{rowsOf, lengthOf}
+use Rattle.records.specs.rule.First.{rowFault}
+use Rattle.records.specs.declared.Reading.{Reading}
+use Rattle.records.specs.declared.Reading.the-variants as reading
 
 -- a row's value as it is given back: a set by the count of its members, which the list holds, a text by its place and length; or a refusal
 pub data Outcome : Type 0 where
@@ -23,28 +26,30 @@ pub data Outcome : Type 0 where
   textAt : ℕ → ℕ → Outcome
   truthIs : Bool → Outcome
   refused : ℕ → Outcome
+  badField : Fault → Outcome
 
 -- document 01's number and values for each case of the answer
-unfoldable pub said : Answer → Outcome
-said answer.Missing = nothing
-said (answer.Number z) = numberIs z
-said (answer.Set n) = setOf n
-said (answer.Text p n) = textAt p n
-said (answer.Truth b) = truthIs b
-said answer.BadTable = refused 20
-said answer.NoRow = refused 21
-said answer.ShortRecord = refused 22
-said answer.Illegal = refused 24
-said answer.ShortList = refused 25
+unfoldable pub said : Reading → Outcome
+said reading.Missing = nothing
+said (reading.Number z) = numberIs z
+said (reading.Set n) = setOf n
+said (reading.Text p n) = textAt p n
+said (reading.Truth b) = truthIs b
+said reading.BadTable = refused 20
+said reading.NoRow = refused 21
+said reading.ShortRecord = refused 22
+said reading.ShortList = refused 25
+said (reading.Faulty x) = badField x
 
--- a field whose first value place is p, read with room for n members: "field illegal" is 24, "set list shorter than the set" 25
-unfoldable pub outcomeOf : ℕ → ℕ → Field → Outcome
-outcomeOf p n (holds missing) = nothing
-outcomeOf p n (holds (number z)) = numberIs z
-outcomeOf p n (holds (members ms)) = cond (leb (length ms) n) (setOf (length ms)) (refused 25)
-outcomeOf p n (holds (text s)) = textAt p (length s)
-outcomeOf p n (holds (truth b)) = truthIs b
-outcomeOf p n illegal = refused 24
+-- a field whose first value place is p, read with room for n members: of an illegal one what is wrong with it; "set list shorter than
+-- the set" is 25
+unfoldable pub outcomeOf : ℕ → ℕ → Fault → Field → Outcome
+outcomeOf p n x (holds missing) = nothing
+outcomeOf p n x (holds (number z)) = numberIs z
+outcomeOf p n x (holds (members ms)) = cond (leb (length ms) n) (setOf (length ms)) (refused 25)
+outcomeOf p n x (holds (text s)) = textAt p (length s)
+outcomeOf p n x (holds (truth b)) = truthIs b
+outcomeOf p n x illegal = badField x
 
 -- THE READING of row i by a table
 abbrev pub readingAt : List ℤ → ℕ → List ℕ → Field
@@ -55,7 +60,9 @@ unfoldable pub readAs : List ℤ → ℕ → List ℕ → ℕ → Outcome
 readAs t i bytes n =
     cond (wellFormed t)
     (cond (ltb i (rowsOf t))
-    (cond (leb (lengthOf t) (length bytes)) (outcomeOf (rowAt t i .start - 1) n (readingAt t i bytes)) (refused 22))
+    (cond (leb (lengthOf t) (length bytes))
+    (outcomeOf (rowAt t i .start - 1) n (rowFault t (rowsOf t) bytes i) (readingAt t i bytes))
+    (refused 22))
     (refused 21))
     (refused 20)
 

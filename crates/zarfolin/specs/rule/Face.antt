@@ -6,6 +6,8 @@ use mathlib.Core.List.{List, [], _∷_}
 use Prim.Native.Nat.{ℕ}
 use lib.Dec.{ltb}
 use lib.IntN.{ℤ, pos}
+use Rattle.faults.specs.rule.Fault.{faultNumber}
+use Rattle.record_values.specs.rule.Record.{faultCell}
 use Rattle.records.specs.rule.Verdict as verdict
 use Rattle.records.specs.rule.Value as value
 use Rattle.files.specs.rule.File.{FileVerdict, soundWith, badTable, faultIn, FileJudged}
@@ -37,29 +39,35 @@ pub record Telling (c : Told) (answer : List ℤ) (r : ℕ) : Type 0 where
   pub holds : answer ≡ cellOf (c .number) ∷ c .first ∷ c .second ∷ c .third ∷ []
   pub gives : r ≡ c .number
 
--- what comes with a verdict: "23 comes with the byte's place, 24 with the lowest row"
+-- what comes with a verdict: "23 comes with the byte's place", a field's fault with the lowest row and its own place or number
 abbrev pub placeCell : verdict.Verdict → ℤ
 placeCell verdict.sound = pos 0
 placeCell (verdict.refused k) = pos 0
 placeCell (verdict.lowByte p) = cellOf p
-placeCell (verdict.badField i) = pos 0
+placeCell (verdict.badField i x) = faultCell x
 
 abbrev pub rowCell : verdict.Verdict → ℤ
 rowCell verdict.sound = pos 0
 rowCell (verdict.refused k) = pos 0
 rowCell (verdict.lowByte p) = pos 0
-rowCell (verdict.badField i) = cellOf i
+rowCell (verdict.badField i x) = cellOf i
 
--- the one of them that there is
+-- the first that there is, and behind a row what is wrong with it
 abbrev pub besideCell : verdict.Verdict → ℤ
 besideCell verdict.sound = pos 0
 besideCell (verdict.refused k) = pos 0
 besideCell (verdict.lowByte p) = cellOf p
-besideCell (verdict.badField i) = cellOf i
+besideCell (verdict.badField i x) = cellOf i
 
--- a record judged: the number, and the byte's place or the row
+abbrev pub behindCell : verdict.Verdict → ℤ
+behindCell verdict.sound = pos 0
+behindCell (verdict.refused k) = pos 0
+behindCell (verdict.lowByte p) = pos 0
+behindCell (verdict.badField i x) = faultCell x
+
+-- a record judged: the number, and the byte's place, or the row and the fault's place or number
 unfoldable pub verdictCells : verdict.Verdict → Told
-verdictCells v = four (verdict.verdictNumber v) (besideCell v) (pos 0) (pos 0)
+verdictCells v = four (verdict.verdictNumber v) (besideCell v) (behindCell v) (pos 0)
 
 -- a row read: the number, the kind (0 missing, 1 number, 2 set, 3 text, 4 truth), and the value
 unfoldable pub outcomeCells : value.Outcome → Told
@@ -69,8 +77,9 @@ outcomeCells (value.setOf n) = four 0 (pos 2) (cellOf n) (pos 0)
 outcomeCells (value.textAt p n) = four 0 (pos 3) (cellOf p) (cellOf n)
 outcomeCells (value.truthIs b) = four 0 (pos 4) (flagOf b) (pos 0)
 outcomeCells (value.refused k) = bare k
+outcomeCells (value.badField x) = four (faultNumber x) (faultCell x) (pos 0) (pos 0)
 
--- record n of a file: the number, the record, the row for 24, the byte's place for 23
+-- record n of a file: the number, the record, the row of a field's fault, and the byte's place for 23, the fault's place or number for it
 unfoldable pub faultCells : ℕ → verdict.Verdict → Told
 faultCells n v = four (verdict.verdictNumber v) (cellOf n) (rowCell v) (placeCell v)
 
