@@ -975,7 +975,7 @@ mod planted {
                         let out = vec![-9; 4 * table[1] as usize];
                         Case { table, bytes: record, out, list: vec![-7; 50], ..Case::new(Call::ReadRecord) }
                     }
-                    8.. => {
+                    8..=11 => {
                         let data = records::file(&mut r, &table);
                         part_case(&mut r, table, &data)
                     }
@@ -984,7 +984,7 @@ mod planted {
                         let (number, list) = (bytes.len() as i64, vec![-7; bytes.len()]);
                         Case { bytes, number, list, ..Case::new(Call::DecodeText) }
                     }
-                    8 => {
+                    12 => {
                         let list = corrections(&mut r, &table, 8);
                         Case { table, bytes: record, list, ..Case::new(Call::Correct) }
                     }
