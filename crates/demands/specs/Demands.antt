@@ -353,7 +353,7 @@ module _ {t : List ℤ} {list list′ : List Correction} {old new : List ℕ} wh
   list-says = numbers.list-named
 
   pub says-list : {r k : ℕ} → ListCorrected t list list′ old new r → ListOutcome t (length old) k → r ≡ k
-  says-list = numbers.list-only
+  says-list p o = numbers.list-only p o
 
   pub mark-says : ListCorrected t list list′ old new 0 → (c : Correction)
       → MarkOutcome t (c .row) (askedOf (c .value)) (markOf t c (length old))
@@ -361,7 +361,7 @@ module _ {t : List ℤ} {list list′ : List Correction} {old new : List ℕ} wh
 
   pub says-mark : {k : ℕ} → ListCorrected t list list′ old new 0 → (c : Correction) → MarkOutcome t (c .row) (askedOf (c .value)) k
       → markOf t c (length old) ≡ k
-  says-mark = numbers.says-mark
+  says-mark p c o = numbers.says-mark p c o
 
   pub refused-list-keeps : {r : ℕ} → (r ≡ 0 → ⊥) → ListCorrected t list list′ old new r → (list′ ≡ list) × (new ≡ old)
   refused-list-keeps = singles.whole-refused-keeps
