@@ -343,6 +343,32 @@ zarfolin_number zarfolin_judge_part(const int64_t *table, size_t table_len, cons
  * data:   only read. */
 zarfolin_number zarfolin_next_record(const uint8_t *data, size_t data_len, uint64_t from, int64_t *answer);
 
+/* A value that a correction gives: its kind, ZARFOLIN_MISSING, ZARFOLIN_IS_NUMBER or ZARFOLIN_IS_TRUTH; and the number, scaled
+ * by the row's decimals, or the truth, 0 or 1. Beside missing the number is not looked at. */
+struct zarfolin_given {
+    uint64_t kind;
+    int64_t number;
+};
+
+/* A correction: 32 bytes, aligned to 8. zarfolin_correct sets the mark; what it held before is not looked at. */
+struct zarfolin_correction {
+    uint64_t row;
+    struct zarfolin_given value;
+    uint64_t mark;
+};
+
+/* Writes a list of corrections into a record, in the list's order: the table is tested once.
+ *
+ * Answers 0, or the first of 20, 22 that holds, for an empty list too; both turn the whole list away.
+ * corrections: on 0 each has its mark, 0 where it is done, or the first of 21, 26, 27 that holds: what the single write answers.
+ *         26 too for a kind that is none of the three, and for what is no truth in a row that takes none; 27 for what is no
+ *         truth in a LOGICAL. A refusal stops nothing. Rows and values are kept. On 20 and 22 every mark is kept.
+ * record: on 0 what the single writes of the list, one after the other, leave: of one row's corrections the later accepted one
+ *         counts. On 20 and 22 all of it is kept. No byte of the record decides anything.
+ * table:  only read. */
+zarfolin_number zarfolin_correct(const int64_t *table, size_t table_len, struct zarfolin_correction *corrections,
+                                 size_t count, uint8_t *record, size_t record_len);
+
 /* ---- stack --------------------------------------------------------------------------------------------------------- *
  *
  * The most bytes of stack that a call took, rounded up, its own return address included, memcpy and memset too. Measured,
@@ -357,6 +383,7 @@ zarfolin_number zarfolin_next_record(const uint8_t *data, size_t data_len, uint6
 #define ZARFOLIN_STACK_WRITE 17600
 /* A write to a row that is no MULTIPLE, where the idents and each row's values rise, or are 24 at most. */
 #define ZARFOLIN_STACK_WRITE_PLAIN 1000
+#define ZARFOLIN_STACK_CORRECT 17600
 #define ZARFOLIN_STACK_JUDGE_FILE 27500
 #define ZARFOLIN_STACK_JUDGE_PART 27500
 #define ZARFOLIN_STACK_NEXT_RECORD 128

@@ -204,6 +204,47 @@ static void writes(void) {
     CHECK(memcmp(record, "    x x              ", length) == 0);
 }
 
+/* A list of corrections, each with the mark that it must get. */
+static void corrections(void) {
+    static const struct { struct zarfolin_correction given; uint64_t mark; } due[] = {
+        {{0, {ZARFOLIN_IS_NUMBER, 12}, 99}, ZARFOLIN_OK},
+        {{0, {ZARFOLIN_IS_NUMBER, 13}, 99}, ZARFOLIN_E_VALUE},
+        {{2, {ZARFOLIN_IS_NUMBER, 5}, 99}, ZARFOLIN_OK},
+        {{4, {ZARFOLIN_IS_TRUTH, 0}, 99}, ZARFOLIN_OK},
+        {{4, {ZARFOLIN_IS_TRUTH, 256}, 99}, ZARFOLIN_E_VALUE},
+        {{0, {ZARFOLIN_IS_TRUTH, -1}, 99}, ZARFOLIN_E_TYPE},
+        {{3, {ZARFOLIN_MISSING, 7}, 99}, ZARFOLIN_OK},
+        {{6, {ZARFOLIN_MISSING, 0}, 99}, ZARFOLIN_E_ROW},
+        {{6, {UINT64_MAX, 0}, 99}, ZARFOLIN_E_ROW},
+        {{1, {ZARFOLIN_IS_NUMBER, 1}, 99}, ZARFOLIN_E_TYPE},
+        {{1, {ZARFOLIN_IS_SET, 1}, 99}, ZARFOLIN_E_TYPE},
+        {{0, {ZARFOLIN_IS_NUMBER, 3}, 99}, ZARFOLIN_OK},
+    };
+    enum { COUNT = sizeof due / sizeof due[0] };
+    struct zarfolin_correction list[COUNT + 1];
+    uint8_t record[] = " 710x1x-1.0ab   120 1";
+    const size_t length = sizeof record - 1;
+
+    CHECK(sizeof(struct zarfolin_correction) == 32);
+    for (size_t i = 0; i < COUNT; i++) {
+        list[i] = due[i].given;
+    }
+    list[COUNT] = due[0].given;
+    CHECK(zarfolin_correct(table, table_len, list, COUNT, record, length - 1) == ZARFOLIN_E_SHORT);
+    CHECK(zarfolin_correct(table, table_len - 1, list, COUNT, record, length) == ZARFOLIN_E_TABLE);
+    CHECK(zarfolin_correct(table, table_len, list, 0, record, length - 1) == ZARFOLIN_E_SHORT);
+    CHECK(zarfolin_correct(table, table_len, list, 0, record, length) == ZARFOLIN_OK);
+    CHECK(memcmp(record, sound, length) == 0 && list[0].mark == 99 && list[COUNT - 1].mark == 99);
+
+    CHECK(zarfolin_correct(table, table_len, list, COUNT, record, length) == ZARFOLIN_OK);
+    for (size_t i = 0; i < COUNT; i++) {
+        CHECK(list[i].mark == due[i].mark && list[i].row == due[i].given.row);
+        CHECK(list[i].value.kind == due[i].given.value.kind && list[i].value.number == due[i].given.value.number);
+    }
+    CHECK(list[COUNT].mark == 99);
+    CHECK(memcmp(record, "0310x1x00.5     020 1", length) == 0);
+}
+
 static void files(void) {
     static const char good[] = " 710x1x-1.0ab   120 1\r\n    x x              \r\n";
     static const char open[] = " 710x1x-1.0ab   120 1\r\n    x x              ";
@@ -300,6 +341,7 @@ int main(void) {
     readings();
     texts();
     writes();
+    corrections();
     files();
     parts();
     printf("face for C: %d checks, all as they should be\n", checks);

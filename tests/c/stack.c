@@ -37,6 +37,7 @@ static uint64_t place, length;
 static uint64_t terminator, first_len, last;
 static int64_t number;
 static int64_t answer[ZARFOLIN_ANSWER];
+static struct zarfolin_correction corrections[4];
 static volatile zarfolin_number got;
 
 #define TABLE table, ZARFOLIN_MAX_TABLE
@@ -55,6 +56,7 @@ static void write_number(void) { got = zarfolin_write_number(TABLE, row, number,
 static void write_truth(void) { got = zarfolin_write_truth(TABLE, row, (uint8_t)number, record, record_len); }
 static void write_set(void) { got = zarfolin_write_set(TABLE, row, list, list_len, record, record_len); }
 static void write_text(void) { got = zarfolin_write_text(TABLE, row, (const uint8_t *)def, (size_t)number, record, record_len); }
+static void correct(void) { got = zarfolin_correct(TABLE, corrections, sizeof corrections / sizeof corrections[0], record, record_len); }
 static void judge_file(void) { got = zarfolin_judge_file(TABLE, record, record_len, answer); }
 static void judge_part(void) { got = zarfolin_judge_part(TABLE, record, record_len, terminator, first_len, last, answer); }
 static void next_record(void) { got = zarfolin_next_record(record, record_len, row, answer); }
@@ -77,6 +79,7 @@ static struct measured {
     {"zarfolin_write_truth", write_truth, ZARFOLIN_STACK_WRITE, 0, 0},
     {"zarfolin_write_set", write_set, ZARFOLIN_STACK_WRITE, 0, 0},
     {"zarfolin_write_text", write_text, ZARFOLIN_STACK_WRITE, 0, 0},
+    {"zarfolin_correct", correct, ZARFOLIN_STACK_CORRECT, 0, 0},
     {"zarfolin_judge_file", judge_file, ZARFOLIN_STACK_JUDGE_FILE, 0, 0},
     {"zarfolin_judge_part", judge_part, ZARFOLIN_STACK_JUDGE_PART, 0, 0},
     {"zarfolin_next_record", next_record, ZARFOLIN_STACK_NEXT_RECORD, 0, 0},
@@ -183,6 +186,12 @@ static void records(void) {
                 measure(write_number);
                 measure(read_value);
                 measure(write_truth);
+                for (uint64_t k = 0; k < 4; k++) {
+                    corrections[k].row = row + k % 2;
+                    corrections[k].value.kind = k == 2 ? ZARFOLIN_IS_TRUTH : k == 3 ? ZARFOLIN_MISSING : ZARFOLIN_IS_NUMBER;
+                    corrections[k].value.number = number;
+                }
+                measure(correct);
                 number = (int64_t)((uint64_t)numbers[n] % 4);
                 measure(write_text);
                 measure(read_value);
@@ -201,6 +210,7 @@ static void records(void) {
     }
     row = 0, record_len = 3;
     measure(judge_record), measure(read_value), measure(read_record), measure(write_missing), measure(write_number);
+    measure(correct);
 }
 
 /* Files with each terminator, of sound and faulty records. */

@@ -1,10 +1,11 @@
 -- THE DEMANDS, one by one: the final theorems over the promises of the public calls, restated here and each proved by name elsewhere. The
 -- promises stand in specs/rule of their crates: TableTested (sound), ValueRead and RecordJudged (records), Written (writes), NextFound
--- (cuts), FileJudged (files), PartJudged (parts), DefinitionRead (definition); those of the exported functions (zarfolin) hold them, or are they.
+-- (cuts), FileJudged (files), PartJudged (parts), DefinitionRead (definition), ListCorrected (corrections);
+-- those of the exported functions (zarfolin) hold them, or are they.
 use mathlib.Core.Path.{_≡_}
 use mathlib.Core.Logic.{_↔_, ⊎-elim}
 use mathlib.Core.Bool.{Bool, true, false}
-use mathlib.Core.List.{List}
+use mathlib.Core.List.{List, _∷_, _++_, map}
 use Prim.Native.Nat.{ℕ, _+_, _*_, _-_, _<_}
 use lib.Dec.{eqb}
 use lib.IntN.{ℤ}
@@ -68,6 +69,13 @@ use Rattle.rule_laws.specs.rule.Fits.{Fitting}
 use Rattle.rule_laws.specs.Fits as fits
 use Rattle.rule_laws.specs.rule.Terminators.{First}
 use Rattle.rule_laws.specs.Terminators as terminators
+use Rattle.corrections.specs.declared.Correction.{Correction}
+use Rattle.corrections.specs.rule.Correction.{asks, askedOf, marked, markOf, ListCorrected}
+use Rattle.correction_laws.specs.rule.Singles.{Chain, Clear}
+use Rattle.correction_laws.specs.rule.Outcomes.{ListOutcome, MarkOutcome}
+use Rattle.correction_laws.specs.Singles as singles
+use Rattle.correction_laws.specs.Outcomes as numbers
+use Rattle.correction_laws.specs.Later as later
 use Rattle.zarfolin.specs.rule.Face.{RecordTold, ValueTold, FileTold, DefinitionTold, NextTold}
 use Rattle.zarfolin.specs.rule.Texts.{TextTold}
 use Rattle.zarfolin.specs.rule.Part.{PartTold}
@@ -320,3 +328,46 @@ read-fault-told = faults.read-fault
 pub fault-read-keeps : {t : List ℤ} {i : ℕ} {bytes : List ℕ} {l l′ : List ℤ} {x : Fault}
     → ValueRead t i bytes l l′ (value.badField x) → l′ ≡ l
 fault-read-keeps = reading.read-fault-keeps
+
+-- ==== 4. C-14 OF DOCUMENT 02: A LIST OF CORRECTIONS IN ONE CALL
+pub one-list-told : {t : List ℤ} {list list₁ list₂ : List Correction} {old new₁ new₂ : List ℕ} {r₁ r₂ : ℕ}
+    → ListCorrected t list list₁ old new₁ r₁ → ListCorrected t list list₂ old new₂ r₂
+    → (r₁ ≡ r₂) × ((list₁ ≡ list₂) × (new₁ ≡ new₂))
+one-list-told = face.list-told-one
+
+module _ {t : List ℤ} {list list′ : List Correction} {old new : List ℕ} where
+  -- record and marks are what single writes in list order give, and nothing else
+  pub list-as-singles : ListCorrected t list list′ old new 0 → Chain t list list′ old new
+  list-as-singles = singles.as-singles
+
+  pub singles-as-list : {done : List Correction} {left : List ℕ} → ListCorrected t list list′ old new 0 → Chain t list done old left
+      → (list′ ≡ done) × (new ≡ left)
+  singles-as-list = singles.singles-as
+
+  -- a mark depends on the table, its correction and the record's length alone
+  pub marks-alone : ListCorrected t list list′ old new 0 → list′ ≡ map (λ (c : Correction). marked c (markOf t c (length old))) list
+  marks-alone = singles.marks-alone
+
+  -- each number exactly when
+  pub list-says : {r : ℕ} → ListCorrected t list list′ old new r → ListOutcome t (length old) r
+  list-says = numbers.list-named
+
+  pub says-list : {r k : ℕ} → ListCorrected t list list′ old new r → ListOutcome t (length old) k → r ≡ k
+  says-list p o = numbers.list-only p o
+
+  pub mark-says : ListCorrected t list list′ old new 0 → (c : Correction)
+      → MarkOutcome t (c .row) (askedOf (c .value)) (markOf t c (length old))
+  mark-says = numbers.mark-says
+
+  pub says-mark : {k : ℕ} → ListCorrected t list list′ old new 0 → (c : Correction) → MarkOutcome t (c .row) (askedOf (c .value)) k
+      → markOf t c (length old) ≡ k
+  says-mark p c o = numbers.says-mark p c o
+
+  pub refused-list-keeps : {r : ℕ} → (r ≡ 0 → ⊥) → ListCorrected t list list′ old new r → (list′ ≡ list) × (new ≡ old)
+  refused-list-keeps = singles.whole-refused-keeps
+
+-- the later accepted one counts
+pub later-counts : {t : List ℤ} (before : List Correction) (c : Correction) {after list′ : List Correction} {x : Value} {old new : List ℕ}
+    → ListCorrected t (before ++ c ∷ after) list′ old new 0 → askedOf (c .value) ≡ asks x → markOf t c (length old) ≡ 0
+    → Clear t (length old) (c .row) after → readingAt t (c .row) new ≡ holds x
+later-counts = later.later-counts

@@ -1,6 +1,5 @@
 -- The definitions that the face's contracts cite.
 pub mod rule
-pub mod Truth
 pub mod Version
 pub mod Settled
 pub mod Whole

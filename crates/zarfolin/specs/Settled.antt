@@ -17,7 +17,10 @@ use Rattle.zarfolin.specs.rule.Face.{RecordTold, ValueTold, FileTold, De
 use Rattle.zarfolin.specs.rule.Part.{partCells, PartTold}
 use Rattle.zarfolin.specs.rule.Whole.{wholeCells, WholeTold}
 use Rattle.zarfolin.specs.rule.Texts.{textCells, TextTold}
-use Rattle.zarfolin.specs.rule.Truth.{noTruth, TruthTold}
+use Rattle.corrections.specs.declared.Correction.{Correction}
+use Rattle.corrections.specs.rule.Truth.{noTruth}
+use Rattle.corrections.specs.rule.Correction.{ListCorrected}
+use Rattle.zarfolin.specs.rule.Truth.{TruthTold}
 use Rattle.zarfolin.specs.declared.Told.{Told}
 
 -- what tells equal numbers is equal
@@ -86,6 +89,12 @@ pub truth-told-one : {t : List ℤ} {i b : ℕ} {old new₁ new₂ : List ℕ} {
 truth-told-one {t} {i} {b} x y =
     ⊎-elim (λ l. write-told-one (x .given l) (y .given l))
     (λ l. let p = x .other l in let q = y .other l in (p .says ∙ sym (q .says), p .keeps ∙ sym (q .keeps))) (lt-or-le b 2)
+
+-- ---- zarfolin_correct promises `ListCorrected`: the number, the list and the record
+pub list-told-one : {t : List ℤ} {list list₁ list₂ : List Correction} {old new₁ new₂ : List ℕ} {r₁ r₂ : ℕ}
+    → ListCorrected t list list₁ old new₁ r₁ → ListCorrected t list list₂ old new₂ r₂
+    → (r₁ ≡ r₂) × ((list₁ ≡ list₂) × (new₁ ≡ new₂))
+list-told-one x y = (x .says ∙ sym (y .says), (x .marks ∙ sym (y .marks), x .leaves ∙ sym (y .leaves)))
 
 -- THE BRIDGE to the laws of corrections: a truth that is done is the write of a truth, so that each law of `Written` holds of it; and what
 -- is not done keeps the record, as the laws say of `Written` too

@@ -10,26 +10,27 @@ ghost use Rattle.record_values.specs.rule.Record.{faultCell};
 ghost use Rattle.records.specs.rule.Verdict.{judgedAs};
 ghost use Rattle.records.specs.rule.Value.{said};
 ghost use Rattle.files.specs.rule.File.{fileSaid};
-ghost use Rattle.writes.specs.rule.Public.{numberOf, Written};
+ghost use Rattle.writes.specs.rule.Public.{Written};
 ghost use Rattle.zarfolin.specs.rule.Face.{cellOf, flagOf, Telling};
 ghost use Rattle.zarfolin.specs.rule.Face.{RecordTold, ValueTold, FileTold, DefinitionTold, NextTold};
 ghost use Rattle.zarfolin.specs.rule.Face.{verdictCells, outcomeCells, faultCells, fileCells, nextCells, definitionCells};
 ghost use Rattle.zarfolin.specs.rule.Face as face;
 ghost use Rattle.parts.specs.rule.Part.{partSaid};
 ghost use Rattle.zarfolin.specs.rule.Part.{partCells, PartTold};
-ghost use Rattle.zarfolin.specs.rule.Truth.{badTruth, TruthTold};
+ghost use Rattle.corrections.specs.rule.Truth.{badTruth};
+ghost use Rattle.corrections.specs.rule.Correction.{ListCorrected};
+ghost use Rattle.zarfolin.specs.rule.Truth.{TruthTold};
 ghost use Rattle.zarfolin.specs.rule.Whole.{wholeCells, WholeTold};
-ghost use Rattle.zarfolin.specs.Truth.{kindNumber};
 ghost use Rattle.texts.specs.rule.Decode as texts;
 ghost use Rattle.zarfolin.specs.rule.Texts.{textCells, TextTold};
 
 mod version;
 
+use corrections::Correction;
 use cuts::Next;
 use faults::Fault;
 use files::Judgement;
 use layout::Header;
-use layout::Kind;
 use layout::Row;
 use parts::Part;
 use record_values::Whole;
@@ -37,7 +38,6 @@ use records::Judged;
 use records::Reading;
 use texts::Decoded;
 use writes::Value;
-use writes::Wrote;
 
 // The four numbers of an answer; the first is given back.
 pub struct Told {
@@ -240,33 +240,6 @@ fn text_cells(a: Decoded) -> Told
     }
 }
 
-fn number_of(w: Wrote) -> u64
-    ensures { λ r. ⌜ r ≡ numberOf w ⌝ }
-{
-    match w {
-        Wrote::Done => 0,
-        Wrote::NotWellFormed => 20,
-        Wrote::NoRow => 21,
-        Wrote::TooShort => 22,
-        Wrote::OtherType => 26,
-        Wrote::NotLegal => 27,
-        Wrote::TooMany => 28,
-    }
-}
-
-// The number for what is no truth, by the row's kind.
-fn kind_number(k: Kind) -> u64
-    ensures { λ r. ⌜ r ≡ kindNumber k ⌝ }
-{
-    match k {
-        Kind::Single => 26,
-        Kind::Multiple(_) => 26,
-        Kind::Quantity(_) => 26,
-        Kind::Character => 26,
-        Kind::Logical => 27,
-    }
-}
-
 // The number for what is no truth, in a record of n bytes.
 fn bad_truth(t: &[i64], i: usize, n: usize) -> u64
     ensures { λ r. ⌜ r ≡ badTruth (now (t .entry)) i n ⌝ }
@@ -281,7 +254,7 @@ fn bad_truth(t: &[i64], i: usize, n: usize) -> u64
         }
         let row = Row::read(t, i);
         let kind = row.kind;
-        return kind_number(kind);
+        return corrections::kind_number(kind);
     }
     20
 }
@@ -383,7 +356,14 @@ pub extern "C" fn zarfolin_write_missing(table: &[i64], row: u64, bytes: &mut [u
     ensures { λ r. ⌜ Written (now (table .entry)) row missing (now (bytes .entry)) (now (bytes .exit)) r ⌝ }
 {
     let text = [0u8; 1];
-    number_of(writes::write_value(table, row as usize, Value::Missing, table, &text, bytes))
+    corrections::number_of(writes::write_value(
+        table,
+        row as usize,
+        Value::Missing,
+        table,
+        &text,
+        bytes,
+    ))
 }
 
 // Writes a number, scaled.
@@ -397,7 +377,7 @@ pub extern "C" fn zarfolin_write_number(
     ensures { λ r. ⌜ Written (now (table .entry)) row (field.number number) (now (bytes .entry)) (now (bytes .exit)) r ⌝ }
 {
     let text = [0u8; 1];
-    number_of(writes::write_value(
+    corrections::number_of(writes::write_value(
         table,
         row as usize,
         Value::Number(number),
@@ -415,7 +395,7 @@ pub extern "C" fn zarfolin_write_truth(table: &[i64], row: u64, truth: u8, bytes
     if truth < 2 {
         let text = [0u8; 1];
         let b = truth == 1;
-        return number_of(writes::write_value(
+        return corrections::number_of(writes::write_value(
             table,
             row as usize,
             Value::Truth(b),
@@ -433,7 +413,7 @@ pub extern "C" fn zarfolin_write_set(table: &[i64], row: u64, list: &[i64], byte
     ensures { λ r. ⌜ Written (now (table .entry)) row (members (now (list .entry))) (now (bytes .entry)) (now (bytes .exit)) r ⌝ }
 {
     let text = [0u8; 1];
-    number_of(writes::write_value(table, row as usize, Value::Set, list, &text, bytes))
+    corrections::number_of(writes::write_value(table, row as usize, Value::Set, list, &text, bytes))
 }
 
 // Writes a text.
@@ -441,7 +421,14 @@ pub extern "C" fn zarfolin_write_set(table: &[i64], row: u64, list: &[i64], byte
 pub extern "C" fn zarfolin_write_text(table: &[i64], row: u64, text: &[u8], bytes: &mut [u8]) -> u64
     ensures { λ r. ⌜ Written (now (table .entry)) row (field.text (now (text .entry))) (now (bytes .entry)) (now (bytes .exit)) r ⌝ }
 {
-    number_of(writes::write_value(table, row as usize, Value::Text, table, text, bytes))
+    corrections::number_of(writes::write_value(
+        table,
+        row as usize,
+        Value::Text,
+        table,
+        text,
+        bytes,
+    ))
 }
 
 fn whole_cells(w: Whole) -> Told
@@ -475,4 +462,21 @@ pub extern "C" fn zarfolin_read_record(
         answer,
         whole_cells(record_values::read_record(table, bytes, out, list)),
     )
+}
+
+// Writes a list of corrections into a record, in its order, and marks each. The table is tested once. This loop alone stands outside what
+// Rattle covers, since it is lent a list of structs: it is proved by hand (proofs/zarfolin_correct), and all that judges stands in
+// `corrections`.
+#[no_mangle]
+pub extern "C" fn zarfolin_correct(table: &[i64], list: &mut [Correction], bytes: &mut [u8]) -> u64
+    ensures { λ r. ⌜ ListCorrected (now (table .entry)) (now (list .entry)) (now (list .exit)) (now (bytes .entry)) (now (bytes .exit)) r ⌝ }
+{
+    let answer = corrections::admit(table, bytes.len());
+    let n = corrections::turns(answer, list.len());
+    let mut i = 0;
+    while i < n {
+        list[i] = corrections::correct(table, bytes, list[i]);
+        i += 1;
+    }
+    answer
 }

@@ -2,7 +2,7 @@
 
 use crate::inputs::*;
 use std::hint::black_box;
-use zarfolin_compare::face::{Face, Plain};
+use zarfolin_compare::face::{Correction, Face, Plain};
 use zarfolin_compare::shape::row_at;
 
 type Step = Box<dyn FnMut(&dyn Face) -> u64>;
@@ -28,6 +28,7 @@ pub fn cases() -> Vec<Maker> {
     whole_records(&mut cases);
     judgements(&mut cases);
     writes(&mut cases);
+    corrections(&mut cases);
     files(&mut cases);
     judged_files(&mut cases);
     cases
@@ -221,6 +222,15 @@ fn writes(cases: &mut Vec<Maker>) {
     add(cases, "write spread of 4,000", || write_set(spread(), evens(), 0, 16_000));
     add(cases, "write missing, bitstring of 9,999", write(bits, |f, t, r| f.write_missing(t, 0, r)));
     add(cases, "write missing, spread of 4,000", write(spread, |f, t, r| f.write_missing(t, 0, r)));
+}
+
+/// A list of corrections of one record, one for each row that takes a number or a truth and a missing value for the others; and the
+/// same by single writes.
+fn corrections(cases: &mut Vec<Maker>) {
+    for (rows, table) in [("5", short as fn() -> Vec<i64>), ("512", long)] {
+        add(cases, &format!("{rows} corrections, {rows} rows"), move || correct(table()));
+        add(cases, &format!("{rows} corrections, {rows} rows, one by one"), move || correct_singly(table()));
+    }
 }
 
 /// Files, and their records one by one.
@@ -429,6 +439,41 @@ fn judge(table: Vec<i64>, more: usize, fault: Fault) -> Case {
 fn write_set(table: Vec<i64>, set: Vec<i64>, row: u64, bytes: usize) -> Case {
     let mut lent = vec![b'x'; table[3] as usize];
     Case { bytes, number: 0, step: Box::new(move |f| f.write_set(black_box(&table), row, black_box(&set), &mut lent)) }
+}
+
+fn list_of(table: &[i64]) -> Vec<Correction> {
+    let one = |row: usize| {
+        let cells = &table[row_at(row)..];
+        let (kind, number) = match cells[1] {
+            1 | 3 if cells[9] == 1 => (1, cells[11]),
+            1 | 3 => (1, table[table[5] as usize + 4 * cells[12] as usize]),
+            5 => (4, 1),
+            _ => (0, 0),
+        };
+        Correction { row: row as u64, kind, number, mark: 99 }
+    };
+    (0..table[1] as usize).map(one).collect()
+}
+
+fn correct(table: Vec<i64>) -> Case {
+    let (mut list, mut lent) = (list_of(&table), vec![b'x'; table[3] as usize]);
+    assert_eq!(Plain.correct(&table, &mut list, &mut lent), 0);
+    assert!(list.iter().all(|c| c.mark == 0));
+    let step: Step = Box::new(move |face| face.correct(black_box(&table), black_box(&mut list), &mut lent));
+    Case { bytes: 0, number: 0, step }
+}
+
+fn correct_singly(table: Vec<i64>) -> Case {
+    let (list, mut lent) = (list_of(&table), vec![b'x'; table[3] as usize]);
+    let step: Step = Box::new(move |face| {
+        let one = |c: &Correction| match c.kind {
+            0 => face.write_missing(black_box(&table), c.row, &mut lent),
+            1 => face.write_number(black_box(&table), c.row, c.number, &mut lent),
+            _ => face.write_truth(black_box(&table), c.row, c.number as u8, &mut lent),
+        };
+        black_box(&list).iter().map(one).max().unwrap()
+    });
+    Case { bytes: 0, number: 0, step }
 }
 
 fn file(table: Vec<i64>, bytes: usize, end: &str, fault: bool) -> Case {

@@ -1,8 +1,8 @@
 //! The library in a process of its own, behind two pipes: for machines that can't link its x86-64 code. See
 //! rust/bridge/bridge.c.
 
-use crate::case::Call;
-use crate::face::Face;
+use crate::case::{Call, corrections_of, numbers_of};
+use crate::face::{Correction, Face};
 use std::io::{Read, Write};
 use std::process::{Child, ChildStdin, ChildStdout, Command, Stdio};
 use std::sync::Mutex;
@@ -170,5 +170,18 @@ impl Face for Bridge {
     fn judge_part(&self, t: &[i64], data: &[u8], end: u64, first: u64, last: u64, answer: &mut [i64; 4]) -> u64 {
         let inputs = Inputs { table: t, bytes: data, row: end, number: first as i64, last, ..Inputs::default() };
         self.call(Call::JudgePart, inputs, answer, 0, |_| {})
+    }
+
+    fn correct(&self, table: &[i64], corrections: &mut [Correction], record: &mut [u8]) -> u64 {
+        let (mut list, bytes) = (numbers_of(corrections), record.to_vec());
+        let (copy, lent) = (list.clone(), 8 * list.len() + bytes.len());
+        let inputs = Inputs { table, list: &copy, bytes: &bytes, ..Inputs::default() };
+        let number = self.call(Call::Correct, inputs, &mut [0; 4], lent, |changed| {
+            let (changed_list, changed_record) = changed.split_at(8 * list.len());
+            numbers(&mut list, changed_list);
+            record.copy_from_slice(changed_record);
+        });
+        corrections.copy_from_slice(&corrections_of(&list));
+        number
     }
 }

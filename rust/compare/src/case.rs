@@ -1,6 +1,6 @@
 //! One call with its inputs, what two implementations leave behind, and how a case that differs is cut down.
 
-use crate::face::Face;
+use crate::face::{Correction, Face};
 use crate::shape::{HEADER, ROW};
 use std::time::{Duration, Instant};
 
@@ -22,6 +22,8 @@ pub enum Call {
     DecodeText,
     /// The terminator stands in `row`, the first record's length in `number`.
     JudgePart,
+    /// The list has four numbers a correction: row, kind, number, mark.
+    Correct,
 }
 
 /// A call and its inputs; those that the call doesn't take are empty or 0.
@@ -80,6 +82,31 @@ impl<T: Copy> Guarded<T> {
     }
 }
 
+/// The corrections of a list of numbers, four each; what is left over is none.
+pub fn corrections_of(list: &[i64]) -> Vec<Correction> {
+    let one = |c: &[i64; 4]| Correction { row: c[0] as u64, kind: c[1] as u64, number: c[2], mark: c[3] as u64 };
+    list.as_chunks::<4>().0.iter().map(one).collect()
+}
+
+/// And back.
+pub fn numbers_of(corrections: &[Correction]) -> Vec<i64> {
+    corrections.iter().flat_map(|c| [c.row as i64, c.kind as i64, c.number, c.mark as i64]).collect()
+}
+
+/// Stands around a list of corrections.
+const AROUND: Correction = Correction { row: 1, kind: 4, number: 1, mark: 0x7777 };
+
+/// Lends the numbers as corrections, between guards.
+fn corrected(face: &dyn Face, table: &[i64], list: &mut [i64], record: &mut [u8]) -> u64 {
+    let mut lent = Guarded::new(&corrections_of(list), AROUND);
+    let number = face.correct(table, lent.inner(), record);
+    let done = numbers_of(lent.inner());
+    list[..done.len()].copy_from_slice(&done);
+    let end = lent.all.len() - GUARD;
+    assert!(lent.all[..GUARD].iter().chain(&lent.all[end..]).all(|c| *c == AROUND), "{}: past the list", face.name());
+    number
+}
+
 const ANSWER: i64 = 0x7a61_7266_6f6c_696e;
 
 /// Runs the case. Every buffer stands between guards, and all of it is in the outcome.
@@ -106,6 +133,7 @@ pub fn run(face: &dyn Face, case: &Case) -> Outcome {
         Call::ReadRecord => face.read_record(t, b, out.inner(), l, a),
         Call::DecodeText => face.decode_text(b, case.row, case.number as u64, l, a),
         Call::JudgePart => face.judge_part(t, b, case.row, case.number as u64, case.last, a),
+        Call::Correct => corrected(face, t, l, b),
     };
     Outcome { number, answer, table: table.all, list: list.all, bytes: bytes.all, text: text.all, out: out.all }
 }
@@ -132,6 +160,7 @@ pub fn keeps(case: &Case, outcome: &Outcome) -> bool {
         Call::ReadDefinition => (!refused, false, false),
         Call::ReadValue | Call::ReadRecord | Call::DecodeText => (false, !refused, false),
         Call::JudgeRecord | Call::JudgeFile | Call::NextRecord | Call::JudgePart => (false, false, false),
+        Call::Correct => (false, !refused, !refused),
         _ => (false, false, !refused),
     };
     let out_lent = case.call == Call::ReadRecord && !refused;

@@ -5,15 +5,7 @@
 use crate::naive_02;
 use zarfolin_plain as plain;
 
-/// One correction, as it stands at the C face: 32 bytes.
-#[repr(C)]
-#[derive(Clone, Copy, Debug, Default, PartialEq, Eq)]
-pub struct Correction {
-    pub row: u64,
-    pub kind: u64,
-    pub number: i64,
-    pub mark: u64,
-}
+pub use crate::face::Correction;
 
 pub trait Coming {
     fn name(&self) -> &'static str;
@@ -40,15 +32,7 @@ impl Coming for Plain {
     }
 
     fn correct(&self, table: &[i64], corrections: &mut [Correction], record: &mut [u8]) -> u64 {
-        let mut list: Vec<plain::Correction> = corrections
-            .iter()
-            .map(|c| plain::Correction { row: c.row, kind: c.kind, number: c.number, mark: c.mark })
-            .collect();
-        let number = plain::correct(table, &mut list, record);
-        for (c, done) in corrections.iter_mut().zip(list) {
-            *c = Correction { row: done.row, kind: done.kind, number: done.number, mark: done.mark };
-        }
-        number
+        crate::face::Face::correct(&crate::face::Plain, table, corrections, record)
     }
 
     fn normal(&self, table: &[i64], record: &mut [u8]) -> [i64; 4] {

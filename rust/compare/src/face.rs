@@ -2,6 +2,9 @@
 
 use zarfolin_plain as plain;
 
+/// One correction, as it stands at the C face: 32 bytes.
+pub use plain::Correction;
+
 pub trait Face {
     fn name(&self) -> &'static str;
     fn read_definition(&self, def: &[u8], table: &mut [i64], answer: &mut [i64; 4]) -> u64;
@@ -17,6 +20,7 @@ pub trait Face {
     fn read_record(&self, t: &[i64], record: &[u8], out: &mut [i64], list: &mut [i64], answer: &mut [i64; 4]) -> u64;
     fn decode_text(&self, def: &[u8], place: u64, length: u64, list: &mut [i64], answer: &mut [i64; 4]) -> u64;
     fn judge_part(&self, t: &[i64], data: &[u8], end: u64, first: u64, last: u64, answer: &mut [i64; 4]) -> u64;
+    fn correct(&self, table: &[i64], corrections: &mut [Correction], record: &mut [u8]) -> u64;
 }
 
 /// The plain Rust implementation.
@@ -105,6 +109,10 @@ impl Face for Plain {
 
     fn judge_part(&self, t: &[i64], data: &[u8], end: u64, first: u64, last: u64, answer: &mut [i64; 4]) -> u64 {
         give(answer, plain::judge_part(t, data, end, first, last))
+    }
+
+    fn correct(&self, table: &[i64], corrections: &mut [Correction], record: &mut [u8]) -> u64 {
+        plain::correct(table, corrections, record)
     }
 }
 
@@ -275,6 +283,20 @@ impl Face for Library {
                 first,
                 last,
                 answer.as_mut_ptr(),
+            )
+        }
+    }
+
+    fn correct(&self, table: &[i64], corrections: &mut [Correction], record: &mut [u8]) -> u64 {
+        // Both are 32 bytes: row, kind, number, mark.
+        unsafe {
+            zarfolin::ffi::zarfolin_correct(
+                table.as_ptr(),
+                table.len(),
+                corrections.as_mut_ptr().cast(),
+                corrections.len(),
+                record.as_mut_ptr(),
+                record.len(),
             )
         }
     }

@@ -1,7 +1,7 @@
 //! A third implementation, for checking the plain Rust where no library is linked: slow and literal, with strings, lists and
 //! sets in place of scans, bits and arithmetic. Nothing is measured against it.
 
-use crate::face::Face;
+use crate::face::{Correction, Face};
 use std::collections::{BTreeSet, HashSet};
 
 pub struct Naive;
@@ -1106,5 +1106,9 @@ impl Face for Naive {
         out[..all.len()].copy_from_slice(&all);
         list[..members.len()].copy_from_slice(&members);
         give(answer, [0, members.len() as i64, refused, 0])
+    }
+
+    fn correct(&self, table: &[i64], corrections: &mut [Correction], record: &mut [u8]) -> u64 {
+        crate::naive_02::correct(table, corrections, record)
     }
 }

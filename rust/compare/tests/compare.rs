@@ -8,7 +8,7 @@ use std::collections::BTreeMap;
 use std::io::Write;
 use zarfolin_compare::case::{Call, Case, Difference, Outcome, compare, report, run};
 use zarfolin_compare::definitions::{self, SMALL, Size, Style};
-use zarfolin_compare::face::{Face, Plain, other};
+use zarfolin_compare::face::{Correction, Face, Plain, other};
 use zarfolin_compare::naive::Naive;
 use zarfolin_compare::records;
 use zarfolin_compare::rng::Rng;
@@ -768,6 +768,82 @@ fn texts_of_tables_decoded() {
     tally.end("texts of tables decoded", 10_000, &[0]);
 }
 
+/// A list of corrections, mostly of the rows' own kinds, with rows twice, kinds that are none, and marks that hold something.
+fn corrections(r: &mut Rng, table: &[i64], most: usize) -> Vec<i64> {
+    let mut list = vec![];
+    for _ in 0..r.below(most + 1) {
+        let row = records::row(r, table);
+        let own = if row < 600 { table.get(row_at(row as usize) + 1).copied().unwrap_or(1) } else { 1 };
+        let kind = match r.below(12) {
+            0 => r.pick(&[2, 3, 5, 256, 1 << 32, -1]),
+            1 | 2 => 0,
+            3 => r.pick(&[1, 4]),
+            _ if own == 5 => 4,
+            _ => 1,
+        };
+        let number = match kind {
+            1 => records::written_number(r, table, row),
+            4 if !r.once_in(5) => r.range(0, 1),
+            _ => r.pick(&[0, 1, 2, -1, 256, 257, 1 << 32, i64::MIN, i64::MAX]),
+        };
+        list.extend([row as i64, kind, number, r.pick(&[0, 7, 21, 26, -1])]);
+    }
+    list
+}
+
+/// Lists of corrections, and their single writes one by one: record and marks are what these give in the list's order.
+#[test]
+fn lists_of_corrections() {
+    let mut tally = Tally::default();
+    for seed in seeds(20_000) {
+        let mut r = Rng::new(seed ^ 0xc044);
+        let size = match r.below(60) {
+            0 => Size { variables: 60, lines: 10, text: 1 },
+            _ => Size { variables: 5, lines: 5, text: 1 },
+        };
+        let mut table = tables::sound_table(&mut r, size);
+        if r.once_in(20) {
+            tables::changed(&mut r, &mut table);
+        }
+        let bytes = records::record(&mut r, &table);
+        let most = r.pick(&[3, 8, 8, 40]);
+        let list = corrections(&mut r, &table, most);
+        let case = Case { table, bytes, list, ..Case::new(Call::Correct) };
+        let outcome = check(&mut tally, seed, &case);
+        if outcome.number == 0 {
+            one_after_the_other(&mut tally, seed, &case, &outcome);
+        }
+    }
+    tally.end("lists of corrections", 20_000, &[0, 20, 21, 22, 26, 27]);
+}
+
+/// The single writes of a list of corrections, in its order, on both sides.
+fn one_after_the_other(tally: &mut Tally, seed: u64, whole: &Case, outcome: &Outcome) {
+    let mut bytes = whole.bytes.clone();
+    let done = &outcome.list[8..];
+    for (at, c) in whole.list.as_chunks::<4>().0.iter().enumerate() {
+        let [row, kind, number, _] = *c;
+        let (table, row) = (whole.table.clone(), row as u64);
+        let call = match kind {
+            0 => Call::WriteMissing,
+            1 => Call::WriteNumber,
+            4 => Call::WriteTruth,
+            // No single write has such a kind: 26, after 21.
+            _ => {
+                let mark = if row < table[1] as u64 { 26 } else { 21 };
+                assert_eq!(done[4 * at..4 * at + 4], [c[0], kind, number, mark], "seed {seed}");
+                continue;
+            }
+        };
+        // The single write takes a byte: what is no truth is none there too.
+        let number = if kind == 4 && !(0..2).contains(&number) { 2 } else { number };
+        let one = check(tally, seed, &Case { table, row, number, bytes, ..Case::new(call) });
+        assert_eq!(done[4 * at..4 * at + 4], [c[0], kind, c[2], one.number as i64], "seed {seed}, correction {at}");
+        bytes = one.bytes[8..one.bytes.len() - 8].to_vec();
+    }
+    assert_eq!(outcome.bytes[8..outcome.bytes.len() - 8], bytes, "seed {seed}: the record");
+}
+
 /// The comparison itself: faults put into a copy of the plain Rust are found and cut down.
 mod planted {
     use super::*;
@@ -866,11 +942,19 @@ mod planted {
                 _ => Plain.judge_part(t, data, end, first, last, answer),
             }
         }
+        fn correct(&self, table: &[i64], corrections: &mut [Correction], record: &mut [u8]) -> u64 {
+            let before = record.to_vec();
+            let number = Plain.correct(table, corrections, record);
+            if self.0 == 12 && corrections.iter().any(|c| c.mark != 0) {
+                record.copy_from_slice(&before);
+            }
+            number
+        }
     }
 
     #[test]
     fn faults_are_found() {
-        for fault in 0..12 {
+        for fault in 0..13 {
             let found = (0..2_000).any(|seed| {
                 let mut r = Rng::new(seed);
                 let model = definitions::model(&mut r, SMALL);
@@ -891,7 +975,7 @@ mod planted {
                         let out = vec![-9; 4 * table[1] as usize];
                         Case { table, bytes: record, out, list: vec![-7; 50], ..Case::new(Call::ReadRecord) }
                     }
-                    8.. => {
+                    8..=11 => {
                         let data = records::file(&mut r, &table);
                         part_case(&mut r, table, &data)
                     }
@@ -899,6 +983,10 @@ mod planted {
                         let bytes = stretch(&mut r);
                         let (number, list) = (bytes.len() as i64, vec![-7; bytes.len()]);
                         Case { bytes, number, list, ..Case::new(Call::DecodeText) }
+                    }
+                    12 => {
+                        let list = corrections(&mut r, &table, 8);
+                        Case { table, bytes: record, list, ..Case::new(Call::Correct) }
                     }
                     _ => Case { bytes: records::file(&mut r, &table), table, ..Case::new(Call::JudgeFile) },
                 };

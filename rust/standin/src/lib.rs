@@ -230,3 +230,18 @@ pub unsafe extern "C" fn zarfolin_read_record(
         give(answer, numbers)
     }
 }
+
+#[unsafe(no_mangle)]
+pub unsafe extern "C" fn zarfolin_correct(
+    table: *const i64,
+    table_len: usize,
+    corrections: *mut plain::Correction,
+    count: usize,
+    record: *mut u8,
+    record_len: usize,
+) -> Number {
+    unsafe {
+        let (corrections, record) = (from_raw_parts_mut(corrections, count), from_raw_parts_mut(record, record_len));
+        plain::correct(from_raw_parts(table, table_len), corrections, record)
+    }
+}

@@ -20,7 +20,7 @@
 
 use crate::ffi::*;
 use crate::table::{self, next, value};
-use crate::{DefinitionError, FileFault, Number, ReadError, RecordFault, Refusal, Text, Value};
+use crate::{Correction, DefinitionError, FileFault, Number, ReadError, RecordFault, Refusal, Text, Value};
 
 /// How many rows and lines a definition was read into.
 #[derive(Clone, Copy, Debug, PartialEq, Eq)]
@@ -195,6 +195,36 @@ pub fn write_value(table: &[i64], row: u64, value: Value, record: &mut [u8]) -> 
             Value::Set(list) => zarfolin_write_set(t, n, row, list.as_ptr(), list.len(), r, length),
             Value::Text(text) => zarfolin_write_text(t, n, row, text.as_ptr(), text.len(), r, length),
         }
+    };
+    Refusal::of(number).map_or(Ok(()), Err)
+}
+
+/// Writes corrections into a record, in their order, the table tested once, and marks each: record and marks are what the single
+/// writes, one after the other, leave and answer. A correction that is refused stops nothing.
+/// [`Refusal::Table`] and [`Refusal::Short`] turn all of them away: record and marks are kept.
+///
+/// ```
+/// use zarfolin::{Correction, Definition, Refusal, calls};
+/// # let text = std::fs::read("../../examples/counter/survey.sss").unwrap();
+/// # let definition = Definition::read(&text).unwrap();
+/// let mut record = *b"  1/010---0/010400  12.50Bad Ischl     .1";
+/// let mut list = [Correction::number(3, -275), Correction::truth(3, true), Correction::missing(9), Correction::number(3, -300)];
+/// calls::correct(definition.table(), &mut list, &mut record)?;
+/// assert_eq!(&record, b"  1/010---0/010400 -03.00Bad Ischl     .1");
+/// assert_eq!(list.map(|c| c.done()), [Ok(()), Err(Refusal::Type), Err(Refusal::Row), Ok(())]);
+/// # Ok::<(), Refusal>(())
+/// ```
+pub fn correct(table: &[i64], corrections: &mut [Correction], record: &mut [u8]) -> Result<(), Refusal> {
+    // SAFETY: as above; a correction is laid out as the library's is.
+    let number = unsafe {
+        zarfolin_correct(
+            table.as_ptr(),
+            table.len(),
+            corrections.as_mut_ptr(),
+            corrections.len(),
+            record.as_mut_ptr(),
+            record.len(),
+        )
     };
     Refusal::of(number).map_or(Ok(()), Err)
 }

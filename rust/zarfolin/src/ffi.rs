@@ -6,7 +6,7 @@
 //! numbers as its length says, `answer` to four numbers. No two of the buffers of a call overlap, unless both are only read, and
 //! nobody else writes to one while the call runs.
 
-use crate::Number;
+use crate::{Correction, Number};
 
 unsafe extern "C" {
     /// The version of the archive. [`calls::version`](crate::calls::version).
@@ -139,5 +139,15 @@ unsafe extern "C" {
         list: *mut i64,
         list_len: usize,
         answer: *mut i64,
+    ) -> Number;
+
+    /// Writes a list of corrections into a record. [`calls::correct`](crate::calls::correct).
+    pub fn zarfolin_correct(
+        table: *const i64,
+        table_len: usize,
+        corrections: *mut Correction,
+        count: usize,
+        record: *mut u8,
+        record_len: usize,
     ) -> Number;
 }

@@ -45,17 +45,20 @@
 //!
 //! The feature `ffi`, on unless it is turned off, links `libzarfolin.a` from `target/staticlib` of the repository, where
 //! `rt staticlib zarfolin` puts it, or from the folder that `ZARFOLIN_LIB_DIR` names. When the crate is built it holds its
-//! [`VERSION`] against the header's and the archive's. Without the feature only [`table`], [`Refusal`], [`Text`] and [`Value`] are there.
+//! [`VERSION`] against the header's and the archive's. Without the feature only [`table`], [`Correction`], [`Refusal`],
+//! [`Text`] and [`Value`] are there.
 
 #![no_std]
 
 #[cfg(feature = "ffi")]
 extern crate alloc;
 
+mod correction;
 mod refusal;
 pub mod table;
 mod text;
 
+pub use correction::{Correction, Given};
 pub use refusal::{DefinitionError, FileFault, Number, ReadError, RecordFault, Refusal};
 pub use text::{Sign, Text};
 

@@ -2,7 +2,7 @@
 
 use crate::calls;
 use crate::table::{self, column, header, kind, limit, line};
-use crate::{DefinitionError, FileFault, ReadError, RecordFault, Refusal, Text, Value};
+use crate::{Correction, DefinitionError, FileFault, ReadError, RecordFault, Refusal, Text, Value};
 use alloc::vec;
 use alloc::vec::Vec;
 use core::fmt;
@@ -121,6 +121,11 @@ impl<'t> Definition<'t> {
     /// ```
     pub fn write(&self, row: usize, value: Value, record: &mut [u8]) -> Result<(), Refusal> {
         calls::write_value(&self.table, row as u64, value, record)
+    }
+
+    /// Writes corrections into a record, in their order, and marks each: [`calls::correct`].
+    pub fn correct(&self, corrections: &mut [Correction], record: &mut [u8]) -> Result<(), Refusal> {
+        calls::correct(&self.table, corrections, record)
     }
 
     fn cells(&self, row: usize) -> &[i64] {

@@ -197,6 +197,35 @@ const SAMPLE_SPREAD: &str =
     "SSS VERSION 1.1 SURVEY RECORD R VARIABLE 7 NAME \"a{41}{\"}\" LABEL \"\u{e9}\" TYPE MULTIPLE POSITION 1 TO 6
 SPREAD 2 OF 3 VALUES 1 TO 999 END VALUES END VARIABLE END RECORD END SURVEY END SSS";
 
+/// A list of corrections: each with its mark, past every refusal, and the later accepted one counts; none of it where the record is short.
+#[test]
+fn corrections() {
+    let definition = Definition::read(SAMPLE).unwrap();
+    let mut record = *b" 710x1x-1.0ab   1";
+    let given = [
+        (Correction::number(0, 12), Ok(())),
+        (Correction::number(0, 13), Err(Refusal::Value)),
+        (Correction::number(2, 5), Ok(())),
+        (Correction::truth(4, false), Ok(())),
+        (Correction { row: 4, value: Given { kind: 4, number: 256 }, mark: 0 }, Err(Refusal::Value)),
+        (Correction::truth(1, true), Err(Refusal::Type)),
+        (Correction { row: 0, value: Given { kind: 2, number: 1 }, mark: 0 }, Err(Refusal::Type)),
+        (Correction::missing(3), Ok(())),
+        (Correction::missing(5), Err(Refusal::Row)),
+        (Correction::number(0, 3), Ok(())),
+    ];
+    let mut list = given.map(|(c, _)| Correction { mark: 99, ..c });
+    assert_eq!(definition.correct(&mut list, &mut record[1..]), Err(Refusal::Short));
+    assert_eq!(calls::correct(&[11], &mut list, &mut record), Err(Refusal::Table));
+    assert!(list.iter().all(|c| c.mark == 99) && record == *b" 710x1x-1.0ab   1");
+    assert_eq!(definition.correct(&mut [], &mut record), Ok(()));
+    assert_eq!(definition.correct(&mut list, &mut record), Ok(()));
+    for (c, (asked, done)) in list.iter().zip(given) {
+        assert_eq!((c.row, c.value, c.done()), (asked.row, asked.value, done));
+    }
+    assert_eq!(record, *b"0310x1x00.5     0");
+}
+
 #[test]
 fn files() {
     let definition = Definition::read(SAMPLE).unwrap();

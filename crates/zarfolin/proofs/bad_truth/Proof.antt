@@ -2,7 +2,7 @@
 use mathlib.Core.Path.{sym, _∙_}
 use mathlib.Core.List.{[]}
 use Rattle.writes.proofs.Whole.{row-stands}
-use Rattle.zarfolin.proofs.Truths.{bad-table, bad-row, bad-length, bad-kind}
+use Rattle.corrections.specs.Truth.{bad-table, bad-row, bad-length, bad-kind}
 use borrow.Author.Needs.{needs}
 use Rattle.zarfolin.proofs.bad_truth.Statement.{statement}
 use Rattle.zarfolin.proofs.bad_truth.Tie as tie

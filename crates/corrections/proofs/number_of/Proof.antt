@@ -1,8 +1,8 @@
--- `zarfolin::number_of` meets its contract, case by case.
+-- `corrections::number_of` meets its contract, case by case.
 use borrow.Author.Needs.{needs}
 use Rattle.writes.specs.rule.Public.{numberOf}
-use Rattle.zarfolin.proofs.number_of.Statement.{statement}
-use Rattle.zarfolin.proofs.number_of.Tie as tie
+use Rattle.corrections.proofs.number_of.Statement.{statement}
+use Rattle.corrections.proofs.number_of.Tie as tie
 
 pub number-of-spec : {M : Type 1} → statement M
 unfolding numberOf

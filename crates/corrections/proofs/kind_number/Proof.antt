@@ -1,8 +1,8 @@
--- `zarfolin::kind_number` meets its contract, case by case.
+-- `corrections::kind_number` meets its contract, case by case.
 use borrow.Author.Needs.{needs}
-use Rattle.zarfolin.specs.Truth.{kindNumber}
-use Rattle.zarfolin.proofs.kind_number.Statement.{statement}
-use Rattle.zarfolin.proofs.kind_number.Tie as tie
+use Rattle.corrections.specs.Truth.{kindNumber}
+use Rattle.corrections.proofs.kind_number.Statement.{statement}
+use Rattle.corrections.proofs.kind_number.Tie as tie
 
 pub kind-number-spec : {M : Type 1} → statement M
 unfolding kindNumber

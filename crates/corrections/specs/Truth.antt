@@ -1,5 +1,5 @@
--- What is no truth, test by test.
-use mathlib.Core.Path.{_≡_, sym}
+-- What follows from rule/Truth.antt, and what the code keeps.
+use mathlib.Core.Path.{_≡_, refl, sym}
 use mathlib.Core.Bool.{true, false}
 use mathlib.Core.List.{List}
 use Prim.Native.Nat.{ℕ, _≤_, _<_}
@@ -8,13 +8,33 @@ use lib.IntN.{ℤ}
 use Rattle.layout.specs.rule.Layout.{headerOf}
 use Rattle.layout.specs.rule.Row.{rowAt}
 use Rattle.layout.specs.declared.Header.{Header}
+use Rattle.layout.specs.declared.Kind.{Kind}
+use Rattle.layout.specs.declared.Kind.the-variants.{Single, Multiple, Quantity, Character, Logical}
 use Rattle.layout.specs.declared.Row.{Row}
+use Rattle.fields.specs.rule.Field.{truth}
+use Rattle.fields.specs.rule.Row.{fitsBy}
 use Rattle.sound.specs.rule.Sound.{wellFormed}
 use Rattle.sound.specs.rule.Rows.{rowsOf, lengthOf}
-use Rattle.writes.specs.rule.Public.{refusalOf}
-use Rattle.zarfolin.specs.rule.Truth.{noTruth, badTruth}
-use Rattle.zarfolin.specs.Truth.{kindNumber, kind-number}
+use Rattle.writes.specs.rule.Public.{fitNumber, refusalOf}
+use Rattle.corrections.specs.rule.Truth.{noTruth, badTruth}
 
+-- ---- by the row's kind: "every other kind its own type"
+unfoldable pub kindNumber : Kind → ℕ
+kindNumber Single = 26
+kindNumber (Multiple s) = 26
+kindNumber (Quantity f) = 26
+kindNumber Character = 26
+kindNumber Logical = 27
+
+pub kind-number : (k : Kind) (t : List ℤ) (v : ℕ) (r : Row) → noTruth (fitNumber (fitsBy k t v r (truth false))) ≡ kindNumber k
+unfolding noTruth fitNumber fitsBy kindNumber
+kind-number Single t v r = refl
+kind-number (Multiple s) t v r = refl
+kind-number (Quantity f) t v r = refl
+kind-number Character t v r = refl
+kind-number Logical t v r = refl
+
+-- ---- what is no truth, test by test
 module _ (t : List ℤ) (i n : ℕ) where
   pub bad-table : wellFormed t ≡ false → 20 ≡ badTruth t i n
   unfolding refusalOf noTruth
