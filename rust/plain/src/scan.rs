@@ -97,8 +97,7 @@ pub(crate) fn find_low(b: &[u8], from: usize) -> usize {
             return from + met.trailing_zeros() as usize / 8;
         }
     }
-    let clear =
-        rest.as_chunks::<64>().0.iter().take_while(|block| !block.iter().fold(false, |low, &x| low | (x < 32)));
+    let clear = rest.as_chunks::<64>().0.iter().take_while(|block| !block.iter().fold(false, |low, &x| low | (x < 32)));
     find(b, from + 64 * clear.count(), lanes::below_32)
 }
 
