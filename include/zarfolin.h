@@ -179,7 +179,7 @@ enum {
     ZARFOLIN_FINISH = 3,
     ZARFOLIN_WIDTH = 4,     /* the value width w */
     ZARFOLIN_DECIMALS = 5,  /* of a QUANTITY */
-    ZARFOLIN_POINT = 6,     /* of a QUANTITY: whether the data has a point, 0 or 1 */
+    ZARFOLIN_POINT = 6,     /* of a QUANTITY: 0 the data has no point, 1 it has one, 2 one that no digit need stand before */
     ZARFOLIN_SUBFIELDS = 7, /* of a MULTIPLE with SPREAD; 0 for a bitstring */
     ZARFOLIN_SUBFIELD_WIDTH = 8,
     ZARFOLIN_RANGE = 9,     /* whether there is a range, 0 or 1 */

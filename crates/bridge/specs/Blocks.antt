@@ -1,6 +1,6 @@
 -- What a block has said so far, in the code's books and as plain data: the books keep a few numbers of it and add each value to them.
 use mathlib.Core.Path.{_≡_, refl, _∙_, sym, ap}
-use mathlib.Core.Bool.{Bool, true, false, not, _&&_, _||_}
+use mathlib.Core.Bool.{Bool, true, false, cond, not, _&&_, _||_}
 use mathlib.Core.List.{List, [], _∷_, _++_, map, append-assoc}
 use Prim.Native.Nat.{ℕ, zero, suc}
 use native.Mathlib.Omega.{arith}
@@ -9,18 +9,19 @@ use lib.IntN.{ℤ}
 use lib.ListN.{length}
 use borrow.Author.Tests.{eqb-true, not-false, le-ltb, ltb-false}
 use Rattle.below.specs.rule.Below.{anyBelow}
+use Rattle.below.specs.Below.{holds-not}
 use Rattle.cells.specs.rule.Cell.{eqZ}
 use Rattle.scan.specs.Number.{capped}
 use Rattle.scan.specs.Order.{valueOf}
 use Rattle.tokens.specs.declared.Quoted.{Quoted}
 use Rattle.values.specs.declared.Block as books
 use Rattle.values.specs.declared.Said.{Said}
-use Rattle.values.specs.Value.{formOf, largeOf, trueOf, scaledOf, pointOf}
+use Rattle.values.specs.Value.{formOf, largeOf, trueOf, scaledOf, pointsOf}
 use Rattle.values.specs.Line as lines
 use Rattle.values.specs.Order.{trues, trueAt}
 use Rattle.values.proofs.Facts.{or-none, or-neither}
 use Rattle.survey.specs.rule.Survey.{Amount, Text, Line, Block}
-use Rattle.survey.specs.rule.Width.{flag, someOf, rangeEnds, amounts, scaled, decimalsIn, pointIn}
+use Rattle.survey.specs.rule.Width.{flag, someOf, eachOf, rangeEnds, amounts, scaled, decimalsIn, bare, pointIn}
 use Rattle.survey.specs.rule.Table.{ranged, fromOf, toOf, lineCells, cellsOf}
 use Rattle.reading.specs.rule.Values.{formIs, large, unlike, withLine}
 use Rattle.bridge.specs.Facts.{capped-limit}
@@ -107,6 +108,7 @@ module _ {d : List ℕ} where
 pub record Kept (b : books.Block) (c : Block) : Type 0 where
   pub decimals : b .decimals ≡ decimalsIn (amounts c)
   pub point : b .point ≡ pointIn (amounts c)
+  pub known : b .known ≡ someOf (λ (a : Amount). true) (amounts c)
   pub unlike-some : (a : Amount) → (b .known && not (eqb (a .decimals) (b .decimals))) ≡ someOf (unlike a) (amounts c)
   pub ranged : flag (b .ranged) ≡ ranged (c .range)
   pub from : b .from ≡ fromOf (c .range)
@@ -122,6 +124,55 @@ some-more f (x ∷ l) a = rw (some-more f l a) (by (f x)) where
   by : (q : Bool) → (q || (someOf f l || f a)) ≡ ((q || someOf f l) || f a)
   by true = refl
   by false = refl
+
+each-more : {A : Type 0} (f : A → Bool) (l : List A) (a : A) → eachOf f (l ++ a ∷ []) ≡ (eachOf f l && f a)
+unfolding eachOf
+each-more f [] a = by (f a) where
+  by : (q : Bool) → (q && true) ≡ q
+  by true = refl
+  by false = refl
+each-more f (x ∷ l) a = rw (each-more f l a) (by (f x)) where
+  by : (q : Bool) → (q && (eachOf f l && f a)) ≡ ((q && eachOf f l) && f a)
+  by true = refl
+  by false = refl
+
+-- ---- the point's code: a number more
+abbrev pub own : Amount → ℕ
+own a = cond (a .point) (cond (eqb (a .whole) 0) 2 1) 0
+
+-- where each number is bare, some number has a point
+each-some : (x : Amount) (l : List Amount) → eachOf bare (x ∷ l) ≡ true → someOf (λ (a : Amount). a .point) (x ∷ l) ≡ true
+unfolding eachOf someOf
+each-some x l = by (x .point) (eqb (x .whole) 0) where
+  by : (p w : Bool) → ((p && w) && eachOf bare l) ≡ true → (p || someOf (λ (a : Amount). a .point) l) ≡ true
+  by true w e = refl
+  by false w e = holds-not e refl
+
+together : (s e p w : Bool) → (e ≡ true → s ≡ true)
+    → _≡_ {A = ℕ} (cond (s || p) (cond (e && (p && w)) 2 1) 0) (pointsOf (cond s (cond e 2 1) 0) (cond p (cond w 2 1) 0))
+together true true true true h = refl
+together true true true false h = refl
+together true true false w h = refl
+together true false true true h = refl
+together true false true false h = refl
+together true false false w h = refl
+together false true p w h = holds-not (h refl) refl
+together false false true true h = refl
+together false false true false h = refl
+together false false false w h = refl
+
+point-more : (l : List Amount) (a : Amount)
+    → pointIn (l ++ a ∷ []) ≡ cond (someOf (λ (x : Amount). true) l) (pointsOf (pointIn l) (own a)) (own a)
+unfolding someOf eachOf
+point-more [] a = by (a .point) (eqb (a .whole) 0) where
+  by : (p w : Bool) → _≡_ {A = ℕ} (cond (p || false) (cond ((p && w) && true) 2 1) 0) (cond p (cond w 2 1) 0)
+  by true true = refl
+  by true false = refl
+  by false w = refl
+point-more (x ∷ l) a =
+    ap (λ (s : Bool). cond s (cond (eachOf bare (x ∷ l ++ a ∷ [])) 2 1) 0) (some-more (λ (a : Amount). a .point) (x ∷ l) a)
+    ∙ ap (λ (e : Bool). cond (someOf (λ (a : Amount). a .point) (x ∷ l) || a .point) (cond e 2 1) 0) (each-more bare (x ∷ l) a)
+    ∙ together (someOf (λ (a : Amount). a .point) (x ∷ l)) (eachOf bare (x ∷ l)) (a .point) (eqb (a .whole) 0) (each-some x l)
 
 alike : (a x : Amount) → unlike a x ≡ false → a .decimals ≡ x .decimals
 alike a x e = eqb-true (a .decimals) (x .decimals) (not-false (eqb (a .decimals) (x .decimals)) e)
@@ -161,15 +212,16 @@ kept-more {b} {c} a t s x y m k e =
     let more = amounts-more c (lineOf a t s) in
     record {
       decimals = decimals-more (amounts c) a e ∙ sym (ap decimalsIn more);
-      point = rw (k .point, more, some-more (λ (a : Amount). a .point) (amounts c) a)
-          (by (someOf (λ (a : Amount). a .point) (amounts c)) (a .point));
+      point = rw (k .known, k .point) (sym (point-more (amounts c) a) ∙ sym (ap pointIn more));
+      known =
+          sym (ap (someOf (λ (z : Amount). true)) more ∙ some-more (λ (z : Amount). true) (amounts c) a
+          ∙ by (someOf (λ (z : Amount). true) (amounts c)));
       unlike-some = λ z. unlike-more (amounts c) a z e ∙ sym (ap (someOf (unlike z)) more);
       ranged = k .ranged;
       from = k .from;
       to = k .to;
     }
   where
-    by : (p q : Bool) → pointOf (ltb 0 (flag p) || q) ≡ flag (p || q)
-    by true q = refl
-    by false true = refl
-    by false false = refl
+    by : (q : Bool) → (q || true) ≡ true
+    by true = refl
+    by false = refl

@@ -1,6 +1,6 @@
 -- VALUES as a whole: a range and WITH or none, or lines.
 use mathlib.Core.Path.{_≡_, refl, _∙_}
-use mathlib.Core.Bool.{Bool, true, false, cond, not, _||_}
+use mathlib.Core.Bool.{Bool, true, false, cond, not, _&&_, _||_}
 use mathlib.Core.List.{List, [], _∷_}
 use mathlib.Core.Option.{none, some}
 use Prim.Native.Nat.{ℕ, suc, _+_, _-_, _≤_}
@@ -25,7 +25,7 @@ use Rattle.values.specs.declared.Block as books
 use Rattle.values.specs.declared.Judged.{Judged}
 use Rattle.values.specs.declared.Judged.the-variants as judgment
 use Rattle.values.specs.declared.Ranged.the-variants as ranging
-use Rattle.values.specs.Value.{scaledOf, pointOf}
+use Rattle.values.specs.Value.{scaledOf, pointsOf}
 use Rattle.values.specs.Range.{limitRange, judgeRange, settled, rangedOf, withOr, rangeRest}
 use Rattle.values.specs.Line.{stateOf, linesFrom}
 use Rattle.values.specs.Line as given
@@ -33,7 +33,7 @@ use Rattle.values.specs.Block.{emptyBlock, closedBy, rangeThen, toOr, valuesOn}
 use Rattle.values.specs.Order.{paperFrom, Reached, alone, behind}
 use Rattle.values.proofs.Orders.{paper-lines}
 use Rattle.survey.specs.rule.Survey.{Amount, Range, Block}
-use Rattle.survey.specs.rule.Width.{flag, someOf, amounts, scaled}
+use Rattle.survey.specs.rule.Width.{flag, someOf, eachOf, amounts, scaled}
 use Rattle.survey.specs.rule.Table.{ranged}
 use Rattle.reading.specs.rule.Result.{Result, Is, Not, Reader, bind, repeat}
 use Rattle.reading.specs.rule.Least.{before, judged}
@@ -47,13 +47,13 @@ use Rattle.bridge.specs.Tokens.{toReading, here-on, word-on}
 use Rattle.bridge.specs.Notes.{notes-on, statement-on}
 use Rattle.bridge.specs.Amounts.{written, Valued, valued, unvalued, value-on}
 use Rattle.bridge.specs.Gaps.{string-again}
-use Rattle.bridge.specs.Blocks.{form-same, large-same, true-same, small, nothing, Kept}
+use Rattle.bridge.specs.Blocks.{form-same, large-same, true-same, small, nothing, Kept, own}
 use Rattle.bridge.specs.Lines.{SameGiven, gives, refuses, Standing, value-refused, no-value, lines-turns}
 
 -- ---- nothing said yet
 pub empty-kept : Kept emptyBlock (unlisted none)
 unfolding amounts someOf
-empty-kept = record { decimals = refl; point = refl; unlike-some = λ a. refl; ranged = refl; from = refl; to = refl }
+empty-kept = record { decimals = refl; point = refl; known = refl; unlike-some = λ a. refl; ranged = refl; from = refl; to = refl }
 
 -- ---- a range as the books have it
 abbrev said : Amount → Amount → books.Block
@@ -63,27 +63,36 @@ said a b = record {
   to = scaledOf (written b 0 0 0);
   known = true;
   decimals = a .decimals;
-  point = pointOf (a .point || b .point);
+  point = pointsOf (own a) (own b);
 }
 
 range-kept : (a b : Amount) → unlike a b ≡ false → capped (a .size) ≡ a .size → capped (b .size) ≡ b .size
     → Kept (said a b) (unlisted (some (rangeFrom a b)))
-unfolding amounts someOf scaledOf
+unfolding amounts someOf eachOf scaledOf
 range-kept a b u i j =
     let e = eqb-true (a .decimals) (b .decimals) (not-false (eqb (a .decimals) (b .decimals)) u) in
     record {
       decimals = refl;
-      point = by (a .point) (b .point);
+      point = by (a .point) (eqb (a .whole) 0) (b .point) (eqb (b .whole) 0);
+      known = refl;
       unlike-some = λ c. rw (← e) (twice (unlike c a));
       ranged = refl;
       from = rw i;
       to = rw j;
     }
   where
-    by : (p q : Bool) → pointOf (p || q) ≡ flag (p || (q || false))
-    by true q = refl
-    by false true = refl
-    by false false = refl
+    by : (p w q u : Bool)
+        → _≡_ {A = ℕ} (pointsOf (cond p (cond w 2 1) 0) (cond q (cond u 2 1) 0))
+        (cond (p || (q || false)) (cond ((p && w) && ((q && u) && true)) 2 1) 0)
+    by true true true true = refl
+    by true true true false = refl
+    by true true false u = refl
+    by true false true true = refl
+    by true false true false = refl
+    by true false false u = refl
+    by false w true true = refl
+    by false w true false = refl
+    by false w false u = refl
 
     twice : (q : Bool) → q ≡ (q || (q || false))
     twice true = refl

@@ -27,7 +27,7 @@ module _ (c : Columns) where
   lacked-sub : countsGood c ≡ true → (c .kind ≡ 2) ⊎ ((c .subfields ≡ 0) × (c .subwidth ≡ 0))
   unfolding countsGood
   lacked-sub g =
-      let n3 = and-both (and-both (and-both g .0) .0) in
+      let n3 = and-both (and-both (and-both (and-both g .0) .0) .0) in
       let a = eqb (c .kind) 3 || eqb (c .decimals) 0 && eqb (c .point) 0 in
       let b = eqb (c .kind) 2 || eqb (c .subfields) 0 && eqb (c .subwidth) 0 in
       let e : b ≡ true = and-right a b (and-left (a && b) (leb (c .kind) 3 || eqb (c .range) 0 && eqb (c .lines) 0) (n3 .1)) in
@@ -114,7 +114,8 @@ module _ (c : Columns) (counts : countsGood c ≡ true) (places : placesGood c �
   pub small-columns : c .before ≤ 4096 → c .lines ≤ 4096 → SmallRow c
   unfolding countsGood placesGood
   small-columns b l =
-      let n2 = and-both (and-both (and-both (and-both counts .0) .0) .0) in
+      let n3 = and-both (and-both (and-both (and-both (and-both counts .0) .0) .0) .0) in
+      let n2 = and-both (n3 .0) in
       let n1 = and-both (n2 .0) in
       let x = and-both places .1 in
       let t1 = leb (c .name) 1048576 in
@@ -130,10 +131,10 @@ module _ (c : Columns) (counts : countsGood c ≡ true) (places : placesGood c �
         finish = omega (arith, finish-low);
         width = omega (arith, few .width);
         decimals = omega (arith, leb-true (c .decimals) 9 (n1 .1));
-        point = omega (arith, leb-true (c .point) 1 (and-left (leb (c .point) 1) (leb (c .range) 1) (n2 .1)));
+        point = omega (arith, leb-true (c .point) 2 (n3 .1));
         subfields = omega (arith, few .subfields);
         subwidth = omega (arith, few .subwidth);
-        range = omega (arith, leb-true (c .range) 1 (and-right (leb (c .point) 1) (leb (c .range) 1) (n2 .1)));
+        range = omega (arith, leb-true (c .range) 1 (n2 .1));
         before = omega arith;
         lines = omega arith;
         name = omega (arith, leb-true (c .name) 1048576 (and-left t1 t2 x2));

@@ -1,13 +1,14 @@
 -- What computes where a definition is read: the rule's definitions, from the bytes to the table. A theorem by computation says
 -- `unfolding definitions`, and all of them unfold. Made by: tools/unfolds definitions
 -- ascii below.Below:anyBelow+maxBelow cells.Cell:signedOf+numberOf+eqZ+pasted layout.Row
--- widths.Width:tailOf+wholeDigits+quantityWidth+need sound.Sound:roomGood rows scan marks tokens.Gap names survey reading definition
+-- widths.Width:tailOf+leastWhole+wholeDigits+quantityWidth+need sound.Sound:roomGood rows scan marks tokens.Gap names survey reading
+-- definition
 use Rattle.ascii.specs.rule.Class.{classOf, upperOf}
 use Rattle.ascii.specs.rule.Tens.{countFrom, digitsOf}
 use Rattle.below.specs.rule.Below.{anyBelow, maxBelow}
 use Rattle.cells.specs.rule.Cell.{signedOf, numberOf, eqZ, pasted}
 use Rattle.layout.specs.rule.Row.{spreadOf, kindOf, rowOf}
-use Rattle.widths.specs.rule.Width.{tailOf, wholeDigits, quantityWidth, need}
+use Rattle.widths.specs.rule.Width.{tailOf, leastWhole, wholeDigits, quantityWidth, need}
 use Rattle.sound.specs.rule.Sound.{roomGood}
 use Rattle.rows.specs.rule.Cells.{rowCells, headerCells}
 use Rattle.scan.specs.rule.Loop.{loopOf}
@@ -19,7 +20,7 @@ use Rattle.marks.specs.rule.Spelling.{givesOf, decodeOf}
 use Rattle.tokens.specs.rule.Gap.{gapStep, gapAt}
 use Rattle.names.specs.rule.Standard.{isLetter, lettersOrDigits, beginsWithLetter, wellNamed, agree, nameWrong, nameFaultFrom, nameFault}
 use Rattle.survey.specs.rule.Table.{columnsOf, holds, linesAll, highestIn, headerFor, rowsFrom, lineCells, cellsOf, allLines, tableOf}
-use Rattle.survey.specs.rule.Width.{someOf, amounts, kindIn, widest, widthIn}
+use Rattle.survey.specs.rule.Width.{someOf, eachOf, amounts, kindIn, widest, widthIn}
 use Rattle.reading.specs.rule.Least.{named, before, lower, least, judged}
 use Rattle.reading.specs.rule.Opening.{same, version, opening}
 use Rattle.reading.specs.rule.Result.{repeat}
@@ -31,12 +32,12 @@ use Rattle.reading.specs.rule.Whole.{given, textOf, entered, another, front, en
 use Rattle.definition.specs.rule.Definition.{fitting, namesOf, quoteAt, judgeNames, outcomeOf, answerOf, tableAfter}
 
 unfoldable pub definitions : Unit {0}
-unfolding classOf upperOf countFrom digitsOf anyBelow maxBelow signedOf numberOf eqZ pasted spreadOf kindOf rowOf tailOf wholeDigits
-    quantityWidth need roomGood rowCells headerCells loopOf isSpace isDigit isValue runOf bytesOf decimalOf kept text placeOf wordOf
-    wordAt isHex insideOf stringOf levelsOf commentOf givesOf decodeOf gapStep gapAt isLetter lettersOrDigits beginsWithLetter wellNamed
-    agree nameWrong nameFaultFrom nameFault columnsOf holds linesAll highestIn headerFor rowsFrom lineCells cellsOf allLines tableOf
-    someOf amounts kindIn widest widthIn named before lower least judged same version opening repeat positionCharges spreadCharges
-    sizeCharges notes statement phrase position spread size leading behind begins without amountOf quoted letterIn figure amount formIs
-    large rangeCharges lineCharges line listed range values identCharges ident type variable given textOf entered another front ends
-    survey surveyOf fitting namesOf quoteAt judgeNames outcomeOf answerOf tableAfter
+unfolding classOf upperOf countFrom digitsOf anyBelow maxBelow signedOf numberOf eqZ pasted spreadOf kindOf rowOf tailOf leastWhole
+    wholeDigits quantityWidth need roomGood rowCells headerCells loopOf isSpace isDigit isValue runOf bytesOf decimalOf kept text placeOf
+    wordOf wordAt isHex insideOf stringOf levelsOf commentOf givesOf decodeOf gapStep gapAt isLetter lettersOrDigits beginsWithLetter
+    wellNamed agree nameWrong nameFaultFrom nameFault columnsOf holds linesAll highestIn headerFor rowsFrom lineCells cellsOf allLines
+    tableOf someOf eachOf amounts kindIn widest widthIn named before lower least judged same version opening repeat positionCharges
+    spreadCharges sizeCharges notes statement phrase position spread size leading behind begins without amountOf quoted letterIn figure
+    amount formIs large rangeCharges lineCharges line listed range values identCharges ident type variable given textOf entered another
+    front ends survey surveyOf fitting namesOf quoteAt judgeNames outcomeOf answerOf tableAfter
 definitions = tt

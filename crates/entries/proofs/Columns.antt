@@ -7,7 +7,7 @@ use Prim.Native.Nat.{ℕ, _+_, _-_, _*_, _≤_, _<_}
 use native.Mathlib.Omega.{arith}
 use borrow.Author.Tests.{eqb-true, eqb-false}
 use lib.Dec.{eqb}
-use lib.IntN.{ℤ, pos, negsuc}
+use lib.IntN.{ℤ, pos}
 use lib.ListN.{length}
 use lib.Signed.{leZ}
 use Rattle.below.specs.Below.{all-of, and-true}
@@ -20,11 +20,11 @@ use Rattle.layout.specs.declared.Kind.{Kind}
 use Rattle.layout.specs.declared.Kind.the-variants.{Single, Multiple, Quantity, Character, Logical}
 use Rattle.layout.specs.declared.Spread.the-variants.{Bits, Fields}
 use Rattle.widths.specs.rule.Width.{fitsKind, lowest, highest}
-use Rattle.widths.specs.Width.{decimalsOf, FewDecimals}
+use Rattle.widths.specs.Width.{decimalsOf, FewDecimals, size-within, size-fits}
 use Rattle.sound.specs.rule.Sound.{rangeGood, valuesFit}
 use Rattle.sound.specs.Block.{Subfielded}
 use Rattle.values.specs.Line.{numberAt, cellsOf}
-use Rattle.values.specs.Good.{Limited}
+use Rattle.values.specs.Good.{Limited, Near}
 use Rattle.values.proofs.Rooms.{room-number, length-pasted, cells-length}
 use Rattle.variables.specs.declared.Head.{Head}
 use Rattle.variables.specs.Rest.{Telling}
@@ -38,15 +38,17 @@ module _ (h : Head) (x : Telling) (before : ℕ) (g : GoodHead h) (s : GoodTelli
   abbrev pub plain : Columns
   plain = plainColumns h (countedIn before x) before
 
-  -- a number within the limits of the type fits the kind
+  -- a number within the limits of the type, nearer zero than 1 where the block's code is 2, fits the kind
   abbrev Fitting : Kind → Type 0
-  Fitting k = (z : ℤ) → Limited (eqb (h .kind) 3) z → fitsKind k z ≡ true
+  Fitting k = (z : ℤ) → Limited (eqb (h .kind) 3) z → Near (x .block) z → fitsKind k z ≡ true
 
   category-fits : (k : Kind) → lowest k ≡ pos 1 → highest k ≡ pos 9999 → eqb (h .kind) 3 ≡ false → Fitting k
-  category-fits k a b e z l = let m = rw e at l in and-true (leZ (lowest k) z) (leZ z (highest k)) (rw a (m .low)) (rw b (m .high))
+  category-fits k a b e z l n = let m = rw e at l in and-true (leZ (lowest k) z) (leZ z (highest k)) (rw a (m .low)) (rw b (m .high))
 
-  quantity-fits : (k : Kind) → lowest k ≡ negsuc 999999999999998 → highest k ≡ pos 999999999999999 → eqb (h .kind) 3 ≡ true → Fitting k
-  quantity-fits k a b e z l = let m = rw e at l in and-true (leZ (lowest k) z) (leZ z (highest k)) (rw a (m .low)) (rw b (m .high))
+  quantity-fits : eqb (h .kind) 3 ≡ true → Fitting (Quantity (record { decimals = x .block .decimals; point = x .block .point }))
+  quantity-fits e z l n =
+      let m = rw e at l in
+      size-fits (record { decimals = x .block .decimals; point = x .block .point }) z (size-within z (m .low) (m .high)) n
 
   pub number-fits : Fitting (kindOf plain)
   unfolding kindOf plainColumns countedIn spreadOf lowest highest
@@ -58,7 +60,7 @@ module _ (h : Head) (x : Telling) (before : ℕ) (g : GoodHead h) (s : GoodTelli
         → Fitting (cond p Single (cond q (Multiple (spreadOf (x .subfields) (x .subwidth))) (cond r (Quantity (record { decimals = x .block .decimals; point = x .block .point })) (cond t Character Logical))))
     by true q r t e f i = category-fits Single refl refl (other 1 (eqb-true (h .kind) 1 e) refl)
     by false true r t e f i = category-fits (Multiple (spreadOf (x .subfields) (x .subwidth))) refl refl (other 2 (eqb-true (h .kind) 2 f) refl)
-    by false false true t e f i = quantity-fits (Quantity (record { decimals = x .block .decimals; point = x .block .point })) refl refl i
+    by false false true t e f i = quantity-fits i
     by false false false true e f i = category-fits Character refl refl i
     by false false false false e f i = category-fits Logical refl refl i
 
@@ -84,11 +86,12 @@ module _ (h : Head) (x : Telling) (before : ℕ) (g : GoodHead h) (s : GoodTelli
     by true e =
         and-true (leZ (x .block .from) (x .block .to)) (fitsKind (kindOf plain) (x .block .from) && fitsKind (kindOf plain) (x .block .to)) (s .block .ordered e)
         (and-true (fitsKind (kindOf plain) (x .block .from)) (fitsKind (kindOf plain) (x .block .to))
-        (number-fits (x .block .from) (s .block .from-limited e)) (number-fits (x .block .to) (s .block .to-limited e)))
+        (number-fits (x .block .from) (s .block .from-limited e) (s .block .from-near e))
+        (number-fits (x .block .to) (s .block .to-limited e) (s .block .to-near e)))
 
   pub lines-fit : (f : ℕ → ℤ) → ((i : ℕ) → i < length (x .lines) → f i ≡ numberAt (x .lines) i) → valuesFit (kindOf plain) f (length (x .lines)) ≡ true
   unfolding valuesFit
-  lines-fit f same = all-of (λ j. fitsKind (kindOf plain) (f j)) (length (x .lines)) (λ j l. rw (same j l) (number-fits (numberAt (x .lines) j) (s .lines .limited j l)))
+  lines-fit f same = all-of (λ j. fitsKind (kindOf plain) (f j)) (length (x .lines)) (λ j l. rw (same j l) (number-fits (numberAt (x .lines) j) (s .lines .limited j l) (s .near j l)))
 
   -- all that measuring asks for, where the lines stand in the room
   module _ (room : List ℤ) (long : length room ≡ 16384) where

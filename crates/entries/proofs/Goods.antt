@@ -18,7 +18,7 @@ use Rattle.layout.specs.rule.Layout.{lineSize, lineAt}
 use Rattle.layout.specs.rule.Row.{kindOf, rowOf}
 use Rattle.layout.specs.Row.{kind-cases}
 use Rattle.layout.specs.declared.Columns.{Columns}
-use Rattle.sound.specs.rule.Sound.{lackedZero, pointGiven, valuesGiven, countsGood, placesGood, rangeLacked, rangeGood, linePlain}
+use Rattle.sound.specs.rule.Sound.{lackedZero, pointGiven, sharesGiven, valuesGiven, countsGood, placesGood, rangeLacked, rangeGood, linePlain}
 use Rattle.sound.specs.rule.Sound.{valuesFit, rangeWidth, widthGood}
 use Rattle.tokens.specs.declared.Reading.{Reading}
 use Rattle.tokens.specs.declared.Reading.the-variants.{At, Refused}
@@ -158,7 +158,13 @@ module _ (h : Head) (x : Telling) (before : ℕ) (g : GoodHead h) (s : GoodTelli
 
   points : pointGiven full ≡ true
   unfolding columnsIn fullColumns widened plainColumns countedIn
-  points = or-else (eqb (x .block .decimals) 0) _ (λ e. ⊎-elim (λ z. absurd (eqb-false _ 0 e z)) (λ z. eq-eqb _ 1 z) (s .block .pointed))
+  points = or-else (eqb (x .block .decimals) 0) _ (λ e. ⊎-elim (λ z. absurd (eqb-false _ 0 e z)) (λ z. le-leb 1 _ z) (s .block .pointed))
+
+  shares : sharesGiven full ≡ true
+  unfolding columnsIn fullColumns widened plainColumns countedIn
+  shares =
+      or-else (leb (x .block .point) 1) _
+      (λ e. le-leb 1 (x .block .decimals) (s .block .shared (omega (arith, leb-false (x .block .point) 1 e, s .block .point-code))))
 
   valued : valuesGiven full ≡ true
   unfolding columnsIn fullColumns widened plainColumns countedIn flagOf
@@ -172,11 +178,12 @@ module _ (h : Head) (x : Telling) (before : ℕ) (g : GoodHead h) (s : GoodTelli
   counts : countsGood full ≡ true
   unfolding countsGood columnsIn fullColumns widened plainColumns countedIn
   counts =
-      both-and (both-and (both-and (both-and (both-and
+      both-and (both-and (both-and (both-and (both-and (both-and (both-and
       (and-true _ _ (le-leb 1 (h .kind) (g .kind-some)) (le-leb (h .kind) 5 (g .kind-few)))
       (le-leb (x .block .decimals) 9 (s .block .few-decimals)))
-      (and-true _ _ (le-leb (x .block .point) 1 (s .block .point-code)) (flag-low (x .block .ranged))))
-      lacks) points) valued
+      (flag-low (x .block .ranged)))
+      (le-leb (x .block .point) 2 (s .block .point-code)))
+      lacks) points) shares) valued
 
   lacks-range : rangeLacked full ≡ true
   unfolding columnsIn fullColumns widened plainColumns countedIn flagOf

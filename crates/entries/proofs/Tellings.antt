@@ -44,11 +44,14 @@ empty-block q = record {
   few-decimals = omega arith;
   point-code = omega arith;
   pointed = inl refl;
+  shared = λ e. absurd (omega arith);
   category = λ e. (refl, refl);
   unranged = λ e. (refl, refl);
   ordered = λ e. none cc;
   from-limited = λ e. none cc;
   to-limited = λ e. none cc;
+  from-near = λ e. none cc;
+  to-near = λ e. none cc;
 }
 
 empty-lines : (q : Bool) (first : ℕ) → first ≤ 4096 → GoodLines q first []
@@ -73,6 +76,7 @@ module _ (d : List ℕ) (first : ℕ) (long : length d ≤ 1048576) (few : first
         rw (← j) (record {
           block = v .block;
           lines = v .lines;
+          near = v .near;
           something = λ h. v .something;
           nothing = λ h. absurd (omega arith);
           subfields = s;
@@ -104,6 +108,7 @@ module _ (d : List ℕ) (first : ℕ) (long : length d ≤ 1048576) (few : first
         rw (← j) (record {
           block = empty-block (eqb 4 3);
           lines = empty-lines (eqb 4 3) first few;
+          near = λ i l. absurd (omega arith);
           something = λ h. absurd (omega arith);
           nothing = λ h. (refl, refl);
           subfields = inl (refl, refl);
@@ -119,6 +124,7 @@ module _ (d : List ℕ) (first : ℕ) (long : length d ≤ 1048576) (few : first
       rw (← j) (record {
         block = empty-block (eqb kind 3);
         lines = empty-lines (eqb kind 3) first few;
+        near = λ i l. absurd (omega arith);
         something = λ h. absurd (omega arith);
         nothing = λ h. (refl, refl);
         subfields = inl (refl, refl);

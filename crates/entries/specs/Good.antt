@@ -6,7 +6,8 @@ use Prim.Native.Nat.{ℕ, _≤_, _<_}
 use lib.Dec.{eqb}
 use lib.ListN.{length}
 use Rattle.layout.specs.rule.Layout.{mostRows}
-use Rattle.values.specs.Good.{GoodBlock, GoodLines}
+use Rattle.values.specs.Good.{Near, GoodBlock, GoodLines}
+use Rattle.values.specs.Line.{numberAt}
 use Rattle.variables.specs.Rest.{Telling}
 use Rattle.measures.specs.Survey.{Variable}
 use Rattle.measures.specs.Good.{GoodVariable}
@@ -15,6 +16,7 @@ use Rattle.measures.specs.Good.{GoodVariable}
 pub record GoodTelling (kind first : ℕ) (x : Telling) : Type 0 where
   pub block : GoodBlock (eqb kind 3) (x .block)
   pub lines : GoodLines (eqb kind 3) first (x .lines)
+  pub near : (i : ℕ) → i < length (x .lines) → Near (x .block) (numberAt (x .lines) i)
   -- the types up to 3 have values, the others none
   pub something : kind ≤ 3 → (x .block .ranged ≡ true) ⊎ (1 ≤ length (x .lines))
   pub nothing : 4 ≤ kind → (x .block .ranged ≡ false) × (length (x .lines) ≡ 0)

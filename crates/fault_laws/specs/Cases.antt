@@ -10,14 +10,14 @@ use lib.IntN.{ℤ, pos}
 use lib.ListN.{length, take, drop, getD, length-drop}
 use lib.Seq.{length-take-le}
 use Rattle.below.specs.Below.{holds-not, and-left, and-right}
-use Rattle.ascii.specs.Tens.{digits-some}
 use Rattle.cells.specs.rule.Cell.{eqZ}
 use Rattle.layout.specs.declared.Format.{Format}
 use Rattle.layout.specs.declared.Spread.the-variants.{Bits, Fields}
 use Rattle.layout.specs.declared.Kind.{Kind}
 use Rattle.layout.specs.declared.Kind.the-variants.{Single, Multiple, Quantity, Character, Logical}
 use Rattle.layout.specs.declared.Row.{Row}
-use Rattle.widths.specs.rule.Width.{tailOf, need, quantityWidth, wholeDigits, sizeOf}
+use Rattle.widths.specs.rule.Width.{tailOf, leastWhole, need, quantityWidth, sizeOf}
+use Rattle.widths.specs.Width.{whole-least}
 use Rattle.places.specs.rule.Places.{pick, run}
 use Rattle.places.specs.Laws.{length-pick, length-run}
 use Rattle.fields.specs.rule.Legal.{legal}
@@ -34,7 +34,7 @@ use Rattle.faults.specs.declared.Fault.{Fault}
 use Rattle.faults.specs.declared.Fault.the-variants.{Sound, Stray, NotLegal, Point}
 use Rattle.faults.specs.declared.Test.{Test}
 use Rattle.faults.specs.declared.Test.the-variants.{Space, Bit, Plain}
-use Rattle.faults.specs.rule.Fault.{orElse, codeFormat, fixedWhole, fixedOf, numberForm, spreadForm, passes}
+use Rattle.faults.specs.rule.Fault.{orElse, codeFormat, fixedOf, numberForm, spreadForm, passes}
 use Rattle.faults.specs.rule.Fault.{firstFailing, plainForm, valueFault, usable, spreadValue, formBy, valueBy, faultOf}
 use Rattle.fault_laws.specs.Numbers.{formed, code-cases, quantity-cases}
 use Rattle.faults.specs.Joined.{someFault}
@@ -241,7 +241,7 @@ module _ (t : List ℤ) (v : ℕ) (r : Row) (record′ : List ℕ) where
   cases-by (Quantity f) a x =
       let ps = run (r .finish - r .width) (r .width) in
       let l : length ps ≡ r .width = length-run (r .finish - r .width) (r .width) in
-      rw (quantity-cases f (a .plain) (λ e. omega (arith, a .point)) record′ ps (omega arith)) (quantity-some (legal t v r) (quantityOf f (pick record′ ps)))
+      rw (quantity-cases f (a .plain) record′ ps (omega arith)) (quantity-some (legal t v r) (quantityOf f (pick record′ ps)))
   cases-by Character a x =
       let ps = run (r .start - 1) (r .width) in
       text-cases record′ ps ∙ sym (or-false (someFault (plainForm Plain record′ ps)))
@@ -254,20 +254,12 @@ module _ (t : List ℤ) (v : ℕ) (r : Row) (record′ : List ℕ) where
       cases-by (r .kind) a x
       ∙ sym (else-some (formBy (r .kind) (r .width) record′ (placesOf t v r)) (valueBy (r .kind) (legal t v r) (r .width) record′ (placesOf t v r)))
 
-pub whole-few : (f : Format) → fixedWhole f ≤ 1
-unfolding fixedWhole
-whole-few f = go (eqb (f .point) 2)
-  where
-    go : (c : Bool) → cond c 0 1 ≤ 1
-    go true = omega arith
-    go false = omega arith
-
 -- every legal number takes its fixed places
 fixed-by : (k : Kind) (r : Row) (z : ℤ) → need k z ≤ r .width → FixedFacts k r
-unfolding need quantityWidth wholeDigits fixedOf
+unfolding need quantityWidth fixedOf
 fixed-by Single r z h = tt
 fixed-by (Multiple s) r z h = tt
-fixed-by (Quantity f) r z h = omega (arith, digits-some (sizeOf z / 10 ^ f .decimals), whole-few f)
+fixed-by (Quantity f) r z h = omega (arith, whole-least f (sizeOf z))
 fixed-by Character r z h = tt
 fixed-by Logical r z h = tt
 

@@ -167,15 +167,15 @@ module _ (q : Bool) (f : Format) (r ps : List ℕ) (wide : fixedOf f ≤ length 
       let h : leb (fixedOf f) (length (a .before ++ g .rest)) ≡ true = le-leb (fixedOf f) (length (a .before ++ g .rest)) (omega arith) in
       sym (form-stands q f [] (a .before ++ g .rest) none-spaces h) ∙ rw (g .number) (or-true (allSpaces (a .before ++ g .rest)))
 
-module _ (f : Format) (plain : f .point ≡ 0 → f .decimals ≡ 0) (today : f .point ≡ 2 → ⊥) (r ps : List ℕ) (wide : fixedOf f ≤ length ps)
+module _ (f : Format) (plain : f .point ≡ 0 → f .decimals ≡ 0) (r ps : List ℕ) (wide : fixedOf f ≤ length ps)
     (x : Fault) (a : Leftmost true f r [] ps x) where
   -- QUANTITY: it cannot stand there after those to its left
   pub cannot-stand : (rest : List ℕ) → length rest ≡ length (a .later) → allSpaces (a .before ++ (a .byte ∷ rest)) ≡ false
       → formed (quantityOf f (a .before ++ (a .byte ∷ rest))) ≡ false
-  cannot-stand rest l s = quantity-formed f plain today (a .before ++ (a .byte ∷ rest)) ∙ none-after true f r ps wide x a rest l s
+  cannot-stand rest l s = quantity-formed f plain (a .before ++ (a .byte ∷ rest)) ∙ none-after true f r ps wide x a rest l s
 
   pub another-can : formed (quantityOf f (a .before ++ one-goes-on true f r ps x a .rest)) ≡ true
-  another-can = quantity-formed f plain today (a .before ++ one-goes-on true f r ps x a .rest) ∙ one-after true f r ps wide x a
+  another-can = quantity-formed f plain (a .before ++ one-goes-on true f r ps x a .rest) ∙ one-after true f r ps wide x a
 
 module _ (r ps : List ℕ) (wide : fixedOf codeFormat ≤ length ps) (x : Fault) (a : Leftmost false codeFormat r [] ps x) where
   -- SINGLE, and a subfield

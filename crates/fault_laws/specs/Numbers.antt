@@ -5,8 +5,8 @@ use mathlib.Core.List.{List, [], _∷_, _++_}
 use Prim.Native.Nat.{ℕ, zero, suc, _+_, _-_, _≤_, _<_}
 use native.Mathlib.Nat.{sub-zero}
 use native.Mathlib.Omega.{arith}
-use borrow.Author.Tests.{eqb-true, eqb-false, eq-eqb, ne-eqb, le-leb, lt-leb, leb-true, leb-false, lt-ltb, le-ltb, ltb-true, ltb-false}
-use lib.Dec.{eqb, leb, ltb}
+use borrow.Author.Tests.{eqb-true, eqb-false, eq-eqb, ne-eqb, le-leb, lt-leb, leb-true, leb-false}
+use lib.Dec.{eqb, leb}
 use lib.IntN.{pos}
 use lib.ListN.{length, take, drop, getD}
 use lib.Seq.{take-length, drop-length}
@@ -14,7 +14,7 @@ use Rattle.below.specs.Below.{holds-not, and-left, and-right}
 use Rattle.ascii.specs.rule.Class.{within}
 use Rattle.cells.specs.rule.Cell.{numberOf}
 use Rattle.layout.specs.declared.Format.{Format}
-use Rattle.widths.specs.rule.Width.{tailOf}
+use Rattle.widths.specs.rule.Width.{tailOf, leastWhole}
 use Rattle.widths.specs.Width.{tail-point}
 use Rattle.places.specs.rule.Places.{pick}
 use Rattle.places.specs.Laws.{length-pick}
@@ -22,14 +22,9 @@ use Rattle.fields.specs.rule.Number.{Said, blank, says, wrong, allSpaces, unspa
 use Rattle.fields.specs.rule.Number.{wholePart, decimalPart, pointStands, amountForm, amountSize, amountOf, quantityAfter, quantityOf}
 use Rattle.faults.specs.declared.Fault.{Fault}
 use Rattle.faults.specs.declared.Fault.the-variants.{Sound, Stray, NotLegal, Point}
-use Rattle.faults.specs.rule.Fault.{codeFormat, fixedWhole, fixedOf, pointPlace, mayStand, faultAt, numberFrom}
+use Rattle.faults.specs.rule.Fault.{codeFormat, fixedOf, pointPlace, mayStand, faultAt, numberFrom}
 use Rattle.faults.specs.rule.Fault.{numberForm}
 use Rattle.faults.specs.Joined.{someFault, spaces-more}
-
--- ---- tests
-by : (P : Bool → Type 0) (b : Bool) → (b ≡ true → P true) → (b ≡ false → P false) → P b
-by P true f g = f refl
-by P false f g = g refl
 
 -- ---- spaces
 pub none-spaces : allSpaces [] ≡ true
@@ -106,10 +101,6 @@ module _ (f : Format) (p : f .point ≡ 0 → ⊥) where
 
 -- ---- an amount: so many bytes at least, and each stands
 module _ (f : Format) (plain : f .point ≡ 0 → f .decimals ≡ 0) where
-  pub tail-none : f .point ≡ 0 → tailOf f ≡ 0
-  unfolding tailOf
-  tail-none e = rw (eq-eqb _ _ e)
-
   -- the parts of an amount, as they are read
   abbrev pub amountParts : List ℕ → Bool
   amountParts s = digitsOnly (wholePart f s) && (pointStands f s && digitsOnly (decimalPart f s))
@@ -137,28 +128,14 @@ module _ (f : Format) (plain : f .point ≡ 0 → f .decimals ≡ 0) where
       go true e = parts-plain s (eqb-true _ _ e)
       go false e = parts-pointed s (eqb-false _ _ e) h
 
-  -- THE FORM OF AN AMOUNT under any point code, as C-13 will read it
-  pub share-closed : (s : List ℕ) → (leb (fixedOf f) (length s) && amountParts s) ≡ (leb (fixedOf f) (length s) && closed f s)
-  unfolding fixedOf
-  share-closed s = go (leb (fixedOf f) (length s)) refl
-    where
-      go : (c : Bool) → leb (fixedOf f) (length s) ≡ c → (c && amountParts s) ≡ (c && closed f s)
-      go true e = parts-closed s (omega (arith, leb-true (fixedWhole f + tailOf f) (length s) e))
-      go false e = refl
-
--- today a table has point codes 0 and 1 (QuantityFacts), and a digit stands before the point. With C-13 this section goes
-module _ (f : Format) (plain : f .point ≡ 0 → f .decimals ≡ 0) (today : f .point ≡ 2 → ⊥) where
-  roomy-tail : (n : ℕ) → leb (fixedOf f) n ≡ ltb (tailOf f) n
-  unfolding fixedOf fixedWhole
-  roomy-tail n =
-      rw (ne-eqb (f .point) 2 today)
-      (by (λ b. leb (1 + tailOf f) n ≡ b) (ltb (tailOf f) n)
-      (λ e. le-leb (1 + tailOf f) n (omega (arith, ltb-true (tailOf f) n e)))
-      (λ e. lt-leb (1 + tailOf f) n (omega (arith, ltb-false (tailOf f) n e))))
-
+  -- THE FORM OF AN AMOUNT, under any point code
   amount-closed : (s : List ℕ) → amountForm f s ≡ (leb (fixedOf f) (length s) && closed f s)
-  unfolding amountForm
-  amount-closed s = rw (← roomy-tail (length s)) (share-closed f plain s)
+  unfolding amountForm fixedOf
+  amount-closed s = go (leb (leastWhole f + tailOf f) (length s)) refl
+    where
+      go : (c : Bool) → leb (leastWhole f + tailOf f) (length s) ≡ c → (c && amountParts s) ≡ (c && closed f s)
+      go true e = parts-closed s (omega (arith, leb-true (leastWhole f + tailOf f) (length s) e))
+      go false e = refl
 
 -- ---- what follows the spaces
 -- a minus, in a quantity, and an amount; or an amount; or nothing
@@ -189,11 +166,11 @@ point-fixed : (f : Format) (n : ℕ) → pointPlace f n ≡ true → leb (fixedO
 unfolding pointPlace fixedOf
 point-fixed f n e = go (eqb (f .point) 0) refl e
   where
-    go : (c : Bool) → eqb (f .point) 0 ≡ c → (not c && eqb n (f .decimals)) ≡ true → leb (fixedWhole f + tailOf f) n ≡ false
+    go : (c : Bool) → eqb (f .point) 0 ≡ c → (not c && eqb n (f .decimals)) ≡ true → leb (leastWhole f + tailOf f) n ≡ false
     go true q h = holds-not h refl
     go false q h =
         let t = tail-point f (eqb-false _ _ q) in
-        lt-leb (fixedWhole f + tailOf f) n (omega (arith, eqb-true n (f .decimals) h))
+        lt-leb (leastWhole f + tailOf f) n (omega (arith, eqb-true n (f .decimals) h))
 
 -- ---- which byte may stand after spaces alone
 module _ (q : Bool) (f : Format) (left : List ℕ) (open′ : allSpaces left ≡ true) (n b : ℕ) where
@@ -255,11 +232,17 @@ formed blank = true
 formed (says z) = true
 formed wrong = false
 
+-- a SINGLE's last digit has its place
+code-fixed : fixedOf codeFormat ≡ 1
+unfolding fixedOf leastWhole tailOf
+code-fixed = refl
+
 code-after : (s : List ℕ) → formed (codeAfter s) ≡ formAfter false codeFormat s
 unfolding formed codeAfter formAfter
 code-after [] = refl
 code-after (b ∷ s) =
-    rw (closed-plain codeFormat (b ∷ s) refl) (go (digitsOnly (b ∷ s)) ∙ rw (roomy-tail codeFormat (λ e. refl) (λ e. omega arith) (suc (length s)), tail-none codeFormat (λ e. refl) refl, lt-ltb 0 (suc (length s)) (omega arith)))
+    rw (closed-plain codeFormat (b ∷ s) refl)
+    (go (digitsOnly (b ∷ s)) ∙ rw (le-leb (fixedOf codeFormat) (suc (length s)) (omega (arith, code-fixed))))
   where
     go : (c : Bool) → formed (cond c (says (pos (decimal (b ∷ s)))) wrong) ≡ c
     go true = refl
@@ -277,7 +260,7 @@ amount-formed f minus s = go (amountForm f s)
     go true = refl
     go false = refl
 
-module _ (f : Format) (plain : f .point ≡ 0 → f .decimals ≡ 0) (today : f .point ≡ 2 → ⊥) where
+module _ (f : Format) (plain : f .point ≡ 0 → f .decimals ≡ 0) where
   quantity-after : (s : List ℕ) → formed (quantityAfter f s) ≡ formAfter true f s
   unfolding formed quantityAfter formAfter
   quantity-after [] = refl
@@ -285,8 +268,8 @@ module _ (f : Format) (plain : f .point ≡ 0 → f .decimals ≡ 0) (today : f 
     where
       go : (c : Bool) → formed (cond c (amountOf f true s) (amountOf f false (b ∷ s)))
           ≡ cond c (leb (fixedOf f) (length s) && closed f s) (leb (fixedOf f) (suc (length s)) && closed f (b ∷ s))
-      go true = amount-formed f true s ∙ amount-closed f plain today s
-      go false = amount-formed f false (b ∷ s) ∙ amount-closed f plain today (b ∷ s)
+      go true = amount-formed f true s ∙ amount-closed f plain s
+      go false = amount-formed f false (b ∷ s) ∙ amount-closed f plain (b ∷ s)
 
   pub quantity-formed : (s : List ℕ) → formed (quantityOf f s) ≡ formAfter true f (unspaced s)
   unfolding quantityOf
@@ -305,11 +288,9 @@ form-some q f r ps h =
 
 -- a SINGLE's or a subfield's bytes
 pub code-cases : (r ps : List ℕ) → 1 ≤ length ps → someFault (numberForm false codeFormat r ps) ≡ not (formed (codeOf (pick r ps)))
-unfolding fixedOf fixedWhole
-code-cases r ps h =
-    rw (code-formed (pick r ps)) (form-some false codeFormat r ps (omega (arith, tail-none codeFormat (λ e. refl) refl)))
+code-cases r ps h = rw (code-formed (pick r ps)) (form-some false codeFormat r ps (omega (arith, code-fixed)))
 
 -- a quantity's
-pub quantity-cases : (f : Format) → (f .point ≡ 0 → f .decimals ≡ 0) → (f .point ≡ 2 → ⊥) → (r ps : List ℕ) → fixedOf f ≤ length ps
+pub quantity-cases : (f : Format) → (f .point ≡ 0 → f .decimals ≡ 0) → (r ps : List ℕ) → fixedOf f ≤ length ps
     → someFault (numberForm true f r ps) ≡ not (formed (quantityOf f (pick r ps)))
-quantity-cases f plain today r ps h = rw (quantity-formed f plain today (pick r ps)) (form-some true f r ps h)
+quantity-cases f plain r ps h = rw (quantity-formed f plain (pick r ps)) (form-some true f r ps h)

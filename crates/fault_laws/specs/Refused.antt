@@ -9,14 +9,14 @@ use borrow.Author.Tests.{eqb-true}
 use lib.IntN.{ℤ}
 use Rattle.below.specs.rule.Below.{maxBelow}
 use Rattle.below.specs.Below.{max-none, max-at, all-at, and-both, lt-or-le}
-use Rattle.ascii.specs.Tens.{digits-some}
 use Rattle.layout.specs.rule.Layout.{headerOf}
 use Rattle.layout.specs.rule.Row.{rowAt}
 use Rattle.layout.specs.declared.Format.{Format}
 use Rattle.layout.specs.declared.Kind.{Kind}
 use Rattle.layout.specs.declared.Kind.the-variants.{Single, Multiple, Quantity, Character, Logical}
 use Rattle.layout.specs.declared.Row.{Row}
-use Rattle.widths.specs.rule.Width.{tailOf, need, quantityWidth, wholeDigits, sizeOf}
+use Rattle.widths.specs.rule.Width.{tailOf, leastWhole, need, quantityWidth, sizeOf}
+use Rattle.widths.specs.Width.{whole-least}
 use Rattle.fields.specs.Facts.{KindFacts, QuantityFacts, RowFacts}
 use Rattle.fields.specs.rule.Row.{readingOf}
 use Rattle.sets.specs.rule.Sets.{isIllegal}
@@ -24,14 +24,14 @@ use Rattle.sound.specs.rule.Sound.{valueAt, rangeWidth, widest, widthGood, widt
 use Rattle.sound.specs.rule.Sound.{wellFormed}
 use Rattle.sound.specs.rule.Rows.{rowsOf, lengthOf}
 use Rattle.sound.specs.Rows.{parts, row-facts}
-use Rattle.faults.specs.rule.Fault.{fixedWhole, fixedOf, faultOf}
+use Rattle.faults.specs.rule.Fault.{fixedOf, faultOf}
 use Rattle.faults.specs.Joined.{someFault}
-use Rattle.fault_laws.specs.Cases.{FixedFacts, same-cases, whole-few}
+use Rattle.fault_laws.specs.Cases.{FixedFacts, same-cases}
 
 -- every number of a quantity takes its fixed places
 fixed-need : (f : Format) (z : ℤ) → fixedOf f ≤ need (Quantity f) z
-unfolding need quantityWidth wholeDigits fixedOf
-fixed-need f z = omega (arith, digits-some (sizeOf z / 10 ^ f .decimals), whole-few f)
+unfolding need quantityWidth fixedOf
+fixed-need f z = omega (arith, whole-least f (sizeOf z))
 
 module _ (t : List ℤ) (v : ℕ) (r : Row) (f : Format) (is : r .kind ≡ Quantity f) where
   needs : (z : ℤ) → fixedOf f ≤ need (r .kind) z

@@ -4,7 +4,7 @@ use mathlib.Core.Path.{_≡_, refl, sym, _∙_}
 use mathlib.Core.Bool.{Bool, true, false, cond}
 use mathlib.Core.List.{List}
 use Prim.Native.Nat.{ℕ, _-_, _^_, _≤_, _<_}
-use native.Mathlib.Nat.{lt-of-lt-of-le, pow-le-pow-right}
+use native.Mathlib.Nat.{lt-of-lt-of-le, lt-of-le-of-lt, pow-le-pow-right}
 use native.Mathlib.Omega.{arith}
 use borrow.Author.Tests.{le-leb, leb-true, ltb-false, le-ltb}
 use lib.Dec.{eqb, ltb, lit<}
@@ -16,6 +16,7 @@ use Rattle.ascii.specs.rule.Tens.{digitsOf}
 use Rattle.ascii.specs.Tens.{digits-hold}
 use Rattle.cells.specs.rule.Cell.{eqZ, signedOf}
 use Rattle.widths.specs.rule.Width.{need, lowest, highest, sizeOf}
+use Rattle.widths.specs.Width.{size-small}
 use Rattle.places.specs.Laws.{length-run}
 use Rattle.layout.specs.declared.Format.{Format}
 use Rattle.layout.specs.declared.Spread.the-variants.{Bits, Fields}
@@ -78,11 +79,9 @@ counted (negsuc n) a b = holds-not a refl
 within-digits : (n w : ℕ) → n ≤ 9999 → digitsOf n ≤ w → n < 10 ^ w
 within-digits n w few h = lt-of-lt-of-le (digits-hold n (omega arith)) (pow-le-pow-right (lit< tt) h)
 
--- a quantity has at most 16 digits
-pub quantity-few : (z : ℤ) → leZ (negsuc 999999999999998) z ≡ true → leZ z (pos 999999999999999) ≡ true → sizeOf z < 10 ^ 16
-unfolding signedOf
-quantity-few (pos n) a b = omega (arith, leb-true n 999999999999999 b)
-quantity-few (negsuc n) a b = omega (arith, leb-true n 999999999999998 a)
+-- a quantity has fewer than 16 digits
+pub quantity-few : (f : Format) (z : ℤ) → leZ (lowest (Quantity f)) z ≡ true → leZ z (highest (Quantity f)) ≡ true → sizeOf z < 10 ^ 16
+quantity-few f z a b = lt-of-le-of-lt (size-small (Quantity f) z a b) (omega arith)
 
 -- ---- codes
 module _ (ok : ℤ → Bool) (w : ℕ) (wide : 1 ≤ w) where
@@ -140,7 +139,7 @@ module _ (t : List ℤ) (v : ℕ) (r : Row) where
       single-back (legal t v r) (r .width) (l .kind .some) (counted z (l .least z q) (l .most z q)) (l .room z q) q
   back-number (Quantity f) l z e =
       let q : legal t v r z ≡ true = fit-legal (legal t v r z) e in
-      let few : sizeOf z < 10 ^ 16 = quantity-few z (l .least z q) (l .most z q) in
+      let few : sizeOf z < 10 ^ 16 = quantity-few f z (l .least z q) (l .most z q) in
       rw (quantity-back f (r .width) (l .kind .plain) z few (l .room z q), q)
   back-number (Multiple s) l z e = no-other e
   back-number Character l z e = no-other e

@@ -4,18 +4,17 @@ use mathlib.Core.Bool.{Bool, true, false, cond}
 use mathlib.Core.List.{List, [], _∷_, _++_, append-nil}
 use Prim.Native.Nat.{ℕ, zero, suc, _+_, _-_, _*_, _/_, _%_, _^_, _≤_, _<_}
 use native.Mathlib.Nat.{pow-succ', add-mul, mul-assoc, add-assoc, mod-lt, mod-eq-of-lt, div-add-mod', div-one}
-use native.Mathlib.Nat.{lt-of-lt-of-le, lt-of-le-of-lt, div-le-self, pow-le-pow-right, zero-mul, zero-add, sub-zero}
+use native.Mathlib.Nat.{lt-of-lt-of-le, pow-le-pow-right, zero-mul, zero-add, sub-zero}
 use native.Mathlib.Omega.{arith}
-use borrow.Author.Tests.{lt-ltb, ne-eqb, eqb-true, le-leb}
+use borrow.Author.Tests.{ne-eqb, eqb-true, le-leb}
 use lib.Arith.{mod-mul}
 use lib.Dec.{eqb, lit<}
 use lib.IntN.{ℤ, pos, negsuc}
 use lib.ListN.{length, take, drop, getD, length-append}
 use lib.Seq.{take-at, getD-at, drop-append-add, take-length, drop-length}
-use Rattle.ascii.specs.Tens.{digits-hold, digits-some}
 use Rattle.cells.specs.rule.Cell.{numberOf, signedOf}
-use Rattle.widths.specs.rule.Width.{tailOf, wholeDigits, quantityWidth, sizeOf, minusOf}
-use Rattle.widths.specs.Width.{ten-some}
+use Rattle.widths.specs.rule.Width.{tailOf, leastWhole, wholeDigits, quantityWidth, sizeOf, minusOf}
+use Rattle.widths.specs.Width.{ten-some, least-one, whole-least, whole-hold}
 use Rattle.layout.specs.declared.Format.{Format}
 use Rattle.fields.specs.rule.Number.{unspaced, digitsOnly, decimalFrom, decimal, says, codeAfter, codeOf, amountForm}
 use Rattle.fields.specs.rule.Number.{amountSize, amountOf, quantityAfter, quantityOf, padded, amountBytes, quantityBytes, codeBytes}
@@ -105,16 +104,18 @@ module _ (f : Format) where
       go false e = length-pointed w (n / 10 ^ f .decimals) n e h
 
   -- no point: the digits alone
-  amount-plain : (minus : Bool) (w n : ℕ) → eqb (f .point) 0 ≡ true → 0 < w → n < 10 ^ w
+  amount-plain : (minus : Bool) (w n : ℕ) → eqb (f .point) 0 ≡ true → 1 ≤ w → n < 10 ^ w
       → f .decimals ≡ 0 → amountOf f minus (padded w n) ≡ says (numberOf minus n)
   unfolding amountOf amountForm amountSize digitsOnly
   amount-plain minus w n e h l d =
       let t : take w (padded w n) ≡ padded w n = ap (λ (k : ℕ). take k (padded w n)) (sym (length-padded w n)) ∙ take-length (padded w n) in
       let x : drop w (padded w n) ≡ [] = ap (λ (k : ℕ). drop k (padded w n)) (sym (length-padded w n)) ∙ drop-length (padded w n) in
-      rw (length-padded w n, tail-plain e, d, e, sub-zero, t) (rw (x, lt-ltb 0 w h, padded-digits w n, decimal-padded w n l))
+      let o = least-one f (λ q. omega (arith, eqb-true (f .point) 0 e)) in
+      rw (length-padded w n, tail-plain e, o, d, e, sub-zero, t) (rw (x, le-leb 1 w h, padded-digits w n, decimal-padded w n l))
 
   -- a point: the digits before it, it, and the decimals
-  amount-pointed : (minus : Bool) (w n : ℕ) → eqb (f .point) 0 ≡ false → tailOf f < w → n / 10 ^ f .decimals < 10 ^ (w - tailOf f)
+  amount-pointed : (minus : Bool) (w n : ℕ) → eqb (f .point) 0 ≡ false → leastWhole f + tailOf f ≤ w
+      → n / 10 ^ f .decimals < 10 ^ (w - tailOf f)
       → amountOf f minus (padded (w - tailOf f) (n / 10 ^ f .decimals) ++ 46 ∷ padded (f .decimals) n) ≡ says (numberOf minus n)
   unfolding amountOf amountForm amountSize
   amount-pointed minus w n e h l =
@@ -131,10 +132,11 @@ module _ (f : Format) where
       let said : decimal (xs ++ ys) ≡ n =
       said-append xs 0 ys ∙ ap (λ (i : ℕ). decimalFrom i ys) (decimal-padded k a l) ∙ said-padded (f .decimals) a n
       ∙ div-add-mod' n (10 ^ f .decimals) in
-      rw (size, e, front, mark, back) (rw (lt-ltb (tailOf f) w h, padded-digits k a, padded-digits (f .decimals) n, said))
+      rw (size, e, front, mark, back) (rw (le-leb (leastWhole f + tailOf f) w h, padded-digits k a, padded-digits (f .decimals) n, said))
 
   -- what is written without its minus reads back as written
-  pub amount-back : (minus : Bool) (w n : ℕ) → (f .point ≡ 0 → f .decimals ≡ 0) → tailOf f < w → n / 10 ^ f .decimals < 10 ^ (w - tailOf f)
+  pub amount-back : (minus : Bool) (w n : ℕ) → (f .point ≡ 0 → f .decimals ≡ 0) → leastWhole f + tailOf f ≤ w
+      → n / 10 ^ f .decimals < 10 ^ (w - tailOf f)
       → amountOf f minus (amountBytes f w n) ≡ says (numberOf minus n)
   amount-back minus w n plain h l = go (eqb (f .point) 0) refl
     where
@@ -142,28 +144,31 @@ module _ (f : Format) where
       go true e =
           let d : f .decimals ≡ 0 = plain (eqb-true (f .point) 0 e) in
           let m : n < 10 ^ w = rw (tail-plain e, d, div-one, sub-zero) at l in
+          let o = least-one f (λ q. omega (arith, eqb-true (f .point) 0 e)) in
           rw (bytes-plain w n e d) (amount-plain minus w n e (omega arith) m d)
       go false e = rw (bytes-pointed w n e) (amount-pointed minus w n e h l)
 
--- an amount begins with a digit: no space, no minus
-led : (f : Format) (w n : ℕ) → tailOf f < w → quantityOf f (amountBytes f w n) ≡ amountOf f false (amountBytes f w n)
+-- an amount begins with a digit, or with its point: no space, no minus
+led : (f : Format) (w n : ℕ) → leastWhole f + tailOf f ≤ w → quantityOf f (amountBytes f w n) ≡ amountOf f false (amountBytes f w n)
 unfolding quantityOf quantityAfter unspaced amountBytes padded
-led f w n h =
-    let k = w - tailOf f - 1 in
-    let e : w - tailOf f ≡ suc k = omega arith in
-    let d = 48 + n / 10 ^ f .decimals / 10 ^ k % 10 in
-    rw e (rw (ne-eqb d 32 (λ q. omega arith), ne-eqb d 45 (λ q. omega arith)))
+led f w n h = go (w - tailOf f) refl
+  where
+    go : (k : ℕ) → w - tailOf f ≡ k → quantityOf f (amountBytes f w n) ≡ amountOf f false (amountBytes f w n)
+    go (suc k) e =
+        let d = 48 + n / 10 ^ f .decimals / 10 ^ k % 10 in
+        rw e (rw (ne-eqb d 32 (λ q. omega arith), ne-eqb d 45 (λ q. omega arith)))
+    go zero e = rw e (by (eqb (f .point) 0) refl)
+      where
+        by : (b : Bool) → eqb (f .point) 0 ≡ b
+            → quantityOf f (cond b [] (46 ∷ padded (f .decimals) n)) ≡ amountOf f false (cond b [] (46 ∷ padded (f .decimals) n))
+        by true q =
+            let o = least-one f (λ p. omega (arith, eqb-true (f .point) 0 q)) in
+            absurd (omega (arith, tail-plain f q))
+        by false q = refl
 
 -- ---- a quantity that takes at most w bytes
 whole-few : (f : Format) (n v : ℕ) → n < 10 ^ 16 → wholeDigits f n ≤ v → n / 10 ^ f .decimals < 10 ^ v
-unfolding wholeDigits
-whole-few f n v few h =
-    lt-of-lt-of-le (digits-hold (n / 10 ^ f .decimals) (lt-of-le-of-lt (div-le-self n (10 ^ f .decimals)) few))
-    (pow-le-pow-right (lit< tt) h)
-
-whole-some : (f : Format) (n : ℕ) → 1 ≤ wholeDigits f n
-unfolding wholeDigits
-whole-some f n = digits-some (n / 10 ^ f .decimals)
+whole-few f n v few h = lt-of-lt-of-le (whole-hold f n few) (pow-le-pow-right (lit< tt) h)
 
 -- as many bytes as the width, where the point, the decimals and the minus have room
 pub quantity-length : (f : Format) (w : ℕ) (z : ℤ) → tailOf f + minusOf z ≤ w → length (quantityBytes f w z) ≡ w
@@ -175,10 +180,10 @@ module _ (f : Format) (w : ℕ) (plain : f .point ≡ 0 → f .decimals ≡ 0) w
   pub quantity-back : (z : ℤ) → sizeOf z < 10 ^ 16 → quantityWidth f z ≤ w → quantityOf f (quantityBytes f w z) ≡ says z
   unfolding quantityOf quantityAfter unspaced quantityBytes quantityWidth signedOf numberOf
   quantity-back (pos n) few h =
-      let t : tailOf f < w = omega (arith, whole-some f n) in
+      let t : leastWhole f + tailOf f ≤ w = omega (arith, whole-least f n) in
       led f w n t ∙ amount-back f false w n plain t (whole-few f n (w - tailOf f) few (omega arith))
   quantity-back (negsuc n) few h =
-      amount-back f true (w - 1) (suc n) plain (omega (arith, whole-some f (suc n)))
+      amount-back f true (w - 1) (suc n) plain (omega (arith, whole-least f (suc n)))
       (whole-few f (suc n) (w - 1 - tailOf f) few (omega arith))
 
   pub length-quantity : (z : ℤ) → quantityWidth f z ≤ w → length (quantityBytes f w z) ≡ w

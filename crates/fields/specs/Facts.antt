@@ -43,11 +43,12 @@ pub record SpreadFacts (n b : ℕ) (r : Row) : Type 0 where
   pub holds : r .width ≤ b
   pub room : r .start + n * b ≤ r .finish + 1
 
--- no decimals without a point; with it, and a digit before it, the decimals leave room
+-- no decimals without a point, and no point code 2 without decimals
 pub record QuantityFacts (f : Format) (r : Row) : Type 0 where
   pub decimals : f .decimals ≤ 9
-  pub point : f .point ≤ 1
+  pub point : f .point ≤ 2
   pub plain : f .point ≡ 0 → f .decimals ≡ 0
+  pub share : f .point ≡ 2 → 1 ≤ f .decimals
   pub width : WidthFacts 17 r
 
 abbrev pub KindFacts : Kind → Row → Type 0

@@ -7,15 +7,15 @@ use Prim.Native.Nat.{ℕ, suc, _+_, _-_, _*_, _^_, _≤_, _<_}
 use native.Mathlib.Nat.{sub-zero, pow-le-pow-right, le-trans, one-mul, mul-le-mul-right}
 use native.Mathlib.Numerals.{add-one}
 use native.Mathlib.Omega.{arith}
-use borrow.Author.Tests.{lt-ltb, le-ltb, eq-eqb, ne-eqb}
+use borrow.Author.Tests.{lt-leb, le-leb, eq-eqb, ne-eqb}
 use lib.IntN.{pos}
 use lib.ListN.{length, take, drop, getD, length-drop, drop-of-length-le}
 use lib.Pow.{pow-add}
 use lib.Seq.{length-take-le, take-all, take-length, drop-length, drop-cons}
 use Rattle.cells.specs.rule.Cell.{numberOf}
 use Rattle.layout.specs.declared.Format.{Format}
-use Rattle.widths.specs.rule.Width.{tailOf}
-use Rattle.widths.specs.Width.{tail-point}
+use Rattle.widths.specs.rule.Width.{tailOf, leastWhole}
+use Rattle.widths.specs.Width.{tail-point, least-one}
 use Rattle.fields.specs.rule.Number.{blank, says, wrong, digitsOnly, decimalFrom, decimal, unspaced, codeAfter, codeOf, amountForm}
 use Rattle.fields.specs.rule.Number.{amountSize, amountOf, quantityAfter, quantityOf}
 use Rattle.numbers.specs.Numeral.{digitsRead, decimalsRead}
@@ -118,15 +118,15 @@ decimal-append n [] y = refl
 decimal-append n (b ∷ x) y = decimal-append (n * 10 + (b - 48)) x y
 
 module _ (f : Format) (minus : Bool) (s : List ℕ) where
-  pub amount-short : length s ≤ tailOf f → amountOf f minus s ≡ wrong
+  pub amount-short : length s < leastWhole f + tailOf f → amountOf f minus s ≡ wrong
   unfolding amountOf amountForm
-  amount-short h = rw (le-ltb _ _ h)
+  amount-short h = rw (lt-leb _ _ h)
 
-  module _ (k : ℕ) (at : k ≡ length s - tailOf f) (room : tailOf f < length s) where
+  module _ (k : ℕ) (at : k ≡ length s - tailOf f) (room : leastWhole f + tailOf f ≤ length s) where
     -- before the whole part is judged nothing else counts
     pub amount-bad : digitsRead 0 (take k s) ≡ digits.Wrong → amountOf f minus s ≡ wrong
     unfolding amountOf amountForm
-    amount-bad e = rw (lt-ltb _ _ room, ← at, wrong-only 0 (take k s) e)
+    amount-bad e = rw (le-leb _ _ room, ← at, wrong-only 0 (take k s) e)
 
     module _ (n : ℕ) (whole : digitsRead 0 (take k s) ≡ digits.Value n) where
       pub amount-plain : f .point ≡ 0 → f .decimals ≡ 0 → amountOf f minus s ≡ says (numberOf minus n)
@@ -136,17 +136,17 @@ module _ (f : Format) (minus : Bool) (s : List ℕ) where
           let l : k ≡ length s = at ∙ rw t (sub-zero (length s)) in
           let v : decimalFrom 0 s ≡ n = rw (l, take-length s) at (value-is 0 (take k s) n whole) in
           let o : digitsOnly s ≡ true = rw (l, take-length s) at (value-only 0 (take k s) n whole) in
-          let z : 0 < length s = rw t at room in
-          rw (eq-eqb _ _ p, d, sub-zero, take-length, drop-length, o, v, lt-ltb _ _ z)
+          let z = le-leb (leastWhole f + tailOf f) (length s) room in
+          rw (z) (rw (eq-eqb _ _ p, d, sub-zero, take-length, drop-length, o, v))
 
       pub amount-pointless : (f .point ≡ 0 → ⊥) → (getD s k 0 ≡ 46 → ⊥) → amountOf f minus s ≡ wrong
       unfolding amountOf amountForm
-      amount-pointless p g = rw (lt-ltb _ _ room, ← at, value-only 0 (take k s) n whole, ne-eqb _ _ p, ne-eqb _ _ g)
+      amount-pointless p g = rw (le-leb _ _ room, ← at, value-only 0 (take k s) n whole, ne-eqb _ _ p, ne-eqb _ _ g)
 
       pub amount-decimals : (f .point ≡ 0 → ⊥) → getD s k 0 ≡ 46 → amountOf f minus s ≡ decimalsRead minus n (drop (k + 1) s)
       unfolding amountOf amountForm amountSize decimalsRead
       amount-decimals p g =
           let t : tailOf f ≡ f .decimals + 1 = tail-point f p in
           let d : length s - f .decimals ≡ k + 1 = omega arith in
-          rw (lt-ltb _ _ room, ← at, value-only 0 (take k s) n whole, ne-eqb _ _ p, eq-eqb _ _ g, d)
+          rw (le-leb _ _ room, ← at, value-only 0 (take k s) n whole, ne-eqb _ _ p, eq-eqb _ _ g, d)
           (rw (decimal-append 0 (take k s) (drop (k + 1) s), value-is 0 (take k s) n whole))

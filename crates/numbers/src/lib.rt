@@ -2,9 +2,11 @@
 // place from the right, so a quantity is digits, the point, digits, and no state is kept. Above it stand the readings of fields.
 ghost use mathlib.Core.Path.{_≡_};
 ghost use Prim.Native.Nat.{_+_, _*_, _^_, _≤_, _<_};
+ghost use lib.Dec.{ltb};
 ghost use lib.ListN.{length, drop};
 ghost use Rattle.fields.specs.rule.Number.{codeOf, quantityOf, amountOf, unspaced};
 ghost use Rattle.cells.specs.rule.Cell.{numberOf};
+ghost use Rattle.widths.specs.rule.Width.{tailOf, leastWhole};
 ghost use Rattle.numbers.specs.Numeral.{saidOf, digitsRead, decimalsRead};
 ghost use Rattle.numbers.specs.rule.Format.{FormatFacts};
 use layout::Format;
@@ -100,7 +102,18 @@ fn decimals_after(minus: bool, whole: u64, s: &[u8]) -> Numeral
     }
 }
 
-// What follows the minus: digits, at least one before the point, the point and the decimals as in the block.
+// Whether n bytes are too few for the digits that no number goes without, and for the tail, the point and the decimals.
+fn too_short(f: Format, tail: usize, n: usize) -> bool
+    requires { ⌜ (tail ≡ tailOf f) × (tail ≤ 10) ⌝ }
+    ensures { λ r. ⌜ r ≡ ltb n (leastWhole f + tailOf f) ⌝ }
+{
+    if tail < n {
+        return false;
+    }
+    n < widths::least_whole(f) + tail
+}
+
+// What follows the minus: digits, the point and the decimals as in the block.
 fn amount(f: Format, minus: bool, s: &[u8]) -> Numeral
     requires { ⌜ FormatFacts f ⌝ }
     requires { ⌜ length (now s) ≤ 17 ⌝ }
@@ -108,7 +121,7 @@ fn amount(f: Format, minus: bool, s: &[u8]) -> Numeral
 {
     let tail = widths::tail(f);
     let n = s.len();
-    if n <= tail {
+    if too_short(f, tail, n) {
         return Numeral::Wrong;
     }
     let k = n - tail;

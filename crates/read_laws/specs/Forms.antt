@@ -5,8 +5,8 @@ use mathlib.Core.List.{List, [], _∷_, _++_, append-nil}
 use Prim.Native.Nat.{ℕ, suc, _+_, _-_, _*_, _≤_, _<_}
 use native.Mathlib.Nat.{sub-zero}
 use native.Mathlib.Omega.{arith}
-use borrow.Author.Tests.{eqb-true, eqb-false, eq-eqb, ne-eqb, le-leb, lt-ltb, ltb-true}
-use lib.Dec.{eqb, ltb}
+use borrow.Author.Tests.{eqb-true, eqb-false, eq-eqb, ne-eqb, le-leb, leb-true}
+use lib.Dec.{eqb, leb}
 use lib.IntN.{ℤ, pos}
 use lib.ListN.{length, take, drop, getD, length-append, length-drop, take-append-drop}
 use lib.Seq.{take-append-seam, drop-append-add, getD-append-seam, take-length, drop-length, drop-cons, length-take-le}
@@ -16,8 +16,8 @@ use Rattle.below.specs.Below.{and-both, holds-not}
 use Rattle.ascii.specs.rule.Class.{within}
 use Rattle.cells.specs.rule.Cell.{numberOf}
 use Rattle.layout.specs.declared.Format.{Format}
-use Rattle.widths.specs.rule.Width.{tailOf}
-use Rattle.widths.specs.Width.{tail-point}
+use Rattle.widths.specs.rule.Width.{tailOf, leastWhole}
+use Rattle.widths.specs.Width.{tail-point, least-one}
 use Rattle.fields.specs.rule.Number.{Said, blank, says, wrong, allSpaces, unspaced, digitsOnly, decimalFrom, decimal, codeAfter, codeOf}
 use Rattle.fields.specs.rule.Number.{wholePart, decimalPart, pointStands, amountForm, amountSize, amountOf, quantityAfter, quantityOf}
 use Rattle.numbers.specs.rule.Format.{FormatFacts}
@@ -173,7 +173,7 @@ pub record AmountForm (f : Format) (negative : Bool) (s : List ℕ) (z : ℤ) : 
   pub decimals : List ℕ
   pub size : ℕ
   pub made : s ≡ whole ++ tail
-  pub some : 0 < length whole
+  pub some : leastWhole f ≤ length whole
   pub tailed : Tail f tail decimals
   pub said : Digits 0 (whole ++ decimals) size
   pub is : z ≡ numberOf negative size
@@ -208,29 +208,30 @@ module _ (f : Format) (facts : FormatFacts f) where
   tail-size (point {ds} p n) = rw (ne-eqb _ _ p) (omega (arith, n))
 
   -- an amount of this form is read as what it says
-  complete : (neg : Bool) (w t ds : List ℕ) (n : ℕ) → 0 < length w → Tail f t ds → Digits 0 (w ++ ds) n
+  complete : (neg : Bool) (w t ds : List ℕ) (n : ℕ) → leastWhole f ≤ length w → Tail f t ds → Digits 0 (w ++ ds) n
       → amountOf f neg (w ++ t) ≡ says (numberOf neg n)
   unfolding amountOf amountForm amountSize digitsOnly
   complete neg w t ds n some (without p) d =
       let z : tailOf f ≡ 0 = sym (tail-size (without p)) in
       let o : digitsOnly (w ++ []) ≡ true = digits-only d in
       let v : decimalFrom 0 (w ++ []) ≡ n = digits-say d in
-      rw (z, eq-eqb _ _ p, facts .plain p, sub-zero, take-length, drop-length, o, v, lt-ltb 0 (length (w ++ [])) (rw append-nil some))
+      let r : leastWhole f + tailOf f ≤ length (w ++ []) = rw append-nil (omega arith) in
+      rw (le-leb _ _ r, z, eq-eqb _ _ p, facts .plain p, sub-zero, take-length, drop-length, o, v)
   complete neg w t ds n some (point p l) d =
       let a : length (w ++ (46 ∷ ds)) ≡ length w + suc (length ds) = length-append w (46 ∷ ds) in
       let b : tailOf f ≡ suc (length ds) = sym (tail-size {ds = ds} (point p l)) in
       let k : length (w ++ (46 ∷ ds)) - tailOf f ≡ length w = omega arith in
       let m : length (w ++ (46 ∷ ds)) - f .decimals ≡ length w + 1 = omega arith in
-      let r : tailOf f < length (w ++ (46 ∷ ds)) = omega arith in
+      let r : leastWhole f + tailOf f ≤ length (w ++ (46 ∷ ds)) = omega arith in
       let o = digits-both w ds (digits-only d) in
       let v : decimalFrom 0 (w ++ ds) ≡ n = digits-say d in
-      rw (lt-ltb _ _ r, k, m, take-append-seam w (46 ∷ ds), drop-append-add w (46 ∷ ds) 1, getD-append-seam w 46 ds 0)
+      rw (le-leb _ _ r, k, m, take-append-seam w (46 ∷ ds), drop-append-add w (46 ∷ ds) 1, getD-append-seam w 46 ds 0)
       (rw (ne-eqb _ _ p, o .0, o .1, v))
 
   -- and one that is read has this form
   module _ (neg : Bool) (x : List ℕ) (z : ℤ) where
     record Parts : Type 0 where
-      pub long : tailOf f < length x
+      pub long : leastWhole f + tailOf f ≤ length x
       pub whole-digits : digitsOnly (wholePart f x) ≡ true
       pub stands : pointStands f x ≡ true
       pub decimal-digits : digitsOnly (decimalPart f x) ≡ true
@@ -239,8 +240,8 @@ module _ (f : Format) (facts : FormatFacts f) where
     opened : amountForm f x ≡ true → z ≡ numberOf neg (amountSize f x) → Parts
     unfolding amountForm
     opened a b =
-        let q = four (ltb (tailOf f) (length x)) (digitsOnly (wholePart f x)) (pointStands f x) (digitsOnly (decimalPart f x)) a in
-        record { long = ltb-true _ _ (q .0); whole-digits = q .1; stands = q .2; decimal-digits = q .3; is = b }
+        let q = four (leb (leastWhole f + tailOf f) (length x)) (digitsOnly (wholePart f x)) (pointStands f x) (digitsOnly (decimalPart f x)) a in
+        record { long = leb-true _ _ (q .0); whole-digits = q .1; stands = q .2; decimal-digits = q .3; is = b }
 
     parts : amountOf f neg x ≡ says z → Parts
     unfolding amountOf
@@ -299,11 +300,13 @@ module _ (f : Format) (facts : FormatFacts f) where
 
   -- ---- a quantity
   -- what stands behind the spaces: a minus and an amount, or an amount that begins with a digit
-  after-complete : (neg : Bool) (g sg w t ds : List ℕ) (n : ℕ) → Spaces g → Sign neg sg → 0 < length w → Tail f t ds → Digits 0 (w ++ ds) n
+  after-complete : (neg : Bool) (g sg w t ds : List ℕ) (n : ℕ) → Spaces g → Sign neg sg → leastWhole f ≤ length w → Tail f t ds → Digits 0 (w ++ ds) n
       → quantityOf f (g ++ (sg ++ (w ++ t))) ≡ says (numberOf neg n)
   unfolding quantityOf quantityAfter
   after-complete neg g sg w t ds n b minus some tl d = rw (past-gap 45 (w ++ t) b (λ e. omega arith)) (complete true w t ds n some tl d)
-  after-complete neg g sg [] t ds n b plain some tl d = absurd (omega arith)
+  after-complete neg g sg [] t ds n b plain some (without p) d = absurd (omega (arith, least-one f (λ e. omega arith)))
+  after-complete neg g sg [] t ds n b plain some (point p l) d =
+      rw (past-gap 46 ds b (λ e. omega arith)) (complete false [] (46 ∷ ds) ds n some (point p l) d)
   after-complete neg g sg (c ∷ w) t ds n b plain some tl d =
       let q = digit-first c (w ++ ds) d in
       rw (past-gap c (w ++ t) b (λ e. omega arith), ne-eqb c 45 (λ e. omega arith)) (complete false (c ∷ w) t ds n some tl d)

@@ -3,6 +3,7 @@ pub mod Settled
 pub mod Alone
 pub mod Refused
 pub mod Forms
+pub mod Shares
 pub mod Kinds
 pub mod Others
 pub mod Missing

@@ -8,14 +8,15 @@ use lib.IntN.{ℤ, pos, negsuc}
 use lib.ListN.{length, set, take}
 use Rattle.ascii.specs.rule.Tens.{countFrom, digitsOf}
 use Rattle.below.specs.rule.Below.{_and_, allBelow, sumBelow, maxBelow}
-use Rattle.cells.specs.rule.Cell.{countOf, signedOf, eqZ}
+use Rattle.cells.specs.rule.Cell.{countOf, signedOf, numberOf, eqZ}
 use Rattle.layout.specs.rule.Layout.{headerOf, columnsAt, lineAt}
 use Rattle.layout.specs.rule.Row.{rowOf, rowAt, kindOf, spreadOf}
 use Rattle.layout.specs.declared.Columns.{Columns}
 use Rattle.layout.specs.declared.Row.{Row}
-use Rattle.widths.specs.rule.Width.{need, tailOf, wholeDigits, quantityWidth, lowest, highest}
+use Rattle.widths.specs.rule.Width.{need, tailOf, leastWhole, wholeDigits, quantityWidth, mostSize, lowest, highest}
 use Rattle.strides.specs.rule.Stride.{numberNew, allDiffer}
-use Rattle.sound.specs.rule.Sound.{headCounts, headSums, typeKnown, decimalsFew, flagsPlain, lackedZero, pointGiven, valuesGiven}
+use Rattle.sound.specs.rule.Sound.{headCounts, headSums, typeKnown, decimalsFew, rangeFlag, pointKnown, lackedZero, pointGiven, sharesGiven}
+use Rattle.sound.specs.rule.Sound.{valuesGiven}
 use Rattle.sound.specs.rule.Sound.{identGood, positionGood, subfieldsGood, textsGood, rangeLacked, rangeGood, linesPlain, valuesFit}
 use Rattle.sound.specs.rule.Sound.{valueAt, rangeWidth, widest, widthGood, roomGood, linesGood, valuesGood, widthsGood, countsGood}
 use Rattle.sound.specs.rule.Sound.{placesGood, columnsGood, rowGood, columnsOf, linesBefore, highestFinish, identsDiffer, rowsGood}
@@ -64,6 +65,10 @@ lines =
 abbrev pub good : List ℤ
 good = head ++ single ++ bits ++ spread ++ quantity ++ text ++ truth ++ lines
 
+-- the same with shares: the quantity from -.9 to .9, with .5 on a line, has point code 2 and is three bytes wide
+abbrev pub share : List ℤ
+share = set (set (set (set (set good 66 (pos 2)) 70 (negsuc 8)) 71 (pos 9)) 126 (pos 5)) 64 (pos 3)
+
 -- ---- the clauses of the test, and those that fail on a table
 pub data Clause : Type 0 where
   counts : Clause
@@ -71,8 +76,10 @@ pub data Clause : Type 0 where
   types : Clause
   decimals : Clause
   flags : Clause
+  codes : Clause
   lacked : Clause
   points : Clause
+  shares : Clause
   values : Clause
   idents : Clause
   positions : Clause
@@ -108,9 +115,11 @@ failing t =
     (unless (headSums (headerOf t) (length t)) sums
     (unless (all t typeKnown) types
     (unless (all t decimalsFew) decimals
-    (unless (all t flagsPlain) flags
+    (unless (all t rangeFlag) flags
+    (unless (all t pointKnown) codes
     (unless (all t lackedZero) lacked
     (unless (all t pointGiven) points
+    (unless (all t sharesGiven) shares
     (unless (all t valuesGiven) values
     (unless (all t identGood) idents
     (unless (all t positionGood) positions
@@ -126,14 +135,16 @@ failing t =
     (unless (each t (λ r. widthGood (r .kind) (r .width) (widest t v r))) widths
     (unless (each t (λ r. roomGood (r .kind) r)) rooms
     (unless (eqb (highestFinish t v) (headerOf t .length)) lengths
-    (unless (identsDiffer t v) idents-differ []))))))))))))))))))))))
+    (unless (identsDiffer t v) idents-differ []))))))))))))))))))))))))
 
 -- nothing fails on the sound table; numbers beyond it are not looked at; the empty table is refused
 pub decided : (wellFormed good ≡ true) × (failing good ≡ []) × (wellFormed (good ++ negsuc 6 ∷ pos 3 ∷ []) ≡ true) × (wellFormed [] ≡ false)
+    × (wellFormed share ≡ true) × (failing share ≡ [])
 unfolding wellFormed rowsGood rowGood columnsGood countsGood placesGood valuesGood linesGood widthsGood linesPlain valuesFit
     allDiffer numberNew rangeWidth widest widthGood roomGood identsDiffer _and_ allBelow sumBelow maxBelow countOf signedOf eqZ
-    headerOf columnsAt lineAt rowOf kindOf spreadOf need tailOf wholeDigits quantityWidth lowest highest digitsOf countFrom
-decided = (refl, refl, refl, refl)
+    headerOf columnsAt lineAt rowOf kindOf spreadOf need tailOf leastWhole wholeDigits quantityWidth mostSize lowest highest digitsOf
+    countFrom numberOf
+decided = (refl, refl, refl, refl, refl, refl)
 
 -- ---- tables that break one clause each
 pub record Broken : Type 0 where
@@ -157,8 +168,10 @@ broken =
     ∷ breaks types (set good 97 (pos 6))
     -- ten decimals, with their width
     ∷ breaks decimals (set (set (set good 65 (pos 10)) 64 (pos 13)) 63 (pos 25))
-    -- point 2
-    ∷ breaks flags (set (set good 66 (pos 2)) 65 (pos 0))
+    -- a range flag of 2
+    ∷ breaks flags (set (set (set good 69 (pos 2)) 70 (pos 0)) 71 (pos 0))
+    -- point 3
+    ∷ breaks codes (set good 66 (pos 3))
     -- a SINGLE with subfields
     ∷ breaks lacked (set (set good 13 (pos 2)) 14 (pos 3))
     -- a SINGLE with a decimal and its point
@@ -167,6 +180,8 @@ broken =
     ∷ breaks lacked (set (set (set good 105 (pos 1)) 106 (pos 1)) 107 (pos 1))
     -- a decimal and no point
     ∷ breaks points (set (set good 66 (pos 0)) 64 (pos 3))
+    -- point code 2 and no decimals
+    ∷ breaks shares (set (set (set (set (set (set good 65 (pos 0)) 66 (pos 2)) 70 (pos 0)) 71 (pos 0)) 126 (pos 0)) 64 (pos 1))
     -- a SINGLE with neither range nor line
     ∷ breaks values (set (set (set (set good 15 (pos 0)) 16 (pos 0)) 17 (pos 0)) 10 (pos 0))
     -- ident 0
@@ -197,6 +212,12 @@ broken =
     ∷ breaks lines-plain (set good 115 (pos 2))
     -- a negative text place
     ∷ breaks lines-plain (set good 128 (negsuc 0))
+    -- 1.0 on a line, under point code 2
+    ∷ breaks numbers-fit (set share 126 (pos 10))
+    -- -1.0 at the range's start, under point code 2
+    ∷ breaks ranges (set (set share 70 (negsuc 9)) 64 (pos 4))
+    -- a digit before the point counted, under point code 2
+    ∷ breaks widths (set share 64 (pos 4))
     -- category 0
     ∷ breaks numbers-fit (set good 114 (pos 0))
     -- a negative category
@@ -237,5 +258,6 @@ alone (b ∷ bs) = (b .clause ∷ []) ∷ alone bs
 pub each-breaks-one : (refused broken ≡ never broken) × (failings broken ≡ alone broken)
 unfolding wellFormed rowsGood rowGood columnsGood countsGood placesGood valuesGood linesGood widthsGood linesPlain valuesFit
     allDiffer numberNew rangeWidth widest widthGood roomGood identsDiffer _and_ allBelow sumBelow maxBelow countOf signedOf eqZ
-    headerOf columnsAt lineAt rowOf kindOf spreadOf need tailOf wholeDigits quantityWidth lowest highest digitsOf countFrom
+    headerOf columnsAt lineAt rowOf kindOf spreadOf need tailOf leastWhole wholeDigits quantityWidth mostSize lowest highest digitsOf
+    countFrom numberOf
 each-breaks-one = (refl, refl)

@@ -22,9 +22,9 @@ use Rattle.layout.specs.declared.Row.{Row}
 use Rattle.layout.specs.declared.Spread.the-variants.{Bits, Fields}
 use Rattle.layout.specs.declared.Kind.{Kind}
 use Rattle.layout.specs.declared.Kind.the-variants.{Single, Multiple, Quantity, Character, Logical}
-use Rattle.widths.specs.rule.Width.{need, fitsKind, lowest, highest, sizeOf, quantityWidth, wholeDigits}
+use Rattle.widths.specs.rule.Width.{need, fitsKind, lowest, highest, sizeOf, quantityWidth}
 use Rattle.widths.specs.Width.{need-between}
-use Rattle.widths.specs.Width.{size-small, FewDecimals, decimalsOf, tail-few}
+use Rattle.widths.specs.Width.{size-small, FewDecimals, decimalsOf, tail-few, whole-upto}
 use Rattle.sound.specs.rule.Sound.{valuesFit, linesPlain, linesGood, valueAt, rangeGood, rangeWidth, widest}
 use Rattle.strides.specs.declared.Hull.{Hull}
 use Rattle.strides.specs.Stride.{Strided}
@@ -117,12 +117,18 @@ code-few (pos n) e g = leb-true n 9999 e
 code-few (negsuc n) e g = holds-not g refl
 
 pub need-few : (k : Kind) (z : ℤ) → FewDecimals k → fitsKind k z ≡ true → need k z ≤ 9999
-unfolding need quantityWidth wholeDigits decimalsOf lowest highest
+unfolding need quantityWidth decimalsOf lowest highest
 need-few Single z d e = omega (arith, digits-few (sizeOf z))
 need-few (Multiple Bits) z d e = code-few z (and-right (leZ (pos 1) z) (leZ z (pos 9999)) e) (and-left (leZ (pos 1) z) (leZ z (pos 9999)) e)
 need-few (Multiple (Fields n w)) z d e = omega (arith, digits-few (sizeOf z))
 need-few (Quantity f) z d e =
-    omega (arith, digits-few (sizeOf z / 10 ^ f .decimals), tail-few f (d .few), minus-few (signedOf z .minus))
+    omega (
+      arith,
+      whole-upto f (sizeOf z),
+      digits-few (sizeOf z / 10 ^ f .decimals),
+      tail-few f (d .few),
+      minus-few (signedOf z .minus),
+    )
   where
     minus-few : (b : Bool) → cond b 1 0 ≤ 1
     minus-few true = omega arith

@@ -26,9 +26,10 @@ pub record ColumnFacts (e before : ℕ) (c : Columns) : Type 0 where
   pub type-low : 1 ≤ c .kind
   pub type-high : c .kind ≤ 5
   pub decimals : c .decimals ≤ 9
-  pub point : c .point ≤ 1
+  pub point : c .point ≤ 2
   pub range : c .range ≤ 1
-  pub plain : (c .decimals ≡ 0) ⊎ (c .point ≡ 1)
+  pub plain : (c .decimals ≡ 0) ⊎ (1 ≤ c .point)
+  pub shares : (c .point ≤ 1) ⊎ (1 ≤ c .decimals)
   pub given : (4 ≤ c .kind) ⊎ ((c .range ≡ 1) ⊎ (1 ≤ c .lines))
   pub lacked : (c .kind ≤ 3) ⊎ ((c .range ≡ 0) × (c .lines ≡ 0))
   pub from-one : 1 ≤ c .start
@@ -45,7 +46,9 @@ module _ (e before : ℕ) (c : Columns) (g : columnsGood e before c ≡ true) wh
       let g4 = and-both g in
       let g3 = and-both (g4 .0) in
       let g1 = and-both (and-both (g3 .0) .0) in
-      let n5 = and-both (g1 .0) in
+      let n7 = and-both (g1 .0) in
+      let n6 = and-both (n7 .0) in
+      let n5 = and-both (n6 .0) in
       let n4 = and-both (n5 .0) in
       let n3 = and-both (n4 .0) in
       let n2 = and-both (n3 .0) in
@@ -57,16 +60,19 @@ module _ (e before : ℕ) (c : Columns) (g : columnsGood e before c ≡ true) wh
         type-low = leb-true 1 (c .kind) (and-left (leb 1 (c .kind)) (leb (c .kind) 5) (n1 .0));
         type-high = leb-true (c .kind) 5 (and-right (leb 1 (c .kind)) (leb (c .kind) 5) (n1 .0));
         decimals = leb-true (c .decimals) 9 (n1 .1);
-        point = leb-true (c .point) 1 (and-left (leb (c .point) 1) (leb (c .range) 1) (n2 .1));
-        range = leb-true (c .range) 1 (and-right (leb (c .point) 1) (leb (c .range) 1) (n2 .1));
+        range = leb-true (c .range) 1 (n2 .1);
+        point = leb-true (c .point) 2 (n3 .1);
         plain =
-            ⊎-elim (λ x. inl (eqb-true (c .decimals) 0 x)) (λ x. inr (eqb-true (c .point) 1 x))
-            (either-true (eqb (c .decimals) 0) (eqb (c .point) 1) (n4 .1));
+            ⊎-elim (λ x. inl (eqb-true (c .decimals) 0 x)) (λ x. inr (leb-true 1 (c .point) x))
+            (either-true (eqb (c .decimals) 0) (leb 1 (c .point)) (n5 .1));
+        shares =
+            ⊎-elim (λ x. inl (leb-true (c .point) 1 x)) (λ x. inr (leb-true 1 (c .decimals) x))
+            (either-true (leb (c .point) 1) (leb 1 (c .decimals)) (n6 .1));
         given =
             ⊎-elim (λ x. inl (leb-true 4 (c .kind) x))
             (λ x. inr (⊎-elim (λ y. inl (eqb-true (c .range) 1 y)) (λ y. inr (leb-true 1 (c .lines) y))
             (either-true (eqb (c .range) 1) (leb 1 (c .lines)) x)))
-            (either-true (leb 4 (c .kind)) (eqb (c .range) 1 || leb 1 (c .lines)) (n5 .1));
+            (either-true (leb 4 (c .kind)) (eqb (c .range) 1 || leb 1 (c .lines)) (n7 .1));
         lacked =
             ⊎-elim (λ x. inl (leb-true (c .kind) 3 x))
             (λ x. inr (
@@ -79,7 +85,7 @@ module _ (e before : ℕ) (c : Columns) (g : columnsGood e before c ≡ true) wh
             ((eqb (c .kind) 3 || eqb (c .decimals) 0 && eqb (c .point) 0)
             && (eqb (c .kind) 2 || eqb (c .subfields) 0 && eqb (c .subwidth) 0))
             (leb (c .kind) 3 || eqb (c .range) 0 && eqb (c .lines) 0)
-            (n3 .1)));
+            (n4 .1)));
         from-one =
             leb-true 1 (c .start)
             (and-left (leb 1 (c .start)) (leb (c .start) (c .finish))

@@ -230,6 +230,7 @@ module _ (t : List ℤ) (v e before : ℕ) (c : Columns) (f : ColumnFacts e befo
         decimals = f .decimals;
         point = f .point;
         plain = λ z. ⊎-elim (λ p. p) (λ p. absurd (omega arith)) (f .plain);
+        share = λ z. ⊎-elim (λ p. absurd (omega arith)) (λ p. p) (f .shares);
         width = wide 17 (some k tt (f .decimals) (omega arith) u w) (few k tt (f .decimals) (omega arith) u w) r;
       }
 

@@ -2,7 +2,7 @@
 use mathlib.Core.Path.{_≡_, refl, sym}
 use mathlib.Core.Logic.{⊎-elim}
 use mathlib.Core.Bool.{Bool, true, false, cond, _&&_, _||_}
-use Prim.Native.Nat.{ℕ, suc, _+_, _≤_}
+use Prim.Native.Nat.{ℕ, zero, suc, _+_, _≤_}
 use native.Mathlib.Nat.{eq-or-lt-of-le}
 use native.Mathlib.Omega.{arith}
 use borrow.Author.Tests.{eqb-true, eqb-false, leb-true, le-leb, lt-leb, ne-eqb}
@@ -12,10 +12,11 @@ use Rattle.below.specs.rule.Below.{_and_}
 use Rattle.below.specs.Below.{and-both, both-and, and-left, and-right, and-true, same-bool, either-true, or-true, holds-not}
 use Rattle.cells.specs.rule.Cell.{eqZ}
 use Rattle.layout.specs.declared.Columns.{Columns}
-use Rattle.sound.specs.rule.Sound.{typeKnown, decimalsFew, lackedZero, rangeLacked, pointGiven, valuesGiven, countsGood}
+use Rattle.sound.specs.rule.Sound.{typeKnown, decimalsFew, rangeFlag, pointKnown, lackedZero, rangeLacked, pointGiven, sharesGiven}
+use Rattle.sound.specs.rule.Sound.{valuesGiven, countsGood}
 use Rattle.sound.specs.rule.Sound.{identGood, positionGood, subfieldsGood, textsGood, placesGood, columnsGood}
 
--- no decimals and no point; no subfields; a point with few decimals, or neither
+-- no decimals and no point; no subfields; a point with few decimals, of code 2 with some, or neither
 abbrev pub wholeIs : Columns → Bool
 wholeIs c = eqb (c .decimals) 0 && eqb (c .point) 0
 
@@ -23,7 +24,8 @@ abbrev pub undividedIs : Columns → Bool
 undividedIs c = eqb (c .subfields) 0 && eqb (c .subwidth) 0
 
 abbrev pub formatGood : Columns → Bool
-formatGood c = cond (eqb (c .point) 0) (eqb (c .decimals) 0) (eqb (c .point) 1 && leb (c .decimals) 9)
+formatGood c =
+    cond (eqb (c .point) 0) (eqb (c .decimals) 0) ((eqb (c .point) 1 || (eqb (c .point) 2 && leb 1 (c .decimals))) && leb (c .decimals) 9)
 
 -- the ends of a range that is not there; a range or a line; neither
 abbrev pub unrangedIs : Columns → Bool
@@ -97,10 +99,11 @@ module _ (e before : ℕ) (c : Columns) (g : sharedGood e before c ≡ true) whe
 record Parts (c : Columns) : Type 0 where
   known : typeKnown c ≡ true
   decimals : decimalsFew c ≡ true
-  point : leb (c .point) 1 ≡ true
-  range : leb (c .range) 1 ≡ true
+  range : rangeFlag c ≡ true
+  point : pointKnown c ≡ true
   lacked : lackedZero c ≡ true
   plain : pointGiven c ≡ true
+  shares : sharesGiven c ≡ true
   given : valuesGiven c ≡ true
   subfields : subfieldsGood c ≡ true
   ends : rangeLacked c ≡ true
@@ -111,7 +114,9 @@ module _ (c : Columns) where
   parts-of g =
       let t2 = and-both g in
       let t1 = and-both (t2 .0) in
-      let n5 = and-both (t1 .0) in
+      let n7 = and-both (t1 .0) in
+      let n6 = and-both (n7 .0) in
+      let n5 = and-both (n6 .0) in
       let n4 = and-both (n5 .0) in
       let n3 = and-both (n4 .0) in
       let n2 = and-both (n3 .0) in
@@ -119,11 +124,12 @@ module _ (c : Columns) where
       record {
         known = n1 .0;
         decimals = n1 .1;
-        point = and-left (leb (c .point) 1) (leb (c .range) 1) (n2 .1);
-        range = and-right (leb (c .point) 1) (leb (c .range) 1) (n2 .1);
-        lacked = n3 .1;
-        plain = n4 .1;
-        given = n5 .1;
+        range = n2 .1;
+        point = n3 .1;
+        lacked = n4 .1;
+        plain = n5 .1;
+        shares = n6 .1;
+        given = n7 .1;
         subfields = t1 .1;
         ends = t2 .1;
       }
@@ -131,8 +137,8 @@ module _ (c : Columns) where
   of-parts : Parts c → typeGood c ≡ true
   unfolding typeGood countsGood
   of-parts p =
-      both-and (both-and (both-and (both-and (both-and (both-and (both-and (p .known) (p .decimals))
-      (and-true (leb (c .point) 1) (leb (c .range) 1) (p .point) (p .range))) (p .lacked)) (p .plain)) (p .given)) (p .subfields)) (p .ends)
+      both-and (both-and (both-and (both-and (both-and (both-and (both-and (both-and (both-and (p .known) (p .decimals)) (p .range))
+      (p .point)) (p .lacked)) (p .plain)) (p .shares)) (p .given)) (p .subfields)) (p .ends)
 
   pub type-decimals : typeGood c ≡ true → c .decimals ≤ 9
   type-decimals g = leb-true (c .decimals) 9 (parts-of g .decimals)
@@ -170,38 +176,41 @@ module _ (c : Columns) where
             ends = rw e (and-right (eqb (c .range) 0) (unrangedIs c) u);
           }
 
-  -- a point and few decimals, or neither
+  -- a point and few decimals, some where its code is 2, or neither
   format-of : Parts c → formatGood c ≡ true
-  format-of p = go (eqb (c .point) 0) (eqb (c .point) 1) refl refl (p .plain)
+  format-of p = go (c .point) refl (p .point) (p .plain) (p .shares)
     where
-      go : (a b : Bool) → eqb (c .point) 0 ≡ a → eqb (c .point) 1 ≡ b → (eqb (c .decimals) 0 || b) ≡ true
-          → cond a (eqb (c .decimals) 0) (b && leb (c .decimals) 9) ≡ true
-      go true true e f g = absurd (omega (arith, eqb-true (c .point) 0 e, eqb-true (c .point) 1 f))
-      go true false e f g = ⊎-elim (λ x. x) (λ x. holds-not x refl) (either-true (eqb (c .decimals) 0) false g)
-      go false true e f g = p .decimals
-      go false false e f g =
-          absurd (omega (arith, leb-true (c .point) 1 (p .point), eqb-false (c .point) 0 e, eqb-false (c .point) 1 f))
+      go : (k : ℕ) → c .point ≡ k → leb k 2 ≡ true → (eqb (c .decimals) 0 || leb 1 k) ≡ true → (leb k 1 || leb 1 (c .decimals)) ≡ true
+          → cond (eqb k 0) (eqb (c .decimals) 0) ((eqb k 1 || (eqb k 2 && leb 1 (c .decimals))) && leb (c .decimals) 9) ≡ true
+      go zero q a b s = ⊎-elim (λ x. x) (λ x. holds-not x refl) (either-true (eqb (c .decimals) 0) false b)
+      go (suc zero) q a b s = p .decimals
+      go (suc (suc zero)) q a b s = and-true (leb 1 (c .decimals)) (leb (c .decimals) 9) s (p .decimals)
+      go (suc (suc (suc k))) q a b s = absurd (omega (arith, leb-true (suc (suc (suc k))) 2 a))
 
   record Formed : Type 0 where
     decimals : decimalsFew c ≡ true
-    point : leb (c .point) 1 ≡ true
+    point : pointKnown c ≡ true
     plain : pointGiven c ≡ true
+    shares : sharesGiven c ≡ true
 
   of-format : formatGood c ≡ true → Formed
-  of-format = go (eqb (c .point) 0) refl
+  of-format = go (c .point) refl
     where
-      go : (a : Bool) → eqb (c .point) 0 ≡ a → cond a (eqb (c .decimals) 0) (eqb (c .point) 1 && leb (c .decimals) 9) ≡ true → Formed
-      go true e g =
-          let p = eqb-true (c .point) 0 e in
+      go : (k : ℕ) → c .point ≡ k
+          → cond (eqb k 0) (eqb (c .decimals) 0) ((eqb k 1 || (eqb k 2 && leb 1 (c .decimals))) && leb (c .decimals) 9) ≡ true → Formed
+      go zero q g =
           let d = eqb-true (c .decimals) 0 g in
-          record { decimals = rw d; point = rw p; plain = rw d }
-      go false e g =
-          let p = eqb-true (c .point) 1 (and-left (eqb (c .point) 1) (leb (c .decimals) 9) g) in
-          record {
-            decimals = and-right (eqb (c .point) 1) (leb (c .decimals) 9) g;
-            point = rw p;
-            plain = rw p (or-true (eqb (c .decimals) 0));
-          }
+          record { decimals = rw d; point = rw q; plain = rw d; shares = rw q }
+      go (suc zero) q g = record { decimals = g; point = rw q; plain = rw q (or-true (eqb (c .decimals) 0)); shares = rw q }
+      go (suc (suc zero)) q g = record {
+        decimals = and-right (leb 1 (c .decimals)) (leb (c .decimals) 9) g;
+        point = rw q;
+        plain = rw q (or-true (eqb (c .decimals) 0));
+        shares = rw q (and-left (leb 1 (c .decimals)) (leb (c .decimals) 9) g);
+      }
+      go (suc (suc (suc k))) q g =
+          let n = suc (suc (suc k)) in
+          holds-not g (rw (ne-eqb n 0 (λ e. omega arith), ne-eqb n 1 (λ e. omega arith), ne-eqb n 2 (λ e. omega arith)))
 
   -- what each type tests
   pub single-good : c .kind ≡ 1 → typeGood c ≡ (wholeIs c && undividedIs c && valuedIs c)
@@ -227,6 +236,7 @@ module _ (c : Columns) where
         range = v .range;
         lacked = rw (q, d, t, s, m);
         plain = rw d;
+        shares = rw t;
         given = rw q (v .given);
         subfields = rw (s, m);
         ends = v .ends;
@@ -254,6 +264,7 @@ module _ (c : Columns) where
         range = v .range;
         lacked = rw (q, d, t);
         plain = rw d;
+        shares = rw t;
         given = rw q (v .given);
         subfields = and-right (wholeIs c) (subfieldsGood c) b;
         ends = v .ends;
@@ -281,6 +292,7 @@ module _ (c : Columns) where
         range = v .range;
         lacked = rw (q, s, m);
         plain = f .plain;
+        shares = f .shares;
         given = rw q (v .given);
         subfields = rw (s, m);
         ends = v .ends;
@@ -318,6 +330,7 @@ module _ (c : Columns) where
         range = rw r;
         lacked = rw (n3, n2, g3, d, t, s, m, r, n);
         plain = rw d;
+        shares = rw t;
         given = rw (le-leb 4 (c .kind) l);
         subfields = rw (s, m);
         ends = rw r (and-right (eqb (c .range) 0 && eqb (c .lines) 0) (unrangedIs c) y);

@@ -59,14 +59,14 @@ fn undivided(c: Columns) -> bool
     (c.subfields == 0) & (c.subwidth == 0)
 }
 
-// A point and few decimals, or neither.
+// A point and few decimals, some where its code is 2, or neither.
 fn format_good(c: Columns) -> bool
     ensures { λ b. ⌜ b ≡ formatGood c ⌝ }
 {
     if c.point == 0 {
         return c.decimals == 0;
     }
-    (c.point == 1) & (c.decimals <= 9)
+    ((c.point == 1) | ((c.point == 2) & (1 <= c.decimals))) & (c.decimals <= 9)
 }
 
 // A range, or at least a line.
@@ -382,7 +382,17 @@ fn quantity_fits(powers: &[u64; 16], c: Columns, h: Hull) -> bool
     requires { ⌜ c .decimals ≤ 9 ⌝ }
     ensures { λ b. ⌜ b ≡ valuedBy (quantityOf c) (rowOf c) h ⌝ }
 {
-    if !numbers_fit(c, h, -999_999_999_999_999, 999_999_999_999_999) {
+    let f = Format {
+        decimals: c.decimals,
+        point: c.point,
+    };
+    let most = widths::most_size(powers, f);
+    if !numbers_fit(
+        c,
+        h,
+        cells::number_of(true, most),
+        cells::number_of(false, most),
+    ) {
         return false;
     }
     (c.width == quantity_ends(powers, c, h)) & width_held(c)

@@ -173,7 +173,7 @@ module _ (t : List ℤ) (g : wellFormed t ≡ true) where
     unfolding columnsGood countsGood c
     no-subfields n =
         let a = and-both (and-both (and-both (and-both good .0) .0) .0) .0 in
-        let z = and-both (and-both (and-both a .0) .0) .1 in
+        let z = and-both (and-both (and-both (and-both a .0) .0) .0) .1 in
         let x = eqb (c .kind) 3 || (eqb (c .decimals) 0 && eqb (c .point) 0) in
         let y = eqb (c .kind) 2 || (eqb (c .subfields) 0 && eqb (c .subwidth) 0) in
         let u = and-right x y (and-left (x && y) (leb (c .kind) 3 || (eqb (c .range) 0 && eqb (c .lines) 0)) z) in

@@ -154,11 +154,15 @@ marked-more f n stamp marks z h e m = record { left = λ i k. go i (eqb (slotOf 
         c
 
 -- a line with nothing wrong has form, and is not too large
-pub sound-value : (quantity : Bool) (b : Block) (v : Value) → lineFault quantity b v ≡ 0 → (formOf quantity v ≡ true) × (largeOf quantity v ≡ false)
+pub sound-value : (quantity : Bool) (b : Block) (v : Value) → lineFault quantity b v ≡ 0
+    → (formOf quantity v ≡ true) × (largeOf quantity v ≡ false) × (b .known ≡ true → v .decimals ≡ b .decimals)
 unfolding lineFault
-sound-value quantity b v = by (formOf quantity v) (b .known && not (eqb (v .decimals) (b .decimals))) (largeOf quantity v) where
-  by : (x y z : Bool) → _≡_ {A = ℕ} (cond x (cond y 6 (cond z 8 0)) 6) 0 → (x ≡ true) × (z ≡ false)
-  by false y z e = absurd (omega arith)
-  by true true z e = absurd (omega arith)
-  by true false true e = absurd (omega arith)
-  by true false false e = (refl, refl)
+sound-value quantity b v = by (formOf quantity v) (b .known) (eqb (v .decimals) (b .decimals)) (largeOf quantity v) refl where
+  by : (x k q z : Bool) → eqb (v .decimals) (b .decimals) ≡ q → _≡_ {A = ℕ} (cond x (cond (k && not q) 6 (cond z 8 0)) 6) 0
+      → (x ≡ true) × (z ≡ false) × (k ≡ true → v .decimals ≡ b .decimals)
+  by false k q z f e = absurd (omega arith)
+  by true true false z f e = absurd (omega arith)
+  by true true true true f e = absurd (omega arith)
+  by true true true false f e = (refl, refl, λ g. eqb-true (v .decimals) (b .decimals) f)
+  by true false q true f e = absurd (omega arith)
+  by true false q false f e = (refl, refl, λ g. holds-not g refl)

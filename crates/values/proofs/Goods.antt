@@ -3,16 +3,16 @@ use mathlib.Core.Path.{_≡_, refl, _∙_, sym, ap}
 use mathlib.Core.Logic.{_⊎_, inl, inr, ⊎-elim}
 use mathlib.Core.Bool.{Bool, true, false, cond, not, _&&_, _||_}
 use mathlib.Core.List.{List, [], _∷_, _++_}
-use Prim.Native.Nat.{ℕ, zero, suc, _+_, _-_, _≤_, _<_}
+use Prim.Native.Nat.{ℕ, zero, suc, _+_, _-_, _^_, _≤_, _<_}
 use native.Mathlib.Nat.{eq-or-lt-of-le}
 use native.Mathlib.Omega.{arith}
 use lib.Dec.{ltb, eqb}
 use lib.IntN.{ℤ, pos, negsuc}
 use lib.ListN.{length}
 use lib.Signed.{leZ, ltZ}
-use borrow.Author.Tests.{ltb-true, ltb-false, le-leb, not-true}
+use borrow.Author.Tests.{ltb-true, ltb-false, eqb-true, le-leb, not-true}
 use Rattle.below.specs.Below.{holds-not, and-left, and-right, any-holds}
-use Rattle.cells.specs.rule.Cell.{numberOf, eqZ}
+use Rattle.cells.specs.rule.Cell.{numberOf, signedOf, eqZ}
 use Rattle.scan.specs.rule.Text.{Text, stop, sign, text}
 use Rattle.scan.specs.rule.Number.{isDigit, runOf, bytesOf}
 use Rattle.scan.specs.Number.{capped, digitsFrom}
@@ -46,13 +46,15 @@ use Rattle.values.specs.declared.Verdict.{Verdict}
 use Rattle.values.specs.declared.Verdict.the-variants.{Good, Bad}
 use Rattle.values.specs.declared.Turn.{Turn}
 use Rattle.values.specs.declared.Turn.the-variants as turn
-use Rattle.values.specs.Value.{formOf, largeOf, trueOf, scaledOf, pointOf}
+use Rattle.values.specs.Value.{formOf, largeOf, trueOf, scaledOf, pointOf, pointsOf}
 use Rattle.values.specs.Range.{limitRange, judgeRange, settled, rangedOf, withOr, rangeRest}
-use Rattle.values.specs.Line.{Given, Is, Not, lineRest, numberOn, numberAt, repeatedIn, lineFault, judgeLine, grownBy, endOf}
+use Rattle.values.specs.Line.{Given, Is, Not, lineRest, numberOn, numberAt, repeatedIn, lineFault, judgeLine, grownPoint, grownBy, endOf}
 use Rattle.values.specs.Line.{endOr, moreOf, Listing, stateOf, after, judgedStep, readStep, lineStep, linesFrom}
 use Rattle.values.specs.Block.{emptyBlock, closedBy, rangeThen, toOr, valuesOn}
-use Rattle.values.specs.Good.{least, most, Limited, GoodBlock, GoodLine, EachGood, none, more, GoodLines, GoodValues}
+use Rattle.values.specs.Good.{least, most, Limited, Near, GoodBlock, GoodLine, EachGood, none, more, GoodLines, GoodValues}
 use Rattle.values.proofs.Facts.{or-none, or-neither, sound-value}
+use Rattle.values.proofs.Shares.{value-near, value-some, code-low, code-bare, code-none, code-some, codes-low, codes-same, codes-some, codes-first}
+use Rattle.values.proofs.Shares.{size-number}
 use Rattle.values.proofs.Rooms.{count-more, number-before, number-last}
 use Rattle.values.proofs.Lists.{good-line, line-value, line-good}
 
@@ -66,10 +68,13 @@ run-stops d {n} (at-sign {p = p} {b = b} {u = u} g w i r) q = by (isDigit b) ref
   by true f ih = ih
   by false f ih = rw (sym q, f)
 
--- decimals have a point before them, and the size is the true one up to the cap
+-- decimals have a point before them, the size is the true one up to the cap, one in form has a digit, and one with none before its point
+-- lies nearer zero than 1
 pub record Genuine (d : List ℕ) (v : Value) : Type 0 where
   pub pointed : (v .decimals ≡ 0) ⊎ (v .point ≡ true)
   pub sized : v .size ≡ capped (valueOf d (v .first) (v .last))
+  pub some : v .formed ≡ true → (0 < v .whole) ⊎ (0 < v .decimals)
+  pub near : v .whole ≡ 0 → v .size < 10 ^ v .decimals
 
 mark-pointed : (d : List ℕ) (k : ℕ) (t : Text) → bytesOf isDigit (text d k) ≡ [] → (length (bytesOf isDigit (text d (markOf k 46 t .next))) ≡ 0) ⊎ (markOf k 46 t .there ≡ true)
 unfolding markOf
@@ -92,13 +97,19 @@ value-genuine d (Refused f) v e = let z : _≡_ {A = ℕ} 0 1 = cc in absurd (om
 value-genuine d (At n) v e = by (eqb (valueAt d n .next) n) e where
   by : (x : Bool) → cond x (amount.Not (fault 2 n)) (amount.Is (valueAt d n)) ≡ amount.Is v → Genuine d v
   by true e = let z : _≡_ {A = ℕ} 0 1 = cc in absurd (omega arith)
-  by false e = let j : valueAt d n ≡ v = cc in rw (← j) (record { pointed = value-pointed d n; sized = value-true d n })
+  by false e = let j : valueAt d n ≡ v = cc in rw (← j) (record { pointed = value-pointed d n; sized = value-true d n; some = value-some d n; near = value-near d n })
 
 -- ---- a value of the right form that passes no limit
 pub record Fit (quantity : Bool) (v : Value) : Type 0 where
   pub small : v .size ≤ 999999999999999
   pub places : v .decimals ≤ 9
   pub category : quantity ≡ false → (v .minus ≡ false) × (v .point ≡ false) × (0 < v .size) × (v .size ≤ 9999)
+  pub share : pointOf v ≡ 2 → (1 ≤ v .decimals) × (v .size < 10 ^ v .decimals)
+
+share-of : {d : List ℕ} {v : Value} → Genuine d v → v .formed ≡ true → pointOf v ≡ 2 → (1 ≤ v .decimals) × (v .size < 10 ^ v .decimals)
+share-of {v = v} g f e =
+    let w = code-bare v e in
+    (⊎-elim (λ x. absurd (omega arith)) (λ x. x) (g .some f), g .near w)
 
 -- digits alone have no decimals
 whole : {d : List ℕ} {v : Value} → Genuine d v → v .point ≡ false → v .decimals ≡ 0
@@ -110,6 +121,7 @@ fits d true v g f l = record {
   small = ltb-false 999999999999999 (v .size) (or-none _ (ltb 9 (v .decimals)) l);
   places = ltb-false 9 (v .decimals) (or-neither (ltb 999999999999999 (v .size)) _ l);
   category = λ e. holds-not refl e;
+  share = share-of g f;
 }
 fits d false v g f l =
     let a = and-right (v .formed) (not (v .minus) && (not (v .point) && ltb 0 (v .size))) f in
@@ -118,7 +130,8 @@ fits d false v g f l =
     let p = not-true (v .point) (and-left (not (v .point)) (ltb 0 (v .size)) b) in
     let z = ltb-true 0 (v .size) (and-right (not (v .point)) (ltb 0 (v .size)) b) in
     let h = ltb-false 9999 (v .size) l in
-    record { small = omega arith; places = omega (arith, whole g p); category = λ e. (m, p, z, h) }
+    let k : v .formed ≡ true = and-left (v .formed) (not (v .minus) && (not (v .point) && ltb 0 (v .size))) f in
+    record { small = omega arith; places = omega (arith, whole g p); category = λ e. (m, p, z, h); share = share-of g k }
 
 quantity-limited : (m : Bool) (n : ℕ) → n ≤ 999999999999999 → Limited true (numberOf m n)
 unfolding numberOf
@@ -152,51 +165,49 @@ not-below (pos a) (negsuc b) e = holds-not refl e
 not-below (negsuc a) (pos b) e = refl
 not-below (negsuc a) (negsuc b) e = le-leb b a (ltb-false a b e)
 
-point-low : (x : Bool) → pointOf x ≤ 1
-point-low true = omega arith
-point-low false = omega arith
-
-point-one : (x y : Bool) → y ≡ true → pointOf (x || y) ≡ 1
-point-one true y e = refl
-point-one false y e = rw e
-
-point-none : (x y : Bool) → x ≡ false → y ≡ false → pointOf (x || y) ≡ 0
-point-none x y e f = rw (e, f)
+-- where the code is 2, the number that a value says is near
+near-said : {quantity : Bool} {v : Value} → Fit quantity v → pointOf v ≡ 2 → signedOf (scaledOf v) .size < 10 ^ v .decimals
+unfolding scaledOf
+near-said {v = v} f e = rw (size-number (v .minus) (v .size)) (f .share e .1)
 
 -- ---- a range
 abbrev rangeBlock : Value → Value → Block
-rangeBlock x y = record { ranged = true; from = scaledOf x; to = scaledOf y; known = true; decimals = x .decimals; point = pointOf (x .point || y .point) }
+rangeBlock x y = record { ranged = true; from = scaledOf x; to = scaledOf y; known = true; decimals = x .decimals; point = pointsOf (pointOf x) (pointOf y) }
 
 module _ (d : List ℕ) (quantity : Bool) where
-  range-good : (x y : Value) → Genuine d x → Genuine d y → Fit quantity x → Fit quantity y → ltZ (trueOf d y) (trueOf d x) ≡ false → GoodBlock quantity (rangeBlock x y)
-  range-good x y gx gy fx fy e = record {
+  range-good : (x y : Value) → Genuine d x → Genuine d y → Fit quantity x → Fit quantity y → x .decimals ≡ y .decimals
+      → ltZ (trueOf d y) (trueOf d x) ≡ false → GoodBlock quantity (rangeBlock x y)
+  range-good x y gx gy fx fy s e = record {
     few-decimals = fx .places;
-    point-code = point-low (x .point || y .point);
-    pointed = ⊎-elim inl (λ p. inr (rw p)) (gx .pointed);
-    category = λ q. (whole gx (fx .category q .1), point-none (x .point) (y .point) (fx .category q .1) (fy .category q .1));
+    point-code = codes-low (pointOf x) (pointOf y) (code-low x);
+    pointed = ⊎-elim inl (λ p. inr (codes-first (pointOf x) (pointOf y) (code-some x p))) (gx .pointed);
+    shared = λ p. fx .share (codes-same (pointOf x) (pointOf y) p .0) .0;
+    category = λ q. (whole gx (fx .category q .1), rw (code-none x (fx .category q .1), code-none y (fy .category q .1)));
     unranged = λ q. holds-not refl q;
     ordered = λ q. not-below (scaledOf x) (scaledOf y) (rw (true-scaled gx fx, true-scaled gy fy) at e);
     from-limited = λ q. value-limited quantity x fx;
     to-limited = λ q. value-limited quantity y fy;
+    from-near = λ q p. near-said fx (codes-same (pointOf x) (pointOf y) p .0);
+    to-near = λ q p. rw s (near-said fy (codes-same (pointOf x) (pointOf y) p .1));
   }
 
   -- what is known of a block that a range made
   unfoldable pub Made : Block → Type 0
-  Made b = GoodBlock quantity b × (b .ranged ≡ true)
+  Made b = GoodBlock quantity b × (b .ranged ≡ true) × (b .known ≡ true)
 
   judged-good : (x y : Value) {b : Block} → Genuine d x → Genuine d y → judgeRange d quantity x y ≡ judged.Good b → Made b
   unfolding judgeRange limitRange Made
-  judged-good x y {b} gx gy = by (formOf quantity x) (formOf quantity y) (eqb (x .decimals) (y .decimals)) (ltZ (trueOf d y) (trueOf d x)) (largeOf quantity x) (largeOf quantity y) refl refl refl refl refl where
-    by : (f g q r l m : Bool) → formOf quantity x ≡ f → formOf quantity y ≡ g → ltZ (trueOf d y) (trueOf d x) ≡ r → largeOf quantity x ≡ l → largeOf quantity y ≡ m → cond f (cond g (cond q (cond r (judged.Bad (fault 6 (y .place))) (cond l (judged.Bad (fault 8 (x .place))) (cond m (judged.Bad (fault 8 (y .place))) (judged.Good (rangeBlock x y))))) (judged.Bad (fault 6 (y .place)))) (judged.Bad (fault 6 (y .place)))) (judged.Bad (fault 6 (x .place))) ≡ judged.Good b → GoodBlock quantity b × (b .ranged ≡ true)
-    by false g q r l m ef eg er el em e = let z : _≡_ {A = ℕ} 0 1 = cc in absurd (omega arith)
-    by true false q r l m ef eg er el em e = let z : _≡_ {A = ℕ} 0 1 = cc in absurd (omega arith)
-    by true true false r l m ef eg er el em e = let z : _≡_ {A = ℕ} 0 1 = cc in absurd (omega arith)
-    by true true true true l m ef eg er el em e = let z : _≡_ {A = ℕ} 0 1 = cc in absurd (omega arith)
-    by true true true false true m ef eg er el em e = let z : _≡_ {A = ℕ} 0 1 = cc in absurd (omega arith)
-    by true true true false false true ef eg er el em e = let z : _≡_ {A = ℕ} 0 1 = cc in absurd (omega arith)
-    by true true true false false false ef eg er el em e =
+  judged-good x y {b} gx gy = by (formOf quantity x) (formOf quantity y) (eqb (x .decimals) (y .decimals)) (ltZ (trueOf d y) (trueOf d x)) (largeOf quantity x) (largeOf quantity y) refl refl refl refl refl refl where
+    by : (f g q r l m : Bool) → formOf quantity x ≡ f → formOf quantity y ≡ g → eqb (x .decimals) (y .decimals) ≡ q → ltZ (trueOf d y) (trueOf d x) ≡ r → largeOf quantity x ≡ l → largeOf quantity y ≡ m → cond f (cond g (cond q (cond r (judged.Bad (fault 6 (y .place))) (cond l (judged.Bad (fault 8 (x .place))) (cond m (judged.Bad (fault 8 (y .place))) (judged.Good (rangeBlock x y))))) (judged.Bad (fault 6 (y .place)))) (judged.Bad (fault 6 (y .place)))) (judged.Bad (fault 6 (x .place))) ≡ judged.Good b → GoodBlock quantity b × (b .ranged ≡ true) × (b .known ≡ true)
+    by false g q r l m ef eg eq er el em e = let z : _≡_ {A = ℕ} 0 1 = cc in absurd (omega arith)
+    by true false q r l m ef eg eq er el em e = let z : _≡_ {A = ℕ} 0 1 = cc in absurd (omega arith)
+    by true true false r l m ef eg eq er el em e = let z : _≡_ {A = ℕ} 0 1 = cc in absurd (omega arith)
+    by true true true true l m ef eg eq er el em e = let z : _≡_ {A = ℕ} 0 1 = cc in absurd (omega arith)
+    by true true true false true m ef eg eq er el em e = let z : _≡_ {A = ℕ} 0 1 = cc in absurd (omega arith)
+    by true true true false false true ef eg eq er el em e = let z : _≡_ {A = ℕ} 0 1 = cc in absurd (omega arith)
+    by true true true false false false ef eg eq er el em e =
         let j : rangeBlock x y ≡ b = cc in
-        rw (← j) (range-good x y gx gy (fits d quantity x gx ef el) (fits d quantity y gy eg em) er, refl)
+        rw (← j) (range-good x y gx gy (fits d quantity x gx ef el) (fits d quantity y gy eg em) (eqb-true _ _ eq) er, refl, refl)
 
   ranged-good : (a c : Amount) (end : Reading) (w : Bool) {b : Block} {with : Bool} {n : ℕ} → ((v : Value) → a ≡ amount.Is v → Genuine d v) → ((v : Value) → c ≡ amount.Is v → Genuine d v) → rangedOf d quantity a c end w ≡ ranged.Is b with n → Made b
   unfolding rangedOf
@@ -224,24 +235,65 @@ none-good quantity = record {
   few-decimals = omega arith;
   point-code = omega arith;
   pointed = inl refl;
+  shared = λ p. absurd (omega arith);
   category = λ q. (refl, refl);
   unranged = λ q. (refl, refl);
   ordered = λ q. holds-not q refl;
   from-limited = λ q. holds-not q refl;
   to-limited = λ q. holds-not q refl;
+  from-near = λ q. holds-not q refl;
+  to-near = λ q. holds-not q refl;
 }
 
-grown-good : {d : List ℕ} (quantity : Bool) (b : Block) (v : Value) → GoodBlock quantity b → Genuine d v → Fit quantity v → GoodBlock quantity (grownBy b v)
+-- the code of a block that has grown: 2 only where the number is bare, and the block had it before or had no number
+pub record Shares (b : Block) (v : Value) : Type 0 where
+  pub own : pointOf v ≡ 2
+  pub before : b .known ≡ true → b .point ≡ 2
+
+grown-shares : (b : Block) (v : Value) → grownPoint b v ≡ 2 → Shares b v
+grown-shares b v = by (b .known) refl where
+  by : (k : Bool) → b .known ≡ k → cond k (pointsOf (b .point) (pointOf v)) (pointOf v) ≡ 2 → Shares b v
+  by true e p = let s = codes-same (b .point) (pointOf v) p in record { own = s .1; before = λ q. s .0 }
+  by false e p = record { own = p; before = λ q. holds-not q e }
+
+grown-low : (b : Block) (v : Value) → b .point ≤ 2 → grownPoint b v ≤ 2
+grown-low b v h = by (b .known) where
+  by : (k : Bool) → cond k (pointsOf (b .point) (pointOf v)) (pointOf v) ≤ 2
+  by true = codes-low (b .point) (pointOf v) h
+  by false = code-low v
+
+grown-some : (b : Block) (v : Value) → v .point ≡ true → 1 ≤ grownPoint b v
+grown-some b v p = by (b .known) where
+  by : (k : Bool) → 1 ≤ cond k (pointsOf (b .point) (pointOf v)) (pointOf v)
+  by true = codes-some (b .point) (pointOf v) (code-some v p)
+  by false = code-some v p
+
+grown-none : (b : Block) (v : Value) → b .point ≡ 0 → v .point ≡ false → grownPoint b v ≡ 0
+grown-none b v e f = rw (e, code-none v f) (by (b .known)) where
+  by : (k : Bool) → _≡_ {A = ℕ} (cond k 0 0) 0
+  by true = refl
+  by false = refl
+
+-- what was near stays so where all decimals are alike; and so is a block's range, where it has one only if a number is known
+near-still : (b : Block) (v : Value) (z : ℤ) → b .known ≡ true → (b .known ≡ true → v .decimals ≡ b .decimals) → Near b z → Near (grownBy b v) z
 unfolding grownBy
-grown-good quantity b v k g f = record {
+near-still b v z k s n p = rw (s k) (n (grown-shares b v p .before k))
+
+grown-good : {d : List ℕ} (quantity : Bool) (b : Block) (v : Value) → GoodBlock quantity b → (b .ranged ≡ true → b .known ≡ true)
+    → (b .known ≡ true → v .decimals ≡ b .decimals) → Genuine d v → Fit quantity v → GoodBlock quantity (grownBy b v)
+unfolding grownBy
+grown-good quantity b v k r s g f = record {
   few-decimals = f .places;
-  point-code = point-low (ltb 0 (b .point) || v .point);
-  pointed = ⊎-elim inl (λ p. inr (point-one (ltb 0 (b .point)) (v .point) p)) (g .pointed);
-  category = λ q. (whole g (f .category q .1), point-none (ltb 0 (b .point)) (v .point) (ap (ltb 0) (k .category q .1)) (f .category q .1));
+  point-code = grown-low b v (k .point-code);
+  pointed = ⊎-elim inl (λ p. inr (grown-some b v p)) (g .pointed);
+  shared = λ p. f .share (grown-shares b v p .own) .0;
+  category = λ q. (whole g (f .category q .1), grown-none b v (k .category q .1) (f .category q .1));
   unranged = k .unranged;
   ordered = k .ordered;
   from-limited = k .from-limited;
   to-limited = k .to-limited;
+  from-near = λ q. near-still b v (b .from) (r q) s (k .from-near q);
+  to-near = λ q. near-still b v (b .to) (r q) s (k .to-near q);
 }
 
 each-more : {l : List Said} {s : Said} → EachGood l → GoodLine s → EachGood (l ++ s ∷ [])
@@ -279,10 +331,17 @@ module _ (d : List ℕ) (quantity : Bool) (first : ℕ) (h : length d ≤ 104857
   record GoodGiven (g : Given) : Type 0 where
     of : {b : Block} {l : List Said} {n : ℕ} → g ≡ Is b l n → GoodValues quantity first b l
 
+  -- a block is known once it has a range or a line, and its lines are near where its code is 2
+  record Known (b : Block) (l : List Said) : Type 0 where
+    ranged : b .ranged ≡ true → b .known ≡ true
+    lined : 1 ≤ length l → b .known ≡ true
+    near : (i : ℕ) → i < length l → Near b (numberAt l i)
+
   record Sofar (l : Listing) : Type 0 where
     value : (v : Value) → l .amount ≡ amount.Is v → Genuine d v
     block : GoodBlock quantity (l .block)
     lines : GoodLines quantity first (l .lines)
+    known : Known (l .block) (l .lines)
 
   data Keeps : Next Listing Given → Type 0 where
     on : {l : Listing} → Sofar l → Keeps (Again l)
@@ -294,16 +353,31 @@ module _ (d : List ℕ) (quantity : Bool) (first : ℕ) (h : length d ≤ 104857
   is-given : (b : Block) (l : List Said) (n : ℕ) → GoodValues quantity first b l → GoodGiven (Is b l n)
   is-given b l n g = record { of = λ {b = b′} {l = l′} {n = n′} e. let p : b ≡ b′ = cc in let q : l ≡ l′ = cc in rw (← p, ← q) g }
 
-  more-keeps : (b : Block) (l : List Said) (n : ℕ) → GoodBlock quantity b → GoodLines quantity first l → 1 ≤ length l → Keeps (after l (moreOf d b n))
+  -- a line more
+  known-more : (b : Block) (l : List Said) (s : Said) → Known b l → (b .known ≡ true → s .value .decimals ≡ b .decimals) → Fit quantity (s .value)
+      → Known (grownBy b (s .value)) (l ++ s ∷ [])
+  unfolding grownBy
+  known-more b l s k same f = record {
+    ranged = λ q. refl;
+    lined = λ q. refl;
+    near = λ i h.
+        ⊎-elim
+        (λ q. let e : numberAt (l ++ s ∷ []) i ≡ numberOn s = ap (numberAt (l ++ s ∷ [])) q ∙ number-last l s in
+        rw e (λ p. near-said f (grown-shares b (s .value) p .own)))
+        (λ e. rw (number-before l s i e) (near-still b (s .value) (numberAt l i) (k .lined (omega arith)) same (k .near i e)))
+        (let n : i ≤ length l = omega (arith, count-more l s) in eq-or-lt-of-le n);
+  }
+
+  more-keeps : (b : Block) (l : List Said) (n : ℕ) → GoodBlock quantity b → GoodLines quantity first l → Known b l → 1 ≤ length l → Keeps (after l (moreOf d b n))
   unfolding moreOf endOf
-  more-keeps b l n gb gl some = by (choiceOf d (notesOn d (At n)) END) where
+  more-keeps b l n gb gl kn some = by (choiceOf d (notesOn d (At n)) END) where
     ends : (r : Reading) → Keeps (after l (endOf b r))
-    ends (At m) = over (is-given b l m (record { block = gb; lines = gl; something = inr some }))
+    ends (At m) = over (is-given b l m (record { block = gb; lines = gl; near = kn .near; something = inr some }))
     ends (Refused f) = over (not-given f)
 
     by : (k : Choice) → Keeps (after l (endOr d b (notesOn d (At n)) k))
     by (Taken m) = ends (wordOn d (At m) VALUES)
-    by Left = on (record { value = value-genuine d (notesOn d (At n)); block = gb; lines = gl })
+    by Left = on (record { value = value-genuine d (notesOn d (At n)); block = gb; lines = gl; known = kn })
 
   step-keeps : (l : Listing) → Sofar l → Keeps (lineStep d quantity first l)
   unfolding lineStep
@@ -315,8 +389,9 @@ module _ (d : List ℕ) (quantity : Bool) (first : ℕ) (h : length d ≤ 104857
         let w = sound-value quantity (l .block) (s .value) (t .sound) in
         let f = fits d quantity (s .value) g (w .0) (w .1) in
         more-keeps (grownBy (l .block) (s .value)) (l .lines ++ s ∷ []) (s .next)
-        (grown-good quantity (l .block) (s .value) (k .block) g f)
+        (grown-good quantity (l .block) (s .value) (k .block) (k .known .ranged) (w .2) g f)
         (lines-good quantity first (l .lines) s (k .lines) (value-limited quantity (s .value) f) (t .fresh) (t .few) (line-good d (l .amount) s h j))
+        (known-more (l .block) (l .lines) s (k .known) (w .2) f)
         (omega (arith, count-more (l .lines) s))
     judge s (Bad f) j i = over (not-given f)
 
@@ -335,20 +410,27 @@ module _ (d : List ℕ) (quantity : Bool) (first : ℕ) (h : length d ≤ 104857
   no-lines : first ≤ 4096 → GoodLines quantity first []
   no-lines r = record { few = omega arith; limited = λ i e. absurd (omega arith); differ = λ i j a e. absurd (omega arith); each = none }
 
-  lines-given : (a : Amount) (b : Block) → first ≤ 4096 → ((v : Value) → a ≡ amount.Is v → Genuine d v) → GoodBlock quantity b → GoodGiven (linesFrom d quantity first (stateOf a b []))
+  lines-given : (a : Amount) (b : Block) → first ≤ 4096 → ((v : Value) → a ≡ amount.Is v → Genuine d v) → GoodBlock quantity b → (b .ranged ≡ true → b .known ≡ true) → GoodGiven (linesFrom d quantity first (stateOf a b []))
   unfolding linesFrom
-  lines-given a b r ga gb = loops (suc (4096 - (first + 0))) (stateOf a b []) (record { value = ga; block = gb; lines = no-lines r })
+  lines-given a b r ga gb kn =
+      loops (suc (4096 - (first + 0))) (stateOf a b [])
+      (record {
+        value = ga;
+        block = gb;
+        lines = no-lines r;
+        known = record { ranged = kn; lined = λ q. absurd (omega arith); near = λ i e. absurd (omega arith) };
+      })
 
   range-given : first ≤ 4096 → (r : Ranged) → ((b : Block) (with : Bool) (n : ℕ) → r ≡ ranged.Is b with n → Made d quantity b) → GoodGiven (rangeThen d quantity first r)
   unfolding rangeThen closedBy Made
   range-given r (ranged.Not f) m = not-given f
   range-given r (ranged.Is b with n) m = by with (m b with n refl) where
-    close : (e : Reading) → GoodBlock quantity b × (b .ranged ≡ true) → GoodGiven (closedBy b e)
-    close (At k) g = is-given b [] k (record { block = g .0; lines = no-lines r; something = inl (g .1) })
+    close : (e : Reading) → GoodBlock quantity b × (b .ranged ≡ true) × (b .known ≡ true) → GoodGiven (closedBy b e)
+    close (At k) g = is-given b [] k (record { block = g .0; lines = no-lines r; near = λ i e. absurd (omega arith); something = inl (g .1) })
     close (Refused f) g = not-given f
 
-    by : (w : Bool) → GoodBlock quantity b × (b .ranged ≡ true) → GoodGiven (cond w (linesFrom d quantity first (stateOf (valueHere d (notesOn d (At n))) b [])) (closedBy b (wordOn d (wordHere d (notesOn d (At n)) END) VALUES)))
-    by true g = lines-given (valueHere d (notesOn d (At n))) b r (value-genuine d (notesOn d (At n))) (g .0)
+    by : (w : Bool) → GoodBlock quantity b × (b .ranged ≡ true) × (b .known ≡ true) → GoodGiven (cond w (linesFrom d quantity first (stateOf (valueHere d (notesOn d (At n))) b [])) (closedBy b (wordOn d (wordHere d (notesOn d (At n)) END) VALUES)))
+    by true g = lines-given (valueHere d (notesOn d (At n))) b r (value-genuine d (notesOn d (At n))) (g .0) (λ q. g .2)
     by false g = close (wordOn d (wordHere d (notesOn d (At n)) END) VALUES) g
 
   all-given : first ≤ 4096 → (t : Reading) → GoodGiven (valuesOn d quantity first t)
@@ -362,7 +444,7 @@ module _ (d : List ℕ) (quantity : Bool) (first : ℕ) (h : length d ≤ 104857
 
     by : (k : Choice) → GoodGiven (toOr d quantity first a k)
     by (Taken m) = range-given r (rangeRest d quantity a (At m)) (λ b with n e. rest-good d quantity a (At m) (value-genuine d (notesOn d (statementOn d t VALUES))) e)
-    by Left = lines-given a emptyBlock r (value-genuine d n) (none-good quantity)
+    by Left = lines-given a emptyBlock r (value-genuine d n) (none-good quantity) (λ q. holds-not q refl)
 
 -- VALUES that were read are good
 pub values-good : (d : List ℕ) (quantity : Bool) (first : ℕ) (t : Reading) {b : Block} {l : List Said} {n : ℕ} → length d ≤ 1048576 → first ≤ 4096 → valuesOn d quantity first t ≡ Is b l n → GoodValues quantity first b l

@@ -3,9 +3,9 @@
 -- or an earlier line of the block says its number; 8 beyond its limit, or where 4,096 lines were read. Then follow notes, and another
 -- line or END VALUES.
 use Prim.Native.Nat.{ℕ, suc, _+_, _-_, _*_}
-use mathlib.Core.Bool.{Bool, true, cond, not, _&&_, _||_}
+use mathlib.Core.Bool.{Bool, true, cond, not, _&&_}
 use mathlib.Core.List.{List, [], _∷_, _++_}
-use lib.Dec.{eqb, ltb, leb}
+use lib.Dec.{eqb, leb}
 use lib.IntN.{ℤ, pos}
 use lib.ListN.{length}
 use Rattle.below.specs.rule.Below.{anyBelow}
@@ -27,7 +27,7 @@ use Rattle.tokens.specs.Gap.{gapOn}
 use Rattle.tokens.specs.Token.{choiceOf, wordOn, valueHere, pastValue, stringOn, pastString}
 use Rattle.statements.specs.rule.Words.{SPECIAL, END, VALUES}
 use Rattle.statements.specs.Note.{notesOn}
-use Rattle.values.specs.Value.{formOf, largeOf, scaledOf, pointOf}
+use Rattle.values.specs.Value.{formOf, largeOf, scaledOf, pointOf, pointsOf}
 use Rattle.values.specs.declared.Block.{Block}
 use Rattle.values.specs.declared.Said.{Said}
 use Rattle.values.specs.declared.Lined.{Lined}
@@ -103,6 +103,10 @@ judgeLine f n first quantity b v =
     (Bad (fault (lineFault quantity b v) (v .place)))
 
 -- ---- what a line adds
+-- the point's code: that of the first number is its own
+abbrev pub grownPoint : Block → Value → ℕ
+grownPoint b v = cond (b .known) (pointsOf (b .point) (pointOf v)) (pointOf v)
+
 unfoldable pub grownBy : Block → Value → Block
 grownBy b v = record {
   ranged = b .ranged;
@@ -110,7 +114,7 @@ grownBy b v = record {
   to = b .to;
   known = true;
   decimals = v .decimals;
-  point = pointOf (ltb 0 (b .point) || v .point);
+  point = grownPoint b v;
 }
 
 -- the four numbers of a line in a table, and those of lines one after the other

@@ -2,7 +2,7 @@
 -- A range `a TO b`, with WITH where lines follow. 6 stands at each value of wrong form; where both have form, at the second if the
 -- decimals differ or the range is reversed by the true values; then 8 at each beyond its limit.
 use Prim.Native.Nat.{ℕ}
-use mathlib.Core.Bool.{Bool, true, false, cond, _||_}
+use mathlib.Core.Bool.{Bool, true, false, cond}
 use mathlib.Core.List.{List}
 use lib.Dec.{eqb}
 use lib.Signed.{ltZ}
@@ -17,7 +17,7 @@ use Rattle.tokens.specs.rule.Gap.{fault}
 use Rattle.tokens.specs.Gap.{gapOn}
 use Rattle.tokens.specs.Token.{choiceOf, valueOn, pastValue}
 use Rattle.statements.specs.rule.Words.{WITH}
-use Rattle.values.specs.Value.{formOf, largeOf, trueOf, scaledOf, pointOf}
+use Rattle.values.specs.Value.{formOf, largeOf, trueOf, scaledOf, pointOf, pointsOf}
 use Rattle.values.specs.declared.Judged.{Judged}
 use Rattle.values.specs.declared.Judged.the-variants.{Good, Bad}
 use Rattle.values.specs.declared.Ranged.{Ranged}
@@ -34,7 +34,7 @@ limitRange quantity a b =
       to = scaledOf b;
       known = true;
       decimals = a .decimals;
-      point = pointOf (a .point || b .point);
+      point = pointsOf (pointOf a) (pointOf b);
     })))
 
 unfoldable pub judgeRange : List ℕ → Bool → Value → Value → Judged

@@ -4,7 +4,7 @@
 use Prim.Native.Nat.{ℕ}
 use mathlib.Core.Bool.{Bool, cond, not, _&&_, _||_}
 use mathlib.Core.List.{List}
-use lib.Dec.{ltb}
+use lib.Dec.{eqb, ltb}
 use lib.IntN.{ℤ}
 use Rattle.scan.specs.Order.{valueOf}
 use Rattle.cells.specs.rule.Cell.{numberOf}
@@ -24,5 +24,14 @@ trueOf d v = numberOf (v .minus) (valueOf d (v .first) (v .last))
 unfoldable pub scaledOf : Value → ℤ
 scaledOf v = numberOf (v .minus) (v .size)
 
-abbrev pub pointOf : Bool → ℕ
-pointOf b = cond b 1 0
+-- written with no digit before the point
+abbrev pub bareOf : Value → Bool
+bareOf v = v .point && eqb (v .whole) 0
+
+-- the point's code of one number: 0 none, 1 a point, 2 a point with no digit before it
+abbrev pub pointOf : Value → ℕ
+pointOf v = cond (v .point) (cond (eqb (v .whole) 0) 2 1) 0
+
+-- and of two, or two lots, of numbers together: where theirs differ, some number has a point and some is not bare
+abbrev pub pointsOf : ℕ → ℕ → ℕ
+pointsOf a b = cond (eqb a b) a 1

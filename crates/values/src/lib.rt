@@ -18,16 +18,16 @@ ghost use lib.Signed.{ltZ};
 ghost use Rattle.ascii.specs.Class.{Classes};
 ghost use Rattle.cells.specs.rule.Cell.{pasted};
 ghost use Rattle.layout.specs.rule.Layout.{lineSize, mostLines};
-ghost use Rattle.values.specs.Value.{formOf, largeOf, trueOf, scaledOf, pointOf};
+ghost use Rattle.values.specs.Value.{formOf, largeOf, trueOf, scaledOf, pointOf, pointsOf};
 ghost use Rattle.values.specs.Range.{limitRange, judgeRange, settled, rangedOf, rangeRest};
-ghost use Rattle.values.specs.Line.{saidOf, lineRest, numberOn, repeatedIn, lineFault, judgeLine, grownBy, lineCells, endOf};
+ghost use Rattle.values.specs.Line.{saidOf, lineRest, numberOn, repeatedIn, lineFault, judgeLine, grownPoint, grownBy, lineCells, endOf};
 ghost use Rattle.values.specs.Line.{moreOf, stateOf, linesFrom};
 ghost use Rattle.values.specs.Line.{listedOf, Stored};
 ghost use Rattle.values.specs.Room.{roomAt, slotOf, Marked, storable, judgedTurn, judgedRoom, judgedMarks, standAt, turnOf, roomAfter, marksAfter};
 ghost use Rattle.values.specs.Block.{emptyBlock, closedBy, rangeThen, valuesOn};
 
 // What the values of a variable have said so far: whether there is a range, and its ends; whether a number was read, and then how
-// many decimals all have; and the code of the point, 0 none, 1 one.
+// many decimals all have; and the code of the point, 0 none, 1 one, 2 one that no number has a digit before.
 pub struct Block {
     pub ranged: bool,
     pub from: i64,
@@ -76,11 +76,32 @@ pub fn reversed(classes: &[u8; 256], d: &[u8], a: Value, b: Value) -> bool
     scan::less(classes, d, b.first, b.last, a.first, a.last)
 }
 
-// The code of the point.
-fn point_code(point: bool) -> usize
-    ensures { λ r. ⌜ r ≡ pointOf point ⌝ }
+// The code of the point of one number.
+fn point_code(v: Value) -> usize
+    ensures { λ r. ⌜ r ≡ pointOf v ⌝ }
 {
-    if point { 1 } else { 0 }
+    if !v.point {
+        return 0;
+    }
+    if v.whole == 0 { 2 } else { 1 }
+}
+
+// The code of two, or two lots, of numbers together.
+fn point_codes(a: usize, b: usize) -> usize
+    ensures { λ r. ⌜ r ≡ pointsOf a b ⌝ }
+{
+    if a == b { a } else { 1 }
+}
+
+// The code of a block with one more line, of the value v.
+fn grown_point(b: Block, v: Value) -> usize
+    ensures { λ r. ⌜ r ≡ grownPoint b v ⌝ }
+{
+    let own = point_code(v);
+    if b.known {
+        return point_codes(b.point, own);
+    }
+    own
 }
 
 // The number that a value says, scaled, where it passes no limit.
@@ -114,7 +135,7 @@ fn limit_range(quantity: bool, a: Value, b: Value) -> Judged
     }
     let from = scaled(quantity, a);
     let to = scaled(quantity, b);
-    let point = point_code(a.point | b.point);
+    let point = point_codes(point_code(a), point_code(b));
     Judged::Good(Block {
         ranged: true,
         from,
@@ -382,7 +403,7 @@ fn grown(b: Block, v: Value) -> Block
 {
     let from = b.from;
     let to = b.to;
-    let point = point_code((0 < b.point) | v.point);
+    let point = grown_point(b, v);
     Block {
         ranged: b.ranged,
         from,

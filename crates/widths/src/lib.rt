@@ -3,7 +3,10 @@
 ghost use mathlib.Core.Path.{_≡_};
 ghost use Prim.Native.Nat.{_≤_};
 ghost use Rattle.ascii.specs.rule.Tens.{Tens};
-ghost use Rattle.widths.specs.rule.Width.{tailOf, quantityWidth, need, lowest, highest};
+ghost use mathlib.Core.Bool.{cond};
+ghost use lib.Dec.{eqb};
+ghost use Rattle.ascii.specs.rule.Tens.{digitsOf};
+ghost use Rattle.widths.specs.rule.Width.{tailOf, leastWhole, quantityWidth, need, mostSize};
 ghost use Rattle.widths.specs.Width.{FewDecimals};
 use layout::Format;
 use layout::Kind;
@@ -17,7 +20,25 @@ pub fn tail(f: Format) -> usize
     if f.point == 0 { 0 } else { f.decimals + 1 }
 }
 
-// A minus, the digits before the point, at least one, the point and the decimals.
+// How many digits before the point no number of the format goes without.
+pub fn least_whole(f: Format) -> usize
+    ensures { λ r. ⌜ r ≡ leastWhole f ⌝ }
+{
+    if f.point == 2 { 0 } else { 1 }
+}
+
+// The digits of what stands before the point.
+fn whole_digits(powers: &[u64; 16], f: Format, whole: u64) -> usize
+    requires { ⌜ Tens (now powers) ⌝ }
+    ensures { λ r. ⌜ r ≡ cond (eqb whole 0) (leastWhole f) (digitsOf whole) ⌝ }
+{
+    if whole == 0 {
+        return least_whole(f);
+    }
+    ascii::digit_count(powers, whole)
+}
+
+// A minus, the digits before the point, the point and the decimals.
 pub fn quantity_width(powers: &[u64; 16], f: Format, z: i64) -> usize
     requires { ⌜ Tens (now powers) ⌝ }
     requires { ⌜ f .decimals ≤ 9 ⌝ }
@@ -26,7 +47,7 @@ pub fn quantity_width(powers: &[u64; 16], f: Format, z: i64) -> usize
     let decimals = f.decimals;
     let s = cells::signed_of(z);
     let whole = s.size / ascii::power(powers, decimals);
-    let unsigned = ascii::digit_count(powers, whole) + tail(f);
+    let unsigned = whole_digits(powers, f, whole) + tail(f);
     if s.minus { unsigned + 1 } else { unsigned }
 }
 
@@ -50,27 +71,15 @@ pub fn needed(powers: &[u64; 16], kind: Kind, z: i64) -> usize
     }
 }
 
-// The least and the largest number that a row of this kind may name.
-pub fn lowest_of(kind: Kind) -> i64
-    ensures { λ r. ⌜ r ≡ lowest kind ⌝ }
+// The largest size of a scaled quantity of this format.
+pub fn most_size(powers: &[u64; 16], f: Format) -> u64
+    requires { ⌜ Tens (now powers) ⌝ }
+    requires { ⌜ f .decimals ≤ 9 ⌝ }
+    ensures { λ r. ⌜ r ≡ mostSize f ⌝ }
 {
-    match kind {
-        Kind::Quantity(_) => -999_999_999_999_999,
-        Kind::Single => 1,
-        Kind::Multiple(_) => 1,
-        Kind::Character => 1,
-        Kind::Logical => 1,
+    let decimals = f.decimals;
+    if f.point == 2 {
+        return ascii::power(powers, decimals) - 1;
     }
-}
-
-pub fn highest_of(kind: Kind) -> i64
-    ensures { λ r. ⌜ r ≡ highest kind ⌝ }
-{
-    match kind {
-        Kind::Quantity(_) => 999_999_999_999_999,
-        Kind::Single => 9_999,
-        Kind::Multiple(_) => 9_999,
-        Kind::Character => 9_999,
-        Kind::Logical => 9_999,
-    }
+    999_999_999_999_999
 }

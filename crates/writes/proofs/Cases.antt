@@ -84,8 +84,8 @@ code-few h z e = code-size z (h .least z e) (h .most z e)
 -- a legal quantity has room in the row's width
 pub quantity-wide : {t : List ℤ} {v n : ℕ} {r : Row} {f : Format} → Ready (Quantity f) t v n r → (z : ℤ) → legal t v r z ≡ true → Wide f (r .width) z
 unfolding lowest highest need quantityWidth
-quantity-wide h z e = record {
-  few = quantity-few z (h .least z e) (h .most z e);
+quantity-wide {f = f} h z e = record {
+  few = quantity-few f z (h .least z e) (h .most z e);
   decimals = h .kind .decimals;
   tail = omega (arith, h .room z e);
   inside = omega (arith, h .kind .width .few);

@@ -453,7 +453,9 @@ fn variable(m: &mut Maker, r: &mut Rng, size: Size, i: usize, ident: i64, standa
         3 => {
             let decimals = if r.once_in(2) { 0 } else { r.range(1, 9) as usize };
             let points = decimals > 0 || r.once_in(5);
-            let most = r.range(1, 15) as u32;
+            // C-13: now and then every number is written with no digit before its point.
+            let share = decimals > 0 && r.once_in(3);
+            let most = if share { decimals as u32 } else { r.range(1, 15) as u32 };
             let draw = |r: &mut Rng| {
                 let v = if r.once_in(12) { 10i64.pow(most) - 1 } else { length_class(r, most) };
                 if r.once_in(3) { -v } else { v }
@@ -462,10 +464,16 @@ fn variable(m: &mut Maker, r: &mut Rng, size: Size, i: usize, ident: i64, standa
             m.word("VALUES");
             let mut numbers = vec![];
             let mut point = false;
+            let mut bare = true;
             let mut text = |r: &mut Rng, v: i64| {
                 let here = decimals > 0 || (points && r.once_in(2));
                 point |= here;
-                quantity_text(r, v, decimals, here)
+                let mut text = quantity_text(r, v, decimals, here);
+                if share && !r.once_in(40) {
+                    text = format!("{}.{:0>2$}", if v < 0 { "-" } else { "" }, v.unsigned_abs(), decimals);
+                }
+                bare &= text.trim_start_matches('-').starts_with('.');
+                text
             };
             let with_range = r.once_in(2);
             if with_range {
@@ -500,8 +508,10 @@ fn variable(m: &mut Maker, r: &mut Rng, size: Size, i: usize, ident: i64, standa
             m.word("END");
             m.word("VALUES");
             row[5] = decimals as i64;
-            row[6] = point as i64;
-            row[4] = numbers.iter().map(|&v| canonical(v, decimals, point).len()).max().unwrap() as i64;
+            row[6] = if point && bare { 2 } else { point as i64 };
+            // With code 2 no digit before the point counts.
+            let less = (point && bare) as usize;
+            row[4] = numbers.iter().map(|&v| canonical(v, decimals, point).len() - less).max().unwrap() as i64;
             row[4]
         }
         4 => {

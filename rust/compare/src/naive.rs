@@ -35,6 +35,8 @@ struct Number {
     digits: String,
     decimals: usize,
     point: bool,
+    /// No digit stands before the point.
+    bare: bool,
 }
 
 impl Number {
@@ -223,6 +225,7 @@ fn parsed(run: &Run, quantity: bool) -> Option<Number> {
         digits: stripped(&digits),
         decimals: parts.get(1).map_or(0, |p| p.len()),
         point: parts.len() == 2,
+        bare: parts.len() == 2 && parts[0].is_empty(),
     };
     let category = good && !minus && parts.len() == 1 && !number.digits.is_empty();
     (if quantity { good } else { category }).then_some(number)
@@ -241,9 +244,12 @@ fn reversed(a: &Number, b: &Number) -> bool {
     }
 }
 
-fn canonical_length(v: i64, decimals: usize, point: bool) -> usize {
-    let digits = format!("{:0>1$}", v.unsigned_abs(), decimals + 1);
-    digits.len() + point as usize + (v < 0) as usize
+/// "w counts none" under point code 2, else at least one digit before the point.
+fn canonical_length(v: i64, decimals: usize, code: i64) -> usize {
+    let whole = v.unsigned_abs() / 10u64.pow(decimals as u32);
+    let before = if whole == 0 && code == 2 { 0 } else { whole.to_string().len() };
+    let point = if code == 0 { 0 } else { 1 };
+    before + decimals + point + (v < 0) as usize
 }
 
 /// A break, beside the bytes 0 to 255.
@@ -452,7 +458,7 @@ fn variable(r: &mut Reader, rows: &[Vec<i64>], lines: &mut Vec<Vec<i64>>) -> Res
             row[4] = match kind {
                 2 if row[7] == 0 && !narrow => most,
                 1 | 2 => most.to_string().len() as i64,
-                _ => numbers.iter().map(|&v| canonical_length(v, row[5] as usize, row[6] == 1)).max().unwrap() as i64,
+                _ => numbers.iter().map(|&v| canonical_length(v, row[5] as usize, row[6])).max().unwrap() as i64,
             };
             if row[7] > 0 {
                 narrow |= row[8] < row[4];
@@ -482,6 +488,7 @@ fn values(r: &mut Reader, quantity: bool, row: &mut [i64], lines: &mut Vec<Vec<i
     let mut numbers = vec![];
     let mut decimals: Option<usize> = None;
     let mut points = vec![];
+    let mut bare = vec![];
     let mut own: Vec<i64> = vec![];
     r.notes()?;
     let mut next = Some(r.figure()?);
@@ -507,6 +514,7 @@ fn values(r: &mut Reader, quantity: bool, row: &mut [i64], lines: &mut Vec<Vec<i
         numbers.extend([a.scaled(), b.scaled()]);
         decimals = Some(a.decimals);
         points.extend([a.point, b.point]);
+        bare.extend([a.bare, b.bare]);
         if lines_follow {
             r.notes()?;
             next = Some(r.figure()?);
@@ -529,6 +537,7 @@ fn values(r: &mut Reader, quantity: bool, row: &mut [i64], lines: &mut Vec<Vec<i
             let n = n.unwrap();
             decimals = Some(n.decimals);
             points.push(n.point);
+            bare.push(n.bare);
             numbers.push(n.scaled());
             own.push(n.scaled());
             lines.push(vec![n.scaled(), special as i64, place as i64, length as i64]);
@@ -546,7 +555,13 @@ fn values(r: &mut Reader, quantity: bool, row: &mut [i64], lines: &mut Vec<Vec<i
     row[13] = own.len() as i64;
     if quantity {
         row[5] = decimals.unwrap_or(0) as i64;
-        row[6] = points.contains(&true) as i64;
+        row[6] = if !points.contains(&true) {
+            0
+        } else if bare.contains(&false) {
+            1
+        } else {
+            2
+        };
     }
     Ok(numbers)
 }
@@ -601,7 +616,7 @@ fn row_sound(row: &Row) -> bool {
     if row.lines.iter().any(|line| line.iter().enumerate().any(|(i, &x)| x < 0 && !(quantity && i == 0))) {
         return false;
     }
-    if !(1..=9999).contains(&c[0]) || !(1..=5).contains(&kind) || c[5] > 9 || c[6] > 1 || c[9] > 1 {
+    if !(1..=9999).contains(&c[0]) || !(1..=5).contains(&kind) || c[5] > 9 || c[6] > 2 || c[9] > 1 {
         return false;
     }
     if row.lines.iter().any(|line| line[1] > 1 || line[2] > 1_048_576 || line[3] > 1_048_576)
@@ -617,6 +632,11 @@ fn row_sound(row: &Row) -> bool {
         _ => vec![5, 6, 7, 8, 9, 10, 11, 13],
     };
     if lacked.iter().any(|&i| c[i] != 0) || (c[9] == 0 && (c[10] != 0 || c[11] != 0)) || (c[5] > 0 && c[6] == 0) {
+        return false;
+    }
+    // "Point code 2 needs decimals above 0 and all values nearer zero than 1."
+    let near = |v: i64| v.unsigned_abs() < 10u64.pow(c[5] as u32);
+    if c[6] == 2 && (c[5] == 0 || !near(c[10]) || !near(c[11]) || row.lines.iter().any(|line| !near(line[0]))) {
         return false;
     }
     if (kind <= 3 && c[9] == 0 && row.lines.is_empty()) || (c[7] == 0) != (c[8] == 0) {
@@ -643,7 +663,7 @@ fn row_sound(row: &Row) -> bool {
     let w = match kind {
         2 if c[7] == 0 => most,
         1 | 2 => most.to_string().len() as i64,
-        3 => numbers.iter().map(|&v| canonical_length(v, c[5] as usize, c[6] == 1)).max().unwrap() as i64,
+        3 => numbers.iter().map(|&v| canonical_length(v, c[5] as usize, c[6])).max().unwrap() as i64,
         4 if (1..=4096).contains(&c[4]) => c[4],
         4 => return false,
         _ => 1,
@@ -759,9 +779,12 @@ impl Row {
         let text: String = field.iter().map(|&x| x as char).collect();
         let text = text.trim_start_matches(' ');
         let (minus, text) = text.strip_prefix('-').map_or((false, text), |rest| (true, rest));
-        let (whole, rest) = if self.cells[6] == 1 { text.split_once('.')? } else { (text, "") };
+        let (whole, rest) = if self.cells[6] >= 1 { text.split_once('.')? } else { (text, "") };
         let digits = format!("{whole}{rest}");
-        if whole.is_empty() || rest.len() != self.cells[5] as usize || !digits.bytes().all(|x| x.is_ascii_digit()) {
+        if (whole.is_empty() && self.cells[6] != 2)
+            || rest.len() != self.cells[5] as usize
+            || !digits.bytes().all(|x| x.is_ascii_digit())
+        {
             return None;
         }
         let m: i64 = digits.parse().unwrap();
@@ -973,7 +996,7 @@ impl Face for Naive {
             if !row.legal(number) {
                 return Err(27);
             }
-            let (w, decimals, point) = (row.cells[4] as usize, row.cells[5] as usize, row.cells[6] == 1);
+            let (w, decimals, point) = (row.cells[4] as usize, row.cells[5] as usize, row.cells[6] >= 1);
             let digits = w - point as usize - (number < 0) as usize;
             let mut text = format!("{:0>1$}", number.unsigned_abs(), digits);
             if point {

@@ -116,9 +116,13 @@ fn letter(r: &mut Rng) -> u8 {
 }
 
 /// The number as data of these many bytes, padded in one of the ways, or damaged.
-fn figure(r: &mut Rng, v: i64, w: usize, decimals: usize, point: bool) -> Vec<u8> {
+fn figure(r: &mut Rng, v: i64, w: usize, decimals: usize, code: i64) -> Vec<u8> {
+    let point = code != 0;
     let digits = format!("{:0>1$}", v.unsigned_abs(), decimals + 1);
-    let (whole, rest) = digits.split_at(digits.len() - decimals);
+    let (mut whole, rest) = digits.split_at(digits.len() - decimals);
+    if code == 2 && whole == "0" && !r.once_in(3) {
+        whole = "";
+    }
     let minus = if v < 0 || (v == 0 && r.once_in(6)) { "-" } else { "" };
     let tail = format!("{whole}{}{rest}", if point { "." } else { "" });
     let room = w.saturating_sub(minus.len() + tail.len());
@@ -186,7 +190,7 @@ pub fn field(r: &mut Rng, table: &[i64], row: usize, record: &mut [u8]) {
                 vec![b' '; w as usize]
             } else {
                 let v = number(r, table, row);
-                figure(r, v, w as usize, 0, false)
+                figure(r, v, w as usize, 0, 0)
             };
             lay(record, finish - w, &bytes);
         }
@@ -211,7 +215,7 @@ pub fn field(r: &mut Rng, table: &[i64], row: usize, record: &mut [u8]) {
                     vec![b'0'; w as usize]
                 } else {
                     let v = number(r, table, row);
-                    figure(r, v, w as usize, 0, false)
+                    figure(r, v, w as usize, 0, 0)
                 };
                 lay(record, start + (k + 1) * sub - w, &bytes);
             }
@@ -221,7 +225,7 @@ pub fn field(r: &mut Rng, table: &[i64], row: usize, record: &mut [u8]) {
                 vec![b' '; w as usize]
             } else {
                 let v = number(r, table, row);
-                figure(r, v, w as usize, c(5).clamp(0, 20) as usize, c(6) == 1)
+                figure(r, v, w as usize, c(5).clamp(0, 20) as usize, c(6))
             };
             lay(record, finish - w, &bytes);
         }

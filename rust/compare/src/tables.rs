@@ -137,7 +137,8 @@ fn mend(r: &mut Rng, table: &mut [i64]) {
             2 if row[7] == 0 => largest,
             2 => largest.to_string().len() as i64,
             3 => {
-                let digits = |v: i64| v.unsigned_abs().to_string().len().max(row[5].clamp(0, 30) as usize + 1) as i64;
+                let least = row[5].clamp(0, 30) as usize + (row[6] != 2) as usize;
+                let digits = |v: i64| v.unsigned_abs().to_string().len().max(least) as i64;
                 numbers.iter().map(|&v| (v < 0) as i64 + digits(v) + row[6].clamp(0, 1)).max().unwrap_or(1)
             }
             4 => row[4],

@@ -863,6 +863,11 @@ mod planted {
                     let used = length(answer[2] as usize, answer[3] as usize);
                     table.iter_mut().skip(used).for_each(|x| *x = 0);
                 }
+                // Code 1 for a block whose numbers are all written with no digit before the point.
+                13 if number == 0 => {
+                    let rows = table[6..].chunks_exact_mut(18).take(answer[2] as usize);
+                    rows.filter(|row| row[6] == 2).for_each(|row| row[6] = 1);
+                }
                 _ => {}
             }
             number
@@ -872,6 +877,11 @@ mod planted {
             if self.0 == 3 && number == 0 && answer[1] == 2 {
                 let n = answer[2] as usize;
                 list[n..].fill(0);
+            }
+            // A field that begins with its point says another number.
+            if self.0 == 14 && number == 0 && answer[1] == 1 {
+                let cells = &t[6 + 18 * row as usize..];
+                answer[2] += (cells[6] == 2 && record[(cells[3] - cells[4]) as usize] == b'.') as i64;
             }
             number
         }
@@ -954,7 +964,7 @@ mod planted {
 
     #[test]
     fn faults_are_found() {
-        for fault in 0..13 {
+        for fault in 0..15 {
             let found = (0..2_000).any(|seed| {
                 let mut r = Rng::new(seed);
                 let model = definitions::model(&mut r, SMALL);
@@ -968,8 +978,8 @@ mod planted {
                         bytes.truncate(r.below(bytes.len()));
                         definition(bytes, table.len())
                     }
-                    2 => definition(bytes, table.len() + 1),
-                    3 => Case { table, bytes: record, row, list: vec![-7; 50], ..Case::new(Call::ReadValue) },
+                    2 | 13 => definition(bytes, table.len() + 1),
+                    3 | 14 => Case { table, bytes: record, row, list: vec![-7; 50], ..Case::new(Call::ReadValue) },
                     4 => write_case(&mut r, table, row, record),
                     6 => {
                         let out = vec![-9; 4 * table[1] as usize];

@@ -64,6 +64,8 @@ struct Block {
     quantity: bool,
     decimals: Option<usize>,
     point: bool,
+    /// No number so far has a digit before its point, or lacks the point.
+    bare: bool,
     range: Option<(i64, i64)>,
     /// The least and greatest number of the block.
     least: i64,
@@ -267,7 +269,8 @@ impl Reader<'_> {
             QUANTITY => {
                 let block = self.values(true, &mut row)?;
                 let decimals = block.decimals.unwrap_or(0) as i64;
-                let point = block.point as i64;
+                // C-13: 2 where every number is written with no digit before the point.
+                let point = block.point as i64 + (block.point && block.bare) as i64;
                 row[column::DECIMALS] = decimals;
                 row[column::POINT] = point;
                 // Of the numbers below zero the least is the longest, of the others the greatest.
@@ -349,7 +352,8 @@ impl Reader<'_> {
     fn values(&mut self, quantity: bool, row: &mut Row) -> Outcome<Block> {
         self.statement(b"VALUES")?;
         let first = self.lines.len();
-        let mut block = Block { quantity, decimals: None, point: false, range: None, least: i64::MAX, most: i64::MIN };
+        let mut block =
+            Block { quantity, decimals: None, point: false, bare: true, range: None, least: i64::MAX, most: i64::MIN };
         self.repeats.start(first);
         self.notes()?;
         let figure = self.s.figure_due()?;
@@ -406,6 +410,7 @@ impl Reader<'_> {
         block.range = Some((from.scaled(), to.scaled()));
         block.decimals = Some(from.decimals);
         block.point = from.point || to.point;
+        block.bare = from.bare && to.bare;
         block.take(from.scaled());
         block.take(to.scaled());
         Ok(with)
@@ -432,6 +437,7 @@ impl Reader<'_> {
         }
         block.decimals = Some(figure.decimals);
         block.point |= figure.point;
+        block.bare &= figure.bare;
         block.take(value);
         self.lines.push([value, special as i64, place as i64, length as i64]);
         Ok(())

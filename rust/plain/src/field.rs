@@ -456,11 +456,13 @@ pub(crate) enum Quantity {
     Bad,
 }
 
-/// Spaces, `-` or none, digits, at least one before the point; point and decimals as in the block.
+/// Spaces, `-` or none, digits, at least one before the point (with code 2 the whole part may be empty); point and decimals as in the
+/// block.
 #[inline]
 pub(crate) fn quantity(row: &Row, places: &[u8]) -> Quantity {
     let decimals = row[column::DECIMALS] as usize;
-    let point = row[column::POINT] as usize;
+    let point = (row[column::POINT] != 0) as usize;
+    let bare = row[column::POINT] == 2;
     let (whole, rest) = places.split_at(places.len() - decimals - point);
     let mut value = 0i64;
     let mut i = 0;
@@ -468,11 +470,16 @@ pub(crate) fn quantity(row: &Row, places: &[u8]) -> Quantity {
         i += 1;
     }
     if i == whole.len() {
-        return if rest.iter().all(|&x| x == b' ') { Quantity::Blank } else { Quantity::Bad };
+        if rest.iter().all(|&x| x == b' ') {
+            return Quantity::Blank;
+        }
+        if !bare {
+            return Quantity::Bad;
+        }
     }
-    let minus = whole[i] == b'-';
+    let minus = i < whole.len() && whole[i] == b'-';
     i += minus as usize;
-    if i == whole.len() {
+    if i == whole.len() && !bare {
         return Quantity::Bad;
     }
     let mut good = true;

@@ -94,10 +94,10 @@ fn category_digits(c: i64) -> i64 {
     1 + (c > 9) as i64 + (c > 99) as i64 + (c > 999) as i64
 }
 
-/// The bytes a scaled quantity takes with these decimals and this point.
+/// The bytes a scaled quantity takes with these decimals and this point's code: with code 2 no digit before the point counts.
 #[inline]
 fn quantity_width(v: i64, decimals: i64, point: i64) -> i64 {
     let m = v.unsigned_abs();
     let digits = if m == 0 { 1 } else { m.ilog10() as i64 + 1 };
-    (v < 0) as i64 + digits.max(decimals + 1) + point
+    (v < 0) as i64 + digits.max(decimals + (point != 2) as i64) + (point > 0) as i64
 }

@@ -130,6 +130,8 @@ pub(crate) struct Figure {
     /// An optional `-`, digits, an optional point, at least one digit.
     pub form: bool,
     pub point: bool,
+    /// A point with no digit before it.
+    pub bare: bool,
     /// Digits behind the point.
     pub decimals: usize,
     minus: bool,
@@ -369,6 +371,7 @@ impl Scan<'_> {
             plain: true,
             form: true,
             point: false,
+            bare: false,
             decimals: 0,
             minus: false,
             significant: 0,
@@ -390,6 +393,7 @@ impl Scan<'_> {
                     b'.' => {
                         f.form &= !f.point;
                         f.point = true;
+                        f.bare = digits == 0;
                     }
                     b'-' => {
                         f.form &= count == 0;

@@ -138,13 +138,15 @@ fn row_sound(row: &Row, lines: &[Line]) -> bool {
             }
         }
         QUANTITY => {
-            if subfields != 0 || subwidth != 0 || !within(decimals, MAX_DECIMALS as i64) || !within(point, 1) {
+            if subfields != 0 || subwidth != 0 || !within(decimals, MAX_DECIMALS as i64) || !within(point, 2) {
                 return false;
             }
-            if decimals > 0 && point == 0 {
+            if (decimals > 0 && point == 0) || (decimals == 0 && point == 2) {
                 return false;
             }
-            let Some((lowest, most)) = block_sound(range, from, to, lines, -MAX_QUANTITY, MAX_QUANTITY) else {
+            // With code 2 all values are nearer zero than 1.
+            let limit = if point == 2 { 10i64.pow(decimals as u32) - 1 } else { MAX_QUANTITY };
+            let Some((lowest, most)) = block_sound(range, from, to, lines, -limit, limit) else {
                 return false;
             };
             w == quantity_width(lowest, decimals, point).max(quantity_width(most, decimals, point)) && w <= room

@@ -87,7 +87,7 @@ pub(crate) fn lay_number(row: &Row, number: i64, record: &mut [u8]) {
     let places = &mut record[finish - row[column::WIDTH] as usize..finish];
     let mut m = number.unsigned_abs();
     let mut whole = places.len();
-    if row[column::POINT] == 1 {
+    if row[column::POINT] != 0 {
         whole -= 1 + row[column::DECIMALS] as usize;
         places[whole] = b'.';
         digits(&mut places[whole + 1..], &mut m);

@@ -559,8 +559,15 @@ fn quantities() {
     assert_eq!(facts("1. TO 9"), (2, 0, 1, 1, 9));
     assert_eq!(facts("1 TO 9."), (2, 0, 1, 1, 9));
     assert_eq!(facts("1 TO 9 WITH 3. \"x\""), (2, 0, 1, 1, 9));
-    assert_eq!(facts(".1 TO .9"), (3, 1, 1, 1, 9));
-    assert_eq!(facts("-.1 TO .9"), (4, 1, 1, -1, 9));
+    assert_eq!(facts(".1 TO 0.9"), (3, 1, 1, 1, 9));
+    assert_eq!(facts("-.1 TO 0.9"), (4, 1, 1, -1, 9));
+    // C-13: every number written with no digit before the point.
+    assert_eq!(facts(".1 TO .9"), (2, 1, 2, 1, 9));
+    assert_eq!(facts("-.1 TO .9"), (3, 1, 2, -1, 9));
+    assert_eq!(facts("-.00 TO .99"), (3, 2, 2, 0, 99));
+    assert_eq!(facts(".00 TO 0.99"), (4, 2, 1, 0, 99));
+    assert_eq!(facts(".5 \"a\" 0.7 \"b\""), (3, 1, 1, 0, 0));
+    assert_eq!(facts(".00 TO .99 WITH 9.99 \"dk\""), (4, 2, 1, 0, 99));
     assert_eq!(facts("-0 TO 0"), (1, 0, 0, 0, 0));
     assert_eq!(facts("0 TO -0"), (1, 0, 0, 0, 0));
     assert_eq!(facts("-0.0 TO 000000000000000000000000001.5"), (3, 1, 1, 0, 15));
@@ -600,7 +607,9 @@ fn quantities() {
     refused_in_variable(8, &q("^99999999999999999999 TO 00099999999999999999999"));
     refused_in_variable(6, &q("-99999999999999999998 TO ^-0000099999999999999999999"));
     refused_in_variable(7, "QUANTITY POSITION ^21 TO 22 VALUES 0 TO 999 END VALUES END VARIABLE");
-    refused_in_variable(7, "QUANTITY POSITION ^21 TO 23 VALUES .00 TO .99 END VALUES END VARIABLE");
+    refused_in_variable(7, "QUANTITY POSITION ^21 TO 23 VALUES 0.00 TO .99 END VALUES END VARIABLE");
+    refused_in_variable(7, "QUANTITY POSITION ^21 TO 22 VALUES .00 TO .99 END VALUES END VARIABLE");
+    assert_eq!(row("QUANTITY POSITION 21 TO 23 VALUES .00 TO .99 END VALUES")[4..7], [3, 2, 2]);
 }
 
 #[test]

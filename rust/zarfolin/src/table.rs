@@ -65,7 +65,7 @@ pub mod column {
     pub const WIDTH: usize = 4;
     /// A quantity's decimals.
     pub const DECIMALS: usize = 5;
-    /// A quantity's point, 0 or 1.
+    /// A quantity's point: 0 none, 1 one, 2 one that no digit need stand before.
     pub const POINT: usize = 6;
     /// A spread's subfields.
     pub const SUBFIELDS: usize = 7;

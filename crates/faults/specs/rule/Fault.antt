@@ -9,7 +9,7 @@ use lib.IntN.{ℤ, pos}
 use lib.ListN.{length, take, drop, getD}
 use Rattle.ascii.specs.rule.Class.{within}
 use Rattle.cells.specs.rule.Cell.{eqZ}
-use Rattle.widths.specs.rule.Width.{tailOf}
+use Rattle.widths.specs.rule.Width.{tailOf, leastWhole}
 use Rattle.layout.specs.declared.Format.{Format}
 use Rattle.layout.specs.declared.Spread.the-variants.{Bits, Fields}
 use Rattle.layout.specs.declared.Kind.{Kind}
@@ -44,13 +44,9 @@ orElse (Point p) g = Point p
 abbrev pub codeFormat : Format
 codeFormat = record { decimals = 0; point = 0 }
 
--- "the digit before it (with no point the last; none under code 2)": how many digits before the point have fixed places
-unfoldable pub fixedWhole : Format → ℕ
-fixedWhole f = cond (eqb (f .point) 2) 0 1
-
--- "the point, the digit before it and those after it have fixed places": the last so many
+-- "the point, the digit before it (with no point the last; none under code 2) and those after it have fixed places": the last so many
 unfoldable pub fixedOf : Format → ℕ
-fixedOf f = fixedWhole f + tailOf f
+fixedOf f = leastWhole f + tailOf f
 
 -- the place of the point: the decimals follow it
 unfoldable pub pointPlace : Format → ℕ → Bool

@@ -2,12 +2,12 @@
 use mathlib.Core.Bool.{Bool, true, false, cond, _&&_}
 use mathlib.Core.List.{List, [], _∷_, _++_}
 use Prim.Native.Nat.{ℕ, zero, suc, _+_, _-_, _*_, _/_, _%_, _^_}
-use lib.Dec.{eqb, ltb}
+use lib.Dec.{eqb, leb}
 use lib.IntN.{ℤ, pos}
 use lib.ListN.{length, take, drop, getD}
 use Rattle.ascii.specs.rule.Class.{within}
 use Rattle.cells.specs.rule.Cell.{numberOf, signedOf}
-use Rattle.widths.specs.rule.Width.{tailOf}
+use Rattle.widths.specs.rule.Width.{tailOf, leastWhole}
 use Rattle.layout.specs.declared.Format.{Format}
 
 -- ---- reading
@@ -58,10 +58,11 @@ decimalPart f s = drop (length s - f .decimals) s
 abbrev pub pointStands : Format → List ℕ → Bool
 pointStands f s = cond (eqb (f .point) 0) true (eqb (getD s (length s - tailOf f) 0) 46)
 
--- "digits, at least one before the point; point and decimals as in the block"
+-- "digits, at least one before the point; point and decimals as in the block"; under point code 2 "the whole part may be empty"
 unfoldable pub amountForm : Format → List ℕ → Bool
 amountForm f s =
-    ltb (tailOf f) (length s) && (digitsOnly (wholePart f s) && (pointStands f s && digitsOnly (decimalPart f s)))
+    leb (leastWhole f + tailOf f) (length s)
+    && (digitsOnly (wholePart f s) && (pointStands f s && digitsOnly (decimalPart f s)))
 
 -- the digits before the point and after it say one number, scaled
 unfoldable pub amountSize : Format → List ℕ → ℕ

@@ -1,4 +1,4 @@
--- A quantity's format as a table may have it: "decimals 9", "point 1 where decimals are above 0".
+-- A quantity's format as a table may have it: "decimals 9", a point (code 1 or 2) "where decimals are above 0".
 use mathlib.Core.Path.{_≡_}
 use Prim.Native.Nat.{_≤_}
 use Rattle.layout.specs.declared.Format.{Format}

@@ -1,6 +1,7 @@
 -- A number's bytes in the paper's own words. SINGLE: "spaces, then digits". QUANTITY: "spaces, `-` or none, digits, at least one before
--- the point; point and decimals as in the block; minus zero is zero". Proved both ways: the bytes say a number exactly when they have
--- this form and the form says it; nothing exactly when they are all spaces; and they are wrong exactly when no form fits.
+-- the point; point and decimals as in the block; minus zero is zero"; under point code 2 "the whole part may be empty". Proved both ways:
+-- the bytes say a number exactly when they have this form and the form says it; nothing exactly when they are all spaces; and they are
+-- wrong exactly when no form fits.
 use mathlib.Core.Path.{_≡_}
 use mathlib.Core.Bool.{Bool, true, false}
 use mathlib.Core.List.{List, [], _∷_, _++_}
@@ -9,6 +10,7 @@ use lib.IntN.{ℤ, pos}
 use lib.ListN.{length}
 use Rattle.cells.specs.rule.Cell.{numberOf}
 use Rattle.layout.specs.declared.Format.{Format}
+use Rattle.widths.specs.rule.Width.{leastWhole}
 
 -- ---- the words
 -- spaces, or none
@@ -42,7 +44,8 @@ pub record CodeForm (s : List ℕ) (z : ℤ) : Type 0 where
   pub said : Digits 0 whole size
   pub is : z ≡ pos size
 
--- QUANTITY: spaces, a minus or none, digits, at least one, and the tail; the digits and decimals together say the size
+-- QUANTITY: spaces, a minus or none, digits, at least one or, under point code 2, any number of them, and the tail; the digits and
+-- decimals together say the size
 pub record QuantityForm (f : Format) (s : List ℕ) (z : ℤ) : Type 0 where
   pub gap : List ℕ
   pub sign : List ℕ
@@ -54,7 +57,7 @@ pub record QuantityForm (f : Format) (s : List ℕ) (z : ℤ) : Type 0 where
   pub made : s ≡ gap ++ (sign ++ (whole ++ tail))
   pub blank-gap : Spaces gap
   pub signed : Sign negative sign
-  pub some : 0 < length whole
+  pub some : leastWhole f ≤ length whole
   pub tailed : Tail f tail decimals
   pub said : Digits 0 (whole ++ decimals) size
   pub is : z ≡ numberOf negative size

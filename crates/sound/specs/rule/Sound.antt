@@ -33,9 +33,13 @@ typeKnown c = within 1 5 (c .kind)
 abbrev pub decimalsFew : Columns → Bool
 decimalsFew c = leb (c .decimals) 9
 
--- "flags 0 or 1"
-abbrev pub flagsPlain : Columns → Bool
-flagsPlain c = leb (c .point) 1 && leb (c .range) 1
+-- "flags 0 or 1": whether there is a range
+abbrev pub rangeFlag : Columns → Bool
+rangeFlag c = leb (c .range) 1
+
+-- the point's code: 0 none, 1 a point, 2 a point that numbers may begin with
+abbrev pub pointKnown : Columns → Bool
+pointKnown c = leb (c .point) 2
 
 -- "lacked columns 0": only a quantity has decimals and a point, only a multiple subfields; the types from 4 on have no values; and
 -- without a range from and to are 0
@@ -48,9 +52,12 @@ lackedZero c =
 abbrev pub rangeLacked : Columns → Bool
 rangeLacked c = eqb (c .range) 1 || (eqZ (c .from) (pos 0) && eqZ (c .to) (pos 0))
 
--- "point 1 where decimals are above 0"
+-- "point 1 where decimals are above 0", or 2; and "point code 2 needs decimals above 0"
 abbrev pub pointGiven : Columns → Bool
-pointGiven c = eqb (c .decimals) 0 || eqb (c .point) 1
+pointGiven c = eqb (c .decimals) 0 || leb 1 (c .point)
+
+abbrev pub sharesGiven : Columns → Bool
+sharesGiven c = leb (c .point) 1 || leb 1 (c .decimals)
 
 -- "a range or a line where the type has VALUES"
 abbrev pub valuesGiven : Columns → Bool
@@ -74,7 +81,8 @@ textsGood c =
     leb (c .name) 1048576 && leb (c .«name_len») 1048576 && leb (c .label) 1048576 && leb (c .«label_len») 1048576
 
 unfoldable pub countsGood : Columns → Bool
-countsGood c = typeKnown c and decimalsFew c and flagsPlain c and lackedZero c and pointGiven c and valuesGiven c
+countsGood c =
+    typeKnown c and decimalsFew c and rangeFlag c and pointKnown c and lackedZero c and pointGiven c and sharesGiven c and valuesGiven c
 
 unfoldable pub placesGood : Columns → Bool
 placesGood c = identGood c and positionGood c and subfieldsGood c and textsGood c

@@ -1,10 +1,11 @@
 -- "The point is required in data if any number of the block has one .. The value width w: digits of the largest category for SINGLE and
 -- for each spread subfield; the largest category itself for a bitstring; SIZE for CHARACTER; 1 for LOGICAL. For QUANTITY, the longest of
 -- the range ends and values": of all the numbers of a block, the one that takes most.
-use mathlib.Core.Bool.{Bool, true, false, _||_}
+use mathlib.Core.Bool.{Bool, true, false, cond, _&&_, _||_}
 use mathlib.Core.List.{List, [], _∷_, _++_, map}
 use mathlib.Core.Option.{Option, none, some, Option·getD}
 use Prim.Native.Nat.{ℕ, _+_, _-_, _/_, max}
+use lib.Dec.{eqb}
 use lib.IntN.{ℤ}
 use Rattle.cells.specs.rule.Cell.{numberOf}
 use Rattle.layout.specs.rule.Row.{spreadOf}
@@ -23,6 +24,11 @@ unfoldable pub someOf : {A : Type 0} → (A → Bool) → List A → Bool
 someOf f [] = false
 someOf f (a ∷ l) = f a || someOf f l
 
+-- whether each of a list passes
+unfoldable pub eachOf : {A : Type 0} → (A → Bool) → List A → Bool
+eachOf f [] = true
+eachOf f (a ∷ l) = f a && eachOf f l
+
 -- ---- the numbers of a block: its range ends, then its values
 abbrev pub rangeEnds : Option Range → List Amount
 rangeEnds none = []
@@ -40,8 +46,14 @@ abbrev pub decimalsIn : List Amount → ℕ
 decimalsIn [] = 0
 decimalsIn (a ∷ l) = a .decimals
 
+-- "written with no digit before the point": a point, and no digit of the whole part
+abbrev pub bare : Amount → Bool
+bare a = a .point && eqb (a .whole) 0
+
+-- the point's code: 0 where no number of the block has a point; "a block in which every number is written with no digit before the point
+-- gets point code 2"; else 1
 abbrev pub pointIn : List Amount → ℕ
-pointIn l = flag (someOf (λ a. a .point) l)
+pointIn l = cond (someOf (λ a. a .point) l) (cond (eachOf bare l) 2 1) 0
 
 -- ---- a variable
 abbrev pub noBlock : Block

@@ -14,7 +14,7 @@ to-back c = search needs
 
 returns : tie.Need-returns
 unfolding grownBy
-returns c = rw (from-back (c .before .before .before .before), to-back (c .before .before .before .before), c .point-code .ensures)
+returns c = rw (from-back (c .before .before), to-back (c .before .before), c .grown-point .ensures)
 
 pub grown-spec : {M : Type 1} → statement M
 grown-spec = tie.close (tie.spec (λ c κs. search needs) returns)

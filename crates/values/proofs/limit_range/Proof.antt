@@ -26,15 +26,19 @@ scaled-requires-2 c κs = sym (c .before .before .large2 .ensures) ∙ c .before
 returns-3 : tie.Need-returns-3
 unfolding limitRange
 returns-3 c =
+    let s = c .before .before in
+    let i = s .before .before .before in
     rw (
-      sym (c .before .before .before .before .before .before .before .before .large .ensures) ∙ c .before .before .before .before .before .before .before .if1 .left,
-      sym (c .before .before .before .before .before .before .large2 .ensures) ∙ c .before .before .before .before .before .if2 .left,
-      sym (c .before .before .before .before .scaled .ensures),
-      sym (c .before .before .before .scaled2 .ensures),
-      sym (c .point-code .ensures),
+      sym (i .before .before .before .large .ensures) ∙ i .before .before .if1 .left,
+      sym (i .before .large2 .ensures) ∙ i .if2 .left,
+      sym (s .before .before .scaled .ensures),
+      sym (s .before .scaled2 .ensures),
+      sym (s .point-code .ensures),
+      sym (c .before .point-code2 .ensures),
+      sym (c .point-codes .ensures),
     )
-    (rw (toZ-ofZ (sfits-of (c .before .before .before .before .scaled .ok)), toZ-ofZ (sfits-of (c .before .before .before .scaled2 .ok))))
+    (rw (toZ-ofZ (sfits-of (s .before .before .scaled .ok)), toZ-ofZ (sfits-of (s .before .scaled2 .ok))))
 
 pub limit-range-spec : {M : Type 1} → statement M
 limit-range-spec =
-    tie.close (tie.spec (λ c κs. search needs) returns (λ c κs. search needs) returns-2 scaled-requires scaled-requires-2 (λ c κs. search needs) returns-3)
+    tie.close (tie.spec (λ c κs. search needs) returns (λ c κs. search needs) returns-2 scaled-requires scaled-requires-2 (λ c κs. search needs) (λ c κs. search needs) (λ c κs. search needs) returns-3)

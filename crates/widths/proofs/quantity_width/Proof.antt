@@ -2,6 +2,7 @@
 use mathlib.Core.Path.{_≡_, _∙_, sym, ap}
 use mathlib.Core.Bool.{cond}
 use Prim.Native.Nat.{ℕ, _≤_, _+_, _/_, _^_}
+use native.Mathlib.Nat.{le-trans}
 use native.Mathlib.Omega.{arith}
 use borrow.Author.Needs.{needs}
 use mir.Facts.{toZ-ofZ}
@@ -9,16 +10,21 @@ use Rattle.cells.specs.rule.Cell.{signedOf}
 use Rattle.ascii.specs.rule.Tens.{digitsOf}
 use Rattle.ascii.specs.Tens.{digits-few}
 use Rattle.widths.specs.rule.Width.{wholeDigits}
-use Rattle.widths.specs.Width.{tail-few, ten-some, width-parts}
+use Rattle.widths.specs.Width.{tail-few, ten-some, width-parts, whole-upto}
 use Rattle.widths.proofs.quantity_width.Statement.{statement}
 use Rattle.widths.proofs.quantity_width.Tie as tie
 
 div-whole : tie.Need-div-whole
 div-whole c = rw (c .before .power .ensures) (ten-some _)
 
+-- what the digits are of
+whole : (c : tie.After-tail) → c .before .whole-digits .result ≡ wholeDigits (c .before .before .before .before .before .args .f) (c .before .before .before .before .signed-of .result .size)
+unfolding wholeDigits
+whole c = c .before .whole-digits .ensures ∙ rw (c .before .before .before .power .ensures)
+
 -- the digits and the point with its decimals are few
-digits-upto : (c : tie.After-tail) → c .before .digit-count .result ≤ 16
-digits-upto c = rw (c .before .digit-count .ensures) (digits-few _)
+digits-upto : (c : tie.After-tail) → c .before .whole-digits .result ≤ 16
+digits-upto c = rw (whole c) (le-trans (whole-upto _ _) (digits-few _))
 
 tail-upto : (c : tie.After-tail) → c .tail .result ≤ 10
 tail-upto c = rw (c .tail .ensures) (tail-few _ (c .before .before .before .before .before .pre .1))
@@ -32,11 +38,6 @@ add-result c = omega (arith, digits-upto (c .before), tail-upto (c .before))
 -- the number is read back from its bits as it is
 split : (c : tie.After-signed-of) → c .signed-of .result ≡ signedOf (c .before .args .z)
 split c = c .signed-of .ensures ∙ ap signedOf (toZ-ofZ (c .before .fits .z))
-
--- what the digits are of
-whole : (c : tie.After-tail) → c .before .digit-count .result ≡ wholeDigits (c .before .before .before .before .before .args .f) (c .before .before .before .before .signed-of .result .size)
-unfolding wholeDigits
-whole c = c .before .digit-count .ensures ∙ rw (c .before .before .before .power .ensures)
 
 returns : tie.Need-returns
 returns c = rw (whole (c .before), c .before .tail .ensures, width-parts _ _ _ (split (c .before .before .before .before .before)), c .if1 .taken)

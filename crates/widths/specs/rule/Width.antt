@@ -1,12 +1,12 @@
 -- "Numbers and widths": how many bytes a number takes in the data, by its row's kind, and which numbers a row may name. The value
 -- width w of a row is the largest of these over its range ends and values.
-use mathlib.Core.Bool.{Bool, cond, _&&_}
-use Prim.Native.Nat.{ℕ, _+_, _/_, _^_}
+use mathlib.Core.Bool.{Bool, true, cond, _&&_}
+use Prim.Native.Nat.{ℕ, _+_, _-_, _/_, _^_, min}
 use lib.Dec.{eqb}
-use lib.IntN.{ℤ, pos, negsuc}
+use lib.IntN.{ℤ, pos}
 use lib.Signed.{leZ}
 use Rattle.ascii.specs.rule.Tens.{digitsOf}
-use Rattle.cells.specs.rule.Cell.{signedOf}
+use Rattle.cells.specs.rule.Cell.{signedOf, numberOf}
 use Rattle.layout.specs.declared.Format.{Format}
 use Rattle.layout.specs.declared.Kind.{Kind}
 use Rattle.layout.specs.declared.Kind.the-variants.{Single, Multiple, Quantity, Character, Logical}
@@ -22,9 +22,14 @@ minusOf z = cond (signedOf z .minus) 1 0
 unfoldable pub tailOf : Format → ℕ
 tailOf f = cond (eqb (f .point) 0) 0 (f .decimals + 1)
 
--- the digits before the point, without needless leading zeros but at least one
+-- how many digits before the point no number goes without: one; under point code 2 "the whole part may then be empty in the data, and
+-- w counts none"
+unfoldable pub leastWhole : Format → ℕ
+leastWhole f = cond (eqb (f .point) 2) 0 1
+
+-- the digits before the point, without needless leading zeros but no fewer than that
 unfoldable pub wholeDigits : Format → ℕ → ℕ
-wholeDigits f n = digitsOf (n / 10 ^ f .decimals)
+wholeDigits f n = cond (eqb (n / 10 ^ f .decimals) 0) (leastWhole f) (digitsOf (n / 10 ^ f .decimals))
 
 unfoldable pub quantityWidth : Format → ℤ → ℕ
 quantityWidth f z = wholeDigits f (sizeOf z) + tailOf f + minusOf z
@@ -38,18 +43,22 @@ need (Quantity f) z = quantityWidth f z
 need Character z = 0
 need Logical z = 0
 
--- categories are 1 to 9,999; a scaled quantity has 15 digits, either sign
+-- the largest size of a scaled quantity: 15 digits; under point code 2 "all values nearer zero than 1"
+unfoldable pub mostSize : Format → ℕ
+mostSize f = cond (eqb (f .point) 2) (min (10 ^ f .decimals - 1) 999999999999999) 999999999999999
+
+-- categories are 1 to 9,999; a quantity has either sign
 unfoldable pub lowest : Kind → ℤ
 lowest Single = pos 1
 lowest (Multiple s) = pos 1
-lowest (Quantity f) = negsuc 999999999999998
+lowest (Quantity f) = numberOf true (mostSize f)
 lowest Character = pos 1
 lowest Logical = pos 1
 
 unfoldable pub highest : Kind → ℤ
 highest Single = pos 9999
 highest (Multiple s) = pos 9999
-highest (Quantity f) = pos 999999999999999
+highest (Quantity f) = pos (mostSize f)
 highest Character = pos 9999
 highest Logical = pos 9999
 
