@@ -98,6 +98,8 @@ enum {
     /* of a data file */
     ZARFOLIN_E_UNENDED = 30, /* last record has no terminator */
     ZARFOLIN_E_LENGTH = 31,  /* length differs from the first record's */
+    /* of a table, where its rows are written back */
+    ZARFOLIN_E_SHARED = 90,  /* two rows share a value place */
     /* of a field, before 25 in the order of the calls: what is wrong with it (up to version 1 they were one number, 24) */
     ZARFOLIN_E_STRAY = 241,     /* stray byte: it cannot stand there after those to its left */
     ZARFOLIN_E_NOT_LEGAL = 242, /* not a legal value: the field's form is sound, its number neither in the range nor on a line */
@@ -369,6 +371,19 @@ struct zarfolin_correction {
 zarfolin_number zarfolin_correct(const int64_t *table, size_t table_len, struct zarfolin_correction *corrections,
                                  size_t count, uint8_t *record, size_t record_len);
 
+/* Gives a record its normal form, in place: every row is written back as it reads. Two records of one length that agree outside
+ * the value places have equal normal forms exactly when all their rows read equal.
+ *
+ * A missing value gives spaces (a SINGLE of zeros too), numbers get zeros in front, the members of a spread rise with zeros
+ * behind them; bitstrings, texts and truths keep their bytes, and so does every byte outside the value places. All rows read
+ * as before, and a second pass changes nothing.
+ * Answers 0, or the first of 20, 90, 22, 23, 241, 242, 243 that holds.
+ * answer: as zarfolin_judge_record's; zeros behind 90.
+ * table:  only read.
+ * record: its normal form on 0; kept on a refusal. */
+zarfolin_number zarfolin_normal(const int64_t *table, size_t table_len, uint8_t *record, size_t record_len,
+                                int64_t *answer);
+
 /* ---- stack --------------------------------------------------------------------------------------------------------- *
  *
  * The most bytes of stack that a call took, rounded up, its own return address included, memcpy and memset too. Measured,
@@ -384,6 +399,7 @@ zarfolin_number zarfolin_correct(const int64_t *table, size_t table_len, struct 
 /* A write to a row that is no MULTIPLE, where the idents and each row's values rise, or are 24 at most. */
 #define ZARFOLIN_STACK_WRITE_PLAIN 1000
 #define ZARFOLIN_STACK_CORRECT 17600
+#define ZARFOLIN_STACK_NORMAL 102000
 #define ZARFOLIN_STACK_JUDGE_FILE 27500
 #define ZARFOLIN_STACK_JUDGE_PART 27500
 #define ZARFOLIN_STACK_NEXT_RECORD 128
@@ -437,6 +453,7 @@ ZARFOLIN_INLINE const char *zarfolin_message(zarfolin_number number) {
     case ZARFOLIN_E_TERMINATOR: return "no terminator has this number";
     case ZARFOLIN_E_UNENDED: return "the last record has no terminator";
     case ZARFOLIN_E_LENGTH: return "the record's length differs from the first record's";
+    case ZARFOLIN_E_SHARED: return "two variables share a value place";
     case ZARFOLIN_E_STRAY: return "the field has a byte that cannot stand there";
     case ZARFOLIN_E_NOT_LEGAL: return "the field holds a number that is neither in the range nor on a line";
     case ZARFOLIN_E_POINT: return "the field has no decimal point at its place, or one elsewhere";

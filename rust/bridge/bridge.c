@@ -15,7 +15,7 @@
 #define ANSWER INT64_C(0x7a6172666f6c696e)
 
 enum { READ_DEFINITION, READ_VALUE, JUDGE_RECORD, WRITE_MISSING, WRITE_NUMBER, WRITE_TRUTH, WRITE_SET, WRITE_TEXT, JUDGE_FILE, NEXT_RECORD,
-       READ_RECORD, DECODE_TEXT, JUDGE_PART, CORRECT };
+       READ_RECORD, DECODE_TEXT, JUDGE_PART, CORRECT, NORMAL };
 
 static int take(void *to, size_t length) { return length == 0 || fread(to, 1, length, stdin) == length; }
 
@@ -136,6 +136,10 @@ int main(void) {
             may_change = &list;
             may_too = &bytes;
             number = zarfolin_correct(t, head[3], (struct zarfolin_correction *)(void *)l, head[4] / 4, b, head[5]);
+            break;
+        case NORMAL:
+            may_change = &bytes;
+            number = zarfolin_normal(t, head[3], b, head[5], a);
             break;
         default:
             return 2;

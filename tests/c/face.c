@@ -147,6 +147,31 @@ static void readings(void) {
     CHECK(is(answer, 241, 4, 16, 0));
     CHECK(zarfolin_judge_record(table, table_len, bytes(" 710x1x99.9ab   220 1"), length, answer) == ZARFOLIN_E_NOT_LEGAL);
     CHECK(is(answer, 242, 2, 999, 0));
+
+    /* The normal form: zeros in front of a number, a spread that rises; filler, bitstring, text and truth as they stand. */
+    uint8_t form[64];
+    memcpy(form, record, length);
+    CHECK(zarfolin_normal(table, table_len, form, length, answer) == ZARFOLIN_OK && is(answer, 0, 0, 0, 0));
+    CHECK(memcmp(form, "0710x1x-1.0ab   10120", length) == 0);
+    CHECK(zarfolin_normal(table, table_len, form, length, answer) == ZARFOLIN_OK && memcmp(form, "0710x1x-1.0ab   10120", length) == 0);
+    CHECK(zarfolin_normal(table, table_len, form, length - 1, answer) == ZARFOLIN_E_SHORT && is(answer, 22, 0, 0, 0));
+    CHECK(zarfolin_normal(table + 1, table_len - 1, form, length, answer) == ZARFOLIN_E_TABLE && is(answer, 20, 0, 0, 0));
+    memcpy(form, "0710x1x-1.0a\tb  10120", length);
+    CHECK(zarfolin_normal(table, table_len, form, length, answer) == ZARFOLIN_E_LOW_BYTE && is(answer, 23, 12, 0, 0));
+    memcpy(form, "7 10x1x-1.0ab   220 1", length);
+    CHECK(zarfolin_normal(table, table_len, form, length, answer) == ZARFOLIN_E_STRAY && is(answer, 241, 0, 1, 0));
+    CHECK(memcmp(form, "7 10x1x-1.0ab   220 1", length) == 0);
+
+    /* Two rows that share a value place: 90, before a record that is too short, and the record is kept. */
+    static int64_t other[ZARFOLIN_MAX_TABLE];
+    static const char shared[] =
+        "SSS VERSION 1.1 SURVEY RECORD R VARIABLE 1 NAME \"a\" LABEL \"A\" TYPE CHARACTER POSITION 1 TO 2 SIZE 2 END VARIABLE\n"
+        "VARIABLE 2 NAME \"b\" LABEL \"B\" TYPE CHARACTER POSITION 2 TO 3 SIZE 2 END VARIABLE END RECORD END SURVEY END SSS";
+    CHECK(zarfolin_read_definition(bytes(shared), sizeof shared - 1, other, ZARFOLIN_MAX_TABLE, answer) == ZARFOLIN_OK);
+    memcpy(form, "a  ", 3);
+    CHECK(zarfolin_normal(other, ZARFOLIN_MAX_TABLE, form, 3, answer) == ZARFOLIN_E_SHARED && is(answer, 90, 0, 0, 0));
+    CHECK(zarfolin_normal(other, ZARFOLIN_MAX_TABLE, form, 2, answer) == ZARFOLIN_E_SHARED && is(answer, 90, 0, 0, 0));
+    CHECK(memcmp(form, "a  ", 3) == 0);
     CHECK(zarfolin_judge_record(table, table_len, record, 3, answer) == ZARFOLIN_E_SHORT);
 }
 
@@ -324,7 +349,7 @@ static void messages(void) {
     const char *unknown = zarfolin_message(99);
     CHECK(strlen(unknown) > 0 && zarfolin_message(UINT64_MAX) == unknown && zarfolin_message(24) == unknown);
     CHECK(zarfolin_message(ZARFOLIN_E_STRAY) != unknown && zarfolin_message(ZARFOLIN_E_NOT_LEGAL) != unknown);
-    CHECK(zarfolin_message(ZARFOLIN_E_POINT) != unknown);
+    CHECK(zarfolin_message(ZARFOLIN_E_POINT) != unknown && zarfolin_message(ZARFOLIN_E_SHARED) != unknown);
     for (zarfolin_number a = 0; a <= ZARFOLIN_E_LENGTH; a++) {
         const int none = (a > ZARFOLIN_E_TABLE_ROOM && a < ZARFOLIN_E_TABLE) || a == 24;
         CHECK((strcmp(zarfolin_message(a), unknown) == 0) == none);

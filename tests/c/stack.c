@@ -57,6 +57,7 @@ static void write_truth(void) { got = zarfolin_write_truth(TABLE, row, (uint8_t)
 static void write_set(void) { got = zarfolin_write_set(TABLE, row, list, list_len, record, record_len); }
 static void write_text(void) { got = zarfolin_write_text(TABLE, row, (const uint8_t *)def, (size_t)number, record, record_len); }
 static void correct(void) { got = zarfolin_correct(TABLE, corrections, sizeof corrections / sizeof corrections[0], record, record_len); }
+static void normal(void) { got = zarfolin_normal(TABLE, record, record_len, answer); }
 static void judge_file(void) { got = zarfolin_judge_file(TABLE, record, record_len, answer); }
 static void judge_part(void) { got = zarfolin_judge_part(TABLE, record, record_len, terminator, first_len, last, answer); }
 static void next_record(void) { got = zarfolin_next_record(record, record_len, row, answer); }
@@ -83,6 +84,7 @@ static struct measured {
     {"zarfolin_judge_file", judge_file, ZARFOLIN_STACK_JUDGE_FILE, 0, 0},
     {"zarfolin_judge_part", judge_part, ZARFOLIN_STACK_JUDGE_PART, 0, 0},
     {"zarfolin_next_record", next_record, ZARFOLIN_STACK_NEXT_RECORD, 0, 0},
+    {"zarfolin_normal", normal, ZARFOLIN_STACK_NORMAL, 0, 0},
 };
 enum { CALLS = sizeof calls / sizeof calls[0] };
 
@@ -178,6 +180,7 @@ static void records(void) {
         memset(record, fillers[f], sizeof record);
         measure(judge_record);
         measure(read_record);
+        measure(normal);
         for (row = 0; row <= rows; row += rows > 8 ? rows / 8 : 1) {
             list_len = ZARFOLIN_MAX_SET;
             measure(read_value);
@@ -205,6 +208,7 @@ static void records(void) {
             measure(write_missing);
             measure(read_value);
             measure(read_record);
+            measure(normal);
         }
         measure(judge_record);
     }
@@ -291,6 +295,28 @@ int main(void) {
             records();
             files();
         }
+    }
+    /* Rows apart, in a record that is long, with more lines than are searched one by one, falling: what the normal form takes most for. */
+    begin("STANDARD NAMES");
+    char falling_lines[2000] = "MULTIPLE POSITION 1 TO 15000 SPREAD 3750 OF 4 VALUES ", line[20];
+    for (int i = 60; i > 0; i--) {
+        snprintf(line, sizeof line, "%d \"t\" ", 160 * i);
+        strcat(falling_lines, line);
+    }
+    strcat(falling_lines, "END VALUES");
+    variable(2, falling_lines);
+    variable(1, "SINGLE POSITION 15001 TO 15005 VALUES 9 \"a\" 7 \"b\" SPECIAL 9999 \"c\" 1 \"d\" END VALUES");
+    variable(3, "QUANTITY POSITION 15006 TO 15010 VALUES -1.0 TO 99.5 END VALUES");
+    variable(4, "MULTIPLE POSITION 15101 TO 16100 VALUES 1 TO 3 WITH 7 \"a\" 5 \"b\" END VALUES");
+    if (end() == ZARFOLIN_OK) {
+        record_len = (size_t)table[ZARFOLIN_H_RECORD];
+        memset(record, ' ', record_len);
+        memcpy(record, "9600 160 320", 12);
+        measure(normal);
+    }
+    if (got != ZARFOLIN_OK || memcmp(record, "016003209600000", 15) != 0) {
+        fprintf(stderr, "the record with rows apart got no normal form: %d\n", (int)got);
+        return 1;
     }
     /* The largest: 512 variables of 8 lines each, the names long and alike, lines falling. */
     begin("STANDARD NAMES");

@@ -1,7 +1,7 @@
 -- THE DEMANDS, one by one: the final theorems over the promises of the public calls, restated here and each proved by name elsewhere. The
 -- promises stand in specs/rule of their crates: TableTested (sound), ValueRead and RecordJudged (records), Written (writes), NextFound
--- (cuts), FileJudged (files), PartJudged (parts), DefinitionRead (definition), ListCorrected (corrections);
--- those of the exported functions (zarfolin) hold them, or are they.
+-- (cuts), FileJudged (files), PartJudged (parts), DefinitionRead (definition), ListCorrected (corrections), Normalised
+-- (normal); those of the exported functions (zarfolin) hold them, or are they.
 use mathlib.Core.Path.{_≡_}
 use mathlib.Core.Logic.{_↔_, ⊎-elim}
 use mathlib.Core.Bool.{Bool, true, false}
@@ -30,6 +30,7 @@ use Rattle.records.specs.rule.First.{rowFault}
 use Rattle.records.specs.rule.Value as value
 use Rattle.records.specs.rule.Value.{Outcome, refused, outcomeOf, readingAt, ValueRead}
 use Rattle.sets.specs.rule.Sets.{listAfter}
+use Rattle.records.specs.rule.Verdict as verdict
 use Rattle.records.specs.rule.Verdict.{Verdict, RecordJudged, badField}
 use Rattle.files.specs.rule.File.{FileVerdict, soundWith, badTable, fileVerdict, FileJudged}
 use Rattle.parts.specs.rule.Part.{numbered, PartVerdict, judgedAs, partVerdict, PartJudged}
@@ -80,6 +81,12 @@ use Rattle.zarfolin.specs.rule.Face.{RecordTold, ValueTold, FileTold, Definitio
 use Rattle.zarfolin.specs.rule.Texts.{TextTold}
 use Rattle.zarfolin.specs.rule.Part.{PartTold}
 use Rattle.zarfolin.specs.rule.Truth.{TruthTold}
+use Rattle.normal.specs.rule.Normal.{Normalised}
+use Rattle.normal_laws.specs.rule.Alike.{OutAll, AgreeOutside, ReadAlike, backAll, EveryRow}
+use Rattle.normal_laws.specs.rule.Exactly.{NormalOutcome}
+use Rattle.normal_laws.specs.Normal as forms
+use Rattle.normal_laws.specs.Exactly as exact
+use Rattle.zarfolin.specs.rule.Normal.{NormalTold}
 use Rattle.zarfolin.specs.Settled as face
 
 -- ==== 1. EVERY CALL ENDS AND ANSWERS ON ALL INPUT (no public call has a `requires`; Rattle proves each ends), NO TWO OUTCOMES SATISFY ITS
@@ -371,3 +378,41 @@ pub later-counts : {t : List ℤ} (before : List Correction) (c : Correction) {a
     → ListCorrected t (before ++ c ∷ after) list′ old new 0 → askedOf (c .value) ≡ asks x → markOf t c (length old) ≡ 0
     → Clear t (length old) (c .row) after → readingAt t (c .row) new ≡ holds x
 later-counts = later.later-counts
+
+-- ==== 5. C-21 OF DOCUMENT 02: ONE NORMAL FORM OF A RECORD
+pub normal-told : {t : List ℤ} {old new₁ new₂ : List ℕ} {a₁ a₂ : List ℤ} {r₁ r₂ : ℕ}
+    → NormalTold t old new₁ a₁ r₁ → NormalTold t old new₂ a₂ r₂ → ((r₁ ≡ r₂) × (a₁ ≡ a₂)) × (new₁ ≡ new₂)
+normal-told = face.normal-told-one
+
+-- each number exactly when: 20; 90, "two rows share a value place"; else that of judging the record
+pub normal-says : {t : List ℤ} {old new : List ℕ} {v : Verdict} → Normalised t old new v → NormalOutcome t old v
+normal-says = exact.normal-named
+
+pub says-normal : {t : List ℤ} {old new : List ℕ} {v k : Verdict} → Normalised t old new v → NormalOutcome t old k → v ≡ k
+says-normal p o = exact.normal-only p o
+
+-- a refusal keeps the record
+pub normal-refused : {t : List ℤ} {old new : List ℕ} {v : Verdict} → Normalised t old new v → (v ≡ verdict.sound → ⊥) → new ≡ old
+normal-refused = forms.refused-keeps
+
+-- all rows read as before
+pub normal-reads : {t : List ℤ} {old new : List ℕ} → Normalised t old new verdict.sound → ReadAlike t new old
+normal-reads = forms.reads-as-before
+
+-- a second pass is not refused and changes nothing
+pub normal-twice : {t : List ℤ} {old new newer : List ℕ} {v : Verdict} → Normalised t old new verdict.sound → Normalised t new newer v
+    → (v ≡ verdict.sound) × (newer ≡ new)
+normal-twice p q = forms.second-pass p q
+
+-- "two such records of one length that agree outside the value places have equal normal forms exactly when all rows read equal"
+pub normal-same : {t : List ℤ} {a b a′ b′ : List ℕ} → Normalised t a a′ verdict.sound → Normalised t b b′ verdict.sound
+    → length a ≡ length b → AgreeOutside t a b → (a′ ≡ b′) ↔ ReadAlike t a b
+normal-same = forms.same-exactly
+
+-- bytes outside the value places are kept, and the order of the rows makes no difference
+pub normal-keeps : {t : List ℤ} {old new : List ℕ} → Normalised t old new verdict.sound → (q : ℕ) → OutAll t q → getD new q 0 ≡ getD old q 0
+normal-keeps = forms.filler-kept
+
+pub normal-any-order : {t : List ℤ} {old new : List ℕ} → Normalised t old new verdict.sound → (ns : List ℕ) → EveryRow t ns
+    → backAll t ns old ≡ new
+normal-any-order = forms.order-free

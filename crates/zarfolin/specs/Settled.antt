@@ -21,6 +21,7 @@ use Rattle.corrections.specs.declared.Correction.{Correction}
 use Rattle.corrections.specs.rule.Truth.{noTruth}
 use Rattle.corrections.specs.rule.Correction.{ListCorrected}
 use Rattle.zarfolin.specs.rule.Truth.{TruthTold}
+use Rattle.zarfolin.specs.rule.Normal.{NormalTold}
 use Rattle.zarfolin.specs.declared.Told.{Told}
 
 -- what tells equal numbers is equal
@@ -108,3 +109,11 @@ not-done k e = go (eqb k 0) refl e
 
 pub truth-written : {t : List ℤ} {i b : ℕ} {old new : List ℕ} → TruthTold t i b old new 0 → Written t i (truth (eqb b 1)) old new 0
 truth-written {t} {i} {b} x = ⊎-elim (λ l. x .given l) (λ l. absurd (not-done _ (x .other l .says))) (lt-or-le b 2)
+
+-- ---- zarfolin_normal: the record too
+pub normal-told-one : {t : List ℤ} {old new₁ new₂ : List ℕ} {a₁ a₂ : List ℤ} {r₁ r₂ : ℕ}
+    → NormalTold t old new₁ a₁ r₁ → NormalTold t old new₂ a₂ r₂ → ((r₁ ≡ r₂) × (a₁ ≡ a₂)) × (new₁ ≡ new₂)
+normal-told-one x y = (
+  telling-one (ap verdictCells (x .promise .says ∙ sym (y .promise .says))) (x .tells) (y .tells),
+  x .promise .leaves ∙ sym (y .promise .leaves),
+)

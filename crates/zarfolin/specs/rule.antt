@@ -5,3 +5,4 @@ pub mod Truth
 pub mod Version
 pub mod Whole
 pub mod Texts
+pub mod Normal

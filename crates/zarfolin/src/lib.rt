@@ -23,6 +23,8 @@ ghost use Rattle.zarfolin.specs.rule.Truth.{TruthTold};
 ghost use Rattle.zarfolin.specs.rule.Whole.{wholeCells, WholeTold};
 ghost use Rattle.texts.specs.rule.Decode as texts;
 ghost use Rattle.zarfolin.specs.rule.Texts.{textCells, TextTold};
+ghost use Rattle.normal.specs.rule.Normal.{normalSaid};
+ghost use Rattle.zarfolin.specs.rule.Normal.{NormalTold};
 
 mod version;
 
@@ -32,6 +34,7 @@ use faults::Fault;
 use files::Judgement;
 use layout::Header;
 use layout::Row;
+use normal::Normal;
 use parts::Part;
 use record_values::Whole;
 use records::Judged;
@@ -479,4 +482,21 @@ pub extern "C" fn zarfolin_correct(table: &[i64], list: &mut [Correction], bytes
         i += 1;
     }
     answer
+}
+
+fn normal_cells(n: Normal) -> Told
+    ensures { λ r. ⌜ r ≡ verdictCells (normalSaid n) ⌝ }
+{
+    match n {
+        Normal::Shared => bare(90),
+        Normal::As(j) => verdict_cells(j),
+    }
+}
+
+// Gives a record its normal form, in place.
+#[no_mangle]
+pub extern "C" fn zarfolin_normal(table: &[i64], bytes: &mut [u8], answer: &mut [i64; 4]) -> u64
+    ensures { λ r. ⌜ NormalTold (now (table .entry)) (now (bytes .entry)) (now (bytes .exit)) (now (answer .exit)) r ⌝ }
+{
+    tell(answer, normal_cells(normal::normalise(table, bytes)))
 }

@@ -180,12 +180,18 @@ fn whole_records(cases: &mut Vec<Maker>) {
     for (rows, table) in [(5, short as fn() -> Vec<i64>), (60, sixty), (512, long)] {
         add(cases, &format!("all rows of a record, {rows} rows"), move || whole(table(), 10_000));
         add(cases, &format!("all rows of a record, {rows} rows, the list just fits"), move || whole(table(), 0));
+        add(cases, &format!("normal form, {rows} rows"), move || normal(table()));
         add(cases, &format!("all rows of a record, {rows} rows, one by one"), move || one_by_one(table()));
     }
     for (name, table) in [("bitstring of 9,999", bits as fn() -> Vec<i64>), ("spread of 4,000", spread)] {
         add(cases, &format!("all rows of a record, {name}"), move || whole_set(table(), 10_000));
         add(cases, &format!("all rows of a record, {name}, the list just fits"), move || whole_set(table(), 0));
+        add(cases, &format!("normal form, {name}"), move || normal_set(table()));
     }
+    add(cases, "normal form, spread of 4,000, falling, each twice", || {
+        let record: String = (0..4000).map(|i| format!("{:4}", 9999 - i / 2)).collect();
+        normal_of(spread(), record.into_bytes())
+    });
 }
 
 /// Judging a record.
@@ -387,6 +393,30 @@ fn whole_of(table: Vec<i64>, record: Vec<u8>, room: usize) -> Case {
     let bytes = record.len();
     let step: Step =
         Box::new(move |face| face.read_record(black_box(&table), black_box(&record), &mut out, &mut list, &mut answer));
+    Case { bytes, number: 0, step }
+}
+
+/// The normal form of a record, brought about anew each time from the record as it was.
+fn normal(table: Vec<i64>) -> Case {
+    let record = record(&table, 7);
+    normal_of(table, record)
+}
+
+fn normal_set(table: Vec<i64>) -> Case {
+    let mut record = vec![b'x'; table[3] as usize];
+    assert_eq!(Plain.write_set(&table, 0, &evens(), &mut record), 0);
+    normal_of(table, record)
+}
+
+fn normal_of(table: Vec<i64>, record: Vec<u8>) -> Case {
+    let mut answer = [0; 4];
+    let mut copy = record.clone();
+    assert_eq!(Plain.normal(&table, &mut copy, &mut answer), 0);
+    let bytes = record.len();
+    let step: Step = Box::new(move |face| {
+        copy.copy_from_slice(black_box(&record));
+        face.normal(black_box(&table), &mut copy, &mut answer)
+    });
     Case { bytes, number: 0, step }
 }
 

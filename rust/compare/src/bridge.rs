@@ -184,4 +184,10 @@ impl Face for Bridge {
         corrections.copy_from_slice(&corrections_of(&list));
         number
     }
+
+    fn normal(&self, table: &[i64], record: &mut [u8], answer: &mut [i64; 4]) -> u64 {
+        let copy = record.to_vec();
+        let inputs = Inputs { table, bytes: &copy, ..Inputs::default() };
+        self.call(Call::Normal, inputs, answer, copy.len(), |changed| record.copy_from_slice(changed))
+    }
 }

@@ -24,6 +24,7 @@ pub enum Call {
     JudgePart,
     /// The list has four numbers a correction: row, kind, number, mark.
     Correct,
+    Normal,
 }
 
 /// A call and its inputs; those that the call doesn't take are empty or 0.
@@ -134,6 +135,7 @@ pub fn run(face: &dyn Face, case: &Case) -> Outcome {
         Call::DecodeText => face.decode_text(b, case.row, case.number as u64, l, a),
         Call::JudgePart => face.judge_part(t, b, case.row, case.number as u64, case.last, a),
         Call::Correct => corrected(face, t, l, b),
+        Call::Normal => face.normal(t, b, a),
     };
     Outcome { number, answer, table: table.all, list: list.all, bytes: bytes.all, text: text.all, out: out.all }
 }

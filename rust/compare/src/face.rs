@@ -21,6 +21,7 @@ pub trait Face {
     fn decode_text(&self, def: &[u8], place: u64, length: u64, list: &mut [i64], answer: &mut [i64; 4]) -> u64;
     fn judge_part(&self, t: &[i64], data: &[u8], end: u64, first: u64, last: u64, answer: &mut [i64; 4]) -> u64;
     fn correct(&self, table: &[i64], corrections: &mut [Correction], record: &mut [u8]) -> u64;
+    fn normal(&self, table: &[i64], record: &mut [u8], answer: &mut [i64; 4]) -> u64;
 }
 
 /// The plain Rust implementation.
@@ -113,6 +114,10 @@ impl Face for Plain {
 
     fn correct(&self, table: &[i64], corrections: &mut [Correction], record: &mut [u8]) -> u64 {
         plain::correct(table, corrections, record)
+    }
+
+    fn normal(&self, table: &[i64], record: &mut [u8], answer: &mut [i64; 4]) -> u64 {
+        give(answer, plain::normal(table, record))
     }
 }
 
@@ -297,6 +302,18 @@ impl Face for Library {
                 corrections.len(),
                 record.as_mut_ptr(),
                 record.len(),
+            )
+        }
+    }
+
+    fn normal(&self, table: &[i64], record: &mut [u8], answer: &mut [i64; 4]) -> u64 {
+        unsafe {
+            zarfolin::ffi::zarfolin_normal(
+                table.as_ptr(),
+                table.len(),
+                record.as_mut_ptr(),
+                record.len(),
+                answer.as_mut_ptr(),
             )
         }
     }

@@ -963,6 +963,10 @@ impl Face for Naive {
         give(answer, numbers)
     }
 
+    fn normal(&self, table: &[i64], record: &mut [u8], answer: &mut [i64; 4]) -> u64 {
+        give(answer, crate::naive_02::normal(table, record))
+    }
+
     fn decode_text(&self, def: &[u8], place: u64, length: u64, list: &mut [i64], answer: &mut [i64; 4]) -> u64 {
         let (place, end) = (place as u128, place as u128 + length as u128);
         if end > def.len() as u128 {

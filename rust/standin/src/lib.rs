@@ -245,3 +245,14 @@ pub unsafe extern "C" fn zarfolin_correct(
         plain::correct(from_raw_parts(table, table_len), corrections, record)
     }
 }
+
+#[unsafe(no_mangle)]
+pub unsafe extern "C" fn zarfolin_normal(
+    table: *const i64,
+    table_len: usize,
+    record: *mut u8,
+    record_len: usize,
+    answer: *mut i64,
+) -> Number {
+    unsafe { give(answer, plain::normal(from_raw_parts(table, table_len), from_raw_parts_mut(record, record_len))) }
+}

@@ -163,7 +163,23 @@ pub fn judge_record(table: &[i64], record: &[u8]) -> Result<(), RecordFault> {
     let number = unsafe {
         zarfolin_judge_record(table.as_ptr(), table.len(), record.as_ptr(), record.len(), answer.as_mut_ptr())
     };
-    let [_, first, second, _] = answer;
+    judged(number, answer)
+}
+
+/// Gives a record its normal form, in place: every row is written back as it reads, and every byte outside the value places is kept.
+/// Two records of one length that agree outside the value places have equal normal forms exactly when all their rows read equal.
+/// [`Refusal::Shared`] where two rows share a value place, after [`Refusal::Table`]; else refused as [`judge_record`] refuses. A
+/// refusal keeps the record.
+pub fn normal(table: &[i64], record: &mut [u8]) -> Result<(), RecordFault> {
+    let mut answer = [0i64; 4];
+    // SAFETY: as above.
+    let number =
+        unsafe { zarfolin_normal(table.as_ptr(), table.len(), record.as_mut_ptr(), record.len(), answer.as_mut_ptr()) };
+    judged(number, answer)
+}
+
+/// What the answer on a whole record says.
+fn judged(number: Number, [_, first, second, _]: [i64; 4]) -> Result<(), RecordFault> {
     Refusal::of(number).map_or(Ok(()), |refusal| {
         let place = if refusal == Refusal::LowByte { first } else { second };
         Err(record_fault(refusal, first, place))

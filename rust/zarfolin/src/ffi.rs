@@ -150,4 +150,13 @@ unsafe extern "C" {
         record: *mut u8,
         record_len: usize,
     ) -> Number;
+
+    /// Gives a record its normal form, in place. [`calls::normal`](crate::calls::normal).
+    pub fn zarfolin_normal(
+        table: *const i64,
+        table_len: usize,
+        record: *mut u8,
+        record_len: usize,
+        answer: *mut i64,
+    ) -> Number;
 }

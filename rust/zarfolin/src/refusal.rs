@@ -103,6 +103,8 @@ refusals! {
     Unended = 30, "the last record has no terminator";
     /// 31: length differs from the first record's.
     Length = 31, "the record's length differs from the first record's";
+    /// 90: two rows share a value place.
+    Shared = 90, "two variables share a value place";
     /// 241: stray byte.
     Stray = 241, "the field has a byte that cannot stand there";
     /// 242: not a legal value.

@@ -128,6 +128,21 @@ impl<'t> Definition<'t> {
         calls::correct(&self.table, corrections, record)
     }
 
+    /// Gives a record its normal form, in place: every row written back as it reads, so that records that say the same have the same
+    /// bytes, filler aside: [`calls::normal`].
+    ///
+    /// ```
+    /// # let text = std::fs::read("../../examples/counter/survey.sss").unwrap();
+    /// # let definition = zarfolin::Definition::read(&text).unwrap();
+    /// let mut record = *b"  1/010---0/010400  12.50Bad Ischl     .1";
+    /// definition.normal(&mut record)?;
+    /// assert_eq!(&record, b" 01/010---0/010400 012.50Bad Ischl     .1");
+    /// # Ok::<(), zarfolin::RecordFault>(())
+    /// ```
+    pub fn normal(&self, record: &mut [u8]) -> Result<(), RecordFault> {
+        calls::normal(&self.table, record)
+    }
+
     fn cells(&self, row: usize) -> &[i64] {
         &self.table[table::row_at(row)..][..table::ROW]
     }

@@ -226,6 +226,29 @@ fn corrections() {
     assert_eq!(record, *b"0310x1x00.5     0");
 }
 
+/// Records that say the same get the same bytes; a refusal keeps the record; two rows that share a byte are refused before its length.
+#[test]
+fn normal_forms() {
+    let definition = Definition::read(SAMPLE).unwrap();
+    let (mut one, mut other) = (*b" 710x1x-1.0ab   1", *b"0710x1x-1.0ab   1");
+    assert_eq!((definition.normal(&mut one), definition.normal(&mut other)), (Ok(()), Ok(())));
+    assert_eq!((one, other), (*b"0710x1x-1.0ab   1", *b"0710x1x-1.0ab   1"));
+    let mut wrong = *b"7 10x1x-1.0ab   1";
+    let fault = definition.normal(&mut wrong).unwrap_err();
+    assert_eq!(
+        (Err(fault), fault.refusal, &wrong),
+        (definition.judge_record(&wrong), Refusal::Stray, b"7 10x1x-1.0ab   1")
+    );
+    assert_eq!(definition.normal(&mut one[1..]).unwrap_err().refusal, Refusal::Short);
+    assert_eq!(calls::normal(&[11], &mut one).unwrap_err().refusal, Refusal::Table);
+    let shared =
+        "SSS VERSION 1.1 SURVEY RECORD R VARIABLE 1 NAME \"a\" LABEL \"A\" TYPE CHARACTER POSITION 1 TO 2 SIZE 2
+END VARIABLE VARIABLE 2 NAME \"b\" LABEL \"B\" TYPE LOGICAL POSITION 2 END VARIABLE END RECORD END SURVEY END SSS";
+    let shared = Definition::read(shared.as_bytes()).unwrap();
+    let fault = shared.normal(&mut []).unwrap_err();
+    assert_eq!((fault.refusal, fault.row, fault.place, fault.number), (Refusal::Shared, None, None, None));
+}
+
 #[test]
 fn files() {
     let definition = Definition::read(SAMPLE).unwrap();

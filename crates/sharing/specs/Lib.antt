@@ -1,0 +1,4 @@
+pub mod rule
+pub mod Claims
+pub mod Known
+pub mod Pairs
