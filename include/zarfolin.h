@@ -98,6 +98,8 @@ enum {
     /* of a data file */
     ZARFOLIN_E_UNENDED = 30, /* last record has no terminator */
     ZARFOLIN_E_LENGTH = 31,  /* length differs from the first record's */
+    /* of mending */
+    ZARFOLIN_E_MEND_ROOM = 70, /* output or list too short */
     /* of a table, where its rows are written back */
     ZARFOLIN_E_SHARED = 90,  /* two rows share a value place */
     /* of a field, before 25 in the order of the calls: what is wrong with it (up to version 1 they were one number, 24) */
@@ -115,6 +117,15 @@ enum {
     ZARFOLIN_LF_CR = 2,
     ZARFOLIN_CR = 3,
     ZARFOLIN_LF = 4
+};
+
+/* What zarfolin_mend changes, as its list has it: three numbers an entry. */
+enum {
+    ZARFOLIN_MENDED_DROPPED = 1,    /* an empty record dropped */
+    ZARFOLIN_MENDED_BYTE = 2,       /* a space for a byte below 32 */
+    ZARFOLIN_MENDED_PAD = 3,        /* a record padded */
+    ZARFOLIN_MENDED_TERMINATOR = 4, /* the first terminator in place of another, or of none */
+    ZARFOLIN_MENDED = 3             /* the numbers of an entry */
 };
 
 /* What zarfolin_next_record returns. */
@@ -384,6 +395,19 @@ zarfolin_number zarfolin_correct(const int64_t *table, size_t table_len, struct 
 zarfolin_number zarfolin_normal(const int64_t *table, size_t table_len, uint8_t *record, size_t record_len,
                                 int64_t *answer);
 
+/* Mends a damaged data file: each CR LF, LF CR, CR or LF ends a record, pairs first; empty records are dropped, bytes below 32
+ * become spaces, every record is padded with spaces to the longest and at least to ZARFOLIN_H_RECORD, and ended by the first
+ * terminator of the data (CR LF if it has none).
+ *
+ * Answers 0, or 20, or 70 where the output or the list is too short.
+ * answer: the number; how many bytes the output got; how many entries the list got; 0. Zeros behind 20 and 70.
+ * out:    on 0 the mended data from its start on. Data whose line ends, lengths and bytes are sound comes out as it is.
+ * list:   on 0 three numbers an entry, in the order of the data: what was changed (ZARFOLIN_MENDED_DROPPED and on); the record,
+ *         from 1, dropped ones counted; the place in the data from 0: that of the byte, or the record's end.
+ * Beyond what is written, and on 20 and 70 everywhere, out and list are kept. table, data: only read. */
+zarfolin_number zarfolin_mend(const int64_t *table, size_t table_len, const uint8_t *data, size_t data_len, uint8_t *out,
+                              size_t out_len, int64_t *list, size_t list_len, int64_t *answer);
+
 /* ---- stack --------------------------------------------------------------------------------------------------------- *
  *
  * The most bytes of stack that a call took, rounded up, its own return address included, memcpy and memset too. Measured,
@@ -402,6 +426,7 @@ zarfolin_number zarfolin_normal(const int64_t *table, size_t table_len, uint8_t 
 #define ZARFOLIN_STACK_NORMAL 102000
 #define ZARFOLIN_STACK_JUDGE_FILE 27500
 #define ZARFOLIN_STACK_JUDGE_PART 27500
+#define ZARFOLIN_STACK_MEND 17600
 #define ZARFOLIN_STACK_NEXT_RECORD 128
 #define ZARFOLIN_STACK_VERSION 16
 
@@ -453,6 +478,7 @@ ZARFOLIN_INLINE const char *zarfolin_message(zarfolin_number number) {
     case ZARFOLIN_E_TERMINATOR: return "no terminator has this number";
     case ZARFOLIN_E_UNENDED: return "the last record has no terminator";
     case ZARFOLIN_E_LENGTH: return "the record's length differs from the first record's";
+    case ZARFOLIN_E_MEND_ROOM: return "the lent output or list is too short for the mended file";
     case ZARFOLIN_E_SHARED: return "two variables share a value place";
     case ZARFOLIN_E_STRAY: return "the field has a byte that cannot stand there";
     case ZARFOLIN_E_NOT_LEGAL: return "the field holds a number that is neither in the range nor on a line";

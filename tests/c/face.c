@@ -343,6 +343,44 @@ static void parts(void) {
     }
 }
 
+/* A damaged file mended, with room, with just enough and with too little; and mended again, which changes nothing. */
+static void mends(void) {
+    static const char data[] = "\n 710x1x-1.0ab\r 710x1x-1.0ab\t  120 1\r\n\n\n 710x1x-1.0ab   12001";
+    static const char due[] = " 710x1x-1.0ab        \n 710x1x-1.0ab   120 1\n 710x1x-1.0ab   12001\n";
+    static const int64_t entries[] = {
+        ZARFOLIN_MENDED_DROPPED, 1, 0,  ZARFOLIN_MENDED_PAD, 2, 14,     ZARFOLIN_MENDED_TERMINATOR, 2, 14,
+        ZARFOLIN_MENDED_BYTE, 3, 28,    ZARFOLIN_MENDED_TERMINATOR, 3, 36, ZARFOLIN_MENDED_DROPPED, 4, 38,
+        ZARFOLIN_MENDED_DROPPED, 5, 39, ZARFOLIN_MENDED_TERMINATOR, 6, 61,
+    };
+    enum { NUMBERS = sizeof entries / sizeof entries[0] };
+    const size_t data_len = sizeof data - 1, due_len = sizeof due - 1;
+    uint8_t out[sizeof due + 4];
+    int64_t list[NUMBERS + 2], answer[4];
+    memset(out, '?', sizeof out);
+    for (size_t i = 0; i < NUMBERS + 2; i++) {
+        list[i] = -1;
+    }
+    CHECK(NUMBERS % ZARFOLIN_MENDED == 0);
+    CHECK(zarfolin_mend(table, table_len - 1, bytes(data), data_len, out, sizeof out, list, NUMBERS, answer) == ZARFOLIN_E_TABLE);
+    CHECK(is(answer, 20, 0, 0, 0));
+    CHECK(zarfolin_mend(table, table_len, bytes(data), data_len, out, due_len - 1, list, NUMBERS, answer) == ZARFOLIN_E_MEND_ROOM);
+    CHECK(is(answer, 70, 0, 0, 0));
+    CHECK(zarfolin_mend(table, table_len, bytes(data), data_len, out, due_len, list, NUMBERS - 1, answer) == ZARFOLIN_E_MEND_ROOM);
+    CHECK(out[0] == '?' && out[due_len - 1] == '?' && list[0] == -1 && list[NUMBERS - 1] == -1);
+
+    CHECK(zarfolin_mend(table, table_len, bytes(data), data_len, out, due_len, list, NUMBERS, answer) == ZARFOLIN_OK);
+    CHECK(is(answer, 0, (int64_t)due_len, NUMBERS / ZARFOLIN_MENDED, 0));
+    CHECK(memcmp(out, due, due_len) == 0 && out[due_len] == '?');
+    CHECK(memcmp(list, entries, sizeof entries) == 0 && list[NUMBERS] == -1);
+    CHECK(zarfolin_judge_file(table, table_len, bytes(due), due_len, answer) == ZARFOLIN_OK);
+    CHECK(zarfolin_mend(table, table_len, bytes(due), due_len, out, sizeof out, list, 0, answer) == ZARFOLIN_OK);
+    CHECK(is(answer, 0, (int64_t)due_len, 0, 0) && memcmp(out, due, due_len) == 0 && out[due_len] == '?');
+    CHECK(zarfolin_mend(table, table_len, bytes(""), 0, out, 0, list, 0, answer) == ZARFOLIN_OK);
+    CHECK(is(answer, 0, 0, 0, 0));
+    CHECK(zarfolin_mend(table, table_len, bytes("\r\n\r"), 3, out, 0, list, 6, answer) == ZARFOLIN_OK);
+    CHECK(is(answer, 0, 0, 2, 0) && list[0] == ZARFOLIN_MENDED_DROPPED && list[5] == 2);
+}
+
 /* Every refusal has words of its own, and a number of none has some too. */
 static void messages(void) {
     CHECK(zarfolin_version() == ZARFOLIN_VERSION);
@@ -350,6 +388,7 @@ static void messages(void) {
     CHECK(strlen(unknown) > 0 && zarfolin_message(UINT64_MAX) == unknown && zarfolin_message(24) == unknown);
     CHECK(zarfolin_message(ZARFOLIN_E_STRAY) != unknown && zarfolin_message(ZARFOLIN_E_NOT_LEGAL) != unknown);
     CHECK(zarfolin_message(ZARFOLIN_E_POINT) != unknown && zarfolin_message(ZARFOLIN_E_SHARED) != unknown);
+    CHECK(zarfolin_message(ZARFOLIN_E_MEND_ROOM) != unknown);
     for (zarfolin_number a = 0; a <= ZARFOLIN_E_LENGTH; a++) {
         const int none = (a > ZARFOLIN_E_TABLE_ROOM && a < ZARFOLIN_E_TABLE) || a == 24;
         CHECK((strcmp(zarfolin_message(a), unknown) == 0) == none);
@@ -369,6 +408,7 @@ int main(void) {
     corrections();
     files();
     parts();
+    mends();
     printf("face for C: %d checks, all as they should be\n", checks);
     return 0;
 }

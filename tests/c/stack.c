@@ -38,6 +38,9 @@ static uint64_t terminator, first_len, last;
 static int64_t number;
 static int64_t answer[ZARFOLIN_ANSWER];
 static struct zarfolin_correction corrections[4];
+static uint8_t mended[4 * (ZARFOLIN_MAX_LOCATION + 8)];
+static int64_t changes[3 * (ZARFOLIN_MAX_LOCATION + 8)];
+static size_t mended_len;
 static volatile zarfolin_number got;
 
 #define TABLE table, ZARFOLIN_MAX_TABLE
@@ -60,6 +63,9 @@ static void correct(void) { got = zarfolin_correct(TABLE, corrections, sizeof co
 static void normal(void) { got = zarfolin_normal(TABLE, record, record_len, answer); }
 static void judge_file(void) { got = zarfolin_judge_file(TABLE, record, record_len, answer); }
 static void judge_part(void) { got = zarfolin_judge_part(TABLE, record, record_len, terminator, first_len, last, answer); }
+static void mend(void) {
+    got = zarfolin_mend(TABLE, record, record_len, mended, mended_len, changes, sizeof changes / sizeof changes[0], answer);
+}
 static void next_record(void) { got = zarfolin_next_record(record, record_len, row, answer); }
 
 static struct measured {
@@ -83,6 +89,7 @@ static struct measured {
     {"zarfolin_correct", correct, ZARFOLIN_STACK_CORRECT, 0, 0},
     {"zarfolin_judge_file", judge_file, ZARFOLIN_STACK_JUDGE_FILE, 0, 0},
     {"zarfolin_judge_part", judge_part, ZARFOLIN_STACK_JUDGE_PART, 0, 0},
+    {"zarfolin_mend", mend, ZARFOLIN_STACK_MEND, 0, 0},
     {"zarfolin_next_record", next_record, ZARFOLIN_STACK_NEXT_RECORD, 0, 0},
     {"zarfolin_normal", normal, ZARFOLIN_STACK_NORMAL, 0, 0},
 };
@@ -241,6 +248,14 @@ static void files(void) {
                 for (row = 0; row <= record_len; row += record_len / 3 + 1) {
                     measure(next_record);
                 }
+                mended_len = sizeof mended;
+                measure(mend);
+                mended_len = 0;
+                measure(mend);
+                mended_len = sizeof mended;
+                record_len -= n == 1 ? 1 : 0; /* so that the third record is padded, or ends otherwise */
+                measure(mend);
+                record_len += n == 1 ? 1 : 0;
             }
         }
     }
@@ -331,6 +346,8 @@ int main(void) {
     }
     if (end() == ZARFOLIN_OK) {
         records();
+        mended_len = sizeof mended;
+        measure(mend);
     } else {
         fprintf(stderr, "the largest definition was refused: %d at %d\n", (int)got, (int)answer[1]);
         return 1;

@@ -1,12 +1,12 @@
 -- THE DEMANDS, one by one: the final theorems over the promises of the public calls, restated here and each proved by name elsewhere. The
 -- promises stand in specs/rule of their crates: TableTested (sound), ValueRead and RecordJudged (records), Written (writes), NextFound
--- (cuts), FileJudged (files), PartJudged (parts), DefinitionRead (definition), ListCorrected (corrections), Normalised
--- (normal); those of the exported functions (zarfolin) hold them, or are they.
+-- (cuts), FileJudged (files), PartJudged (parts), DefinitionRead (definition), ListCorrected (corrections), Mends (mends),
+-- Normalised (normal); those of the exported functions (zarfolin) hold them, or are they.
 use mathlib.Core.Path.{_≡_}
 use mathlib.Core.Logic.{_↔_, ⊎-elim}
 use mathlib.Core.Bool.{Bool, true, false}
-use mathlib.Core.List.{List, _∷_, _++_, map}
-use Prim.Native.Nat.{ℕ, _+_, _*_, _-_, _<_}
+use mathlib.Core.List.{List, [], _∷_, _++_, map}
+use Prim.Native.Nat.{ℕ, _+_, _*_, _-_, _≤_, _<_}
 use lib.Dec.{eqb}
 use lib.IntN.{ℤ}
 use lib.ListN.{length, getD, take, drop}
@@ -79,6 +79,18 @@ use Rattle.correction_laws.specs.Outcomes as numbers
 use Rattle.correction_laws.specs.Later as later
 use Rattle.zarfolin.specs.rule.Face.{RecordTold, ValueTold, FileTold, DefinitionTold, NextTold}
 use Rattle.zarfolin.specs.rule.Texts.{TextTold}
+use Rattle.zarfolin.specs.rule.Mend.{MendTold}
+use Rattle.pieces.specs.rule.Pieces.{piecesOf, laidPieces}
+use Rattle.pieces.specs.Laid as pieces
+use Rattle.mends.specs.rule.Mend as mending
+use Rattle.mends.specs.rule.Mend.{bytesIn, listIn, widthIn, endingOf, Mends}
+use Rattle.mends.specs.declared.Mended.{Mended}
+use Rattle.mend_laws.specs.rule.Mended.{AllUnbroken, MendOutcome, SoundLines, NoneOfFour, ByFields, keptOf, Rising, DueIn, In}
+use Rattle.mend_laws.specs.Pieces as unbroken
+use Rattle.mend_laws.specs.Sound as mended
+use Rattle.mend_laws.specs.Judged as mend-judged
+use Rattle.mend_laws.specs.Once as mend-once
+use Rattle.mend_laws.specs.Listed as mend-listed
 use Rattle.zarfolin.specs.rule.Part.{PartTold}
 use Rattle.zarfolin.specs.rule.Truth.{TruthTold}
 use Rattle.normal.specs.rule.Normal.{Normalised}
@@ -149,6 +161,11 @@ module _ {d : List ℕ} {place long : ℕ} {l : List ℤ} where
   pub one-text-told : {l₁ l₂ a₁ a₂ : List ℤ} {r₁ r₂ : ℕ} → TextTold d place long l l₁ a₁ r₁ → TextTold d place long l l₂ a₂ r₂
       → ((r₁ ≡ r₂) × (a₁ ≡ a₂)) × (l₁ ≡ l₂)
   one-text-told = face.text-told-one
+
+module _ {t : List ℤ} {d out : List ℕ} {list : List ℤ} where
+  pub one-mend-told : {out₁ out₂ : List ℕ} {l₁ l₂ a₁ a₂ : List ℤ} {r₁ r₂ : ℕ} → MendTold t d out out₁ list l₁ a₁ r₁
+      → MendTold t d out out₂ list l₂ a₂ r₂ → ((r₁ ≡ r₂) × (a₁ ≡ a₂)) × ((out₁ ≡ out₂) × (l₁ ≡ l₂))
+  one-mend-told = face.mend-told-one
 
 module _ {t : List ℤ} {i : ℕ} {old : List ℕ} where
   -- the exported functions but that for a truth promise `Written` too
@@ -416,3 +433,69 @@ normal-keeps = forms.filler-kept
 pub normal-any-order : {t : List ℤ} {old new : List ℕ} → Normalised t old new verdict.sound → (ns : List ℕ) → EveryRow t ns
     → backAll t ns old ≡ new
 normal-any-order = forms.order-free
+
+-- ==== 6. C-19 OF DOCUMENT 02: A DAMAGED FILE MENDED
+-- the mender's pieces, with their boundaries laid end to end, are the file, and none holds CR or LF
+pub mender-pieces : (d : List ℕ) → laidPieces (piecesOf d) ≡ d
+unfolding piecesOf
+mender-pieces = pieces.pieces-laid
+
+pub mender-unbroken : (d : List ℕ) → AllUnbroken (piecesOf d)
+mender-unbroken = unbroken.pieces-unbroken
+
+-- each refusal exactly when; beyond what is written output and list are kept, on a refusal all of both
+pub mend-refusals : (t : List ℤ) (d : List ℕ) (room cells : ℕ) → MendOutcome t d room cells (mending.mendedAs t d room cells)
+mend-refusals = mend-once.mend-named
+
+pub mend-no-other : {t : List ℤ} {d : List ℕ} {room cells : ℕ} {o : mending.Outcome} → MendOutcome t d room cells o
+    → mending.mendedAs t d room cells ≡ o
+mend-no-other = mend-once.mend-only
+
+module _ {t : List ℤ} {d out out′ : List ℕ} {list list′ : List ℤ} {r : Mended} where
+  pub mend-keeps-beyond : Mends t d out out′ list list′ r
+      → (drop (length (bytesIn t d)) out′ ≡ drop (length (bytesIn t d)) out)
+      × (drop (length (mending.numbersOf (listIn t d))) list′ ≡ drop (length (mending.numbersOf (listIn t d))) list)
+  mend-keeps-beyond = mend-once.kept-beyond
+
+  pub mend-keeps-refused : {k : ℕ} → Mends t d out out′ list list′ r → mending.said r ≡ mending.refused k → (out′ ≡ out) × (list′ ≡ list)
+  mend-keeps-refused = mend-once.kept-refused
+
+-- a file whose line ends, lengths and bytes are sound: no record of it is judged 30, 31, 22 or 23
+pub sound-lines-exactly : (t : List ℤ) (d : List ℕ) → SoundLines t d ↔ NoneOfFour t (firstOf (recordsOf d)) (recordsOf d)
+sound-lines-exactly = mend-judged.sound-exactly
+
+-- the mended file is sound in line ends, lengths and bytes, and judged with no 30, 31, 22, 23; a file is so exactly when nothing is listed,
+-- exactly when it comes out as it went in; twice is once
+pub mended-is-sound : (t : List ℤ) (d : List ℕ) → wellFormed t ≡ true → SoundLines t (bytesIn t d)
+mended-is-sound = mended.mended-sound
+
+pub mended-by-fields : (t : List ℤ) (d : List ℕ) → wellFormed t ≡ true → ByFields (fileVerdict t (bytesIn t d))
+mended-by-fields = mend-judged.mended-judged
+
+pub sound-nothing-listed : (t : List ℤ) (d : List ℕ) → wellFormed t ≡ true → SoundLines t d → listIn t d ≡ []
+sound-nothing-listed = mended.sound-unlisted
+
+pub nothing-listed-same : (t : List ℤ) (d : List ℕ) → listIn t d ≡ [] → bytesIn t d ≡ d
+nothing-listed-same = mended.unlisted-same
+
+pub same-is-sound : (t : List ℤ) (d : List ℕ) → wellFormed t ≡ true → bytesIn t d ≡ d → SoundLines t d
+same-is-sound = mended.same-sound
+
+pub mended-twice : (t : List ℤ) (d : List ℕ) → wellFormed t ≡ true → bytesIn t (bytesIn t d) ≡ bytesIn t d
+mended-twice = mended.mend-twice
+
+-- no other byte differs: byte j of the kept record k, where it is 32 or more, stands at its place
+pub other-bytes-kept : (t : List ℤ) (d : List ℕ) (k j : ℕ) → k < length (keptOf (piecesOf d)) → j < length (getD (keptOf (piecesOf d)) k [])
+    → 32 ≤ getD (getD (keptOf (piecesOf d)) k []) j 0
+    → getD (bytesIn t d) (k * (widthIn t d + endingOf d .size) + j) 0 ≡ getD (getD (keptOf (piecesOf d)) k []) j 0
+other-bytes-kept = mend-once.others-kept
+
+-- the list is in input order, and holds just what is due
+pub mend-list-rises : (t : List ℤ) (d : List ℕ) → Rising 0 (listIn t d)
+mend-list-rises = mend-listed.list-rises
+
+pub due-is-listed : (t : List ℤ) (d : List ℕ) {x : mending.Entry} → DueIn (widthIn t d) (endingOf d) 1 0 (piecesOf d) x → In x (listIn t d)
+due-is-listed = mend-listed.due-listed
+
+pub listed-is-due : (t : List ℤ) (d : List ℕ) {x : mending.Entry} → In x (listIn t d) → DueIn (widthIn t d) (endingOf d) 1 0 (piecesOf d) x
+listed-is-due = mend-listed.listed-due

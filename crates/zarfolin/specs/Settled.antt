@@ -17,6 +17,7 @@ use Rattle.zarfolin.specs.rule.Face.{RecordTold, ValueTold, FileTold, De
 use Rattle.zarfolin.specs.rule.Part.{partCells, PartTold}
 use Rattle.zarfolin.specs.rule.Whole.{wholeCells, WholeTold}
 use Rattle.zarfolin.specs.rule.Texts.{textCells, TextTold}
+use Rattle.zarfolin.specs.rule.Mend.{mendCells, MendTold}
 use Rattle.corrections.specs.declared.Correction.{Correction}
 use Rattle.corrections.specs.rule.Truth.{noTruth}
 use Rattle.corrections.specs.rule.Correction.{ListCorrected}
@@ -77,6 +78,15 @@ pub text-told-one : {d : List ℕ} {place long : ℕ} {list list₁ list₂ a₁
 text-told-one x y = (
   telling-one (ap textCells (x .promise .says ∙ sym (y .promise .says))) (x .tells) (y .tells),
   x .promise .leaves ∙ sym (y .promise .leaves),
+)
+
+-- ---- zarfolin_mend: the output and the list too
+pub mend-told-one : {t : List ℤ} {d out out₁ out₂ : List ℕ} {list list₁ list₂ a₁ a₂ : List ℤ} {r₁ r₂ : ℕ}
+    → MendTold t d out out₁ list list₁ a₁ r₁ → MendTold t d out out₂ list list₂ a₂ r₂
+    → ((r₁ ≡ r₂) × (a₁ ≡ a₂)) × ((out₁ ≡ out₂) × (list₁ ≡ list₂))
+mend-told-one x y = (
+  telling-one (ap mendCells (x .promise .says ∙ sym (y .promise .says))) (x .tells) (y .tells),
+  (x .promise .mended ∙ sym (y .promise .mended), x .promise .listed ∙ sym (y .promise .listed)),
 )
 
 -- ---- zarfolin_write_missing, _number, _set, _text promise `Written`, as the call does: the number and the record

@@ -6,3 +6,4 @@ pub mod Version
 pub mod Whole
 pub mod Texts
 pub mod Normal
+pub mod Mend

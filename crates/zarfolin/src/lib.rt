@@ -25,6 +25,8 @@ ghost use Rattle.texts.specs.rule.Decode as texts;
 ghost use Rattle.zarfolin.specs.rule.Texts.{textCells, TextTold};
 ghost use Rattle.normal.specs.rule.Normal.{normalSaid};
 ghost use Rattle.zarfolin.specs.rule.Normal.{NormalTold};
+ghost use Rattle.mends.specs.rule.Mend as mends;
+ghost use Rattle.zarfolin.specs.rule.Mend.{mendCells, MendTold};
 
 mod version;
 
@@ -34,6 +36,7 @@ use faults::Fault;
 use files::Judgement;
 use layout::Header;
 use layout::Row;
+use mends::Mended;
 use normal::Normal;
 use parts::Part;
 use record_values::Whole;
@@ -499,4 +502,33 @@ pub extern "C" fn zarfolin_normal(table: &[i64], bytes: &mut [u8], answer: &mut 
     ensures { λ r. ⌜ NormalTold (now (table .entry)) (now (bytes .entry)) (now (bytes .exit)) (now (answer .exit)) r ⌝ }
 {
     tell(answer, normal_cells(normal::normalise(table, bytes)))
+}
+
+fn mend_cells(m: Mended) -> Told
+    ensures { λ r. ⌜ r ≡ mendCells (mends.said m) ⌝ }
+{
+    match m {
+        Mended::Done { bytes, entries } => Told {
+            number: 0,
+            first: cell(bytes),
+            second: cell(entries),
+            third: 0,
+        },
+        Mended::BadTable => bare(20),
+        Mended::NoRoom => bare(70),
+    }
+}
+
+// Mends a data file into the output: one terminator, one length, no byte below 32; and lists what was changed.
+#[no_mangle]
+pub extern "C" fn zarfolin_mend(
+    table: &[i64],
+    d: &[u8],
+    out: &mut [u8],
+    list: &mut [i64],
+    answer: &mut [i64; 4],
+) -> u64
+    ensures { λ r. ⌜ MendTold (now (table .entry)) (now (d .entry)) (now (out .entry)) (now (out .exit)) (now (list .entry)) (now (list .exit)) (now (answer .exit)) r ⌝ }
+{
+    tell(answer, mend_cells(mends::mend(table, d, out, list)))
 }

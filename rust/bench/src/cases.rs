@@ -31,6 +31,7 @@ pub fn cases() -> Vec<Maker> {
     corrections(&mut cases);
     files(&mut cases);
     judged_files(&mut cases);
+    mended_files(&mut cases);
     cases
 }
 
@@ -276,6 +277,32 @@ fn judged_files(cases: &mut Vec<Maker>) {
             }
         }
     }
+}
+
+/// Files mended, short records and long ones: sound, with damage here and there, with damage in every record, and one that there is no
+/// room for.
+fn mended_files(cases: &mut Vec<Maker>) {
+    for (size, length) in [("27 bytes", 27), ("16 KiB", 16_384)] {
+        for damage in Damage::ALL {
+            let data = move || damaged(&short(), length, (1 << 20) / length, damage);
+            add(cases, &format!("mend file 1 MiB, {size}, {}", damage.name()), move || mend(short(), data(), 0));
+        }
+        let data = move || damaged(&short(), length, (1 << 20) / length, Damage::Every);
+        add(cases, &format!("mend file 1 MiB, {size}, no room"), move || mend(short(), data(), 70));
+    }
+}
+
+/// Mends into buffers with just enough room, or with one byte too few.
+fn mend(table: Vec<i64>, data: Vec<u8>, number: u64) -> Case {
+    let (mut out, mut list, mut answer) = (vec![0; 4 * data.len() + 64], vec![0; 3 * data.len() + 3], [0; 4]);
+    assert_eq!(Plain.mend(&table, &data, &mut out, &mut list, &mut answer), 0);
+    out.truncate(answer[1] as usize - (number != 0) as usize);
+    list.truncate(3 * answer[2] as usize);
+    let bytes = data.len();
+    let step: Step = Box::new(move |face| {
+        face.mend(black_box(&table), black_box(&data), black_box(&mut out), black_box(&mut list), &mut answer)
+    });
+    Case { bytes, number, step }
 }
 
 type Judge = fn(&dyn Face, &[i64], &[u8]) -> u64;

@@ -230,6 +230,50 @@ pub fn flawed(table: &[i64], length: usize, count: usize, flaw: Flaw) -> Vec<u8>
     data
 }
 
+/// How a file came by mail.
+#[derive(Clone, Copy, PartialEq)]
+pub enum Damage {
+    None,
+    /// Every hundredth record is short, has a byte below 32, ends in LF alone, or is empty, in turn.
+    Some,
+    /// Every record is so.
+    Every,
+}
+
+impl Damage {
+    pub const ALL: [Damage; 3] = [Damage::None, Damage::Some, Damage::Every];
+
+    pub fn name(self) -> &'static str {
+        match self {
+            Damage::None => "sound",
+            Damage::Some => "damage here and there",
+            Damage::Every => "damage in each",
+        }
+    }
+}
+
+/// A file of so many records of this length, CR LF, with damage.
+pub fn damaged(table: &[i64], length: usize, count: usize, damage: Damage) -> Vec<u8> {
+    let mut data = vec![];
+    for (i, sound) in flawed(table, length, count, Flaw::None).chunks(length + 2).enumerate() {
+        let (hit, turn) = match damage {
+            Damage::None => (false, 0),
+            Damage::Some => (i % 100 == 50, i / 100 % 4),
+            Damage::Every => (true, i % 4),
+        };
+        let start = data.len();
+        data.extend(sound);
+        match turn {
+            _ if !hit => {}
+            0 => drop(data.splice(start + length - length / 9..start + length, [])),
+            1 => data[start + length / 2] = b'\t',
+            2 => drop(data.remove(start + length)),
+            _ => data.extend(b"\r\n"),
+        }
+    }
+    data
+}
+
 pub fn one_variable(rest: &str) -> Vec<u8> {
     format!("SSS VERSION 1.1 SURVEY RECORD R VARIABLE 1 NAME \"\" LABEL \"\" TYPE {rest} END VALUES END VARIABLE END RECORD END SURVEY END SSS").into_bytes()
 }

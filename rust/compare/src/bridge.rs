@@ -190,4 +190,15 @@ impl Face for Bridge {
         let inputs = Inputs { table, bytes: &copy, ..Inputs::default() };
         self.call(Call::Normal, inputs, answer, copy.len(), |changed| record.copy_from_slice(changed))
     }
+
+    fn mend(&self, t: &[i64], data: &[u8], out: &mut [u8], list: &mut [i64], answer: &mut [i64; 4]) -> u64 {
+        let (out_copy, list_copy) = (out.to_vec(), list.to_vec());
+        let inputs = Inputs { table: t, bytes: data, text: &out_copy, list: &list_copy, ..Inputs::default() };
+        let lent = 8 * list_copy.len() + out_copy.len();
+        self.call(Call::Mend, inputs, answer, lent, |changed| {
+            let (changed_list, changed_out) = changed.split_at(8 * list.len());
+            numbers(list, changed_list);
+            out.copy_from_slice(changed_out);
+        })
+    }
 }

@@ -25,6 +25,8 @@ pub enum Call {
     /// The list has four numbers a correction: row, kind, number, mark.
     Correct,
     Normal,
+    /// The output stands in `text`.
+    Mend,
 }
 
 /// A call and its inputs; those that the call doesn't take are empty or 0.
@@ -39,6 +41,7 @@ pub struct Case {
     pub list: Vec<i64>,
     /// Definition, record or data.
     pub bytes: Vec<u8>,
+    /// A text that is written, or the room for mended data.
     pub text: Vec<u8>,
     /// A record's numbers.
     pub out: Vec<i64>,
@@ -136,6 +139,7 @@ pub fn run(face: &dyn Face, case: &Case) -> Outcome {
         Call::JudgePart => face.judge_part(t, b, case.row, case.number as u64, case.last, a),
         Call::Correct => corrected(face, t, l, b),
         Call::Normal => face.normal(t, b, a),
+        Call::Mend => face.mend(t, b, x, l, a),
     };
     Outcome { number, answer, table: table.all, list: list.all, bytes: bytes.all, text: text.all, out: out.all }
 }
@@ -160,13 +164,15 @@ pub fn keeps(case: &Case, outcome: &Outcome) -> bool {
         && outcome.out[..GUARD].iter().chain(&outcome.out[outcome.out.len() - GUARD..]).all(|&x| x == -0x6b6b_6b6b);
     let (table_lent, list_lent, bytes_lent) = match case.call {
         Call::ReadDefinition => (!refused, false, false),
-        Call::ReadValue | Call::ReadRecord | Call::DecodeText => (false, !refused, false),
+        Call::ReadValue | Call::ReadRecord | Call::DecodeText | Call::Mend => (false, !refused, false),
         Call::JudgeRecord | Call::JudgeFile | Call::NextRecord | Call::JudgePart => (false, false, false),
         Call::Correct => (false, !refused, !refused),
         _ => (false, false, !refused),
     };
     let out_lent = case.call == Call::ReadRecord && !refused;
-    guards && text && (table || table_lent) && (list || list_lent) && (bytes || bytes_lent) && (out || out_lent)
+    let text_lent = case.call == Call::Mend && !refused;
+    let numbers = (table || table_lent) && (list || list_lent) && (out || out_lent);
+    guards && numbers && (bytes || bytes_lent) && (text || text_lent)
 }
 
 /// A difference: what tells it from others (the call and both numbers), and a report with the case cut down.

@@ -22,6 +22,7 @@ pub trait Face {
     fn judge_part(&self, t: &[i64], data: &[u8], end: u64, first: u64, last: u64, answer: &mut [i64; 4]) -> u64;
     fn correct(&self, table: &[i64], corrections: &mut [Correction], record: &mut [u8]) -> u64;
     fn normal(&self, table: &[i64], record: &mut [u8], answer: &mut [i64; 4]) -> u64;
+    fn mend(&self, t: &[i64], data: &[u8], out: &mut [u8], list: &mut [i64], answer: &mut [i64; 4]) -> u64;
 }
 
 /// The plain Rust implementation.
@@ -118,6 +119,10 @@ impl Face for Plain {
 
     fn normal(&self, table: &[i64], record: &mut [u8], answer: &mut [i64; 4]) -> u64 {
         give(answer, plain::normal(table, record))
+    }
+
+    fn mend(&self, t: &[i64], data: &[u8], out: &mut [u8], list: &mut [i64], answer: &mut [i64; 4]) -> u64 {
+        give(answer, plain::mend(t, data, out, list))
     }
 }
 
@@ -313,6 +318,22 @@ impl Face for Library {
                 table.len(),
                 record.as_mut_ptr(),
                 record.len(),
+                answer.as_mut_ptr(),
+            )
+        }
+    }
+
+    fn mend(&self, t: &[i64], data: &[u8], out: &mut [u8], list: &mut [i64], answer: &mut [i64; 4]) -> u64 {
+        unsafe {
+            zarfolin::ffi::zarfolin_mend(
+                t.as_ptr(),
+                t.len(),
+                data.as_ptr(),
+                data.len(),
+                out.as_mut_ptr(),
+                out.len(),
+                list.as_mut_ptr(),
+                list.len(),
                 answer.as_mut_ptr(),
             )
         }

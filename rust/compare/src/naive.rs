@@ -1138,4 +1138,8 @@ impl Face for Naive {
     fn correct(&self, table: &[i64], corrections: &mut [Correction], record: &mut [u8]) -> u64 {
         crate::naive_02::correct(table, corrections, record)
     }
+
+    fn mend(&self, t: &[i64], data: &[u8], out: &mut [u8], list: &mut [i64], answer: &mut [i64; 4]) -> u64 {
+        give(answer, crate::naive_02::mend(t, data, out, list))
+    }
 }

@@ -885,6 +885,54 @@ fn one_after_the_other(tally: &mut Tally, seed: u64, whole: &Case, outcome: &Out
     assert_eq!(outcome.bytes[8..outcome.bytes.len() - 8], bytes, "seed {seed}: the record");
 }
 
+/// A data file, mostly a damaged one, to mend: with so much room for bytes and numbers.
+fn mend_case(r: &mut Rng, table: Vec<i64>, room: (usize, usize)) -> Case {
+    let bytes = match r.below(6) {
+        0 if zarfolin_plain::well_formed(&table) => records::sound_file(r, &table, 4),
+        1 => records::file(r, &table),
+        2 => records::loose_data(r),
+        _ => records::damaged_file(r, &table),
+    };
+    Case { table, bytes, text: vec![0x55; room.0], list: vec![-5; room.1], ..Case::new(Call::Mend) }
+}
+
+/// Damaged files mended: with room, with just enough, with one too few of either; and once more, which changes nothing.
+#[test]
+fn mended_files() {
+    let mut tally = Tally::default();
+    let mut kinds = [0; 5];
+    for seed in seeds(8_000) {
+        let mut r = Rng::new(seed ^ 0x3e4d);
+        let mut table = tables::sound_table(&mut r, Size { variables: 3, lines: 3, text: 1 });
+        if r.once_in(30) {
+            tables::changed(&mut r, &mut table);
+        }
+        let case = mend_case(&mut r, table, (40_000, 600));
+        let done = check(&mut tally, seed, &case);
+        if done.number != 0 {
+            continue;
+        }
+        let (length, cells) = (done.answer[1] as usize, 3 * done.answer[2] as usize);
+        let (mended, list) = (&done.text[8..8 + length], &done.list[8..8 + cells]);
+        list.chunks(3).for_each(|entry| kinds[entry[0] as usize] += 1);
+        let room = |text: usize, list: usize| Case { text: vec![0x55; text], list: vec![-5; list], ..case.clone() };
+        let exact = check(&mut tally, seed, &room(length, cells));
+        assert_eq!((exact.answer, &exact.text[8..8 + length]), (done.answer, mended), "seed {seed}: an exact fit");
+        if length > 0 {
+            assert_eq!(check(&mut tally, seed, &room(length - 1, cells)).number, 70, "seed {seed}");
+        }
+        if cells > 0 {
+            assert_eq!(check(&mut tally, seed, &room(length, cells - 1)).number, 70, "seed {seed}");
+        }
+        let again = check(&mut tally, seed, &Case { bytes: mended.to_vec(), ..room(length, 0) });
+        assert_eq!(again.answer, [0, length as i64, 0, 0], "seed {seed}: mended twice");
+        assert_eq!(&again.text[8..8 + length], mended, "seed {seed}: mended twice");
+    }
+    let one = std::env::var_os("ZARFOLIN_SEED").is_some();
+    assert!(one || kinds[1..].iter().all(|&n| n > 0), "entries met by kind: {kinds:?}");
+    tally.end("mended files", 20_000, &[0, 20, 70]);
+}
+
 /// The comparison itself: faults put into a copy of the plain Rust are found and cut down.
 mod planted {
     use super::*;
@@ -1019,11 +1067,34 @@ mod planted {
             }
             number
         }
+        fn mend(&self, t: &[i64], data: &[u8], out: &mut [u8], list: &mut [i64], answer: &mut [i64; 4]) -> u64 {
+            let number = Plain.mend(t, data, out, list, answer);
+            let entries = list.as_chunks_mut::<3>().0;
+            let entries = &mut entries[..answer[2] as usize];
+            match self.0 {
+                // Records numbered without the dropped ones; a byte below 32 left as it is; the output written beyond.
+                17 => {
+                    let mut dropped = 0;
+                    for entry in entries {
+                        entry[1] -= dropped;
+                        dropped += (entry[0] == 1) as i64;
+                    }
+                }
+                18 if number == 0 && out.len() == data.len() => {
+                    for entry in entries.iter().filter(|entry| entry[0] == 2) {
+                        out[entry[2] as usize] = data[entry[2] as usize];
+                    }
+                }
+                19 if number == 0 => out[answer[1] as usize..].fill(0),
+                _ => {}
+            }
+            number
+        }
     }
 
     #[test]
     fn faults_are_found() {
-        for fault in 0..17 {
+        for fault in 0..20 {
             let found = (0..2_000).any(|seed| {
                 let mut r = Rng::new(seed);
                 let model = definitions::model(&mut r, SMALL);
@@ -1065,6 +1136,11 @@ mod planted {
                         let mut table = tables::sound_table(&mut r, SMALL);
                         tables::apart(&mut r, &mut table);
                         Case { bytes: records::sound_record(&mut r, &table), table, ..Case::new(Call::Normal) }
+                    }
+                    17 | 19 => mend_case(&mut r, table, (40_000, 600)),
+                    18 => {
+                        let case = mend_case(&mut r, table, (40_000, 600));
+                        Case { text: vec![0x55; case.bytes.len()], ..case }
                     }
                     _ => Case { bytes: records::file(&mut r, &table), table, ..Case::new(Call::JudgeFile) },
                 };

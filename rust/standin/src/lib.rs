@@ -232,6 +232,25 @@ pub unsafe extern "C" fn zarfolin_read_record(
 }
 
 #[unsafe(no_mangle)]
+pub unsafe extern "C" fn zarfolin_mend(
+    table: *const i64,
+    table_len: usize,
+    data: *const u8,
+    data_len: usize,
+    out: *mut u8,
+    out_len: usize,
+    list: *mut i64,
+    list_len: usize,
+    answer: *mut i64,
+) -> Number {
+    unsafe {
+        let (table, data) = (from_raw_parts(table, table_len), from_raw_parts(data, data_len));
+        let (out, list) = (from_raw_parts_mut(out, out_len), from_raw_parts_mut(list, list_len));
+        give(answer, plain::mend(table, data, out, list))
+    }
+}
+
+#[unsafe(no_mangle)]
 pub unsafe extern "C" fn zarfolin_correct(
     table: *const i64,
     table_len: usize,

@@ -300,6 +300,41 @@ pub fn judge_part(table: &[i64], data: &[u8], terminator: u64, first: u64, last:
     counted(number, answer)
 }
 
+/// Mends a damaged data file into `out`: one terminator, one length, no byte below 32. The list gets three numbers a change, in the
+/// order of the data: what ([`table::mended`]), the record from 1, the place. Answers how many bytes and changes were written.
+/// [`Refusal::MendRoom`] where either has too little room: both are then kept.
+///
+/// ```
+/// use zarfolin::{Definition, calls};
+/// # let text = b"SSS VERSION 1.1 SURVEY RECORD R VARIABLE 1 NAME \"q\" LABEL \"\" TYPE CHARACTER POSITION 1 TO 3 SIZE 3 END VARIABLE
+/// #     END RECORD END SURVEY END SSS";
+/// # let definition = Definition::read(text).unwrap();
+/// let (mut out, mut list) = ([0; 100], [[0; 3]; 10]);
+/// let (bytes, changes) = calls::mend(definition.table(), b"ab\n\rabc\r", &mut out, &mut list)?;
+/// assert_eq!(&out[..bytes], b"ab \n\rabc\n\r");
+/// assert_eq!(&list[..changes], &[[3, 1, 2], [4, 2, 7]]);
+/// # Ok::<(), zarfolin::Refusal>(())
+/// ```
+pub fn mend(table: &[i64], data: &[u8], out: &mut [u8], list: &mut [[i64; 3]]) -> Result<(usize, usize), Refusal> {
+    let list = list.as_flattened_mut();
+    let mut answer = [0i64; 4];
+    // SAFETY: as above.
+    let number = unsafe {
+        zarfolin_mend(
+            table.as_ptr(),
+            table.len(),
+            data.as_ptr(),
+            data.len(),
+            out.as_mut_ptr(),
+            out.len(),
+            list.as_mut_ptr(),
+            list.len(),
+            answer.as_mut_ptr(),
+        )
+    };
+    Refusal::of(number).map_or(Ok((answer[1] as usize, answer[2] as usize)), Err)
+}
+
 /// The record that starts at `from`, if the data reaches that far. The terminator is the one that the data's first CR or
 /// LF settles.
 pub fn next_record(data: &[u8], from: usize) -> Option<Cut> {

@@ -159,4 +159,17 @@ unsafe extern "C" {
         record_len: usize,
         answer: *mut i64,
     ) -> Number;
+
+    /// Mends a damaged data file. [`calls::mend`](crate::calls::mend).
+    pub fn zarfolin_mend(
+        table: *const i64,
+        table_len: usize,
+        data: *const u8,
+        data_len: usize,
+        out: *mut u8,
+        out_len: usize,
+        list: *mut i64,
+        list_len: usize,
+        answer: *mut i64,
+    ) -> Number;
 }

@@ -103,6 +103,8 @@ refusals! {
     Unended = 30, "the last record has no terminator";
     /// 31: length differs from the first record's.
     Length = 31, "the record's length differs from the first record's";
+    /// 70: output or list too short for the mended file.
+    MendRoom = 70, "the lent output or list is too short for the mended file";
     /// 90: two rows share a value place.
     Shared = 90, "two variables share a value place";
     /// 241: stray byte.

@@ -143,6 +143,11 @@ impl<'t> Definition<'t> {
         calls::normal(&self.table, record)
     }
 
+    /// Mends a damaged data file into `out`, and lists what was changed: [`calls::mend`].
+    pub fn mend(&self, data: &[u8], out: &mut [u8], list: &mut [[i64; 3]]) -> Result<(usize, usize), Refusal> {
+        calls::mend(&self.table, data, out, list)
+    }
+
     fn cells(&self, row: usize) -> &[i64] {
         &self.table[table::row_at(row)..][..table::ROW]
     }

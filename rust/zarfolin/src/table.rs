@@ -153,6 +153,18 @@ pub mod terminator {
     pub const LF: u64 = 4;
 }
 
+/// What [`zarfolin_mend`](crate::ffi::zarfolin_mend) changes, as its list has it.
+pub mod mended {
+    /// An empty record dropped.
+    pub const DROPPED: i64 = 1;
+    /// A space for a byte below 32.
+    pub const BYTE: i64 = 2;
+    /// A record padded with spaces.
+    pub const PAD: i64 = 3;
+    /// The first terminator in place of another, or of none.
+    pub const TERMINATOR: i64 = 4;
+}
+
 /// The limits of definitions and tables.
 pub mod limit {
     /// Bytes of a definition.

@@ -1,7 +1,7 @@
 //! The crate's names and messages are those of include/zarfolin.h.
 
 use std::collections::BTreeMap;
-use zarfolin::table::{self, column, header, kind, limit, line, next, terminator, value};
+use zarfolin::table::{self, column, header, kind, limit, line, mended, next, terminator, value};
 use zarfolin::{Refusal, VERSION};
 
 fn text() -> String {
@@ -41,6 +41,8 @@ fn numbers() {
     same!("IS_", value: NUMBER SET TEXT TRUTH);
     same!("", next: NO_RECORD RECORD OPEN_RECORD);
     same!("", terminator: CR_LF LF_CR CR LF);
+    same!("MENDED_", mended: DROPPED BYTE PAD TERMINATOR);
+    take("MENDED", 3);
     same!("", limit: MAX_DEFINITION MAX_VARIABLES MAX_LINES MAX_CATEGORY MAX_QUANTITY MAX_DECIMALS MAX_SIZE MAX_LOCATION);
     same!("", limit: MAX_LEVEL);
     take("VERSION", VERSION);

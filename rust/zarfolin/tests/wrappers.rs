@@ -249,6 +249,35 @@ END VARIABLE VARIABLE 2 NAME \"b\" LABEL \"B\" TYPE LOGICAL POSITION 2 END VARIA
     assert_eq!((fault.refusal, fault.row, fault.place, fault.number), (Refusal::Shared, None, None, None));
 }
 
+/// A damaged file mended: what is changed, in its order; a sound one comes out as it is; one too few of either room changes nothing.
+#[test]
+fn mended() {
+    use table::mended::{BYTE, DROPPED, PAD, TERMINATOR};
+    let definition = Definition::read(SAMPLE).unwrap();
+    let damaged = b"\n 710x1x-1.0ab\r 710x1x-1.0ab\t  1\r\n\n\n 710x1x-1.0ab  11";
+    let sound = b" 710x1x-1.0ab    \n 710x1x-1.0ab   1\n 710x1x-1.0ab  11\n";
+    let changes = [
+        [DROPPED, 1, 0],
+        [PAD, 2, 14],
+        [TERMINATOR, 2, 14],
+        [BYTE, 3, 28],
+        [TERMINATOR, 3, 32],
+        [DROPPED, 4, 34],
+        [DROPPED, 5, 35],
+        [TERMINATOR, 6, 53],
+    ];
+    let (mut out, mut list) = ([b'?'; 60], [[-1; 3]; 9]);
+    assert_eq!(definition.mend(damaged, &mut out[..53], &mut list), Err(Refusal::MendRoom));
+    assert_eq!(definition.mend(damaged, &mut out, &mut list[..7]), Err(Refusal::MendRoom));
+    assert_eq!(calls::mend(&[11], damaged, &mut out, &mut list), Err(Refusal::Table));
+    assert!(out == [b'?'; 60] && list == [[-1; 3]; 9]);
+    assert_eq!(definition.mend(damaged, &mut out, &mut list), Ok((54, 8)));
+    assert!(out[..54] == *sound && out[54..] == *b"??????" && list[..8] == changes && list[8] == [-1; 3]);
+    assert_eq!(definition.judge(sound), Ok(3));
+    assert_eq!(definition.mend(sound, &mut out[..54], &mut []), Ok((54, 0)));
+    assert_eq!(out[..54], *sound);
+}
+
 #[test]
 fn files() {
     let definition = Definition::read(SAMPLE).unwrap();

@@ -1,0 +1,73 @@
+-- `mends::note_end` meets its contract.
+use mathlib.Core.Path.{_≡_, refl, sym, ap, _∙_}
+use native.Mathlib.Omega.{arith}
+use borrow.Author.Needs.{needs}
+use lib.ListN.{length}
+use Rattle.mends.specs.rule.Mend.{numbersOf, listedIf}
+use Rattle.mends.specs.Mend.{stored-join, stored-length}
+use Rattle.mends.proofs.note_end.Statement.{statement}
+use Rattle.mends.proofs.note_end.Tie as tie
+
+note-requires : tie.Need-note-requires
+unfolding numbersOf listedIf
+note-requires c κs =
+    let r = rw (c .before .if1 .taken) at (c .before .before .pre .1) in
+    (omega arith, (omega arith, c .before .before .pre .0 .0, c .before .before .pre .0 .1))
+
+add-m : tie.Need-add-m
+unfolding numbersOf listedIf
+add-m c = let r = rw (c .before .before .before .if1 .taken) at (c .before .before .before .before .pre .1) in omega arith
+
+returns : tie.Need-returns
+unfolding listedIf
+returns c = rw (c .before .before .before .before .if1 .taken, c .if2 .taken) (c .before .before .note .ensures)
+
+note-requires-2 : tie.Need-note-requires-2
+unfolding numbersOf listedIf
+note-requires-2 c κs =
+    let r = rw (c .before .before .before .before .before .if1 .taken, c .before .if2 .left) at (c .before .before .before .before .before .before .pre .1) in
+    (omega (arith, stored-length (c .before .before .before .note .ensures)), (omega arith, c .before .before .before .before .before .before .pre .0 .0, c .before .before .before .before .before .before .pre .0 .1))
+
+add-result : tie.Need-add-result
+unfolding numbersOf listedIf
+add-result c = let r = rw (c .before .before .before .before .before .before .before .if1 .taken, c .before .before .before .if2 .left) at (c .before .before .before .before .before .before .before .before .pre .1) in omega arith
+
+returns-2 : tie.Need-returns-2
+unfolding numbersOf listedIf
+returns-2 c = rw (c .before .before .before .before .before .before .before .if1 .taken, c .before .before .before .if2 .left) (stored-join (c .before .before .before .before .before .note .ensures) (c .before .note2 .ensures))
+
+returns-3 : tie.Need-returns-3
+unfolding numbersOf listedIf
+returns-3 c = rw (c .before .if1 .left, c .if3 .taken) (record { stored = refl; next = omega arith })
+
+note-requires-3 : tie.Need-note-requires-3
+unfolding numbersOf listedIf
+note-requires-3 c κs =
+    let r = rw (c .before .before .if1 .left, c .before .if3 .left) at (c .before .before .before .pre .1) in
+    (omega arith, (omega arith, c .before .before .before .pre .0 .0, c .before .before .before .pre .0 .1))
+
+add-result-2 : tie.Need-add-result-2
+unfolding numbersOf listedIf
+add-result-2 c = let r = rw (c .before .before .before .before .if1 .left, c .before .before .before .if3 .left) at (c .before .before .before .before .before .pre .1) in omega arith
+
+returns-4 : tie.Need-returns-4
+unfolding listedIf
+returns-4 c = rw (c .before .before .before .before .if1 .left, c .before .before .before .if3 .left) (c .before .note3 .ensures)
+
+pub note-end-spec : {M : Type 1} → statement M
+note-end-spec =
+    tie.close
+    (tie.spec
+    note-requires
+    add-m
+    (λ c. stored-length (c .before .before .note .ensures))
+    returns
+    note-requires-2
+    add-result
+    (λ c. stored-length (c .before .note2 .ensures) ∙ stored-length (c .before .before .before .before .before .note .ensures))
+    returns-2
+    returns-3
+    note-requires-3
+    add-result-2
+    (λ c. stored-length (c .before .note3 .ensures))
+    returns-4)

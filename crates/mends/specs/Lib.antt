@@ -1,0 +1,5 @@
+pub mod rule
+pub mod Stores
+pub mod Sizes
+pub mod Mend
+pub mod Whole
