@@ -1,0 +1,5 @@
+pub mod Beginnings
+pub mod Pieces
+pub mod Follows
+pub mod Ends
+pub mod Once

@@ -1,0 +1,4 @@
+pub mod Token
+pub mod Grammar
+pub mod Faults
+pub mod Refusal

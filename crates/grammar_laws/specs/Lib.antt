@@ -1,0 +1,15 @@
+pub mod Views
+pub mod Places
+pub mod Tokens
+pub mod Notes
+pub mod Statements
+pub mod Lines
+pub mod Values
+pub mod Variables
+pub mod Loops
+pub mod Headings
+pub mod Whole
+pub mod Lowest
+pub mod Outcome
+pub mod Refusals
+pub mod Amounts
