@@ -100,6 +100,10 @@ enum {
     ZARFOLIN_E_LENGTH = 31,  /* length differs from the first record's */
     /* of mending */
     ZARFOLIN_E_MEND_ROOM = 70, /* output or list too short */
+    /* of a matrix */
+    ZARFOLIN_E_NO_COLUMN = 80,   /* no column at all: every row is a CHARACTER */
+    ZARFOLIN_E_MATRIX_SIZE = 81, /* total above ZARFOLIN_MAX_MATRIX bytes */
+    ZARFOLIN_E_MATRIX_ROOM = 82, /* output too short */
     /* of a table, where its rows are written back */
     ZARFOLIN_E_SHARED = 90,  /* two rows share a value place */
     /* of a field, before 25 in the order of the calls: what is wrong with it (up to version 1 they were one number, 24) */
@@ -159,6 +163,7 @@ enum {
 #define ZARFOLIN_MAX_SIZE 4096                     /* bytes of a text */
 #define ZARFOLIN_MAX_LOCATION 16384                /* the last byte of a record that a row may use */
 #define ZARFOLIN_MAX_LEVEL 32                      /* comments within comments */
+#define ZARFOLIN_MAX_MATRIX 16777216               /* bytes of a matrix */
 
 /* ---- the table ----------------------------------------------------------------------------------------------------- *
  *
@@ -408,6 +413,24 @@ zarfolin_number zarfolin_normal(const int64_t *table, size_t table_len, uint8_t 
 zarfolin_number zarfolin_mend(const int64_t *table, size_t table_len, const uint8_t *data, size_t data_len, uint8_t *out,
                               size_t out_len, int64_t *list, size_t list_len, int64_t *answer);
 
+/* Writes a data file as a matrix of 64-bit floats, for statistics. A SINGLE, QUANTITY or LOGICAL makes one column, a MULTIPLE
+ * one for each defined category, rising, with 0 or 1, a CHARACTER none; they stand in the order of the rows. All numbers are
+ * little-endian, whatever the machine, and the parts adjoin (R records, C columns):
+ *
+ *     header     six numbers of 32 bits: R, C, and where summaries, presence bytes and values start, and the total length
+ *     summaries  24 bytes a column: the count present (64 bits), then the smallest and largest present value as floats, both 0.0
+ *                where there is none
+ *     presence   a byte each, record by record in column order: 0 for missing, else 1, for the empty set too
+ *     values     8 bytes each, alike: the scaled number divided once by its power of ten; 0.0 for missing
+ *
+ * Answers 0, or 20, or the file's own refusal (as zarfolin_judge_file answers it), or the first of 80, 81, 82 that holds.
+ * answer: the number; the total, 24 + 24 C + 9 R C; R; C. Zeros behind 80, 81 and 82.
+ * out:    on 0 the matrix from its start on; what lies beyond is kept. On a refusal all of it is kept. With
+ *         ZARFOLIN_MAX_MATRIX bytes 82 can't come.
+ * table, data: only read. */
+zarfolin_number zarfolin_matrix(const int64_t *table, size_t table_len, const uint8_t *data, size_t data_len, uint8_t *out,
+                                size_t out_len, int64_t *answer);
+
 /* ---- stack --------------------------------------------------------------------------------------------------------- *
  *
  * The most bytes of stack that a call took, rounded up, its own return address included, memcpy and memset too. Measured,
@@ -427,6 +450,7 @@ zarfolin_number zarfolin_mend(const int64_t *table, size_t table_len, const uint
 #define ZARFOLIN_STACK_JUDGE_FILE 27500
 #define ZARFOLIN_STACK_JUDGE_PART 27500
 #define ZARFOLIN_STACK_MEND 17600
+#define ZARFOLIN_STACK_MATRIX 129000
 #define ZARFOLIN_STACK_NEXT_RECORD 128
 #define ZARFOLIN_STACK_VERSION 16
 
@@ -479,6 +503,9 @@ ZARFOLIN_INLINE const char *zarfolin_message(zarfolin_number number) {
     case ZARFOLIN_E_UNENDED: return "the last record has no terminator";
     case ZARFOLIN_E_LENGTH: return "the record's length differs from the first record's";
     case ZARFOLIN_E_MEND_ROOM: return "the lent output or list is too short for the mended file";
+    case ZARFOLIN_E_NO_COLUMN: return "the matrix has no column, since every variable is a text";
+    case ZARFOLIN_E_MATRIX_SIZE: return "the matrix is longer than 16,777,216 bytes";
+    case ZARFOLIN_E_MATRIX_ROOM: return "the lent output is too short for the matrix";
     case ZARFOLIN_E_SHARED: return "two variables share a value place";
     case ZARFOLIN_E_STRAY: return "the field has a byte that cannot stand there";
     case ZARFOLIN_E_NOT_LEGAL: return "the field holds a number that is neither in the range nor on a line";

@@ -381,6 +381,39 @@ static void mends(void) {
     CHECK(is(answer, 0, 0, 2, 0) && list[0] == ZARFOLIN_MENDED_DROPPED && list[5] == 2);
 }
 
+/* A file as a matrix: where everything stands, with room, with just enough, with one byte too few; each refusal keeps the output. */
+static void matrices(void) {
+    static const char data[] = " 710x1x-1.0ab   120 1\n                     \n1200x0 99.5     0    \n";
+    enum { R = 3, C = 1 + 3 + 1 + 1 + 20, SUMMARIES = 24, PRESENCE = 24 + 24 * C, VALUES = PRESENCE + R * C, TOTAL = VALUES + 8 * R * C };
+    static const uint32_t header[] = {R, C, SUMMARIES, PRESENCE, VALUES, TOTAL};
+    static const uint8_t one[] = {0, 0, 0, 0, 0, 0, 0xf0, 0x3f}, minus_one[] = {0, 0, 0, 0, 0, 0, 0xf0, 0xbf}, none[8] = {0};
+    static uint8_t out[TOTAL + 4];
+    int64_t answer[4];
+    memset(out, '?', sizeof out);
+    CHECK(zarfolin_matrix(table, table_len - 1, bytes(data), sizeof data - 1, out, sizeof out, answer) == ZARFOLIN_E_TABLE);
+    CHECK(is(answer, 20, 0, 0, 0));
+    CHECK(zarfolin_matrix(table, table_len, bytes(data), sizeof data - 2, out, sizeof out, answer) == ZARFOLIN_E_UNENDED);
+    CHECK(is(answer, 30, 3, 0, 0));
+    CHECK(zarfolin_matrix(table, table_len, bytes("13"), 2, out, sizeof out, answer) == ZARFOLIN_E_UNENDED);
+    CHECK(zarfolin_matrix(table, table_len, bytes(data), sizeof data - 1, out, TOTAL - 1, answer) == ZARFOLIN_E_MATRIX_ROOM);
+    CHECK(is(answer, 82, 0, 0, 0) && out[0] == '?' && out[TOTAL - 1] == '?');
+    CHECK(zarfolin_matrix(table, table_len, bytes(data), sizeof data - 1, out, TOTAL, answer) == ZARFOLIN_OK);
+    CHECK(is(answer, 0, TOTAL, R, C) && out[TOTAL] == '?');
+    for (size_t i = 0; i < 24; i++) {
+        CHECK(out[i] == (uint8_t)(header[i / 4] >> 8 * (i % 4)));
+    }
+    /* The desk: 7 and 12 of 3 records. The first category of `seen` is 1, the quantity -1.0, the second record missing throughout. */
+    CHECK(out[SUMMARIES] == 2 && out[SUMMARIES + 14] == 0x1c && out[SUMMARIES + 22] == 0x28);
+    CHECK(memcmp(out + VALUES + 8, one, 8) == 0 && memcmp(out + VALUES + 16, none, 8) == 0 && memcmp(out + VALUES + 8 * 4, minus_one, 8) == 0);
+    for (size_t k = 0; k < C; k++) {
+        CHECK(out[PRESENCE + k] == 1 && out[PRESENCE + C + k] == 0 && memcmp(out + VALUES + 8 * (C + k), none, 8) == 0);
+        /* In the third record the empty set of `seen` is there, `two` is not. */
+        CHECK(out[PRESENCE + 2 * C + k] == (k < 6));
+    }
+    CHECK(zarfolin_matrix(table, table_len, bytes(""), 0, out, 24 + 24 * C, answer) == ZARFOLIN_OK);
+    CHECK(is(answer, 0, 24 + 24 * C, 0, C) && out[0] == 0 && out[4] == C && out[SUMMARIES] == 0);
+}
+
 /* Every refusal has words of its own, and a number of none has some too. */
 static void messages(void) {
     CHECK(zarfolin_version() == ZARFOLIN_VERSION);
@@ -389,6 +422,8 @@ static void messages(void) {
     CHECK(zarfolin_message(ZARFOLIN_E_STRAY) != unknown && zarfolin_message(ZARFOLIN_E_NOT_LEGAL) != unknown);
     CHECK(zarfolin_message(ZARFOLIN_E_POINT) != unknown && zarfolin_message(ZARFOLIN_E_SHARED) != unknown);
     CHECK(zarfolin_message(ZARFOLIN_E_MEND_ROOM) != unknown);
+    CHECK(zarfolin_message(ZARFOLIN_E_NO_COLUMN) != unknown && zarfolin_message(ZARFOLIN_E_MATRIX_SIZE) != unknown);
+    CHECK(zarfolin_message(ZARFOLIN_E_MATRIX_ROOM) != unknown);
     for (zarfolin_number a = 0; a <= ZARFOLIN_E_LENGTH; a++) {
         const int none = (a > ZARFOLIN_E_TABLE_ROOM && a < ZARFOLIN_E_TABLE) || a == 24;
         CHECK((strcmp(zarfolin_message(a), unknown) == 0) == none);
@@ -409,6 +444,7 @@ int main(void) {
     files();
     parts();
     mends();
+    matrices();
     printf("face for C: %d checks, all as they should be\n", checks);
     return 0;
 }

@@ -41,6 +41,8 @@ static struct zarfolin_correction corrections[4];
 static uint8_t mended[4 * (ZARFOLIN_MAX_LOCATION + 8)];
 static int64_t changes[3 * (ZARFOLIN_MAX_LOCATION + 8)];
 static size_t mended_len;
+static uint8_t matrix_out[ZARFOLIN_MAX_MATRIX];
+static size_t matrix_len = ZARFOLIN_MAX_MATRIX;
 static volatile zarfolin_number got;
 
 #define TABLE table, ZARFOLIN_MAX_TABLE
@@ -66,6 +68,7 @@ static void judge_part(void) { got = zarfolin_judge_part(TABLE, record, record_l
 static void mend(void) {
     got = zarfolin_mend(TABLE, record, record_len, mended, mended_len, changes, sizeof changes / sizeof changes[0], answer);
 }
+static void matrix(void) { got = zarfolin_matrix(TABLE, record, record_len, matrix_out, matrix_len, answer); }
 static void next_record(void) { got = zarfolin_next_record(record, record_len, row, answer); }
 
 static struct measured {
@@ -90,6 +93,7 @@ static struct measured {
     {"zarfolin_judge_file", judge_file, ZARFOLIN_STACK_JUDGE_FILE, 0, 0},
     {"zarfolin_judge_part", judge_part, ZARFOLIN_STACK_JUDGE_PART, 0, 0},
     {"zarfolin_mend", mend, ZARFOLIN_STACK_MEND, 0, 0},
+    {"zarfolin_matrix", matrix, ZARFOLIN_STACK_MATRIX, 0, 0},
     {"zarfolin_next_record", next_record, ZARFOLIN_STACK_NEXT_RECORD, 0, 0},
     {"zarfolin_normal", normal, ZARFOLIN_STACK_NORMAL, 0, 0},
 };
@@ -224,6 +228,15 @@ static void records(void) {
     measure(correct);
 }
 
+/* The matrix of one sound record, ended here, with room and with none. */
+static void matrix_of_one(void) {
+    record[record_len++] = '\n';
+    for (matrix_len = 0; matrix_len <= sizeof matrix_out; matrix_len += sizeof matrix_out) {
+        measure(matrix);
+    }
+    matrix_len = sizeof matrix_out;
+}
+
 /* Files with each terminator, of sound and faulty records. */
 static void files(void) {
     static const char *const ends[] = {"\r\n", "\n\r", "\r", "\n", ""};
@@ -248,6 +261,7 @@ static void files(void) {
                 for (row = 0; row <= record_len; row += record_len / 3 + 1) {
                     measure(next_record);
                 }
+                measure(matrix);
                 mended_len = sizeof mended;
                 measure(mend);
                 mended_len = 0;
@@ -333,6 +347,11 @@ int main(void) {
         fprintf(stderr, "the record with rows apart got no normal form: %d\n", (int)got);
         return 1;
     }
+    matrix_of_one();
+    if (got != ZARFOLIN_OK) {
+        fprintf(stderr, "the record with rows apart got no matrix: %d\n", (int)got);
+        return 1;
+    }
     /* The largest: 512 variables of 8 lines each, the names long and alike, lines falling. */
     begin("STANDARD NAMES");
     for (int v = 512; v > 0; v--) {
@@ -348,6 +367,9 @@ int main(void) {
         records();
         mended_len = sizeof mended;
         measure(mend);
+        record_len = (size_t)table[ZARFOLIN_H_RECORD];
+        memset(record, ' ', record_len);
+        matrix_of_one();
     } else {
         fprintf(stderr, "the largest definition was refused: %d at %d\n", (int)got, (int)answer[1]);
         return 1;

@@ -1,7 +1,7 @@
 -- THE DEMANDS, one by one: the final theorems over the promises of the public calls, restated here and each proved by name elsewhere. The
 -- promises stand in specs/rule of their crates: TableTested (sound), ValueRead and RecordJudged (records), Written (writes), NextFound
--- (cuts), FileJudged (files), PartJudged (parts), DefinitionRead (definition), ListCorrected (corrections), Mends (mends),
--- Normalised (normal); those of the exported functions (zarfolin) hold them, or are they.
+-- (cuts), FileJudged (files), PartJudged (parts), MatrixWritten (matrices), DefinitionRead (definition), ListCorrected (corrections),
+-- Mends (mends), Normalised (normal); those of the exported functions (zarfolin) hold them, or are they.
 use mathlib.Core.Path.{_≡_}
 use mathlib.Core.Logic.{_↔_, ⊎-elim}
 use mathlib.Core.Bool.{Bool, true, false}
@@ -34,6 +34,22 @@ use Rattle.records.specs.rule.Verdict as verdict
 use Rattle.records.specs.rule.Verdict.{Verdict, RecordJudged, badField}
 use Rattle.files.specs.rule.File.{FileVerdict, soundWith, badTable, fileVerdict, FileJudged}
 use Rattle.parts.specs.rule.Part.{numbered, PartVerdict, judgedAs, partVerdict, PartJudged}
+use Rattle.little.specs.rule.Bytes as little
+use Rattle.little.specs.rule.Bytes.{putAt}
+use Rattle.summary.specs.rule.Summary.{summaryOf}
+use Rattle.matrix.specs.rule.Entry.{presenceOf, floatOf, presentOf}
+use Rattle.matrix.specs.rule.Bytes.{presenceAt, valuesAt, totalOf, summaryBytes}
+use Rattle.columns.specs.rule.Columns.{ofRow, entryOf}
+use Rattle.matrices.specs.rule.Matrix.{endedOf, tableColumns, columnEntries, matrixOf, MatrixVerdict, refusedAs, matrixVerdict, MatrixWritten}
+use Rattle.matrix_laws.specs.rule.Exactly.{Refusal, SizeOutcome}
+use Rattle.matrix_laws.specs.rule.Header.{Headed}
+use Rattle.matrix_laws.specs.rule.Summary.{Summarises}
+use Rattle.matrix_laws.specs.Header as headed
+use Rattle.matrix_laws.specs.Sound as summaries
+use Rattle.matrix_laws.specs.Exactly as sizes
+use Rattle.matrix_laws.specs.Matrix as matrix
+use Rattle.zarfolin.specs.rule.Matrix.{MatrixTold}
+use lib.Ieee.{binary64, toBits}
 use Rattle.writes.specs.rule.Public.{refusalOf, Written}
 use Rattle.definition.specs.declared.Answer.{Answer}
 use Rattle.definition.specs.declared.Answer.the-variants as definition
@@ -139,6 +155,14 @@ module _ {t : List ℤ} {d : List ℕ} {terminator first last : ℕ} where
       → (r₁ ≡ r₂) × (a₁ ≡ a₂)
   one-part-told = face.part-told-one
 
+module _ {t : List ℤ} {d out : List ℕ} where
+  pub one-matrix : {o₁ o₂ : List ℕ} {v₁ v₂ : MatrixVerdict} → MatrixWritten t d out o₁ v₁ → MatrixWritten t d out o₂ v₂ → (v₁ ≡ v₂) × (o₁ ≡ o₂)
+  one-matrix = matrix.matrix-one
+
+  pub one-matrix-told : {o₁ o₂ : List ℕ} {a₁ a₂ : List ℤ} {r₁ r₂ : ℕ} → MatrixTold t d out o₁ a₁ r₁ → MatrixTold t d out o₂ a₂ r₂
+      → ((r₁ ≡ r₂) × (a₁ ≡ a₂)) × (o₁ ≡ o₂)
+  one-matrix-told = face.matrix-told-one
+
 module _ {d : List ℕ} {from : ℕ} where
   pub one-next : {n₁ n₂ : Next} → NextFound d from n₁ → NextFound d from n₂ → n₁ ≡ n₂
   one-next = settled.next-settled
@@ -219,6 +243,52 @@ part-so = part.part-named
 pub so-part : (t : List ℤ) (d : List ℕ) (terminator first last : ℕ) {v : PartVerdict}
     → PartOutcome t d terminator first last v → partVerdict t d terminator first last ≡ v
 so-part = part.part-only
+
+-- the matrix is refused by 20 and by the file's own refusal exactly when the file is refused so; that of a sound file by 80, 81, 82, or
+-- written, exactly when what that says is so
+pub matrix-own : (t : List ℤ) (d : List ℕ) (room : ℕ) (v : FileVerdict) → matrixVerdict t d room ≡ refusedAs v → Refusal v × (fileVerdict t d ≡ v)
+matrix-own = sizes.own-named
+
+pub own-matrix : (t : List ℤ) (d : List ℕ) (room : ℕ) (v : FileVerdict) → Refusal v → fileVerdict t d ≡ v → matrixVerdict t d room ≡ refusedAs v
+own-matrix = sizes.own-only
+
+pub matrix-so : (t : List ℤ) (d : List ℕ) (room n : ℕ) → fileVerdict t d ≡ soundWith n
+    → SizeOutcome n (length (tableColumns t)) room (matrixVerdict t d room)
+matrix-so = sizes.matrix-named
+
+pub so-matrix : (t : List ℤ) (d : List ℕ) (room n : ℕ) → fileVerdict t d ≡ soundWith n → {v : MatrixVerdict}
+    → SizeOutcome n (length (tableColumns t)) room v → matrixVerdict t d room ≡ v
+so-matrix t d room n s o = sizes.matrix-only t d room n s o
+
+-- its length is its total; the presence byte and the eight bytes of record n, column k are those of the column's entry in the record, and
+-- the 24 bytes of column k are the summary of its values that are present
+pub matrix-long : (t : List ℤ) (rs : List (List ℕ)) → length (matrixOf t rs) ≡ totalOf (length rs) (length (tableColumns t))
+matrix-long = matrix.matrix-length
+
+module _ (t : List ℤ) (rs : List (List ℕ)) (out : List ℕ) (inside : totalOf (length rs) (length (tableColumns t)) ≤ length out) where
+  pub matrix-presence : (n k : ℕ) → n < length rs → k < length (tableColumns t)
+      → getD (putAt out 0 (matrixOf t rs)) (presenceAt (length (tableColumns t)) + (n * length (tableColumns t) + k)) 0
+      ≡ presenceOf (entryOf t (rowsOf t) (getD rs n []) (getD (tableColumns t) k (ofRow 0)))
+  matrix-presence = matrix.presence-is t rs out inside
+
+  pub matrix-value : (n k : ℕ) → n < length rs → k < length (tableColumns t)
+      → take 8 (drop (valuesAt (length rs) (length (tableColumns t)) + 8 * (n * length (tableColumns t) + k)) (putAt out 0 (matrixOf t rs)))
+      ≡ little.bytesOf 8 (toBits binary64 (floatOf (entryOf t (rowsOf t) (getD rs n []) (getD (tableColumns t) k (ofRow 0)))))
+  matrix-value = matrix.value-is t rs out inside
+
+  pub matrix-summary : (k : ℕ) → k < length (tableColumns t) → take 24 (drop (24 + 24 * k) (putAt out 0 (matrixOf t rs)))
+      ≡ summaryBytes (summaryOf (presentOf (columnEntries t (rowsOf t) (getD (tableColumns t) k (ofRow 0)) rs)))
+  matrix-summary = matrix.summary-is t rs out inside
+
+  -- the six numbers of the header, as a reader takes them
+  pub matrix-header : 0 < length (tableColumns t) → totalOf (length rs) (length (tableColumns t)) ≤ 16777216
+      → Headed (length rs) (length (tableColumns t)) (putAt out 0 (matrixOf t rs))
+  matrix-header = headed.header-reads t rs out inside
+
+-- and that summary, of each column of a sound file, is the count, a smallest and a largest of the values present, or zeros
+pub matrix-extremes : (t : List ℤ) (d : List ℕ) (n k : ℕ) → fileVerdict t d ≡ soundWith n → k < length (tableColumns t)
+    → let xs = presentOf (columnEntries t (rowsOf t) (getD (tableColumns t) k (ofRow 0)) (endedOf (recordsOf d))) in Summarises xs (summaryOf xs)
+matrix-extremes = summaries.sound-summary
 
 -- a file cut into parts of any sizes, each beginning where the one before left off, gets its own verdict; where a part left off, behind its
 -- count of records, none of it is ended; every file's terminator has a number, but for one that has none

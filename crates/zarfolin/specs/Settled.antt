@@ -15,6 +15,7 @@ use Rattle.writes.specs.rule.Public.{Written}
 use Rattle.zarfolin.specs.rule.Face.{Telling, verdictCells, outcomeCells, fileCells, definitionCells, nextCells}
 use Rattle.zarfolin.specs.rule.Face.{RecordTold, ValueTold, FileTold, DefinitionTold, NextTold}
 use Rattle.zarfolin.specs.rule.Part.{partCells, PartTold}
+use Rattle.zarfolin.specs.rule.Matrix.{matrixCells, MatrixTold}
 use Rattle.zarfolin.specs.rule.Whole.{wholeCells, WholeTold}
 use Rattle.zarfolin.specs.rule.Texts.{textCells, TextTold}
 use Rattle.zarfolin.specs.rule.Mend.{mendCells, MendTold}
@@ -43,6 +44,14 @@ file-told-one x y = telling-one (ap fileCells (x .promise .says ∙ sym (y .prom
 pub part-told-one : {t : List ℤ} {d : List ℕ} {terminator first last : ℕ} {a₁ a₂ : List ℤ} {r₁ r₂ : ℕ}
     → PartTold t d terminator first last a₁ r₁ → PartTold t d terminator first last a₂ r₂ → (r₁ ≡ r₂) × (a₁ ≡ a₂)
 part-told-one x y = telling-one (ap partCells (x .promise .says ∙ sym (y .promise .says))) (x .tells) (y .tells)
+
+-- zarfolin_matrix: the output too
+pub matrix-told-one : {t : List ℤ} {d out o₁ o₂ : List ℕ} {a₁ a₂ : List ℤ} {r₁ r₂ : ℕ}
+    → MatrixTold t d out o₁ a₁ r₁ → MatrixTold t d out o₂ a₂ r₂ → ((r₁ ≡ r₂) × (a₁ ≡ a₂)) × (o₁ ≡ o₂)
+matrix-told-one x y = (
+  telling-one (ap matrixCells (x .promise .says ∙ sym (y .promise .says))) (x .tells) (y .tells),
+  x .promise .leaves ∙ sym (y .promise .leaves),
+)
 
 pub next-told-one : {d : List ℕ} {from : ℕ} {a₁ a₂ : List ℤ} {r₁ r₂ : ℕ} → NextTold d from a₁ r₁ → NextTold d from a₂ r₂
     → (r₁ ≡ r₂) × (a₁ ≡ a₂)

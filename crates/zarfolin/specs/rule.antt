@@ -1,6 +1,7 @@
 -- What the contracts of the public calls say, in reading order. Nothing else stands here.
 pub mod Face
 pub mod Part
+pub mod Matrix
 pub mod Truth
 pub mod Version
 pub mod Whole

@@ -17,6 +17,8 @@ ghost use Rattle.zarfolin.specs.rule.Face.{verdictCells, outcomeCells, f
 ghost use Rattle.zarfolin.specs.rule.Face as face;
 ghost use Rattle.parts.specs.rule.Part.{partSaid};
 ghost use Rattle.zarfolin.specs.rule.Part.{partCells, PartTold};
+ghost use Rattle.matrices.specs.rule.Matrix.{matrixSaid};
+ghost use Rattle.zarfolin.specs.rule.Matrix.{matrixCells, MatrixTold};
 ghost use Rattle.corrections.specs.rule.Truth.{badTruth};
 ghost use Rattle.corrections.specs.rule.Correction.{ListCorrected};
 ghost use Rattle.zarfolin.specs.rule.Truth.{TruthTold};
@@ -36,6 +38,7 @@ use faults::Fault;
 use files::Judgement;
 use layout::Header;
 use layout::Row;
+use matrices::Matrix;
 use mends::Mended;
 use normal::Normal;
 use parts::Part;
@@ -202,6 +205,27 @@ fn part_cells(p: Part) -> Told
     }
 }
 
+fn matrix_cells(m: Matrix) -> Told
+    ensures { λ r. ⌜ r ≡ matrixCells (matrixSaid m) ⌝ }
+{
+    match m {
+        Matrix::Refused(j) => file_cells(j),
+        Matrix::NoColumn => bare(80),
+        Matrix::TooLarge => bare(81),
+        Matrix::ShortRoom => bare(82),
+        Matrix::Written {
+            total,
+            records,
+            columns,
+        } => Told {
+            number: 0,
+            first: cell(total),
+            second: cell(records),
+            third: cell(columns),
+        },
+    }
+}
+
 fn definition_cells(a: definition::Answer) -> Told
     ensures { λ r. ⌜ r ≡ definitionCells a ⌝ }
 {
@@ -314,6 +338,19 @@ pub extern "C" fn zarfolin_judge_part(
         answer,
         part_cells(parts::judge_part(table, d, terminator, first, last)),
     )
+}
+
+// Writes a data file as a matrix of 64-bit floats: header, summaries, presence bytes, values.
+#[no_mangle]
+pub extern "C" fn zarfolin_matrix(
+    table: &[i64],
+    d: &[u8],
+    out: &mut [u8],
+    answer: &mut [i64; 4],
+) -> u64
+    ensures { λ r. ⌜ MatrixTold (now (table .entry)) (now (d .entry)) (now (out .entry)) (now (out .exit)) (now (answer .exit)) r ⌝ }
+{
+    tell(answer, matrix_cells(matrices::write_matrix(table, d, out)))
 }
 
 // Reads a definition into a table.

@@ -32,6 +32,7 @@ pub fn cases() -> Vec<Maker> {
     files(&mut cases);
     judged_files(&mut cases);
     mended_files(&mut cases);
+    matrices(&mut cases);
     cases
 }
 
@@ -302,6 +303,40 @@ fn mend(table: Vec<i64>, data: Vec<u8>, number: u64) -> Case {
     let step: Step = Box::new(move |face| {
         face.mend(black_box(&table), black_box(&data), black_box(&mut out), black_box(&mut list), &mut answer)
     });
+    Case { bytes, number, step }
+}
+
+/// Files as matrices: few columns and many, a spread of 9,999 categories and a bitstring of as many; the most bytes that a matrix may
+/// have; and one that there is no room for.
+fn matrices(cases: &mut Vec<Maker>) {
+    type Table = fn() -> Vec<i64>;
+    let tables: [(&str, Table); 5] = [
+        ("1 column", single),
+        ("5 rows", short),
+        ("512 rows", long),
+        ("a spread of 9,999", || table(&one_variable("MULTIPLE POSITION 1 TO 40 SPREAD 10 OF 4 VALUES 1 TO 9999"))),
+        ("a bitstring of 9,999", || table(&one_variable("MULTIPLE POSITION 1 TO 9999 VALUES 1 TO 9999"))),
+    ];
+    for (name, table) in tables {
+        for (size, bytes) in [("1 MB", 1 << 20), ("16 MB", 16_777_216)] {
+            add(cases, &format!("matrix {size}, {name}"), move || matrix(table(), bytes, 0));
+        }
+    }
+    add(cases, "matrix 1 MB, 5 rows, no room", || matrix(short(), 1 << 20, 82));
+}
+
+/// As many records as a matrix of so many bytes has; just enough room, or one byte too few.
+fn matrix(table: Vec<i64>, most: usize, number: u64) -> Case {
+    let (mut out, mut answer) = (vec![0; most], [0; 4]);
+    assert_eq!(Plain.matrix(&table, b"", &mut out, &mut answer), 0);
+    let columns = answer[3] as usize;
+    let length = table[3] as usize;
+    let data = flawed(&table, length, (most - 24 - 24 * columns) / (9 * columns), Flaw::None);
+    assert_eq!(Plain.matrix(&table, &data, &mut out, &mut answer), 0);
+    out.truncate(answer[1] as usize - (number != 0) as usize);
+    let bytes = data.len() + out.len();
+    let step: Step =
+        Box::new(move |face| face.matrix(black_box(&table), black_box(&data), black_box(&mut out), &mut answer));
     Case { bytes, number, step }
 }
 

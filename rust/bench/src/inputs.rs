@@ -90,8 +90,9 @@ pub fn record(table: &[i64], seed: u64) -> Vec<u8> {
         let number = match cells[1] {
             1 => Plain.write_number(table, row, r.range(1, cells[13]), &mut record),
             2 => {
-                let most = cells[13].min(if cells[7] > 0 { cells[7] } else { 1000 });
-                let set: Vec<i64> = (1..=most).filter(|_| r.once_in(2)).collect();
+                let top = cells[13].max(cells[11]);
+                let most = top.min(if cells[7] > 0 { cells[7] } else { 1000 });
+                let set: Vec<i64> = (1..=most).filter(|_| r.once_in(2)).map(|c| c * (top / most)).collect();
                 Plain.write_set(table, row, &set, &mut record)
             }
             3 => Plain.write_number(table, row, r.range(cells[10], cells[11]), &mut record),

@@ -201,4 +201,10 @@ impl Face for Bridge {
             out.copy_from_slice(changed_out);
         })
     }
+
+    fn matrix(&self, t: &[i64], data: &[u8], out: &mut [u8], answer: &mut [i64; 4]) -> u64 {
+        let copy = out.to_vec();
+        let inputs = Inputs { table: t, bytes: data, text: &copy, ..Inputs::default() };
+        self.call(Call::Matrix, inputs, answer, copy.len(), |changed| out.copy_from_slice(changed))
+    }
 }

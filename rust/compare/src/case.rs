@@ -27,6 +27,8 @@ pub enum Call {
     Normal,
     /// The output stands in `text`.
     Mend,
+    /// Here too.
+    Matrix,
 }
 
 /// A call and its inputs; those that the call doesn't take are empty or 0.
@@ -41,7 +43,7 @@ pub struct Case {
     pub list: Vec<i64>,
     /// Definition, record or data.
     pub bytes: Vec<u8>,
-    /// A text that is written, or the room for mended data.
+    /// A text that is written, or the room for mended data or a matrix.
     pub text: Vec<u8>,
     /// A record's numbers.
     pub out: Vec<i64>,
@@ -140,6 +142,7 @@ pub fn run(face: &dyn Face, case: &Case) -> Outcome {
         Call::Correct => corrected(face, t, l, b),
         Call::Normal => face.normal(t, b, a),
         Call::Mend => face.mend(t, b, x, l, a),
+        Call::Matrix => face.matrix(t, b, x, a),
     };
     Outcome { number, answer, table: table.all, list: list.all, bytes: bytes.all, text: text.all, out: out.all }
 }
@@ -165,12 +168,14 @@ pub fn keeps(case: &Case, outcome: &Outcome) -> bool {
     let (table_lent, list_lent, bytes_lent) = match case.call {
         Call::ReadDefinition => (!refused, false, false),
         Call::ReadValue | Call::ReadRecord | Call::DecodeText | Call::Mend => (false, !refused, false),
-        Call::JudgeRecord | Call::JudgeFile | Call::NextRecord | Call::JudgePart => (false, false, false),
+        Call::JudgeRecord | Call::JudgeFile | Call::NextRecord | Call::JudgePart | Call::Matrix => {
+            (false, false, false)
+        }
         Call::Correct => (false, !refused, !refused),
         _ => (false, false, !refused),
     };
     let out_lent = case.call == Call::ReadRecord && !refused;
-    let text_lent = case.call == Call::Mend && !refused;
+    let text_lent = matches!(case.call, Call::Mend | Call::Matrix) && !refused;
     let numbers = (table || table_lent) && (list || list_lent) && (out || out_lent);
     guards && numbers && (bytes || bytes_lent) && (text || text_lent)
 }

@@ -23,6 +23,7 @@ pub trait Face {
     fn correct(&self, table: &[i64], corrections: &mut [Correction], record: &mut [u8]) -> u64;
     fn normal(&self, table: &[i64], record: &mut [u8], answer: &mut [i64; 4]) -> u64;
     fn mend(&self, t: &[i64], data: &[u8], out: &mut [u8], list: &mut [i64], answer: &mut [i64; 4]) -> u64;
+    fn matrix(&self, t: &[i64], data: &[u8], out: &mut [u8], answer: &mut [i64; 4]) -> u64;
 }
 
 /// The plain Rust implementation.
@@ -123,6 +124,10 @@ impl Face for Plain {
 
     fn mend(&self, t: &[i64], data: &[u8], out: &mut [u8], list: &mut [i64], answer: &mut [i64; 4]) -> u64 {
         give(answer, plain::mend(t, data, out, list))
+    }
+
+    fn matrix(&self, t: &[i64], data: &[u8], out: &mut [u8], answer: &mut [i64; 4]) -> u64 {
+        give(answer, plain::matrix(t, data, out))
     }
 }
 
@@ -334,6 +339,20 @@ impl Face for Library {
                 out.len(),
                 list.as_mut_ptr(),
                 list.len(),
+                answer.as_mut_ptr(),
+            )
+        }
+    }
+
+    fn matrix(&self, t: &[i64], data: &[u8], out: &mut [u8], answer: &mut [i64; 4]) -> u64 {
+        unsafe {
+            zarfolin::ffi::zarfolin_matrix(
+                t.as_ptr(),
+                t.len(),
+                data.as_ptr(),
+                data.len(),
+                out.as_mut_ptr(),
+                out.len(),
                 answer.as_mut_ptr(),
             )
         }

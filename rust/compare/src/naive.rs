@@ -1142,4 +1142,8 @@ impl Face for Naive {
     fn mend(&self, t: &[i64], data: &[u8], out: &mut [u8], list: &mut [i64], answer: &mut [i64; 4]) -> u64 {
         give(answer, crate::naive_02::mend(t, data, out, list))
     }
+
+    fn matrix(&self, t: &[i64], data: &[u8], out: &mut [u8], answer: &mut [i64; 4]) -> u64 {
+        give(answer, crate::naive_02::matrix(t, data, out))
+    }
 }

@@ -254,15 +254,25 @@ fn floats(bytes: &[u8]) -> Vec<f64> {
     bytes.as_chunks::<8>().0.iter().map(|b| f64::from_le_bytes(*b)).collect()
 }
 
+/// A matrix, its number held against its answer.
+fn asked(side: &dyn Face, table: &[i64], data: &[u8], out: &mut [u8]) -> [i64; 4] {
+    let mut answer = [-7; 4];
+    let number = side.matrix(table, data, out, &mut answer);
+    assert_eq!(number as i64, answer[0], "{}", side.name());
+    answer
+}
+
 #[test]
 fn c20_a_matrix() {
     let t = six();
     // Columns: SINGLE, LOGICAL, QUANTITY, categories 1 and 3, categories 1 to 40: 45.
     let data = " 71-0.5ab1x00309\n  0    ab x     \n20  9.9  0x00000\n";
-    each(|side| {
+    let library = face::other();
+    for side in [&face::Plain as &dyn Face, &naive::Naive, &*library] {
+        let ask = |t: &[i64], data: &[u8], out: &mut [u8]| asked(side, t, data, out);
         let mut out = vec![0x55; 3_000];
         let total = 24 + 24 * 45 + 9 * 3 * 45;
-        assert_eq!(side.matrix(&t, data.as_bytes(), &mut out), [0, total as i64, 3, 45]);
+        assert_eq!(ask(&t, data.as_bytes(), &mut out), [0, total as i64, 3, 45]);
         // Reading 3.
         assert_eq!(numbers(&out[..24]), [3, 45, 24, 24 + 24 * 45, 24 + 24 * 45 + 3 * 45, total as u32]);
         let summary = |k: usize| {
@@ -294,13 +304,13 @@ fn c20_a_matrix() {
         // Present and 1 throughout: both ends are 1.
         let logical = table(&variable(1, "LOGICAL POSITION 1"));
         let mut out = vec![0; 66];
-        assert_eq!(side.matrix(&logical, b"1\n1\n", &mut out), [0, 66, 2, 1]);
+        assert_eq!(ask(&logical, b"1\n1\n", &mut out), [0, 66, 2, 1]);
         assert_eq!(floats(&out[32..48]), [1.0, 1.0]);
         // No records: R is 0, summaries zero.
-        assert_eq!(side.matrix(&logical, b"", &mut out), [0, 48, 0, 1]);
+        assert_eq!(ask(&logical, b"", &mut out), [0, 48, 0, 1]);
         assert_eq!(numbers(&out[..24]), [0, 1, 24, 48, 48, 48]);
         assert_eq!(out[24..48], [0; 24]);
-    });
+    }
 }
 
 #[test]
@@ -308,10 +318,11 @@ fn c20_refusals_in_their_order() {
     let text = table(&variable(1, "CHARACTER POSITION 1 TO 2 SIZE 2"));
     let logical = table(&variable(1, "LOGICAL POSITION 1"));
     let wide = table(&variable(1, "MULTIPLE POSITION 1 TO 4 SPREAD 1 OF 4 VALUES 1 TO 9999 END VALUES"));
-    each(|side| {
+    let library = face::other();
+    for side in [&face::Plain as &dyn Face, &naive::Naive, &*library] {
         let matrix = |table: &[i64], data: &[u8], room: usize| {
             let mut out = vec![0x55; room];
-            let answer = side.matrix(table, data, &mut out);
+            let answer = asked(side, table, data, &mut out);
             assert!(answer[0] == 0 || out.iter().all(|&x| x == 0x55));
             answer
         };
@@ -327,7 +338,7 @@ fn c20_refusals_in_their_order() {
         assert_eq!(matrix(&wide, &b"0007\n".repeat(183), 0), [82, 0, 0, 0]);
         assert_eq!(matrix(&logical, b"1\n", 56), [82, 0, 0, 0]);
         assert_eq!(matrix(&logical, b"1\n", 57), [0, 57, 1, 1]);
-    });
+    }
 }
 
 /// The variables of a survey for export and import, and its names as they are decoded: `a`, `b,"c`, a break between `d` and `e`.

@@ -933,6 +933,50 @@ fn mended_files() {
     tally.end("mended files", 20_000, &[0, 20, 70]);
 }
 
+/// A data file, mostly a sound one, to be written as a matrix with so much room.
+fn matrix_case(r: &mut Rng, table: Vec<i64>, room: usize) -> Case {
+    let sound = zarfolin_plain::well_formed(&table) && !r.once_in(4);
+    let bytes = if sound { records::sound_file(r, &table, 5) } else { records::file(r, &table) };
+    Case { table, bytes, text: vec![0x55; room], ..Case::new(Call::Matrix) }
+}
+
+/// Files as matrices: with room, with just enough, with one byte too few; and of a size above the limit.
+#[test]
+fn matrices_of_files() {
+    let mut tally = Tally::default();
+    for seed in seeds(1_500) {
+        let mut r = Rng::new(seed ^ 0x2020);
+        let mut table = tables::sound_table(&mut r, Size { variables: 4, lines: 4, text: 1 });
+        if r.once_in(30) {
+            tables::changed(&mut r, &mut table);
+        }
+        let case = matrix_case(&mut r, table, 60_000);
+        let done = check(&mut tally, seed, &case);
+        let room = |text: usize| Case { text: vec![0x55; text], ..case.clone() };
+        if done.number == 82 {
+            // Many categories: room for all of them.
+            check(&mut tally, seed, &room(16_777_216));
+        }
+        if done.number != 0 {
+            continue;
+        }
+        let total = done.answer[1] as usize;
+        assert_eq!(total as i64, 24 + 24 * done.answer[3] + 9 * done.answer[2] * done.answer[3], "seed {seed}");
+        let exact = check(&mut tally, seed, &room(total));
+        let same = exact.text[8..8 + total] == done.text[8..8 + total];
+        assert!(exact.answer == done.answer && same, "seed {seed}: an exact fit");
+        assert_eq!(check(&mut tally, seed, &room(total - 1)).number, 82, "seed {seed}");
+    }
+    // A spread over all categories: 183 records fit, 184 don't.
+    let wide = vec![11, 1, 0, 4, 6, 24, 1, 2, 1, 4, 4, 0, 0, 1, 4, 1, 1, 9_999, 0, 0, 0, 0, 0, 0];
+    for (count, room, number) in [(183, 16_777_216, 0), (184, 16_777_216, 81), (184, 0, 81), (183, 0, 82)] {
+        let bytes = b"0007\n".repeat(count);
+        let case = Case { table: wide.clone(), bytes, text: vec![0x55; room], ..Case::new(Call::Matrix) };
+        assert_eq!(check(&mut tally, count as u64, &case).number, number);
+    }
+    tally.end("matrices of files", 2_000, &[0, 20, 22, 23, 241, 242, 30, 31, 80, 81, 82]);
+}
+
 /// The comparison itself: faults put into a copy of the plain Rust are found and cut down.
 mod planted {
     use super::*;
@@ -1090,11 +1134,37 @@ mod planted {
             }
             number
         }
+        fn matrix(&self, t: &[i64], data: &[u8], out: &mut [u8], answer: &mut [i64; 4]) -> u64 {
+            let number = Plain.matrix(t, data, out, answer);
+            let [_, total, records, columns] = answer.map(|x| x as usize);
+            match self.0 {
+                // The least value starts at 0; the empty set absent; the byte behind the total; 82 before the file's own.
+                20 if number == 0 => {
+                    for summary in out[24..24 + 24 * columns].chunks_mut(24) {
+                        let least = f64::from_le_bytes(summary[8..16].try_into().unwrap());
+                        summary[8..16].copy_from_slice(&least.min(0.0).to_le_bytes());
+                    }
+                }
+                21 if number == 0 => {
+                    let (presence, values) = out[24 + 24 * columns..total].split_at_mut(records * columns);
+                    let rows = presence.chunks_mut(columns).zip(values.chunks(8 * columns));
+                    rows.filter(|(_, values)| values.iter().all(|&x| x == 0))
+                        .for_each(|(presence, _)| presence.fill(0));
+                }
+                22 if number == 0 => out[total..].iter_mut().take(1).for_each(|x| *x = 0),
+                23 if number == 30 => {
+                    *answer = [82, 0, 0, 0];
+                    return 82;
+                }
+                _ => {}
+            }
+            number
+        }
     }
 
     #[test]
     fn faults_are_found() {
-        for fault in 0..20 {
+        for fault in 0..24 {
             let found = (0..2_000).any(|seed| {
                 let mut r = Rng::new(seed);
                 let model = definitions::model(&mut r, SMALL);
@@ -1142,6 +1212,8 @@ mod planted {
                         let case = mend_case(&mut r, table, (40_000, 600));
                         Case { text: vec![0x55; case.bytes.len()], ..case }
                     }
+                    20..=22 => matrix_case(&mut r, table, 60_000),
+                    23 => matrix_case(&mut r, table, 0),
                     _ => Case { bytes: records::file(&mut r, &table), table, ..Case::new(Call::JudgeFile) },
                 };
                 run(&Plain, &case) != run(&Wrong(fault), &case)

@@ -251,6 +251,22 @@ pub unsafe extern "C" fn zarfolin_mend(
 }
 
 #[unsafe(no_mangle)]
+pub unsafe extern "C" fn zarfolin_matrix(
+    table: *const i64,
+    table_len: usize,
+    data: *const u8,
+    data_len: usize,
+    out: *mut u8,
+    out_len: usize,
+    answer: *mut i64,
+) -> Number {
+    unsafe {
+        let (table, data) = (from_raw_parts(table, table_len), from_raw_parts(data, data_len));
+        give(answer, plain::matrix(table, data, from_raw_parts_mut(out, out_len)))
+    }
+}
+
+#[unsafe(no_mangle)]
 pub unsafe extern "C" fn zarfolin_correct(
     table: *const i64,
     table_len: usize,

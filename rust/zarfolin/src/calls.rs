@@ -51,6 +51,17 @@ pub struct Cut {
     pub ended: bool,
 }
 
+/// What a matrix has.
+#[derive(Clone, Copy, Debug, PartialEq, Eq)]
+pub struct Matrix {
+    /// Its bytes.
+    pub total: usize,
+    /// Records.
+    pub records: u64,
+    /// Columns.
+    pub columns: usize,
+}
+
 /// The version of the archive that is linked: [`VERSION`](crate::VERSION), or the two don't belong together.
 pub fn version() -> u64 {
     // SAFETY: it takes nothing.
@@ -333,6 +344,41 @@ pub fn mend(table: &[i64], data: &[u8], out: &mut [u8], list: &mut [[i64; 3]]) -
         )
     };
     Refusal::of(number).map_or(Ok((answer[1] as usize, answer[2] as usize)), Err)
+}
+
+/// Writes a data file into `out` as a matrix of 64-bit floats, little-endian: a header of six 32-bit numbers, the column summaries, the
+/// presence bytes, the values. Answers its length, the records and the columns. A file with a fault is refused as
+/// [`judge_file`] refuses it; then [`Refusal::NoColumn`], [`Refusal::MatrixSize`], [`Refusal::MatrixRoom`], behind which record and all
+/// else are 0. On a refusal `out` is kept.
+///
+/// ```
+/// use zarfolin::{Definition, Refusal, calls};
+/// # let text = b"SSS VERSION 1.1 SURVEY RECORD R VARIABLE 1 NAME \"q\" LABEL \"\" TYPE QUANTITY POSITION 1 TO 4 VALUES -9.9 TO 9.9
+/// #     END VALUES END VARIABLE END RECORD END SURVEY END SSS";
+/// # let definition = Definition::read(text).unwrap();
+/// let mut out = [0; 66];
+/// let matrix = calls::matrix(definition.table(), b" 7.5\n    \n", &mut out).unwrap();
+/// assert_eq!(matrix, calls::Matrix { total: 66, records: 2, columns: 1 });
+/// assert_eq!((&out[48..50], &out[50..58]), (&[1, 0][..], &7.5f64.to_le_bytes()[..]));
+/// let short = calls::matrix(definition.table(), b" 7.5\n    \n", &mut out[..65]).unwrap_err();
+/// assert_eq!(short.fault.refusal, Refusal::MatrixRoom);
+/// ```
+pub fn matrix(table: &[i64], data: &[u8], out: &mut [u8]) -> Result<Matrix, FileFault> {
+    let mut answer = [0i64; 4];
+    // SAFETY: as above.
+    let number = unsafe {
+        zarfolin_matrix(
+            table.as_ptr(),
+            table.len(),
+            data.as_ptr(),
+            data.len(),
+            out.as_mut_ptr(),
+            out.len(),
+            answer.as_mut_ptr(),
+        )
+    };
+    counted(number, answer)?;
+    Ok(Matrix { total: answer[1] as usize, records: answer[2] as u64, columns: answer[3] as usize })
 }
 
 /// The record that starts at `from`, if the data reaches that far. The terminator is the one that the data's first CR or

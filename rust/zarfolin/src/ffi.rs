@@ -172,4 +172,15 @@ unsafe extern "C" {
         list_len: usize,
         answer: *mut i64,
     ) -> Number;
+
+    /// Writes a data file as a matrix of 64-bit floats. [`calls::matrix`](crate::calls::matrix).
+    pub fn zarfolin_matrix(
+        table: *const i64,
+        table_len: usize,
+        data: *const u8,
+        data_len: usize,
+        out: *mut u8,
+        out_len: usize,
+        answer: *mut i64,
+    ) -> Number;
 }

@@ -105,6 +105,12 @@ refusals! {
     Length = 31, "the record's length differs from the first record's";
     /// 70: output or list too short for the mended file.
     MendRoom = 70, "the lent output or list is too short for the mended file";
+    /// 80: no column at all.
+    NoColumn = 80, "the matrix has no column, since every variable is a text";
+    /// 81: total above 16,777,216 bytes.
+    MatrixSize = 81, "the matrix is longer than 16,777,216 bytes";
+    /// 82: output too short for the matrix.
+    MatrixRoom = 82, "the lent output is too short for the matrix";
     /// 90: two rows share a value place.
     Shared = 90, "two variables share a value place";
     /// 241: stray byte.
@@ -190,7 +196,7 @@ pub struct RecordFault {
 #[derive(Clone, Copy, Debug, PartialEq, Eq)]
 #[non_exhaustive]
 pub struct FileFault {
-    /// The record, from 1; 0 where none is meant (20, 29).
+    /// The record, from 1; 0 where none is meant (20, 29, 80 to 82).
     pub record: u64,
     /// What is wrong with it.
     pub fault: RecordFault,

@@ -1,6 +1,6 @@
 //! A definition and the records of its data, in Rust's own types.
 
-use crate::calls;
+use crate::calls::{self, Matrix};
 use crate::table::{self, column, header, kind, limit, line};
 use crate::{Correction, DefinitionError, FileFault, ReadError, RecordFault, Refusal, Text, Value};
 use alloc::vec;
@@ -146,6 +146,11 @@ impl<'t> Definition<'t> {
     /// Mends a damaged data file into `out`, and lists what was changed: [`calls::mend`].
     pub fn mend(&self, data: &[u8], out: &mut [u8], list: &mut [[i64; 3]]) -> Result<(usize, usize), Refusal> {
         calls::mend(&self.table, data, out, list)
+    }
+
+    /// Writes a data file into `out` as a matrix of 64-bit floats: [`calls::matrix`].
+    pub fn matrix(&self, data: &[u8], out: &mut [u8]) -> Result<Matrix, FileFault> {
+        calls::matrix(&self.table, data, out)
     }
 
     fn cells(&self, row: usize) -> &[i64] {

@@ -187,6 +187,8 @@ pub mod limit {
     pub const MAX_LOCATION: usize = 16_384;
     /// Comments within comments.
     pub const MAX_LEVEL: usize = 32;
+    /// Bytes of a matrix.
+    pub const MAX_MATRIX: usize = 16_777_216;
     /// Numbers of a table.
     pub const MAX_TABLE: usize = super::length(MAX_VARIABLES, MAX_LINES);
 }

@@ -44,7 +44,7 @@ fn numbers() {
     same!("MENDED_", mended: DROPPED BYTE PAD TERMINATOR);
     take("MENDED", 3);
     same!("", limit: MAX_DEFINITION MAX_VARIABLES MAX_LINES MAX_CATEGORY MAX_QUANTITY MAX_DECIMALS MAX_SIZE MAX_LOCATION);
-    same!("", limit: MAX_LEVEL);
+    same!("", limit: MAX_LEVEL MAX_MATRIX);
     take("VERSION", VERSION);
     take("ANSWER", 4);
     take("OK", 0);

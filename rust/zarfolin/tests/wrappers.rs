@@ -278,6 +278,31 @@ fn mended() {
     assert_eq!(out[..54], *sound);
 }
 
+/// A file as a matrix: what it has, where it stands; one byte too few and a fault change nothing.
+#[test]
+fn matrices() {
+    let definition = Definition::read(SAMPLE).unwrap();
+    let data = b" 710x1x-1.0ab   1\n                 \n";
+    let mut out = [0x55; 300];
+    let matrix = definition.matrix(data, &mut out).unwrap();
+    let (columns, total) = (matrix.columns, matrix.total);
+    assert_eq!((matrix.records, total), (2, 24 + 24 * columns + 18 * columns));
+    assert!(out[total..].iter().all(|&x| x == 0x55));
+    let number = |at: usize| u32::from_le_bytes(out[at..at + 4].try_into().unwrap()) as usize;
+    let header: Vec<usize> = (0..6).map(|i| number(4 * i)).collect();
+    assert_eq!(header, [2, columns, 24, 24 + 24 * columns, 24 + 26 * columns, total]);
+    assert_eq!(out[header[3]..header[4]], [[1, 0].map(|x| vec![x; columns])].concat().concat());
+    assert_eq!(out[header[4]..header[4] + 8], 7f64.to_le_bytes());
+    let kept = [0x55; 300];
+    let mut out = kept;
+    let short = definition.matrix(data, &mut out[..total - 1]).unwrap_err();
+    assert_eq!((short.fault.refusal, short.record, short.fault.row), (Refusal::MatrixRoom, 0, None));
+    let open = definition.matrix(&data[..data.len() - 1], &mut out).unwrap_err();
+    assert_eq!((open.fault.refusal, open.record), (Refusal::Unended, 2));
+    assert_eq!(calls::matrix(&[11], data, &mut out).unwrap_err().fault.refusal, Refusal::Table);
+    assert_eq!(out, kept);
+}
+
 #[test]
 fn files() {
     let definition = Definition::read(SAMPLE).unwrap();

@@ -7,6 +7,7 @@ mod completion;
 mod explain;
 mod list;
 mod lister;
+mod matrix;
 mod mend;
 mod normal;
 mod same;
@@ -42,6 +43,7 @@ pub const ALL: &[&Command] = &[
     &apply::COMMAND,
     &normal::COMMAND,
     &mend::COMMAND,
+    &matrix::COMMAND,
     &same::COMMAND,
     &explain::COMMAND,
     &completion::COMMAND,

@@ -1,0 +1,392 @@
+// The columns of a table, and what they hold of a record: counted, and written as presence bytes and values. The table was tested. Above it
+// stands the matrix of a file.
+ghost use mathlib.Core.Path.{_≡_};
+ghost use mathlib.Core.Bool.{true};
+ghost use Prim.Native.Nat.{_+_, _^_, _≤_, _<_};
+ghost use mathlib.Core.List.{[], _∷_};
+ghost use lib.ListN.{length};
+ghost use Rattle.below.specs.rule.Below.{anyBelow};
+ghost use Rattle.ascii.specs.rule.Tens.{Tens};
+ghost use Rattle.cells.specs.rule.Cell.{cell, eqZ};
+ghost use Rattle.fields.specs.rule.Legal.{legal};
+ghost use Rattle.fields.specs.rule.Row.{defined, readingOf};
+ghost use Rattle.fields.specs.Facts.{LineFacts};
+ghost use Rattle.sets.specs.Marks.{Besides};
+ghost use Rattle.record_values.specs.Rows.{membersIn};
+ghost use Rattle.files.specs.rule.Tested.{Tested};
+ghost use Rattle.matrix.specs.Put.{putEntries};
+ghost use Rattle.columns.specs.rule.Columns.{rowColumns, columnsFrom, decimalsBy, numberEntry, entriesOf};
+ghost use Rattle.columns.specs.Reach.{shapeOf, digitsReach, bitsReach, reachBy, Readable, Covered};
+ghost use Rattle.columns.specs.Marked.{answerEntry, isSet, markedEntry, markedEntries, memberEntries};
+ghost use Rattle.columns.specs.Room.{Room, PutAs, Ready};
+use layout::Header;
+use layout::Kind;
+use layout::Row;
+use layout::Spread;
+use matrix::Entry;
+use readings::Answer;
+
+// How many decimals a row's numbers have.
+fn decimals_of(kind: Kind) -> usize
+    ensures { λ r. ⌜ r ≡ decimalsBy kind ⌝ }
+{
+    match kind {
+        Kind::Single => 0,
+        Kind::Multiple(_) => 0,
+        Kind::Quantity(f) => f.decimals,
+        Kind::Character => 0,
+        Kind::Logical => 0,
+    }
+}
+
+// The entry of a row of one column, by what was read of it.
+fn number_entry(a: Answer, power: u64) -> Entry
+    ensures { λ r. ⌜ r ≡ answerEntry power a ⌝ }
+{
+    match a {
+        Answer::Missing => Entry::Absent,
+        Answer::Number(z) => Entry::Scaled(z, power),
+        Answer::Set(_) => Entry::Absent,
+        Answer::Text(_, _) => Entry::Absent,
+        Answer::Truth(b) => {
+            if b {
+                return Entry::Scaled(1, power);
+            }
+            Entry::Scaled(0, power)
+        }
+        Answer::BadTable => Entry::Absent,
+        Answer::NoRow => Entry::Absent,
+        Answer::ShortRecord => Entry::Absent,
+        Answer::Illegal => Entry::Absent,
+        Answer::ShortList => Entry::Absent,
+    }
+}
+
+// The entry of a row of one column.
+fn put_number(
+    powers: &[u64; 16],
+    t: &[i64],
+    rows: usize,
+    row: Row,
+    bytes: &[u8],
+    list: &mut [i64],
+    out: &mut [u8],
+    flags: usize,
+    values: usize,
+)
+    requires { ⌜ Tens (now powers) ⌝ }
+    requires { ⌜ Readable (now t) rows row (length (now bytes)) ⌝ }
+    requires { ⌜ (flags < values) × (values + 8 ≤ length (now out)) ⌝ }
+    ensures { λ _. ⌜ now (out .exit) ≡ putEntries (now (out .entry)) flags values (numberEntry (10 ^ decimalsBy (row .kind)) (readingOf (now (t .entry)) rows row (now (bytes .entry))) ∷ []) ⌝ }
+{
+    let kind = row.kind;
+    let power = ascii::power(powers, decimals_of(kind));
+    let a = readings::read_row(t, rows, row, bytes, list);
+    matrix::put_entry(out, flags, values, number_entry(a, power));
+}
+
+// How many members a row's answer put into the list.
+fn members_in(a: Answer) -> usize
+    ensures { λ r. ⌜ r ≡ membersIn a ⌝ }
+{
+    match a {
+        Answer::Set(n) => n,
+        Answer::Missing => 0,
+        Answer::Number(_) => 0,
+        Answer::Text(_, _) => 0,
+        Answer::Truth(_) => 0,
+        Answer::BadTable => 0,
+        Answer::NoRow => 0,
+        Answer::ShortRecord => 0,
+        Answer::Illegal => 0,
+        Answer::ShortList => 0,
+    }
+}
+
+// Whether a row's answer is a set; the empty one is.
+fn is_set(a: Answer) -> bool
+    ensures { λ r. ⌜ r ≡ isSet a ⌝ }
+{
+    match a {
+        Answer::Set(_) => true,
+        Answer::Missing => false,
+        Answer::Number(_) => false,
+        Answer::Text(_, _) => false,
+        Answer::Truth(_) => false,
+        Answer::BadTable => false,
+        Answer::NoRow => false,
+        Answer::ShortRecord => false,
+        Answer::Illegal => false,
+        Answer::ShortList => false,
+    }
+}
+
+// The first n numbers of a list marked, besides those that are.
+fn mark_members(list: &[i64], n: usize, marks: &mut [u8])
+    requires { ⌜ (n ≤ length (now list)) × (length (now marks) ≤ 10000) ⌝ }
+    ensures { λ _. ⌜ Besides (λ x. anyBelow n (λ j. eqZ (cell (now (list .entry)) j) x)) (now (marks .entry)) (now (marks .exit)) ⌝ }
+{
+    let mut k: usize = 0;
+    while k < n {
+        sets::marks::mark_one(marks, list[k]);
+        k += 1;
+    }
+}
+
+// A category's entry: 1 where it is marked, 0 where not, absent where there is no set.
+fn member_entry(there: bool, mark: u8) -> Entry
+    ensures { λ r. ⌜ r ≡ markedEntry there mark ⌝ }
+{
+    if there {
+        if mark == 1 {
+            return Entry::Scaled(1, 1);
+        }
+        return Entry::Scaled(0, 1);
+    }
+    Entry::Absent
+}
+
+// The entries of the categories that are marked as legal, and how many they are.
+fn put_members(
+    allowed: &[u8],
+    present: &[u8],
+    there: bool,
+    out: &mut [u8],
+    flags: usize,
+    values: usize,
+) -> usize
+    requires { ⌜ length (now allowed) ≤ length (now present) ⌝ }
+    requires { ⌜ Room flags values (length (now out)) (length (markedEntries there (now allowed) (now present))) ⌝ }
+    ensures { λ r. ⌜ PutAs (markedEntries there (now (allowed .entry)) (now (present .entry))) flags values (now (out .entry)) (now (out .exit)) r ⌝ }
+{
+    let mut k: usize = 0;
+    let mut c: usize = 1;
+    while c < allowed.len() {
+        let b = c;
+        c += 1;
+        if allowed[b] == 1 {
+            let e = member_entry(there, present[b]);
+            matrix::put_entry(out, flags + k, values + 8 * k, e);
+            k += 1;
+        }
+    }
+    k
+}
+
+// The entries of a multiple's categories, and how many they are. The marks reach every category of the row.
+fn put_multiple(
+    t: &[i64],
+    rows: usize,
+    row: Row,
+    bytes: &[u8],
+    list: &mut [i64],
+    allowed: &mut [u8],
+    present: &mut [u8],
+    out: &mut [u8],
+    flags: usize,
+    values: usize,
+) -> usize
+    requires { ⌜ Readable (now t) rows row (length (now bytes)) × (length (now list) ≡ 9999) ⌝ }
+    requires { ⌜ Covered (now t) rows row (length (now allowed)) × (length (now present) ≡ length (now allowed)) ⌝ }
+    requires { ⌜ Room flags values (length (now out)) (length (defined (legal (now t) rows row) 1 9999)) ⌝ }
+    ensures { λ r. ⌜ PutAs (memberEntries (readingOf (now (t .entry)) rows row (now (bytes .entry))) (defined (legal (now (t .entry)) rows row) 1 9999)) flags values (now (out .entry)) (now (out .exit)) r ⌝ }
+{
+    let a = readings::read_row(t, rows, row, bytes, list);
+    sets::marks::mark_legal(t, rows, row, allowed);
+    sets::marks::clear(present);
+    mark_members(list, members_in(a), present);
+    put_members(allowed, present, is_set(a), out, flags, values)
+}
+
+// How many columns a row of a kind has: 0 none, 1 one, 2 one for each category.
+fn shape_of(kind: Kind) -> usize
+    ensures { λ r. ⌜ r ≡ shapeOf kind ⌝ }
+{
+    match kind {
+        Kind::Single => 1,
+        Kind::Multiple(_) => 2,
+        Kind::Quantity(_) => 1,
+        Kind::Character => 0,
+        Kind::Logical => 1,
+    }
+}
+
+// How many marks reach every number of w digits, where categories have four at most.
+fn digits_reach(w: usize) -> usize
+    ensures { λ r. ⌜ r ≡ digitsReach w ⌝ }
+{
+    if w == 1 {
+        return 10;
+    }
+    if w == 2 {
+        return 100;
+    }
+    if w == 3 {
+        return 1000;
+    }
+    10000
+}
+
+// How many marks reach every category of a bitstring.
+fn bits_reach(w: usize) -> usize
+    ensures { λ r. ⌜ r ≡ bitsReach w ⌝ }
+{
+    if w < 9999 {
+        return w + 1;
+    }
+    10000
+}
+
+// How many marks reach every category of a row.
+fn reach_of(kind: Kind, w: usize) -> usize
+    ensures { λ r. ⌜ r ≡ reachBy kind w ⌝ }
+{
+    match kind {
+        Kind::Single => 1,
+        Kind::Multiple(s) => match s {
+            Spread::Bits => bits_reach(w),
+            Spread::Fields { count: _, width: _ } => digits_reach(w),
+        },
+        Kind::Quantity(_) => 1,
+        Kind::Character => 1,
+        Kind::Logical => 1,
+    }
+}
+
+// The entries of a row, and how many they are.
+fn put_row(
+    powers: &[u64; 16],
+    t: &[i64],
+    h: Header,
+    i: usize,
+    bytes: &[u8],
+    list: &mut [i64],
+    allowed: &mut [u8],
+    present: &mut [u8],
+    out: &mut [u8],
+    flags: usize,
+    values: usize,
+) -> usize
+    requires { ⌜ Ready (now powers) (now t) h (length (now list)) (length (now allowed)) (length (now present)) ⌝ }
+    requires { ⌜ (i < h .rows) × (h .length ≤ length (now bytes)) ⌝ }
+    requires { ⌜ Room flags values (length (now out)) (length (rowColumns (now t) (h .rows) i)) ⌝ }
+    ensures { λ r. ⌜ PutAs (entriesOf (now (t .entry)) (h .rows) (now (bytes .entry)) (rowColumns (now (t .entry)) (h .rows) i)) flags values (now (out .entry)) (now (out .exit)) r ⌝ }
+{
+    let row = Row::read(t, i);
+    let kind = row.kind;
+    let shape = shape_of(kind);
+    if shape == 0 {
+        return 0;
+    }
+    if shape == 1 {
+        put_number(powers, t, h.rows, row, bytes, list, out, flags, values);
+        return 1;
+    }
+    let top = reach_of(kind, row.width);
+    put_multiple(
+        t,
+        h.rows,
+        row,
+        bytes,
+        list,
+        &mut allowed[..top],
+        &mut present[..top],
+        out,
+        flags,
+        values,
+    )
+}
+
+// The entries of a record that is long enough, in column order.
+pub fn put_record(
+    powers: &[u64; 16],
+    t: &[i64],
+    h: Header,
+    bytes: &[u8],
+    list: &mut [i64],
+    allowed: &mut [u8],
+    present: &mut [u8],
+    out: &mut [u8],
+    flags: usize,
+    values: usize,
+)
+    requires { ⌜ Ready (now powers) (now t) h (length (now list)) (length (now allowed)) (length (now present)) ⌝ }
+    requires { ⌜ h .length ≤ length (now bytes) ⌝ }
+    requires { ⌜ Room flags values (length (now out)) (length (columnsFrom (now t) (h .rows) 0 (h .rows))) ⌝ }
+    ensures { λ _. ⌜ now (out .exit) ≡ putEntries (now (out .entry)) flags values (entriesOf (now (t .entry)) (h .rows) (now (bytes .entry)) (columnsFrom (now (t .entry)) (h .rows) 0 (h .rows))) ⌝ }
+{
+    let mut k: usize = 0;
+    let mut i: usize = 0;
+    while i < h.rows {
+        k += put_row(
+            powers,
+            t,
+            h,
+            i,
+            bytes,
+            list,
+            allowed,
+            present,
+            out,
+            flags + k,
+            values + 8 * k,
+        );
+        i += 1;
+    }
+}
+
+// How many numbers from 1 on are marked.
+fn count_marked(marks: &[u8]) -> usize
+    requires { ⌜ length (now marks) ≤ 10000 ⌝ }
+    ensures { λ r. ⌜ r ≡ length (markedEntries true (now (marks .entry)) (now (marks .entry))) ⌝ }
+{
+    let mut k: usize = 0;
+    let mut c: usize = 1;
+    while c < marks.len() {
+        let b = c;
+        c += 1;
+        if marks[b] == 1 {
+            k += 1;
+        }
+    }
+    k
+}
+
+// How many categories a multiple has.
+fn count_categories(t: &[i64], rows: usize, row: Row, allowed: &mut [u8]) -> usize
+    requires { ⌜ LineFacts (now t) rows row ⌝ }
+    requires { ⌜ Covered (now t) rows row (length (now allowed)) ⌝ }
+    ensures { λ r. ⌜ r ≡ length (defined (legal (now (t .entry)) rows row) 1 9999) ⌝ }
+{
+    sets::marks::mark_legal(t, rows, row, allowed);
+    count_marked(allowed)
+}
+
+// How many columns a row has.
+fn count_row(t: &[i64], h: Header, i: usize, allowed: &mut [u8]) -> usize
+    requires { ⌜ Tested (now t) h × (i < h .rows) × (length (now allowed) ≡ 10000) ⌝ }
+    ensures { λ r. ⌜ (r ≡ length (rowColumns (now (t .entry)) (h .rows) i)) × (r ≤ 9999) ⌝ }
+{
+    let row = Row::read(t, i);
+    let kind = row.kind;
+    let shape = shape_of(kind);
+    if shape < 2 {
+        return shape;
+    }
+    let top = reach_of(kind, row.width);
+    count_categories(t, h.rows, row, &mut allowed[..top])
+}
+
+// How many columns a table has.
+pub fn count_columns(t: &[i64], h: Header, allowed: &mut [u8]) -> usize
+    requires { ⌜ Tested (now t) h × (length (now allowed) ≡ 10000) ⌝ }
+    ensures { λ r. ⌜ (r ≡ length (columnsFrom (now (t .entry)) (h .rows) 0 (h .rows))) × (r ≤ 5119488) ⌝ }
+{
+    let mut k: usize = 0;
+    let mut i: usize = 0;
+    while i < h.rows {
+        k += count_row(t, h, i, allowed);
+        i += 1;
+    }
+    k
+}

@@ -1,0 +1,4 @@
+pub mod rule
+pub mod Bytes
+pub mod Runs
+pub mod Back

@@ -1,0 +1,77 @@
+-- The entries of all records, record by record: the k-th of each record is a column's.
+-- Assumes nothing.
+use mathlib.Core.Path.{_≡_, refl, sym, ap, _∙_}
+use mathlib.Core.List.{List, [], _∷_, _++_}
+use Prim.Native.Nat.{ℕ, zero, suc, _+_, _-_, _*_, _≤_, _<_}
+use native.Mathlib.Nat.{suc-mul}
+use native.Mathlib.Numerals.{add-one}
+use native.Mathlib.Omega.{arith}
+use lib.IntN.{ℤ}
+use lib.ListN.{length, getD, drop, length-append, List·getD-append}
+use lib.Seq.{getD-append-add, drop-cons}
+use Rattle.matrix.specs.declared.Entry.{Entry}
+use Rattle.matrix.specs.declared.Entry.the-variants.{Absent}
+use Rattle.matrix.specs.Stride.{picked, InStride}
+use Rattle.columns.specs.rule.Columns.{Column, ofRow, entryOf, entriesOf}
+use Rattle.columns.specs.Columns.{length-entries}
+use Rattle.matrices.specs.rule.Matrix.{allEntries, columnEntries}
+use Rattle.matrices.specs.Records.{length-all}
+
+-- the k-th column, and the n-th record
+abbrev pub columnAt : List Column → ℕ → Column
+columnAt cs k = getD cs k (ofRow 0)
+
+abbrev pub recordAt : List (List ℕ) → ℕ → List ℕ
+recordAt rs n = getD rs n []
+
+module _ (t : List ℤ) (v : ℕ) (cs : List Column) where
+  entry-at : (r : List ℕ) (ds : List Column) (k : ℕ) → k < length ds → getD (entriesOf t v r ds) k Absent ≡ entryOf t v r (columnAt ds k)
+  unfolding entriesOf
+  entry-at r [] k h = absurd (omega arith)
+  entry-at r (d ∷ ds) zero h = refl
+  entry-at r (d ∷ ds) (suc k) h = entry-at r ds k (omega arith)
+
+  -- THE ENTRY of record n, column k
+  pub all-at : (rs : List (List ℕ)) (n k : ℕ) → n < length rs → k < length cs
+      → getD (allEntries t v cs rs) (n * length cs + k) Absent ≡ entryOf t v (recordAt rs n) (columnAt cs k)
+  unfolding allEntries
+  all-at [] n k h l = absurd (omega arith)
+  all-at (r ∷ rs) zero k h l =
+      let e : 0 * length cs + k ≡ k = omega arith in
+      ap (λ (i : ℕ). getD (entriesOf t v r cs ++ allEntries t v cs rs) i Absent) e
+      ∙ List·getD-append (entriesOf t v r cs) (allEntries t v cs rs) Absent k (rw (length-entries t v r cs) l)
+      ∙ entry-at r cs k l
+  all-at (r ∷ rs) (suc n) k h l =
+      let m = length-entries t v r cs in
+      let e : suc n * length cs + k ≡ length (entriesOf t v r cs) + (n * length cs + k) = omega (arith, m, suc-mul n (length cs)) in
+      ap (λ (i : ℕ). getD (entriesOf t v r cs ++ allEntries t v cs rs) i Absent) e
+      ∙ getD-append-add (entriesOf t v r cs) (allEntries t v cs rs) (n * length cs + k) Absent
+      ∙ all-at rs n k (omega arith) l
+
+  -- the places of a column lie among the entries
+  pub strides : (rs : List (List ℕ)) (k j : ℕ) (len : ℕ) → k < length cs → j + length rs * length cs ≤ len → InStride len (length cs) (j + k) (length rs)
+  unfolding InStride
+  strides [] k j len h l = tt
+  strides (r ∷ rs) k j len h l =
+      let m = suc-mul (length rs) (length cs) in
+      let e : j + k + length cs ≡ j + length cs + k = omega arith in
+      (omega arith, rw e (strides rs k (j + length cs) len h (omega arith)))
+
+  -- what was behind the first record's entries
+  picked-on : (xs ys : List Entry) (step n j : ℕ) → picked (xs ++ ys) step (length xs + j) n ≡ picked ys step j n
+  unfolding picked
+  picked-on xs ys step zero j = refl
+  picked-on xs ys step (suc n) j =
+      let e : length xs + j + step ≡ length xs + (j + step) = omega arith in
+      rw (getD-append-add xs ys j Absent, e, picked-on xs ys step n (j + step))
+
+  -- THE COLUMN: every so many entries, from the k-th on
+  pub column-picked : (rs : List (List ℕ)) (k : ℕ) → k < length cs
+      → picked (allEntries t v cs rs) (length cs) k (length rs) ≡ columnEntries t v (columnAt cs k) rs
+  unfolding picked columnEntries allEntries
+  column-picked [] k h = refl
+  column-picked (r ∷ rs) k h =
+      let m = length-entries t v r cs in
+      let e : k + length cs ≡ length (entriesOf t v r cs) + k = omega arith in
+      rw (List·getD-append (entriesOf t v r cs) (allEntries t v cs rs) Absent k (rw m h), entry-at r cs k h, e, picked-on (entriesOf t v r cs) (allEntries t v cs rs) (length cs) (length rs) k)
+      (ap (λ (l : List Entry). entryOf t v r (columnAt cs k) ∷ l) (column-picked rs k h))

@@ -1,0 +1,6 @@
+pub mod rule
+pub mod Records
+pub mod Summaries
+pub mod Entries
+pub mod Good
+pub mod Written

@@ -1,0 +1,251 @@
+-- The parts of a matrix put one behind the other are the matrix; what stands behind the summaries are the entries of the records.
+-- Assumes nothing.
+use mathlib.Core.Path.{_≡_, refl, sym, ap, _∙_, subst}
+use mathlib.Core.Bool.{Bool, true, false, cond}
+use mathlib.Core.List.{List, [], _∷_, _++_}
+use Prim.Native.Nat.{ℕ, zero, suc, _+_, _-_, _*_, _/_, _≤_, _<_}
+use native.Mathlib.Nat.{sub-zero, add-zero, div-lt-iff-lt-mul, le-div-iff-mul-le, mul-left-comm}
+use native.Mathlib.Numerals.{add-one}
+use native.Mathlib.Omega.{arith}
+use borrow.Author.Tests.{lt-ltb, le-ltb, ltb-true, ltb-false, eq-eqb, ne-eqb}
+use Rattle.below.specs.Below.{holds-not}
+use lib.Dec.{eqb, ltb}
+use lib.IntN.{ℤ}
+use lib.ListN.{length, getD, drop, length-append, drop-of-length-le}
+use lib.Seq.{drop-cons}
+use Rattle.cuts.specs.rule.Records.{recordsOf}
+use Rattle.layout.specs.declared.Header.{Header}
+use Rattle.layout.specs.rule.Row.{rowAt}
+use Rattle.sound.specs.rule.Sound.{wellFormed}
+use Rattle.sound.specs.rule.Rows.{rowsOf, lengthOf}
+use Rattle.files.specs.rule.File.{FileVerdict, soundWith, badTable, faultIn, fileVerdict}
+use Rattle.files.specs.File.{soundSoFar}
+use Rattle.files.specs.rule.Tested.{Tested}
+use Rattle.files.specs.Tested.{tested-rows, tested-length}
+use Rattle.little.specs.rule.Bytes.{putAt}
+use Rattle.little.specs.Runs.{put-next, put-either, length-putAt}
+use Rattle.summary.specs.rule.Summary.{summaryOf}
+use Rattle.matrix.specs.declared.Entry.{Entry}
+use Rattle.matrix.specs.rule.Entry.{flagsOf, valueBytes, presentOf}
+use Rattle.matrix.specs.Put.{putEntries}
+use Rattle.matrix.specs.rule.Bytes.{presenceAt, valuesAt, totalOf, headerBytes, summaryBytes}
+use Rattle.matrix.specs.Entry.{EntryGood, length-flags, length-values}
+use Rattle.matrix.specs.Bytes.{length-header, length-summary}
+use Rattle.matrix.specs.Column.{ColumnThere, columnIn}
+use Rattle.matrix.specs.Stride.{AllGood, InStride, column-is, column-there}
+use Rattle.columns.specs.rule.Columns.{Column, ofRow, columnsFrom}
+use Rattle.matrices.specs.rule.Matrix.{endedOf, tableColumns, allEntries, columnEntries, summariesOf, matrixOf}
+use Rattle.matrices.specs.rule.Matrix.{MatrixVerdict, refusedAs, refused, written, sizeVerdict, verdictAfter, matrixVerdict, outputAfter, MatrixWritten}
+use Rattle.matrices.specs.Records.{AllLong, length-all, file-sound}
+use Rattle.matrices.specs.Entries.{columnAt, strides, column-picked}
+use Rattle.matrices.specs.Summaries.{ColumnsThere, summariesIn}
+use Rattle.matrices.specs.Good.{all-good}
+
+-- a file that was judged sound, with so many records
+abbrev pub SoundFile : List ℤ → List ℕ → ℕ → Type 0
+SoundFile t d n = fileVerdict t d ≡ soundWith n
+
+-- ---- the columns as they stand are those of the records
+module _ (t : List ℤ) (v : ℕ) (cs : List Column) (rs : List (List ℕ)) (r : List ℕ) (fl vl : ℕ) (behind : fl + length rs * length cs ≤ vl)
+    (inside : vl + 8 * (length rs * length cs) ≤ length r) where
+  abbrev es : List Entry
+  es = allEntries t v cs rs
+
+  abbrev out : List ℕ
+  out = putEntries r fl vl es
+
+  behind-es : fl + length es ≤ vl
+  behind-es = rw (length-all t v cs rs) behind
+
+  inside-es : vl + 8 * length es ≤ length r
+  inside-es = rw (length-all t v cs rs) inside
+
+  in-stride : (k : ℕ) → k < length cs → InStride (length es) (length cs) k (length rs)
+  in-stride k h =
+      let z : 0 + k ≡ k = omega arith in
+      rw z at (strides t v cs rs k 0 (length es) h (omega (arith, length-all t v cs rs)))
+
+  one-column : (k : ℕ) → k < length cs → columnIn out (length cs) (fl + k) (vl + 8 * k) (length rs) ≡ presentOf (columnEntries t v (columnAt cs k) rs)
+  one-column k h =
+      column-is r fl vl es behind-es inside-es (length cs) (length rs) k
+      (in-stride k h)
+      ∙ ap presentOf (column-picked t v cs rs k h)
+
+  columns-from : (n k : ℕ) → n + k ≡ length cs → summariesIn out (length cs) (fl + k) (vl + 8 * k) (length rs) n ≡ summariesOf t v rs (drop k cs)
+  unfolding summariesIn summariesOf
+  columns-from zero k e = let h : length cs ≤ k = omega arith in rw (drop-of-length-le cs h)
+  columns-from (suc n) k e =
+      let h : k < length cs = omega arith in
+      let x : fl + k + 1 ≡ fl + suc k = omega arith in
+      let y : vl + 8 * k + 8 ≡ vl + 8 * suc k = omega arith in
+      rw (drop-cons cs k (ofRow 0) h, one-column k h, x, y, columns-from n (suc k) (omega arith))
+
+  pub columns-stand : summariesIn out (length cs) fl vl (length rs) (length cs) ≡ summariesOf t v rs cs
+  columns-stand =
+      let x : fl + 0 ≡ fl = omega arith in
+      let y : vl + 8 * 0 ≡ vl = omega arith in
+      ap (λ (f : ℕ). summariesIn out (length cs) f vl (length rs) (length cs)) (sym x)
+      ∙ ap (λ (w : ℕ). summariesIn out (length cs) (fl + 0) w (length rs) (length cs)) (sym y)
+      ∙ columns-from (length cs) 0 (omega arith)
+
+  there-from : AllGood es → (n k : ℕ) → n + k ≡ length cs → ColumnsThere out (length cs) (fl + k) (vl + 8 * k) (length rs) n
+  unfolding ColumnsThere
+  there-from g zero k e = tt
+  there-from g (suc n) k e =
+      let h : k < length cs = omega arith in
+      let x : fl + k + 1 ≡ fl + suc k = omega arith in
+      let y : vl + 8 * k + 8 ≡ vl + 8 * suc k = omega arith in (
+        column-there r fl vl es behind-es inside-es g (length cs) (length rs) k (in-stride k h),
+        rw (x, y) (there-from g n (suc k) (omega arith)),
+      )
+
+  pub columns-there : AllGood es → ColumnsThere out (length cs) fl vl (length rs) (length cs)
+  columns-there g =
+      let x : fl + 0 ≡ fl = omega arith in
+      let y : vl + 8 * 0 ≡ vl = omega arith in
+      rw (x, y) at (there-from g (length cs) 0 (omega arith))
+
+pub length-summaries : (t : List ℤ) (v : ℕ) (rs : List (List ℕ)) (cs : List Column) → length (summariesOf t v rs cs) ≡ 24 * length cs
+unfolding summariesOf
+length-summaries t v rs [] = refl
+length-summaries t v rs (c ∷ cs) =
+    let s = summaryOf (presentOf (columnEntries t v c rs)) in
+    omega (arith, length-append (summaryBytes s) (summariesOf t v rs cs), length-summary s, length-summaries t v rs cs)
+
+-- ---- header, entries, summaries: one behind the other they are the matrix
+pub whole-put : (t : List ℤ) (rs : List (List ℕ)) (out : List ℕ) (n c : ℕ) → n ≡ length rs → c ≡ length (tableColumns t)
+    → putAt (putEntries (putAt out 0 (headerBytes n c)) (presenceAt c) (valuesAt n c) (allEntries t (rowsOf t) (tableColumns t) rs)) 24
+    (summariesOf t (rowsOf t) rs (tableColumns t))
+    ≡ putAt out 0 (matrixOf t rs)
+unfolding matrixOf
+whole-put t rs out n c en ec =
+    let cs = tableColumns t in
+    let es = allEntries t (rowsOf t) cs rs in
+    let h = headerBytes n c in
+    let s = summariesOf t (rowsOf t) rs cs in
+    let f = flagsOf es in
+    let w = valueBytes es in
+    let lh = length-header n c in
+    let ls = length-summaries t (rowsOf t) rs cs in
+    let lf = length-flags es in
+    let le = length-all t (rowsOf t) cs rs in
+    let m : length rs * length cs ≡ n * c = rw (en, ec) in
+    rw (← en, ← ec)
+    (put-either (putAt (putAt out 0 h) (presenceAt c) f) 24 s (valuesAt n c) w (omega (arith, ls, ec))
+    ∙ ap (λ (l : List ℕ). putAt l (valuesAt n c) w) (put-either (putAt out 0 h) 24 s (presenceAt c) f (omega (arith, ls, ec)))
+    ∙ put-next (putAt (putAt out 0 h) 24 s) (presenceAt c) f (valuesAt n c) w (omega (arith, lf, le, m))
+    ∙ put-next (putAt out 0 h) 24 s (presenceAt c) (f ++ w) (omega (arith, ls, ec))
+    ∙ put-next out 0 h 24 (s ++ (f ++ w)) (omega (arith, lh)))
+
+-- ---- filled from start to end
+module _ {t : List ℤ} {h : Header} (g : Tested t h) (d out : List ℕ) (n c : ℕ) {out1 out2 : List ℕ} (sound : SoundFile t d n) (ec : c ≡ length (tableColumns t))
+    (inside : totalOf n c ≤ length out) (e1 : out1 ≡ putAt out 0 (headerBytes n c))
+    (e2 : out2 ≡ putEntries out1 (presenceAt c) (valuesAt n c) (allEntries t (h .rows) (columnsFrom t (h .rows) 0 (h .rows)) (endedOf (recordsOf d)))) where
+  abbrev rs : List (List ℕ)
+  rs = endedOf (recordsOf d)
+
+  many : n ≡ length rs
+  many = file-sound t d n sound .2
+
+  cells : n * c ≡ length rs * length (tableColumns t)
+  cells = ap (λ (x : ℕ). x * c) many ∙ ap (λ (x : ℕ). length rs * x) ec
+
+  long-1 : length out1 ≡ length out
+  long-1 = ap (λ (l : List ℕ). length l) e1 ∙ length-putAt out 0 (headerBytes n c)
+
+  two : out2 ≡ putEntries out1 (presenceAt c) (valuesAt n c) (allEntries t (rowsOf t) (tableColumns t) rs)
+  two = rw (tested-rows g) at e2
+
+  behind : presenceAt c + length rs * length (tableColumns t) ≤ valuesAt n c
+  behind = omega (arith, cells)
+
+  within : valuesAt n c + 8 * (length rs * length (tableColumns t)) ≤ length out1
+  within = omega (arith, cells, long-1, inside)
+
+  pub filled-there : ColumnsThere out2 c (presenceAt c) (valuesAt n c) n c
+  filled-there =
+      let l : AllLong (h .length) rs = rw (tested-length g) (file-sound t d n sound .1) in
+      let a : AllGood (allEntries t (rowsOf t) (tableColumns t) rs) = rw (tested-rows g) at (all-good g rs l) in
+      let w = columns-there t (rowsOf t) (tableColumns t) rs out1 (presenceAt c) (valuesAt n c) behind within a in
+      subst (λ (x : ℕ). ColumnsThere out2 x (presenceAt c) (valuesAt n c) n x) (sym ec)
+      (subst (λ (x : ℕ). ColumnsThere out2 (length (tableColumns t)) (presenceAt c) (valuesAt n c) x (length (tableColumns t))) (sym many)
+      (subst (λ (x : List ℕ). ColumnsThere x (length (tableColumns t)) (presenceAt c) (valuesAt n c) (length rs) (length (tableColumns t))) (sym two) w))
+
+  stand : summariesIn out2 c (presenceAt c) (valuesAt n c) n c ≡ summariesOf t (rowsOf t) rs (tableColumns t)
+  stand =
+      let w = columns-stand t (rowsOf t) (tableColumns t) rs out1 (presenceAt c) (valuesAt n c) behind within in
+      ap (λ (x : List ℕ). summariesIn x c (presenceAt c) (valuesAt n c) n c) two
+      ∙ ap (λ (x : ℕ). summariesIn (putEntries out1 (presenceAt c) (valuesAt n c) (allEntries t (rowsOf t) (tableColumns t) rs)) x (presenceAt c) (valuesAt n c) n x) ec
+      ∙ ap (λ (x : ℕ). summariesIn (putEntries out1 (presenceAt c) (valuesAt n c) (allEntries t (rowsOf t) (tableColumns t) rs)) (length (tableColumns t)) (presenceAt c) (valuesAt n c) x (length (tableColumns t))) many
+      ∙ w
+
+  pub filled : {out3 : List ℕ} → out3 ≡ putAt out2 24 (summariesIn out2 c (presenceAt c) (valuesAt n c) n c) → out3 ≡ putAt out 0 (matrixOf t rs)
+  filled e3 =
+      e3 ∙ ap (λ (x : List ℕ). putAt out2 24 x) stand
+      ∙ ap (λ (x : List ℕ). putAt x 24 (summariesOf t (rowsOf t) rs (tableColumns t))) two
+      ∙ ap (λ (x : List ℕ). putAt (putEntries x (presenceAt c) (valuesAt n c) (allEntries t (rowsOf t) (tableColumns t) rs)) 24 (summariesOf t (rowsOf t) rs (tableColumns t))) e1
+      ∙ whole-put t rs out n c many ec
+
+-- ---- sizes
+pub large-columns : (n c : ℕ) → 699049 < c → ltb 16777216 (totalOf n c) ≡ true
+large-columns n c h = lt-ltb 16777216 (totalOf n c) (omega arith)
+
+pub large-records : (n c : ℕ) → 1 ≤ c → c ≤ 699049 → (b : Bool) → b ≡ ltb ((16777216 - 24 - 24 * c) / (9 * c)) n → b ≡ ltb 16777216 (totalOf n c)
+large-records n c some few b e = e ∙ go (ltb ((16777216 - 24 - 24 * c) / (9 * c)) n) refl
+  where
+    m : n * (9 * c) ≡ 9 * (n * c)
+    m = mul-left-comm n 9 c
+
+    pos-c : 0 < 9 * c
+    pos-c = omega arith
+
+    go : (x : Bool) → ltb ((16777216 - 24 - 24 * c) / (9 * c)) n ≡ x → x ≡ ltb 16777216 (totalOf n c)
+    go true p =
+        let q = div-lt-iff-lt-mul pos-c .0 (ltb-true ((16777216 - 24 - 24 * c) / (9 * c)) n p) in
+        sym (lt-ltb 16777216 (totalOf n c) (omega (arith, q, m)))
+    go false p =
+        let q = le-div-iff-mul-le pos-c .0 (ltb-false ((16777216 - 24 - 24 * c) / (9 * c)) n p) in
+        sym (le-ltb 16777216 (totalOf n c) (omega (arith, q, m)))
+
+-- ---- what is answered
+module _ (t : List ℤ) (d out : List ℕ) where
+  pub refused-file : {v : FileVerdict} → v ≡ fileVerdict t d → soundSoFar v ≡ false → MatrixWritten t d out out (refusedAs v)
+  unfolding matrixVerdict verdictAfter outputAfter soundSoFar
+  refused-file {v} e s = record { says = go v s ∙ ap (verdictAfter t (length out)) e; leaves = gone v s ∙ ap (λ (x : FileVerdict). outputAfter (verdictAfter t (length out) x) (matrixOf t (endedOf (recordsOf d))) out) e }
+    where
+      go : (w : FileVerdict) → soundSoFar w ≡ false → refusedAs w ≡ verdictAfter t (length out) w
+      go (soundWith n) q = holds-not refl q
+      go badTable q = refl
+      go (faultIn n x) q = refl
+
+      gone : (w : FileVerdict) → soundSoFar w ≡ false → out ≡ outputAfter (verdictAfter t (length out) w) (matrixOf t (endedOf (recordsOf d))) out
+      gone (soundWith n) q = holds-not refl q
+      gone badTable q = refl
+      gone (faultIn n x) q = refl
+
+  module _ {n : ℕ} (sound : SoundFile t d n) where
+    sized : matrixVerdict t d (length out) ≡ sizeVerdict n (length (tableColumns t)) (length out)
+    unfolding matrixVerdict verdictAfter
+    sized = ap (verdictAfter t (length out)) sound
+
+    as-sized : {w : MatrixVerdict} {out′ : List ℕ} → sizeVerdict n (length (tableColumns t)) (length out) ≡ w
+        → out′ ≡ outputAfter w (matrixOf t (endedOf (recordsOf d))) out → MatrixWritten t d out out′ w
+    as-sized e o = record { says = sym (sized ∙ e); leaves = o ∙ ap (λ (x : MatrixVerdict). outputAfter x (matrixOf t (endedOf (recordsOf d))) out) (sym (sized ∙ e)) }
+
+    pub no-column : {c : ℕ} → c ≡ length (tableColumns t) → c ≡ 0 → MatrixWritten t d out out (refused 80)
+    unfolding sizeVerdict outputAfter
+    no-column e z = as-sized (rw (eq-eqb (length (tableColumns t)) 0 (sym e ∙ z))) refl
+
+    pub too-large : {c : ℕ} → c ≡ length (tableColumns t) → (c ≡ 0 → ⊥) → ltb 16777216 (totalOf n c) ≡ true → MatrixWritten t d out out (refused 81)
+    unfolding sizeVerdict outputAfter
+    too-large {c} e z l = as-sized (rw (← e, ne-eqb c 0 z, l)) refl
+
+    pub short-room : {c : ℕ} → c ≡ length (tableColumns t) → (c ≡ 0 → ⊥) → ltb 16777216 (totalOf n c) ≡ false → length out < totalOf n c
+        → MatrixWritten t d out out (refused 82)
+    unfolding sizeVerdict outputAfter
+    short-room {c} e z l s = as-sized (rw (← e, ne-eqb c 0 z, l, lt-ltb (length out) (totalOf n c) s)) refl
+
+    pub all-written : {c : ℕ} {out′ : List ℕ} → c ≡ length (tableColumns t) → (c ≡ 0 → ⊥) → ltb 16777216 (totalOf n c) ≡ false → totalOf n c ≤ length out
+        → out′ ≡ putAt out 0 (matrixOf t (endedOf (recordsOf d))) → MatrixWritten t d out out′ (written (totalOf n c) n c)
+    unfolding sizeVerdict outputAfter
+    all-written {c} e z l s o = as-sized (rw (← e, ne-eqb c 0 z, l, le-ltb (length out) (totalOf n c) s)) o

@@ -1,0 +1,201 @@
+// A data file as a matrix of 64-bit floats: judged first, then counted, then written record by record, and the columns' summaries from what
+// was written. Nothing in memory grows with records or columns. Above it stands the face.
+ghost use mathlib.Core.Path.{_≡_};
+ghost use Prim.Native.Nat.{_+_, _*_, _≤_};
+ghost use lib.Dec.{ltb};
+ghost use lib.ListN.{length};
+ghost use Rattle.little.specs.rule.Bytes.{putAt};
+ghost use Rattle.cuts.specs.rule.Records.{recordsOf};
+ghost use Rattle.files.specs.rule.File.{fileSaid};
+ghost use Rattle.files.specs.rule.Tested.{Tested};
+ghost use Rattle.matrix.specs.Put.{putEntries};
+ghost use Rattle.matrix.specs.rule.Bytes.{totalOf};
+ghost use Rattle.columns.specs.rule.Columns.{columnsFrom};
+ghost use Rattle.columns.specs.Room.{Room, Ready};
+ghost use Rattle.matrices.specs.rule.Matrix.{endedOf, allEntries, tableColumns, matrixSaid, matrixOf, MatrixWritten};
+ghost use Rattle.matrices.specs.Records.{AllLong, countIn};
+ghost use Rattle.matrices.specs.Summaries.{ColumnsThere, summariesIn};
+ghost use Rattle.matrices.specs.Written.{SoundFile};
+use cuts::Next;
+use files::Judgement;
+use layout::Header;
+
+// What becomes of the matrix of a file: it is refused as the file is, or for its size, or written.
+pub enum Matrix {
+    Refused(Judgement),
+    NoColumn,
+    TooLarge,
+    ShortRoom,
+    Written {
+        total: usize,
+        records: usize,
+        columns: usize,
+    },
+}
+
+// The most bytes of a matrix.
+const MOST: usize = 16_777_216;
+
+// The presence bytes and values of all records, each by its row of columns.
+fn put_records(
+    powers: &[u64; 16],
+    t: &[i64],
+    h: Header,
+    d: &[u8],
+    columns: usize,
+    list: &mut [i64],
+    allowed: &mut [u8],
+    present: &mut [u8],
+    out: &mut [u8],
+    flags: usize,
+    values: usize,
+)
+    requires { ⌜ Ready (now powers) (now t) h (length (now list)) (length (now allowed)) (length (now present)) ⌝ }
+    requires { ⌜ columns ≡ length (columnsFrom (now t) (h .rows) 0 (h .rows)) ⌝ }
+    requires { ⌜ AllLong (h .length) (endedOf (recordsOf (now d))) ⌝ }
+    requires { ⌜ Room flags values (length (now out)) (length (allEntries (now t) (h .rows) (columnsFrom (now t) (h .rows) 0 (h .rows)) (endedOf (recordsOf (now d))))) ⌝ }
+    ensures { λ _. ⌜ now (out .exit) ≡ putEntries (now (out .entry)) flags values (allEntries (now (t .entry)) (h .rows) (columnsFrom (now (t .entry)) (h .rows) 0 (h .rows)) (endedOf (recordsOf (now (d .entry))))) ⌝ }
+{
+    let w = cuts::find_terminator(d);
+    let mut k: usize = 0;
+    let mut from: usize = 0;
+    while from < d.len() {
+        match cuts::next_from(d, w, from) {
+            Next::Ended { start, end, next } => {
+                columns::put_record(
+                    powers,
+                    t,
+                    h,
+                    &d[start..end],
+                    list,
+                    allowed,
+                    present,
+                    out,
+                    flags + k,
+                    values + 8 * k,
+                );
+                k += columns;
+                from = next;
+            }
+            Next::Unended { start: _, end: _ } => {
+                return;
+            }
+            Next::Nothing => {
+                return;
+            }
+        }
+    }
+}
+
+// The summaries of all columns, from what stands in the output behind them.
+fn put_summaries(out: &mut [u8], records: usize, columns: usize, flags: usize, values: usize)
+    requires { ⌜ (columns ≤ 16777216) × (flags ≡ 24 + 24 * columns) × (flags ≤ values) × (flags ≤ length (now out)) × (values ≤ 16777216) ⌝ }
+    requires { ⌜ ColumnsThere (now out) columns flags values records columns ⌝ }
+    ensures { λ _. ⌜ now (out .exit) ≡ putAt (now (out .entry)) 24 (summariesIn (now (out .entry)) columns flags values records columns) ⌝ }
+{
+    let mut k: usize = 0;
+    while k < columns {
+        let s = matrix::column_summary(out, flags + k, values + 8 * k, columns, records);
+        matrix::put_summary(out, 24 + 24 * k, s);
+        k += 1;
+    }
+}
+
+// Whether a matrix of so many records and columns is too large. A file may have more records than can be multiplied here.
+fn too_large(records: usize, columns: usize) -> bool
+    requires { ⌜ (1 ≤ columns) × (columns ≤ 5119488) ⌝ }
+    ensures { λ r. ⌜ r ≡ ltb 16777216 (totalOf records columns) ⌝ }
+{
+    if 699_049 < columns {
+        return true;
+    }
+    let left = MOST - 24 - 24 * columns;
+    left / (9 * columns) < records
+}
+
+// The whole matrix, where there is room for it.
+fn fill(t: &[i64], h: Header, d: &[u8], records: usize, columns: usize, out: &mut [u8])
+    requires { ⌜ Tested (now t) h × SoundFile (now t) (now d) records ⌝ }
+    requires { ⌜ (columns ≡ length (tableColumns (now t))) × (1 ≤ columns) × (totalOf records columns ≤ 16777216) × (totalOf records columns ≤ length (now out)) ⌝ }
+    ensures { λ _. ⌜ now (out .exit) ≡ putAt (now (out .entry)) 0 (matrixOf (now (t .entry)) (endedOf (recordsOf (now (d .entry))))) ⌝ }
+{
+    let powers = ascii::powers();
+    let mut list = [0i64; 9999];
+    let mut allowed = [0u8; 10000];
+    let mut present = [0u8; 10000];
+    let flags = 24 + 24 * columns;
+    let values = flags + records * columns;
+    matrix::put_header(out, records, columns);
+    put_records(
+        &powers,
+        t,
+        h,
+        d,
+        columns,
+        &mut list,
+        &mut allowed,
+        &mut present,
+        out,
+        flags,
+        values,
+    );
+    put_summaries(out, records, columns, flags, values);
+}
+
+// How many columns a tested table has.
+fn columns_of(t: &[i64], h: Header) -> usize
+    requires { ⌜ Tested (now t) h ⌝ }
+    ensures { λ r. ⌜ (r ≡ length (tableColumns (now (t .entry)))) × (r ≤ 5119488) ⌝ }
+{
+    let mut allowed = [0u8; 10000];
+    columns::count_columns(t, h, &mut allowed)
+}
+
+// The matrix of a file that is sound: 80, 81, 82, or written.
+fn write_sound(t: &[i64], d: &[u8], records: usize, out: &mut [u8]) -> Matrix
+    requires { ⌜ SoundFile (now t) (now d) records ⌝ }
+    ensures { λ r. ⌜ MatrixWritten (now (t .entry)) (now (d .entry)) (now (out .entry)) (now (out .exit)) (matrixSaid r) ⌝ }
+{
+    let h = Header::read(t);
+    let columns = columns_of(t, h);
+    if columns == 0 {
+        return Matrix::NoColumn;
+    }
+    if too_large(records, columns) {
+        return Matrix::TooLarge;
+    }
+    let total = 24 + 24 * columns + 9 * (records * columns);
+    if out.len() < total {
+        return Matrix::ShortRoom;
+    }
+    fill(t, h, d, records, columns, out);
+    Matrix::Written {
+        total,
+        records,
+        columns,
+    }
+}
+
+// How many records a file has that was judged sound.
+fn count_in(j: Judgement) -> usize
+    ensures { λ r. ⌜ r ≡ countIn (fileSaid j) ⌝ }
+{
+    match j {
+        Judgement::Sound(n) => n,
+        Judgement::BadTable => 0,
+        Judgement::Unended(_) => 0,
+        Judgement::OtherLength(_) => 0,
+        Judgement::Fault(_, _) => 0,
+    }
+}
+
+// Writes a data file as a matrix by a table. On every refusal the output is as it was.
+pub fn write_matrix(t: &[i64], d: &[u8], out: &mut [u8]) -> Matrix
+    ensures { λ r. ⌜ MatrixWritten (now (t .entry)) (now (d .entry)) (now (out .entry)) (now (out .exit)) (matrixSaid r) ⌝ }
+{
+    let j = files::judge_file(t, d);
+    if files::goes_on(j) {
+        return write_sound(t, d, count_in(j), out);
+    }
+    Matrix::Refused(j)
+}

@@ -1,0 +1,7 @@
+pub mod rule
+pub mod Numbers
+pub mod Matrix
+pub mod Exactly
+pub mod Summaries
+pub mod Header
+pub mod Sound

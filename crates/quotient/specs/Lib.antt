@@ -1,0 +1,5 @@
+pub mod rule
+pub mod Limits
+pub mod Exact
+pub mod Order
+pub mod Examples
