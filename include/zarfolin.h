@@ -98,6 +98,9 @@ enum {
     /* of a data file */
     ZARFOLIN_E_UNENDED = 30, /* last record has no terminator */
     ZARFOLIN_E_LENGTH = 31,  /* length differs from the first record's */
+    /* of an export */
+    ZARFOLIN_E_OTHER_TABLE = 40, /* the table is not the one that the definition yields, or the definition is refused */
+    ZARFOLIN_E_EXPORT_ROOM = 60, /* output too short for the text */
     /* of mending */
     ZARFOLIN_E_MEND_ROOM = 70, /* output or list too short */
     /* of a matrix */
@@ -150,6 +153,7 @@ enum {
 
 /* The numbers of an answer. */
 #define ZARFOLIN_ANSWER 4
+#define ZARFOLIN_EXPORT_ANSWER 5 /* that of zarfolin_export has one number more */
 
 /* ---- limits -------------------------------------------------------------------------------------------------------- */
 
@@ -431,6 +435,19 @@ zarfolin_number zarfolin_mend(const int64_t *table, size_t table_len, const uint
 zarfolin_number zarfolin_matrix(const int64_t *table, size_t table_len, const uint8_t *data, size_t data_len, uint8_t *out,
                                 size_t out_len, int64_t *answer);
 
+/* Writes a data file as comma-separated text (RFC 4180): a line of the names, and a line for each record before the first fault, CR LF at
+ * the end of each. A name is written as it is decoded, a break as one LF. A number has a digit or more before the point without needless
+ * zeros, its decimals, and no point where there are none; a set is its codes with `;` between them, or `none`; missing is an empty field;
+ * a truth is 0 or 1; a text or name with a comma, a quote, CR or LF stands in quotes, its own quotes doubled.
+ *
+ * Answers 0; or the first of 20, 40 (the definition yields another table, or is refused), 60 (the text does not fit); or what
+ * zarfolin_judge_file answers, with the lines before the fault in out.
+ * answer: FIVE numbers: the four that zarfolin_judge_file tells, and the length of the text. Zeros behind 20, 40 and 60.
+ * out:    the text from its start on; what lies beyond is kept. On 20, 40 and 60 all of it is kept.
+ * def, table, data: only read. The table is the one that zarfolin_read_definition made of def; more numbers are not looked at. */
+zarfolin_number zarfolin_export(const uint8_t *def, size_t def_len, const int64_t *table, size_t table_len, const uint8_t *data,
+                                size_t data_len, uint8_t *out, size_t out_len, int64_t *answer);
+
 /* ---- stack --------------------------------------------------------------------------------------------------------- *
  *
  * The most bytes of stack that a call took, rounded up, its own return address included, memcpy and memset too. Measured,
@@ -451,6 +468,7 @@ zarfolin_number zarfolin_matrix(const int64_t *table, size_t table_len, const ui
 #define ZARFOLIN_STACK_JUDGE_PART 27500
 #define ZARFOLIN_STACK_MEND 17600
 #define ZARFOLIN_STACK_MATRIX 129000
+#define ZARFOLIN_STACK_EXPORT 270000
 #define ZARFOLIN_STACK_NEXT_RECORD 128
 #define ZARFOLIN_STACK_VERSION 16
 
@@ -502,6 +520,8 @@ ZARFOLIN_INLINE const char *zarfolin_message(zarfolin_number number) {
     case ZARFOLIN_E_TERMINATOR: return "no terminator has this number";
     case ZARFOLIN_E_UNENDED: return "the last record has no terminator";
     case ZARFOLIN_E_LENGTH: return "the record's length differs from the first record's";
+    case ZARFOLIN_E_OTHER_TABLE: return "the table is not the one that this definition yields";
+    case ZARFOLIN_E_EXPORT_ROOM: return "the lent output is too short for the exported text";
     case ZARFOLIN_E_MEND_ROOM: return "the lent output or list is too short for the mended file";
     case ZARFOLIN_E_NO_COLUMN: return "the matrix has no column, since every variable is a text";
     case ZARFOLIN_E_MATRIX_SIZE: return "the matrix is longer than 16,777,216 bytes";

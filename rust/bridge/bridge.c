@@ -4,7 +4,7 @@
  * A request: nine 64-bit numbers (call, row or from, number, the lengths of table, list, bytes, text and out, last), then
  * the table, the list, the bytes, the text and out themselves. A reply: the number returned, the four answers, 1 if
  * anything changed that the call may not change (an input, or a byte around a buffer), then the buffer that the call may
- * change (of two the list, then out, the bytes or the text, where mended data or a matrix stands). All numbers as this machine lays them out: little-endian. Ends when its input ends. */
+ * change (of two the list, then out, the bytes or the text, where mended data, a matrix or an export stands). All numbers as this machine lays them out: little-endian. Ends when its input ends. */
 #include "zarfolin.h"
 
 #include <stdio.h>
@@ -15,7 +15,7 @@
 #define ANSWER INT64_C(0x7a6172666f6c696e)
 
 enum { READ_DEFINITION, READ_VALUE, JUDGE_RECORD, WRITE_MISSING, WRITE_NUMBER, WRITE_TRUTH, WRITE_SET, WRITE_TEXT, JUDGE_FILE, NEXT_RECORD,
-       READ_RECORD, DECODE_TEXT, JUDGE_PART, CORRECT, NORMAL, MEND, MATRIX };
+       READ_RECORD, DECODE_TEXT, JUDGE_PART, CORRECT, NORMAL, MEND, MATRIX, EXPORT };
 
 static int take(void *to, size_t length) { return length == 0 || fread(to, 1, length, stdin) == length; }
 
@@ -150,6 +150,19 @@ int main(void) {
             may_too = &text;
             number = zarfolin_matrix(t, head[3], b, head[5], inner(&text), head[6], a);
             break;
+        case EXPORT: {
+            /* The definition stands before the data, the fifth number goes to the list. */
+            int64_t five[5 + 2] = {ANSWER, ANSWER, ANSWER, ANSWER, ANSWER, ANSWER, ANSWER};
+            may_change = &list;
+            may_too = &text;
+            number = zarfolin_export(b, row, t, head[3], b + row, head[5] - row, inner(&text), head[6], five + 1);
+            memcpy(a, five + 1, 32);
+            if (head[4] != 1 || five[0] != ANSWER || five[6] != ANSWER) {
+                return 2;
+            }
+            l[0] = five[5];
+            break;
+        }
         default:
             return 2;
         }

@@ -414,6 +414,46 @@ static void matrices(void) {
     CHECK(is(answer, 0, 24 + 24 * C, 0, C) && out[0] == 0 && out[4] == C && out[SUMMARIES] == 0);
 }
 
+/* A file as text, with room, with just enough, with one byte too few; cut by a fault; 20, 40 and 60 keep the output. */
+static void exports(void) {
+    static const char data[] = " 710x1x-1.0ab   120 1\n                     \n1200x0 99.5 ,\"  0    \n";
+    static const char names[] = "desk,seen,wait,word,back,two\r\n";
+    static const char due[] = "desk,seen,wait,word,back,two\r\n7,1;4,-1.0,ab,1,1;20\r\n,,,,,\r\n12,none,99.5,\" ,\"\"\",0,\r\n";
+    enum { LENGTH = sizeof due - 1, FIRST = sizeof names - 1 + 22 };
+    const uint8_t *const def = bytes(definition);
+    const size_t def_len = sizeof definition - 1, data_len = sizeof data - 1;
+    uint8_t out[LENGTH + 4];
+    int64_t answer[ZARFOLIN_EXPORT_ANSWER + 1];
+    answer[ZARFOLIN_EXPORT_ANSWER] = 12345;
+    memset(out, '?', sizeof out);
+    CHECK(zarfolin_export(def, 3, table, table_len - 1, bytes(data), data_len, out, 0, answer) == ZARFOLIN_E_TABLE);
+    CHECK(is(answer, 20, 0, 0, 0) && answer[4] == 0);
+    CHECK(zarfolin_export(def, def_len - 6, table, table_len, bytes(data), data_len, out, 0, answer) == ZARFOLIN_E_OTHER_TABLE);
+    CHECK(is(answer, 40, 0, 0, 0) && answer[4] == 0);
+    table[ZARFOLIN_HEADER + ZARFOLIN_NAME]++;
+    CHECK(zarfolin_export(def, def_len, table, table_len, bytes(data), data_len, out, 0, answer) == ZARFOLIN_E_OTHER_TABLE);
+    table[ZARFOLIN_HEADER + ZARFOLIN_NAME]--;
+    CHECK(zarfolin_export(def, def_len, table, table_len, bytes(data), data_len, out, LENGTH - 1, answer) == ZARFOLIN_E_EXPORT_ROOM);
+    CHECK(is(answer, 60, 0, 0, 0) && answer[4] == 0);
+    CHECK(zarfolin_export(def, def_len, table, table_len, bytes("x"), 1, out, sizeof names - 2, answer) == ZARFOLIN_E_EXPORT_ROOM);
+    for (size_t i = 0; i < sizeof out; i++) {
+        CHECK(out[i] == '?');
+    }
+    CHECK(zarfolin_export(def, def_len, table, table_len, bytes(data), data_len, out, LENGTH, answer) == ZARFOLIN_OK);
+    CHECK(is(answer, 0, 3, 0, 0) && answer[4] == LENGTH && memcmp(out, due, LENGTH) == 0 && out[LENGTH] == '?');
+    /* A fault in record 2, of its bytes or of the file: the line before it stays, and there is room for no more. */
+    static char faulty[sizeof data];
+    memcpy(faulty, data, sizeof data);
+    faulty[22] = '9', faulty[23] = '9';
+    memset(out, '?', sizeof out);
+    CHECK(zarfolin_export(def, def_len, table, table_len, bytes(faulty), data_len, out, FIRST, answer) == ZARFOLIN_E_NOT_LEGAL);
+    CHECK(is(answer, 242, 2, 0, 99) && answer[4] == FIRST && memcmp(out, due, FIRST) == 0 && out[FIRST] == '?');
+    CHECK(zarfolin_export(def, def_len, table, table_len, bytes(data), 23, out, FIRST, answer) == ZARFOLIN_E_UNENDED);
+    CHECK(is(answer, 30, 2, 0, 0) && answer[4] == FIRST);
+    CHECK(zarfolin_export(def, def_len, table, table_len, bytes(""), 0, out, sizeof out, answer) == ZARFOLIN_OK);
+    CHECK(is(answer, 0, 0, 0, 0) && answer[4] == (int64_t)sizeof names - 1 && answer[ZARFOLIN_EXPORT_ANSWER] == 12345);
+}
+
 /* Every refusal has words of its own, and a number of none has some too. */
 static void messages(void) {
     CHECK(zarfolin_version() == ZARFOLIN_VERSION);
@@ -424,6 +464,7 @@ static void messages(void) {
     CHECK(zarfolin_message(ZARFOLIN_E_MEND_ROOM) != unknown);
     CHECK(zarfolin_message(ZARFOLIN_E_NO_COLUMN) != unknown && zarfolin_message(ZARFOLIN_E_MATRIX_SIZE) != unknown);
     CHECK(zarfolin_message(ZARFOLIN_E_MATRIX_ROOM) != unknown);
+    CHECK(zarfolin_message(ZARFOLIN_E_OTHER_TABLE) != unknown && zarfolin_message(ZARFOLIN_E_EXPORT_ROOM) != unknown);
     for (zarfolin_number a = 0; a <= ZARFOLIN_E_LENGTH; a++) {
         const int none = (a > ZARFOLIN_E_TABLE_ROOM && a < ZARFOLIN_E_TABLE) || a == 24;
         CHECK((strcmp(zarfolin_message(a), unknown) == 0) == none);
@@ -445,6 +486,7 @@ int main(void) {
     parts();
     mends();
     matrices();
+    exports();
     printf("face for C: %d checks, all as they should be\n", checks);
     return 0;
 }

@@ -36,13 +36,15 @@ static uint64_t row;
 static uint64_t place, length;
 static uint64_t terminator, first_len, last;
 static int64_t number;
-static int64_t answer[ZARFOLIN_ANSWER];
+static int64_t answer[ZARFOLIN_ANSWER], five[ZARFOLIN_EXPORT_ANSWER];
 static struct zarfolin_correction corrections[4];
 static uint8_t mended[4 * (ZARFOLIN_MAX_LOCATION + 8)];
 static int64_t changes[3 * (ZARFOLIN_MAX_LOCATION + 8)];
 static size_t mended_len;
 static uint8_t matrix_out[ZARFOLIN_MAX_MATRIX];
 static size_t matrix_len = ZARFOLIN_MAX_MATRIX;
+static uint8_t export_out[1 << 20];
+static size_t export_len = sizeof export_out;
 static volatile zarfolin_number got;
 
 #define TABLE table, ZARFOLIN_MAX_TABLE
@@ -69,6 +71,9 @@ static void mend(void) {
     got = zarfolin_mend(TABLE, record, record_len, mended, mended_len, changes, sizeof changes / sizeof changes[0], answer);
 }
 static void matrix(void) { got = zarfolin_matrix(TABLE, record, record_len, matrix_out, matrix_len, answer); }
+static void export_file(void) {
+    got = zarfolin_export(TEXT, TABLE, record, record_len, export_out, export_len, five);
+}
 static void next_record(void) { got = zarfolin_next_record(record, record_len, row, answer); }
 
 static struct measured {
@@ -94,6 +99,7 @@ static struct measured {
     {"zarfolin_judge_part", judge_part, ZARFOLIN_STACK_JUDGE_PART, 0, 0},
     {"zarfolin_mend", mend, ZARFOLIN_STACK_MEND, 0, 0},
     {"zarfolin_matrix", matrix, ZARFOLIN_STACK_MATRIX, 0, 0},
+    {"zarfolin_export", export_file, ZARFOLIN_STACK_EXPORT, 0, 0},
     {"zarfolin_next_record", next_record, ZARFOLIN_STACK_NEXT_RECORD, 0, 0},
     {"zarfolin_normal", normal, ZARFOLIN_STACK_NORMAL, 0, 0},
 };
@@ -237,6 +243,14 @@ static void matrix_of_one(void) {
     matrix_len = sizeof matrix_out;
 }
 
+/* The export of one sound record, ended already, with room and with none. */
+static void export_of_one(void) {
+    for (export_len = 0; export_len <= sizeof export_out; export_len += sizeof export_out) {
+        measure(export_file);
+    }
+    export_len = sizeof export_out;
+}
+
 /* Files with each terminator, of sound and faulty records. */
 static void files(void) {
     static const char *const ends[] = {"\r\n", "\n\r", "\r", "\n", ""};
@@ -262,6 +276,7 @@ static void files(void) {
                     measure(next_record);
                 }
                 measure(matrix);
+                measure(export_file);
                 mended_len = sizeof mended;
                 measure(mend);
                 mended_len = 0;
@@ -352,6 +367,11 @@ int main(void) {
         fprintf(stderr, "the record with rows apart got no matrix: %d\n", (int)got);
         return 1;
     }
+    export_of_one();
+    if (got != ZARFOLIN_OK) {
+        fprintf(stderr, "the record with rows apart was not exported: %d\n", (int)got);
+        return 1;
+    }
     /* The largest: 512 variables of 8 lines each, the names long and alike, lines falling. */
     begin("STANDARD NAMES");
     for (int v = 512; v > 0; v--) {
@@ -370,6 +390,7 @@ int main(void) {
         record_len = (size_t)table[ZARFOLIN_H_RECORD];
         memset(record, ' ', record_len);
         matrix_of_one();
+        export_of_one();
     } else {
         fprintf(stderr, "the largest definition was refused: %d at %d\n", (int)got, (int)answer[1]);
         return 1;

@@ -44,6 +44,9 @@ use Rattle.definition.specs.Books.{Faulty, closed, judged}
 use Rattle.definition.specs.Books as books
 use Rattle.definition.specs.rule.Definition.{Outcome, Built, Refusal, fitting, namesOf, quoteAt, judgeNames, settled, outcomeOf}
 use Rattle.definition.specs.rule.Definition.{answerOf, tableAfter}
+use Rattle.definition.specs.rule.Against.{begins, held}
+use Rattle.definition.specs.declared.Against.{Against}
+use Rattle.definition.specs.declared.Against.the-variants as against
 
 -- ---- variables one after the other
 pub data Sames (d : List ℕ) : List kept.Variable → List Variable → Type 0 where
@@ -208,6 +211,11 @@ pub data SameRead (d : List ℕ) : Read → Result Survey → Type 0 where
 abbrev surveyWith : Heading → List Variable → Survey
 surveyWith h l = record { heading = h; variables = l }
 
+-- what is said of a table held against the outcome
+unfoldable pub heldIn : books.Outcome → List ℤ → Against
+heldIn (books.Built l) t = cond (begins (kept.tableOf l) t) against.Same against.Other
+heldIn (books.Refusal k p) t = against.Refused k p
+
 module _ (d : List ℕ) where
   variables-from : (n : ℕ) (t : Reading) → t ≡ At n → SameVariables d (variablesFrom d (course t [])) (repeat (suc 512) (another d) [] n)
   unfolding variablesFrom
@@ -293,3 +301,12 @@ module _ (d : List ℕ) where
 
   pub table-same : (n : ℕ) (t : List ℤ) → books.tableIn (books.outcomeIn d n) t ≡ tableAfter (outcomeOf d n) t
   table-same n t = tables (outcome-same n) t
+
+  -- a table held against it
+  against-by : {o : books.Outcome} {q : Outcome} → SameOutcome o q → (t : List ℤ) → heldIn o t ≡ held q t
+  unfolding heldIn
+  against-by (built s) t = rw (sames-table s)
+  against-by refused t = refl
+
+  pub against-same : (n : ℕ) (t : List ℤ) → heldIn (books.outcomeIn d n) t ≡ held (outcomeOf d n) t
+  against-same n t = against-by (outcome-same n) t

@@ -8,3 +8,4 @@ pub mod Bridge
 pub mod Goods
 pub mod Lows
 pub mod Wholes
+pub mod Matched

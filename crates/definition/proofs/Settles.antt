@@ -27,8 +27,9 @@ use Rattle.measures.proofs.Snoc.{row-length, rows-length, lines-length, table-l
 use Rattle.definition.specs.declared.Tally.{Tally}
 use Rattle.definition.specs.declared.Answer.{Answer}
 use Rattle.definition.specs.declared.Answer.the-variants as answer
+use Rattle.definition.specs.declared.Rooms.the-variants as rooms
 use Rattle.definition.specs.Books.{namesOf, quoteAt, Outcome, Built, Refusal, fitting, named, answerIn, tableIn}
-use Rattle.definition.specs.Code.{tallyOf, Held, nameIn, NamesJudged, headerBy, laidOver, fillSays, fillLeaves, Settled}
+use Rattle.definition.specs.Code.{tallyOf, Held, nameIn, NamesJudged, headerBy, laidOver, fillSays, fillLeaves, cellsIn, NamesSettled}
 
 -- ---- the place of the name of variable i
 unfoldable placeAt : List Variable → ℕ → ℕ
@@ -70,11 +71,11 @@ header-length h = refl
 
 -- ---- what the rooms hold
 module _ (d : List ℕ) (y : Tally) (rows lines : List ℤ) (l : List Variable) (h : Held l y rows lines) where
-  count-is : y .rows ≡ length l
+  pub count-is : y .rows ≡ length l
   unfolding tallyOf
   count-is = ap (λ (z : Tally). z .rows) (h .tally)
 
-  lines-is : y .lines ≡ linesAll l
+  pub lines-is : y .lines ≡ linesAll l
   unfolding tallyOf
   lines-is = ap (λ (z : Tally). z .lines) (h .tally)
 
@@ -90,7 +91,14 @@ module _ (d : List ℕ) (y : Tally) (rows lines : List ℤ) (l : List Variable) 
       j .fault-is (namesOf d l) (names-count d l ∙ sym count-is)
       (λ i k. let q : i < length l = omega (arith, count-is) in ap (λ (p : ℕ). decodeOf Plain 0 (text d p)) (place-here i q) ∙ sym (name-at d l i q))
 
-  -- the numbers laid over the table are those of the survey
+  -- the numbers that the rooms hold are those of the survey
+  pub cells-are : cellsIn y rows lines ≡ tableOf l
+  unfolding cellsIn headerBy tallyOf headerFor tableOf headerCells allLines rowsFrom
+  cells-are = ap (λ (z : Tally). cellsIn z rows lines) (h .tally) ∙ held-parts where
+    held-parts : headerCells (headerFor l) ++ (take (rowSize * length l) rows ++ take (lineSize * linesAll l) lines) ≡ tableOf l
+    held-parts = rw (h .rows-held, h .lines-held) refl
+
+  -- and so are those laid over the table
   module _ (t : List ℤ) where
     laid-table : length (tableOf l) ≤ length t → laidOver t y rows lines ≡ pasted t 0 (tableOf l)
     unfolding laidOver headerBy tallyOf headerFor tableOf headerCells allLines rowsFrom
@@ -113,7 +121,7 @@ module _ (d : List ℕ) (y : Tally) (rows lines : List ℤ) (l : List Variable) 
             ap (λ (s : List ℤ). pasted s (linesBase (length l)) (allLines l)) (at-start t head (rowsFrom 0 l) headerSize (sym six) (omega (arith, six, room)))
             ∙ at-start t (head ++ rowsFrom 0 l) (allLines l) (linesBase (length l)) (sym front) (omega (arith, front, room))
 
-    says-fit : fillSays y (length t) ≡ answerIn (fitting (length t) l)
+    pub says-fit : fillSays y (length t) ≡ answerIn (fitting (length t) l)
     unfolding fillSays fitting answerIn
     says-fit = rw (count-is, lines-is, table-length l) (by (ltb (length t) (lineBase (length l) (linesAll l))))
       where
@@ -124,7 +132,7 @@ module _ (d : List ℕ) (y : Tally) (rows lines : List ℤ) (l : List Variable) 
     base-is : lineBase (y .rows) (y .lines) ≡ length (tableOf l)
     base-is = rw (count-is, lines-is) (sym (table-length l))
 
-    leaves-fit : fillLeaves y rows lines t ≡ tableIn (fitting (length t) l) t
+    pub leaves-fit : fillLeaves y rows lines t ≡ tableIn (fitting (length t) l) t
     unfolding fillLeaves fitting tableIn
     leaves-fit = rw base-is (by (ltb (length t) (length (tableOf l))) refl)
       where
@@ -132,38 +140,40 @@ module _ (d : List ℕ) (y : Tally) (rows lines : List ℤ) (l : List Variable) 
         by true e = refl
         by false e = laid-table (ltb-false (length t) (length (tableOf l)) e)
 
-    -- without STANDARD NAMES
-    pub plain-says : fillSays y (length t) ≡ answerIn (named d (length t) false l)
-    unfolding named
-    plain-says = says-fit
+  -- with STANDARD NAMES, where all names are good
+  good-outcome : (n r : ℕ) → NamesJudged d rows (y .rows) r → y .rows ≤ r → named d n true l ≡ fitting n l
+  unfolding named
+  good-outcome n r j k = rw (← fault-here r j, le-ltb r (length l) (omega (arith, count-is)))
 
-    pub plain-leaves : fillLeaves y rows lines t ≡ tableIn (named d (length t) false l) t
-    unfolding named
-    plain-leaves = leaves-fit
+  -- or one is not
+  bad-outcome : (n r : ℕ) → NamesJudged d rows (y .rows) r → r < y .rows → named d n true l ≡ Refusal 9 (countOf (cell rows (rowSize * r + 14)) - 1)
+  unfolding named
+  bad-outcome n r j k =
+      let q : r < length l = omega (arith, count-is) in
+      rw (← fault-here r j, lt-ltb r (length l) q, quote-is l r, ← place-here r q)
 
-    -- with them, where all names are good
-    module _ (r : ℕ) (j : NamesJudged d rows (y .rows) r) where
-      good-outcome : y .rows ≤ r → named d (length t) true l ≡ fitting (length t) l
-      unfolding named
-      good-outcome k = rw (← fault-here r j, le-ltb r (length l) (omega (arith, count-is)))
+-- ---- 9, judged of the rooms
+none : {A : Type 0} → _≡_ {A = ℕ} 0 1 → A
+none e = absurd (omega arith)
 
-      pub good-says : y .rows ≤ r → fillSays y (length t) ≡ answerIn (named d (length t) true l)
-      good-says k = says-fit ∙ ap answerIn (sym (good-outcome k))
+module _ (d : List ℕ) (y : Tally) (rows : List ℤ) where
+  pub plain-settled : NamesSettled d false y rows (rooms.Held y)
+  unfolding named
+  plain-settled = record { passes = λ {z} e l lines h. (held-same z e, λ n. refl); fails = λ e l lines h n. none cc } where
+    held-same : (z : Tally) → rooms.Held y ≡ rooms.Held z → z ≡ y
+    held-same z e = cc
 
-      pub good-leaves : y .rows ≤ r → fillLeaves y rows lines t ≡ tableIn (named d (length t) true l) t
-      good-leaves k = leaves-fit ∙ ap (λ (o : Outcome). tableIn o t) (sym (good-outcome k))
+  module _ (r : ℕ) (j : NamesJudged d rows (y .rows) r) where
+    pub good-settled : y .rows ≤ r → NamesSettled d true y rows (rooms.Held y)
+    good-settled k = record { passes = λ {z} e l lines h. (held-same z e, λ n. good-outcome d y rows lines l h n r j k); fails = λ e l lines h n. none cc } where
+      held-same : (z : Tally) → rooms.Held y ≡ rooms.Held z → z ≡ y
+      held-same z e = cc
 
-      -- or one is not
-      bad-outcome : r < y .rows → named d (length t) true l ≡ Refusal 9 (countOf (cell rows (rowSize * r + 14)) - 1)
-      unfolding named
-      bad-outcome k =
-          let q : r < length l = omega (arith, count-is) in
-          rw (← fault-here r j, lt-ltb r (length l) q, quote-is l r, ← place-here r q)
-
-      pub bad-says : (p q : ℕ) → r < y .rows → p ≡ countOf (cell rows (rowSize * r + 14)) → q ≡ p - 1 → answer.Refused 9 q ≡ answerIn (named d (length t) true l)
-      unfolding answerIn
-      bad-says p q k e f = rw (f, e, bad-outcome k)
-
-      pub bad-leaves : r < y .rows → t ≡ tableIn (named d (length t) true l) t
-      unfolding tableIn
-      bad-leaves k = rw (bad-outcome k)
+    pub bad-settled : (p q : ℕ) → r < y .rows → p ≡ countOf (cell rows (rowSize * r + 14)) → q ≡ p - 1 → NamesSettled d true y rows (rooms.Refused 9 q)
+    bad-settled p q k e f = record {
+      passes = λ i l lines h. none cc;
+      fails = λ {k = u} {p = v} i l lines h n.
+          let a : u ≡ 9 = cc in
+          let b : v ≡ q = cc in
+          bad-outcome d y rows lines l h n r j k ∙ rw (a, b, f, e);
+    }

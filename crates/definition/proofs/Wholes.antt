@@ -4,30 +4,34 @@ use mathlib.Core.Bool.{Bool, true, false, cond}
 use mathlib.Core.List.{List, [], _∷_, _++_}
 use Prim.Native.Nat.{ℕ, _+_, _*_, _≤_, _<_}
 use native.Mathlib.Omega.{arith}
+use borrow.Author.Tests.{le-ltb}
 use lib.Dec.{ltb}
 use lib.IntN.{ℤ}
 use lib.ListN.{length, take}
 use lib.Seq.{take-at}
 use Rattle.cells.specs.rule.Cell.{pasted}
-use Rattle.layout.specs.rule.Layout.{rowSize, lineSize}
+use Rattle.layout.specs.rule.Layout.{rowSize, lineSize, lineBase, mostRows, mostLines}
 use Rattle.tokens.specs.declared.Fault.{Fault}
 use Rattle.tokens.specs.declared.Reading.{Reading}
 use Rattle.tokens.specs.declared.Reading.the-variants.{At, Refused}
 use Rattle.heading.specs.declared.Front.{Front}
 use Rattle.heading.specs.Heading.{frontOn}
-use Rattle.measures.specs.Survey.{Variable, linesAll, highestIn, rowsFrom, allLines}
+use Rattle.measures.specs.Survey.{Variable, linesAll, highestIn, rowsFrom, allLines, tableOf}
 use Rattle.measures.specs.Good.{Good}
-use Rattle.measures.proofs.Snoc.{rows-length, lines-length}
+use Rattle.measures.proofs.Snoc.{rows-length, lines-length, table-length}
 use Rattle.built.specs.Nth.{few-rows, few-lines}
 use Rattle.definition.specs.declared.Tally.{Tally}
 use Rattle.definition.specs.declared.Run.{Run}
 use Rattle.definition.specs.declared.Run.the-variants as run
-use Rattle.definition.specs.declared.Answer.{Answer}
-use Rattle.definition.specs.declared.Answer.the-variants as answer
+use Rattle.definition.specs.declared.Rooms.{Rooms}
+use Rattle.definition.specs.declared.Rooms.the-variants as rooms
 use Rattle.definition.specs.Books.{Variables, course, variablesFrom, endsOn, Read, Whole, Faulty, ended, closed, surveyOf}
-use Rattle.definition.specs.Books.{Outcome, Refusal, named, judged, outcomeIn, answerIn, tableIn}
+use Rattle.definition.specs.Books.{Outcome, Built, Refusal, fitting, named, judged, outcomeIn, answerIn, tableIn}
 use Rattle.definition.specs.Books as variables
-use Rattle.definition.specs.Code.{tallyOf, runOf, Laid, Held, Settled}
+use Rattle.definition.specs.Code.{tallyOf, runOf, Laid, Held, NamesSettled, Standing, RoomsRead, fillSays, fillLeaves, cellsIn, comparedBy}
+use Rattle.definition.specs.rule.Against.{begins}
+use Rattle.definition.proofs.Bridge.{heldIn}
+use Rattle.definition.proofs.Settles.{count-is, lines-is, cells-are, says-fit, leaves-fit}
 use Rattle.definition.proofs.Goods.{AllGood, variables-good}
 use Rattle.definition.proofs.Lows.{highest-low}
 
@@ -83,24 +87,8 @@ module _ (d : List ℕ) (long : length d ≤ 1048576) (t : Reading) (front : t �
       ends-here : (y : Tally) (m k : ℕ) (r : Reading) (e : q ≡ run.Is y m) → r ≡ endsOn d m → r ≡ At k → judged d n (surveyOf d) ≡ named d n (frontOn d .heading .standard) (stands y m e .read)
       ends-here y m k r e a b = let s = stands y m e in ap (judged d n) (survey-is (variables.Is (s .read) m) (s .are)) ∙ rw (sym a ∙ b)
 
-      pub says-here : (y : Tally) (m k : ℕ) (r : Reading) (standard : Bool) (table table′ : List ℤ) (o : Answer) → n ≡ length table → q ≡ run.Is y m → r ≡ endsOn d m → r ≡ At k → standard ≡ frontOn d .heading .standard → Settled d standard y rows′ lines′ table table′ o → o ≡ answerIn (judged d n (surveyOf d))
-      says-here y m k r standard table table′ o i e a b f s =
-          s .says (stands y m e .read) (stands y m e .held) ∙ ap answerIn (rw (← i, f) refl ∙ sym (ends-here y m k r e a b))
-
-      pub leaves-here : (y : Tally) (m k : ℕ) (r : Reading) (standard : Bool) (table table′ : List ℤ) (o : Answer) → n ≡ length table → q ≡ run.Is y m → r ≡ endsOn d m → r ≡ At k → standard ≡ frontOn d .heading .standard → Settled d standard y rows′ lines′ table table′ o → table′ ≡ tableIn (judged d n (surveyOf d)) table
-      leaves-here y m k r standard table table′ o i e a b f s =
-          s .leaves (stands y m e .read) (stands y m e .held) ∙ ap (λ (w : Outcome). tableIn w table) (rw (← i, f) refl ∙ sym (ends-here y m k r e a b))
-
       ends-not : (y : Tally) (m : ℕ) (r : Reading) (g : Fault) → q ≡ run.Is y m → r ≡ endsOn d m → r ≡ Refused g → judged d n (surveyOf d) ≡ Refusal (g .number) (g .place)
       ends-not y m r g e a b = let s = stands y m e in ap (judged d n) (survey-is (variables.Is (s .read) m) (s .are)) ∙ rw (sym a ∙ b)
-
-      pub says-ends : (y : Tally) (m : ℕ) (r : Reading) (g : Fault) → q ≡ run.Is y m → r ≡ endsOn d m → r ≡ Refused g → answer.Refused (g .number) (g .place) ≡ answerIn (judged d n (surveyOf d))
-      unfolding answerIn
-      says-ends y m r g e a b = sym (ap answerIn (ends-not y m r g e a b))
-
-      pub leaves-ends : (y : Tally) (m : ℕ) (r : Reading) (g : Fault) (table : List ℤ) → q ≡ run.Is y m → r ≡ endsOn d m → r ≡ Refused g → table ≡ tableIn (judged d n (surveyOf d)) table
-      unfolding tableIn
-      leaves-ends y m r g table e a b = sym (ap (λ (w : Outcome). tableIn w table) (ends-not y m r g e a b))
 
       run-not : (g : Fault) → q ≡ run.Not g → judged d n (surveyOf d) ≡ Refusal (g .number) (g .place)
       unfolding runOf
@@ -109,10 +97,53 @@ module _ (d : List ℕ) (long : length d ≤ 1048576) (t : Reading) (front : t �
         by (variables.Is l k) i j = none cc
         by (variables.Not h) i j = let o : h ≡ g = cc in ap (judged d n) (survey-is (variables.Not h) i) ∙ rw o
 
-      pub says-not : (g : Fault) → q ≡ run.Not g → answer.Refused (g .number) (g .place) ≡ answerIn (judged d n (surveyOf d))
-      unfolding answerIn
-      says-not g e = sym (ap answerIn (run-not g e))
+    -- what the rooms come to
+    pub rooms-here : (y : Tally) (m k : ℕ) (r : Reading) (standard : Bool) (o : Rooms) → q ≡ run.Is y m → r ≡ endsOn d m → r ≡ At k → standard ≡ frontOn d .heading .standard → NamesSettled d standard y rows′ o → RoomsRead d rows′ lines′ o
+    rooms-here y m k r standard o e a b f j = record {
+      stands = λ {y = z} i.
+          let s = stands y m e in
+          let p = j .passes i (s .read) lines′ (s .held) in record {
+            read = s .read;
+            held = rw (p .0) (s .held);
+            few = rw (p .0) (small-here y m e);
+            outcome = λ n. ends-here n y m k r e a b ∙ rw (← f) (p .1 n);
+          };
+      refuses = λ {k = u} {p = v} i n.
+          let s = stands y m e in
+          ends-here n y m k r e a b ∙ rw (← f) (j .fails i (s .read) lines′ (s .held) n);
+    }
 
-      pub leaves-not : (g : Fault) (table : List ℤ) → q ≡ run.Not g → table ≡ tableIn (judged d n (surveyOf d)) table
-      unfolding tableIn
-      leaves-not g table e = sym (ap (λ (w : Outcome). tableIn w table) (run-not g e))
+    refused-here : (g : Fault) → ((n : ℕ) → judged d n (surveyOf d) ≡ Refusal (g .number) (g .place)) → RoomsRead d rows′ lines′ (rooms.Refused (g .number) (g .place))
+    refused-here g h = record {
+      stands = λ i. none cc;
+      refuses = λ {k = u} {p = v} i n.
+          let a : g .number ≡ u = cc in
+          let b : g .place ≡ v = cc in
+          h n ∙ rw (a, b);
+    }
+
+    pub rooms-ends : (y : Tally) (m : ℕ) (r : Reading) (g : Fault) → q ≡ run.Is y m → r ≡ endsOn d m → r ≡ Refused g → RoomsRead d rows′ lines′ (rooms.Refused (g .number) (g .place))
+    rooms-ends y m r g e a b = refused-here g (λ n. ends-not n y m r g e a b)
+
+    pub rooms-not : (g : Fault) → q ≡ run.Not g → RoomsRead d rows′ lines′ (rooms.Refused (g .number) (g .place))
+    rooms-not g e = refused-here g (λ n. run-not n g e)
+
+-- ---- what is done with them
+module _ (d : List ℕ) (rows lines : List ℤ) (y : Tally) (s : Standing d rows lines y) where
+  pub filled-says : (t : List ℤ) → fillSays y (length t) ≡ answerIn (judged d (length t) (surveyOf d))
+  filled-says t = says-fit d y rows lines (s .read) (s .held) t ∙ ap answerIn (sym (s .outcome (length t)))
+
+  pub filled-leaves : (t : List ℤ) → fillLeaves y rows lines t ≡ tableIn (judged d (length t) (surveyOf d)) t
+  filled-leaves t = leaves-fit d y rows lines (s .read) (s .held) t ∙ ap (λ (w : Outcome). tableIn w t) (sym (s .outcome (length t)))
+
+  -- a table of any definition has room enough
+  any-fits : fitting (lineBase mostRows mostLines) (s .read) ≡ Built (s .read)
+  unfolding fitting
+  any-fits =
+      let f : length (tableOf (s .read)) ≤ lineBase mostRows mostLines =
+      omega (arith, table-length (s .read), s .few .0, s .few .1, count-is d y rows lines (s .read) (s .held), lines-is d y rows lines (s .read) (s .held)) in
+      rw (le-ltb (lineBase mostRows mostLines) (length (tableOf (s .read))) f)
+
+  pub held-says : (t : List ℤ) → comparedBy (begins (cellsIn y rows lines) t) ≡ heldIn (judged d (lineBase mostRows mostLines) (surveyOf d)) t
+  unfolding comparedBy heldIn
+  held-says t = rw (cells-are d y rows lines (s .read) (s .held)) (sym (ap (λ (w : Outcome). heldIn w t) (s .outcome (lineBase mostRows mostLines) ∙ any-fits)))

@@ -11,7 +11,7 @@ use Rattle.signs.specs.declared.Sign.{Sign}
 use Rattle.scan.specs.rule.Text.{text}
 use Rattle.marks.specs.declared.Inside.the-variants.{Plain}
 use Rattle.marks.specs.rule.Spelling.{decodeOf}
-use Rattle.layout.specs.rule.Layout.{mark, headerSize, rowSize, lineSize, linesBase, lineBase}
+use Rattle.layout.specs.rule.Layout.{mark, headerSize, rowSize, lineSize, linesBase, lineBase, mostRows, mostLines}
 use Rattle.layout.specs.declared.Columns.{Columns}
 use Rattle.layout.specs.declared.Header.{Header}
 use Rattle.rows.specs.rule.Cells.{rowCells, headerCells}
@@ -29,7 +29,7 @@ use Rattle.measures.specs.Survey.{Variable, linesIn, columnsIn, linesAll, highe
 use Rattle.measures.specs.Good.{Good}
 use Rattle.entries.specs.Entry.{Entry}
 use Rattle.entries.specs.Entry as entry
-use Rattle.definition.specs.Books.{Variables, Outcome, Refusal, named, answerIn, tableIn}
+use Rattle.definition.specs.Books.{Variables, Outcome, Refusal, fitting, named, judged, surveyOf}
 use Rattle.definition.specs.Books as variables
 use Rattle.definition.specs.declared.Tally.{Tally}
 use Rattle.definition.specs.declared.Turn.{Turn}
@@ -38,6 +38,10 @@ use Rattle.definition.specs.declared.Run.{Run}
 use Rattle.definition.specs.declared.Run.the-variants as run
 use Rattle.definition.specs.declared.Answer.{Answer}
 use Rattle.definition.specs.declared.Answer.the-variants as answer
+use Rattle.definition.specs.declared.Rooms.{Rooms}
+use Rattle.definition.specs.declared.Rooms.the-variants as rooms
+use Rattle.definition.specs.declared.Against.{Against}
+use Rattle.definition.specs.declared.Against.the-variants as against
 
 -- nothing marked yet
 unfoldable pub zeros : ℕ → List ℕ
@@ -117,7 +121,27 @@ fillSays y n = cond (ltb n (lineBase (y .rows) (y .lines))) (answer.Refused 10 0
 unfoldable pub fillLeaves : Tally → List ℤ → List ℤ → List ℤ → List ℤ
 fillLeaves y rows lines t = cond (ltb (length t) (lineBase (y .rows) (y .lines))) t (laidOver t y rows lines)
 
--- the outcome is that of the variables which the rooms hold
-pub record Settled (d : List ℕ) (standard : Bool) (y : Tally) (rows lines t end : List ℤ) (r : Answer) : Type 0 where
-  pub says : (l : List Variable) → Held l y rows lines → r ≡ answerIn (named d (length t) standard l)
-  pub leaves : (l : List Variable) → Held l y rows lines → end ≡ tableIn (named d (length t) standard l) t
+-- 9 judged of the variables that the rooms hold
+pub record NamesSettled (d : List ℕ) (standard : Bool) (y : Tally) (rows : List ℤ) (r : Rooms) : Type 0 where
+  pub passes : {z : Tally} → r ≡ rooms.Held z → (l : List Variable) (lines : List ℤ) → Held l y rows lines
+      → (z ≡ y) × ((n : ℕ) → named d n standard l ≡ fitting n l)
+  pub fails : {k p : ℕ} → r ≡ rooms.Refused k p → (l : List Variable) (lines : List ℤ) → Held l y rows lines
+      → (n : ℕ) → named d n standard l ≡ Refusal k p
+
+-- the rooms after the whole definition: they hold its variables, which is all but for the room of the table; or it is refused
+pub record Standing (d : List ℕ) (rows lines : List ℤ) (y : Tally) : Type 0 where
+  pub read : List Variable
+  pub held : Held read y rows lines
+  pub few : (y .rows ≤ mostRows) × (y .lines ≤ mostLines) × (y .length ≤ 16384)
+  pub outcome : (n : ℕ) → judged d n (surveyOf d) ≡ fitting n read
+
+pub record RoomsRead (d : List ℕ) (rows lines : List ℤ) (r : Rooms) : Type 0 where
+  pub stands : {y : Tally} → r ≡ rooms.Held y → Standing d rows lines y
+  pub refuses : {k p : ℕ} → r ≡ rooms.Refused k p → (n : ℕ) → judged d n (surveyOf d) ≡ Refusal k p
+
+-- the table that the rooms hold, and what is said of it
+unfoldable pub cellsIn : Tally → List ℤ → List ℤ → List ℤ
+cellsIn y rows lines = headerCells (headerBy y) ++ (take (rowSize * y .rows) rows ++ take (lineSize * y .lines) lines)
+
+unfoldable pub comparedBy : Bool → Against
+comparedBy b = cond b against.Same against.Other

@@ -1,3 +1,4 @@
 pub mod rule
 pub mod Books
 pub mod Code
+pub mod Against

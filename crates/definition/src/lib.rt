@@ -1,5 +1,6 @@
 // A Triple-S 1.1 definition read into a lent table: the public call. The text is read once, into rows and lines of the call's own,
-// so that every refusal keeps the table; they are laid into it at the end. Above it stand the face and the lister.
+// so that every refusal keeps the table; they are laid into it at the end, or held against it where a caller asks whether a table is the
+// definition's own. Above it stand the face, the lister and the writers of texts.
 use entries::Stood;
 use layout::Columns;
 use layout::Header;
@@ -11,7 +12,7 @@ use tokens::Reading;
 ghost use mathlib.Core.Path.{_≡_};
 ghost use mathlib.Core.List.{[]};
 ghost use Prim.Native.Nat.{_+_, _-_, _*_, _≤_, _<_};
-ghost use lib.ListN.{length, take};
+ghost use lib.ListN.{length, take, drop};
 ghost use Rattle.ascii.specs.Class.{Classes};
 ghost use Rattle.ascii.specs.rule.Tens.{Tens};
 ghost use Rattle.cells.specs.rule.Cell.{cell, countOf};
@@ -21,8 +22,10 @@ ghost use Rattle.variables.specs.Ident.{marked};
 ghost use Rattle.entries.specs.Entry.{entryOf};
 ghost use Rattle.entries.specs.Entry.{Stored};
 ghost use Rattle.definition.specs.rule.Definition.{DefinitionRead};
-ghost use Rattle.definition.specs.Books.{course, variablesFrom, endsOn, judged, surveyOf, answerIn, tableIn};
-ghost use Rattle.definition.specs.Code.{zeros, tallyWith, followed, turnAfter, RowStored, runOf, Laid, NamesJudged, laidOver, fillSays, fillLeaves, Settled};
+ghost use Rattle.definition.specs.rule.Against.{begins, againstOf};
+ghost use Rattle.definition.specs.Books.{course, variablesFrom, endsOn};
+ghost use Rattle.definition.specs.Code.{zeros, tallyWith, followed, turnAfter, RowStored, runOf, Laid, NamesJudged, NamesSettled, RoomsRead};
+ghost use Rattle.definition.specs.Code.{headerBy, laidOver, fillSays, fillLeaves, cellsIn, comparedBy};
 
 // Room for the most rows, and for the most lines.
 const ROWS_ROOM: usize = Row::SIZE * Header::MOST_ROWS;
@@ -218,21 +221,28 @@ fn names_fault(classes: &[u8; 256], d: &[u8], rows: &[i64], count: usize) -> usi
     names::first_fault(&keys, count)
 }
 
-// Header, rows and lines at the start of the table.
-fn lay(table: &mut [i64], rows: &[i64], lines: &[i64], y: Tally)
+// The header of so many rows and lines.
+fn header_by(y: Tally) -> Header
     requires { ⌜ (y .rows ≤ mostRows) × (y .lines ≤ mostLines) × (y .length ≤ 16384) ⌝ }
-    requires { ⌜ (length (now rows) ≡ rowSize * mostRows) × (length (now lines) ≡ lineSize * mostLines) × (lineBase (y .rows) (y .lines) ≤ length (now table)) ⌝ }
-    ensures { λ _. ⌜ now (table .exit) ≡ laidOver (now (table .entry)) y (now (rows .entry)) (now (lines .entry)) ⌝ }
+    ensures { λ r. ⌜ r ≡ headerBy y ⌝ }
 {
-    let h = Header {
+    Header {
         mark: Header::MARK,
         rows: y.rows,
         lines: y.lines,
         length: y.length,
         rows_at: Header::SIZE,
         lines_at: Row::base(y.rows),
-    };
-    rows::put_header(table, h);
+    }
+}
+
+// Header, rows and lines at the start of the table.
+fn lay(table: &mut [i64], rows: &[i64], lines: &[i64], y: Tally)
+    requires { ⌜ (y .rows ≤ mostRows) × (y .lines ≤ mostLines) × (y .length ≤ 16384) ⌝ }
+    requires { ⌜ (length (now rows) ≡ rowSize * mostRows) × (length (now lines) ≡ lineSize * mostLines) × (lineBase (y .rows) (y .lines) ≤ length (now table)) ⌝ }
+    ensures { λ _. ⌜ now (table .exit) ≡ laidOver (now (table .entry)) y (now (rows .entry)) (now (lines .entry)) ⌝ }
+{
+    rows::put_header(table, header_by(y));
     cells::paste(table, Header::SIZE, &rows[..Row::SIZE * y.rows]);
     cells::paste(table, Row::base(y.rows), &lines[..Line::SIZE * y.lines]);
 }
@@ -264,32 +274,29 @@ fn quote_before(place: usize) -> usize
     if place == 0 { 0 } else { place - 1 }
 }
 
-// After END SSS: 9, then 10.
-fn settle(
-    classes: &[u8; 256],
-    d: &[u8],
-    standard: bool,
-    y: Tally,
-    rows: &[i64],
-    lines: &[i64],
-    table: &mut [i64],
-) -> Answer
+// What the rooms of a call hold, once read and judged (2 to 9): so many rows and lines; or the refusal's number and place.
+pub enum Rooms {
+    Held(Tally),
+    Refused { number: usize, place: usize },
+}
+
+// After END SSS: 9.
+fn settle(classes: &[u8; 256], d: &[u8], standard: bool, y: Tally, rows: &[i64]) -> Rooms
     requires { ⌜ Classes (now classes) ⌝ }
-    requires { ⌜ (y .rows ≤ mostRows) × (y .lines ≤ mostLines) × (y .length ≤ 16384) ⌝ }
-    requires { ⌜ (length (now rows) ≡ rowSize * mostRows) × (length (now lines) ≡ lineSize * mostLines) ⌝ }
-    ensures { λ r. ⌜ Settled (now (d .entry)) standard y (now (rows .entry)) (now (lines .entry)) (now (table .entry)) (now (table .exit)) r ⌝ }
+    requires { ⌜ (y .rows ≤ mostRows) × (length (now rows) ≡ rowSize * mostRows) ⌝ }
+    ensures { λ r. ⌜ NamesSettled (now (d .entry)) standard y (now (rows .entry)) r ⌝ }
 {
     if !standard {
-        return fill(rows, lines, y, table);
+        return Rooms::Held(y);
     }
     let i = names_fault(classes, d, rows, y.rows);
     if i < y.rows {
-        return Answer::Refused {
+        return Rooms::Refused {
             number: 9,
             place: quote_before(name_place(rows, i)),
         };
     }
-    fill(rows, lines, y, table)
+    Rooms::Held(y)
 }
 
 // The whole definition, with rooms for rows and lines.
@@ -301,28 +308,26 @@ fn read_in(
     lines: &mut [i64],
     marks: &mut [u16],
     seen: &mut [u8],
-    table: &mut [i64],
-) -> Answer
+) -> Rooms
     requires { ⌜ Classes (now classes) ⌝ }
     requires { ⌜ Tens (now powers) ⌝ }
     requires { ⌜ length (now d) ≤ 1048576 ⌝ }
     requires { ⌜ (length (now rows) ≡ rowSize * mostRows) × (length (now lines) ≡ lineSize * mostLines) × (length (now marks) ≡ 16384) ⌝ }
     requires { ⌜ now seen ≡ zeros 10000 ⌝ }
-    ensures { λ r. ⌜ r ≡ answerIn (judged (now (d .entry)) (length (now (table .entry))) (surveyOf (now (d .entry)))) ⌝ }
-    ensures { λ r. ⌜ now (table .exit) ≡ tableIn (judged (now (d .entry)) (length (now (table .entry))) (surveyOf (now (d .entry)))) (now (table .entry)) ⌝ }
+    ensures { λ r. ⌜ RoomsRead (now (d .entry)) (now (rows .exit)) (now (lines .exit)) r ⌝ }
 {
     let front = heading::read_front(classes, d);
     let h = front.heading;
     let t = front.next;
     match read_variables(classes, powers, d, t, rows, lines, marks, seen) {
         Run::Is { tally, next } => match read_ends(classes, d, next) {
-            Reading::At(_) => settle(classes, d, h.standard, tally, rows, lines, table),
-            Reading::Refused(f) => Answer::Refused {
+            Reading::At(_) => settle(classes, d, h.standard, tally, rows),
+            Reading::Refused(f) => Rooms::Refused {
                 number: f.number,
                 place: f.place,
             },
         },
-        Run::Not(f) => Answer::Refused {
+        Run::Not(f) => Rooms::Refused {
             number: f.number,
             place: f.place,
         },
@@ -345,7 +350,7 @@ pub fn read_definition(d: &[u8], table: &mut [i64]) -> Answer
     let mut lines = [0i64; LINES_ROOM];
     let mut marks = [0u16; 16384];
     let mut seen = [0u8; 10000];
-    read_in(
+    match read_in(
         &classes,
         &powers,
         d,
@@ -353,6 +358,90 @@ pub fn read_definition(d: &[u8], table: &mut [i64]) -> Answer
         &mut lines,
         &mut marks,
         &mut seen,
-        table,
-    )
+    ) {
+        Rooms::Held(y) => fill(&rows, &lines, y, table),
+        Rooms::Refused { number, place } => Answer::Refused { number, place },
+    }
+}
+
+// Whether the numbers of t from a place on are these.
+fn same_at(t: &[i64], at: usize, part: &[i64]) -> bool
+    requires { ⌜ at + length (now part) ≤ length (now t) ⌝ }
+    ensures { λ r. ⌜ r ≡ begins (now (part .entry)) (drop at (now (t .entry))) ⌝ }
+{
+    let mut j: usize = 0;
+    while j < part.len() {
+        let same = cells::same(part[j], t[at + j]);
+        j += 1;
+        if !same {
+            return false;
+        }
+    }
+    true
+}
+
+// Whether the table begins with the header, the rows and the lines of the rooms.
+fn matches(rows: &[i64], lines: &[i64], y: Tally, t: &[i64]) -> bool
+    requires { ⌜ (y .rows ≤ mostRows) × (y .lines ≤ mostLines) × (y .length ≤ 16384) ⌝ }
+    requires { ⌜ (length (now rows) ≡ rowSize * mostRows) × (length (now lines) ≡ lineSize * mostLines) ⌝ }
+    ensures { λ r. ⌜ r ≡ begins (cellsIn y (now (rows .entry)) (now (lines .entry))) (now (t .entry)) ⌝ }
+{
+    if t.len() < Line::base(y.rows, y.lines) {
+        return false;
+    }
+    let mut header = [0i64; Header::SIZE];
+    rows::put_header(&mut header, header_by(y));
+    let a = same_at(t, 0, &header);
+    let b = same_at(t, Header::SIZE, &rows[..Row::SIZE * y.rows]);
+    let c = same_at(t, Row::base(y.rows), &lines[..Line::SIZE * y.lines]);
+    a & (b & c)
+}
+
+// Whether a table is the one that a definition yields; or the definition's refusal, 1 to 9.
+pub enum Against {
+    Same,
+    Other,
+    Refused { number: usize, place: usize },
+}
+
+fn compare(rows: &[i64], lines: &[i64], y: Tally, t: &[i64]) -> Against
+    requires { ⌜ (y .rows ≤ mostRows) × (y .lines ≤ mostLines) × (y .length ≤ 16384) ⌝ }
+    requires { ⌜ (length (now rows) ≡ rowSize * mostRows) × (length (now lines) ≡ lineSize * mostLines) ⌝ }
+    ensures { λ r. ⌜ r ≡ comparedBy (begins (cellsIn y (now (rows .entry)) (now (lines .entry))) (now (t .entry))) ⌝ }
+{
+    if matches(rows, lines, y, t) {
+        Against::Same
+    } else {
+        Against::Other
+    }
+}
+
+// Holds a table against a definition: no second table, the rooms are compared in place.
+pub fn judge_against(d: &[u8], t: &[i64]) -> Against
+    ensures { λ r. ⌜ r ≡ againstOf (now (d .entry)) (now (t .entry)) ⌝ }
+{
+    if d.len() > 1_048_576 {
+        return Against::Refused {
+            number: 1,
+            place: 0,
+        };
+    }
+    let classes = ascii::classes();
+    let powers = ascii::powers();
+    let mut rows = [0i64; ROWS_ROOM];
+    let mut lines = [0i64; LINES_ROOM];
+    let mut marks = [0u16; 16384];
+    let mut seen = [0u8; 10000];
+    match read_in(
+        &classes,
+        &powers,
+        d,
+        &mut rows,
+        &mut lines,
+        &mut marks,
+        &mut seen,
+    ) {
+        Rooms::Held(y) => compare(&rows, &lines, y, t),
+        Rooms::Refused { number, place } => Against::Refused { number, place },
+    }
 }

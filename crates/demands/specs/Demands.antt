@@ -1,12 +1,12 @@
 -- THE DEMANDS, one by one: the final theorems over the promises of the public calls, restated here and each proved by name elsewhere. The
 -- promises stand in specs/rule of their crates: TableTested (sound), ValueRead and RecordJudged (records), Written (writes), NextFound
--- (cuts), FileJudged (files), PartJudged (parts), MatrixWritten (matrices), DefinitionRead (definition), ListCorrected (corrections),
--- Mends (mends), Normalised (normal); those of the exported functions (zarfolin) hold them, or are they.
+-- (cuts), FileJudged (files), PartJudged (parts), MatrixWritten (matrices), Exported (exports), DefinitionRead (definition), ListCorrected
+-- (corrections), Mends (mends), Normalised (normal); those of the exported functions (zarfolin) hold them, or are they.
 use mathlib.Core.Path.{_≡_}
 use mathlib.Core.Logic.{_↔_, ⊎-elim}
 use mathlib.Core.Bool.{Bool, true, false}
 use mathlib.Core.List.{List, [], _∷_, _++_, map}
-use Prim.Native.Nat.{ℕ, _+_, _*_, _-_, _≤_, _<_}
+use Prim.Native.Nat.{ℕ, suc, _+_, _*_, _-_, _≤_, _<_}
 use lib.Dec.{eqb}
 use lib.IntN.{ℤ}
 use lib.ListN.{length, getD, take, drop}
@@ -49,6 +49,19 @@ use Rattle.matrix_laws.specs.Sound as summaries
 use Rattle.matrix_laws.specs.Exactly as sizes
 use Rattle.matrix_laws.specs.Matrix as matrix
 use Rattle.zarfolin.specs.rule.Matrix.{MatrixTold}
+use Rattle.commas.specs.rule.Csv.{doubled, fieldBytes, lineBytes}
+use Rattle.record_lines.specs.rule.Lines.{before, recordLine}
+use Rattle.exports.specs.rule.Text.{exportLines, exportText, ExportVerdict}
+use Rattle.exports.specs.rule.Text as export
+use Rattle.exports.specs.rule.Export.{exportVerdict, Exported}
+use Rattle.export_laws.specs.rule.Exactly.{ExportOutcome}
+use Rattle.export_laws.specs.rule.Quoted.{HoldsOne}
+use Rattle.export_laws.specs.Exactly as exports
+use Rattle.export_laws.specs.Lines as lines
+use Rattle.export_laws.specs.Quoted as quoted
+use Rattle.export_laws.specs.Apart as apart
+use Rattle.value_fields.specs.rule.Values.{rowField}
+use Rattle.zarfolin.specs.rule.Export.{ExportTold}
 use lib.Ieee.{binary64, toBits}
 use Rattle.writes.specs.rule.Public.{refusalOf, Written}
 use Rattle.definition.specs.declared.Answer.{Answer}
@@ -162,6 +175,14 @@ module _ {t : List ℤ} {d out : List ℕ} where
   pub one-matrix-told : {o₁ o₂ : List ℕ} {a₁ a₂ : List ℤ} {r₁ r₂ : ℕ} → MatrixTold t d out o₁ a₁ r₁ → MatrixTold t d out o₂ a₂ r₂
       → ((r₁ ≡ r₂) × (a₁ ≡ a₂)) × (o₁ ≡ o₂)
   one-matrix-told = face.matrix-told-one
+
+module _ {def : List ℕ} {t : List ℤ} {d out : List ℕ} where
+  pub one-export : {o₁ o₂ : List ℕ} {v₁ v₂ : ExportVerdict} → Exported def t d out o₁ v₁ → Exported def t d out o₂ v₂ → (v₁ ≡ v₂) × (o₁ ≡ o₂)
+  one-export = exports.export-one
+
+  pub one-export-told : {o₁ o₂ : List ℕ} {a₁ a₂ : List ℤ} {r₁ r₂ : ℕ} → ExportTold def t d out o₁ a₁ r₁ → ExportTold def t d out o₂ a₂ r₂
+      → ((r₁ ≡ r₂) × (a₁ ≡ a₂)) × (o₁ ≡ o₂)
+  one-export-told = face.export-told-one
 
 module _ {d : List ℕ} {from : ℕ} where
   pub one-next : {n₁ n₂ : Next} → NextFound d from n₁ → NextFound d from n₂ → n₁ ≡ n₂
@@ -569,3 +590,41 @@ due-is-listed = mend-listed.due-listed
 
 pub listed-is-due : (t : List ℤ) (d : List ℕ) {x : mending.Entry} → In x (listIn t d) → DueIn (widthIn t d) (endingOf d) 1 0 (piecesOf d) x
 listed-is-due = mend-listed.listed-due
+
+-- ---- AN EXPORT (C-16): 20, 40, 60 or written, exactly when what that says is so
+pub export-so : (def : List ℕ) (t : List ℤ) (d : List ℕ) (room : ℕ) → ExportOutcome def t d room (exportVerdict def t d room)
+export-so = exports.export-named
+
+pub so-export : (def : List ℕ) (t : List ℤ) (d : List ℕ) (room : ℕ) {v : ExportVerdict} → ExportOutcome def t d room v → exportVerdict def t d room ≡ v
+so-export def t d room o = exports.export-only def t d room o
+
+-- what it says of the data is what judging them says; it has a line for the names and one for each record before the first fault
+pub export-judged : {def : List ℕ} {t : List ℤ} {d out out′ : List ℕ} {v : FileVerdict} {n : ℕ} → Exported def t d out out′ (export.written v n)
+    → v ≡ fileVerdict t d
+export-judged a = exports.export-judged a
+
+pub export-lines : (def : List ℕ) (t : List ℤ) (d : List ℕ) → wellFormed t ≡ true → length (exportLines def t d) ≡ suc (before (fileVerdict t d))
+export-lines = lines.export-lines
+
+-- the output keeps all it held, or holds the text, and behind it what stood there
+pub export-kept : {def : List ℕ} {t : List ℤ} {d out out′ : List ℕ} {k : ℕ} → Exported def t d out out′ (export.refused k) → out′ ≡ out
+export-kept a = exports.export-kept a
+
+module _ {def : List ℕ} {t : List ℤ} {d out out′ : List ℕ} {v : FileVerdict} {n : ℕ} (a : Exported def t d out out′ (export.written v n)) where
+  pub export-stands : take (length (exportText def t d)) out′ ≡ exportText def t d
+  export-stands = exports.export-stands a
+
+  pub export-behind : drop (length (exportText def t d)) out′ ≡ drop (length (exportText def t d)) out
+  export-behind = exports.export-behind a
+
+-- a field is quoted exactly when it holds a comma, a quote, CR or LF
+pub quoted-when : (f : List ℕ) → HoldsOne f → fieldBytes f ≡ (34 ∷ []) ++ (doubled f ++ (34 ∷ []))
+quoted-when = quoted.quoted-when
+
+pub plain-when : (f : List ℕ) → (HoldsOne f → ⊥) → fieldBytes f ≡ f
+plain-when = quoted.plain-when
+
+-- equal lines of two records only for equal fields, row by row
+pub lines-apart : (t : List ℤ) (r s : List ℕ) → 1 ≤ rowsOf t → lineBytes (recordLine t r) ≡ lineBytes (recordLine t s)
+    → (i : ℕ) → i < rowsOf t → rowField t r i ≡ rowField t s i
+lines-apart = apart.record-same

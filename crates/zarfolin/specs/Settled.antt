@@ -16,6 +16,8 @@ use Rattle.zarfolin.specs.rule.Face.{Telling, verdictCells, outcomeCells
 use Rattle.zarfolin.specs.rule.Face.{RecordTold, ValueTold, FileTold, DefinitionTold, NextTold}
 use Rattle.zarfolin.specs.rule.Part.{partCells, PartTold}
 use Rattle.zarfolin.specs.rule.Matrix.{matrixCells, MatrixTold}
+use Rattle.exports.specs.rule.Text.{ExportVerdict}
+use Rattle.zarfolin.specs.rule.Export.{exportCells, exportLength, TellingFive, ExportTold}
 use Rattle.zarfolin.specs.rule.Whole.{wholeCells, WholeTold}
 use Rattle.zarfolin.specs.rule.Texts.{textCells, TextTold}
 use Rattle.zarfolin.specs.rule.Mend.{mendCells, MendTold}
@@ -52,6 +54,14 @@ matrix-told-one x y = (
   telling-one (ap matrixCells (x .promise .says ∙ sym (y .promise .says))) (x .tells) (y .tells),
   x .promise .leaves ∙ sym (y .promise .leaves),
 )
+
+-- zarfolin_export: five numbers, and the output
+pub export-told-one : {def d out o₁ o₂ : List ℕ} {t a₁ a₂ : List ℤ} {r₁ r₂ : ℕ}
+    → ExportTold def t d out o₁ a₁ r₁ → ExportTold def t d out o₂ a₂ r₂ → ((r₁ ≡ r₂) × (a₁ ≡ a₂)) × (o₁ ≡ o₂)
+export-told-one {a₂ = a₂} {r₂ = r₂} x y =
+    let e : y .outcome ≡ x .outcome = y .promise .says ∙ sym (x .promise .says) in
+    let z : TellingFive (exportCells (x .outcome)) (exportLength (x .outcome)) a₂ r₂ = rw e at (y .tells) in
+    ((x .tells .gives ∙ sym (z .gives), x .tells .holds ∙ sym (z .holds)), x .promise .leaves ∙ sym (y .promise .leaves))
 
 pub next-told-one : {d : List ℕ} {from : ℕ} {a₁ a₂ : List ℤ} {r₁ r₂ : ℕ} → NextTold d from a₁ r₁ → NextTold d from a₂ r₂
     → (r₁ ≡ r₂) × (a₁ ≡ a₂)

@@ -19,6 +19,8 @@ ghost use Rattle.parts.specs.rule.Part.{partSaid};
 ghost use Rattle.zarfolin.specs.rule.Part.{partCells, PartTold};
 ghost use Rattle.matrices.specs.rule.Matrix.{matrixSaid};
 ghost use Rattle.zarfolin.specs.rule.Matrix.{matrixCells, MatrixTold};
+ghost use Rattle.exports.specs.rule.Text.{exportSaid};
+ghost use Rattle.zarfolin.specs.rule.Export.{exportCells, exportLength, TellingFive, ExportTold};
 ghost use Rattle.corrections.specs.rule.Truth.{badTruth};
 ghost use Rattle.corrections.specs.rule.Correction.{ListCorrected};
 ghost use Rattle.zarfolin.specs.rule.Truth.{TruthTold};
@@ -34,6 +36,7 @@ mod version;
 
 use corrections::Correction;
 use cuts::Next;
+use exports::Export;
 use faults::Fault;
 use files::Judgement;
 use layout::Header;
@@ -80,6 +83,16 @@ fn tell(answer: &mut [i64; 4], c: Told) -> u64
     let number = c.number;
     let zeroth = cell(number as usize);
     *answer = [zeroth, c.first, c.second, c.third];
+    number
+}
+
+// Puts five numbers into the lent answer, and gives the first back.
+fn tell_five(answer: &mut [i64; 5], c: Told, last: i64) -> u64
+    ensures { λ r. ⌜ TellingFive c last (now (answer .exit)) r ⌝ }
+{
+    let number = c.number;
+    let zeroth = cell(number as usize);
+    *answer = [zeroth, c.first, c.second, c.third, last];
     number
 }
 
@@ -226,6 +239,29 @@ fn matrix_cells(m: Matrix) -> Told
     }
 }
 
+fn export_cells(e: Export) -> Told
+    ensures { λ r. ⌜ r ≡ exportCells (exportSaid e) ⌝ }
+{
+    match e {
+        Export::BadTable => bare(20),
+        Export::OtherTable => bare(40),
+        Export::ShortRoom => bare(60),
+        Export::Written { judged, length: _ } => file_cells(judged),
+    }
+}
+
+// The length of the text that was written.
+fn export_length(e: Export) -> i64
+    ensures { λ r. ⌜ r ≡ exportLength (exportSaid e) ⌝ }
+{
+    match e {
+        Export::BadTable => 0,
+        Export::OtherTable => 0,
+        Export::ShortRoom => 0,
+        Export::Written { judged: _, length } => cell(length),
+    }
+}
+
 fn definition_cells(a: definition::Answer) -> Told
     ensures { λ r. ⌜ r ≡ definitionCells a ⌝ }
 {
@@ -351,6 +387,21 @@ pub extern "C" fn zarfolin_matrix(
     ensures { λ r. ⌜ MatrixTold (now (table .entry)) (now (d .entry)) (now (out .entry)) (now (out .exit)) (now (answer .exit)) r ⌝ }
 {
     tell(answer, matrix_cells(matrices::write_matrix(table, d, out)))
+}
+
+// Writes a data file as comma-separated text: a line of names, and a line for each record before the first fault.
+#[no_mangle]
+pub extern "C" fn zarfolin_export(
+    def: &[u8],
+    table: &[i64],
+    d: &[u8],
+    out: &mut [u8],
+    answer: &mut [i64; 5],
+) -> u64
+    ensures { λ r. ⌜ ExportTold (now (def .entry)) (now (table .entry)) (now (d .entry)) (now (out .entry)) (now (out .exit)) (now (answer .exit)) r ⌝ }
+{
+    let e = exports::write_export(def, table, d, out);
+    tell_five(answer, export_cells(e), export_length(e))
 }
 
 // Reads a definition into a table.

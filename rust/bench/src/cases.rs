@@ -33,6 +33,7 @@ pub fn cases() -> Vec<Maker> {
     judged_files(&mut cases);
     mended_files(&mut cases);
     matrices(&mut cases);
+    exports(&mut cases);
     cases
 }
 
@@ -337,6 +338,52 @@ fn matrix(table: Vec<i64>, most: usize, number: u64) -> Case {
     let bytes = data.len() + out.len();
     let step: Step =
         Box::new(move |face| face.matrix(black_box(&table), black_box(&data), black_box(&mut out), &mut answer));
+    Case { bytes, number, step }
+}
+
+/// 1 MiB of data as text, by few rows and by many: records as they are, and with texts full of quotes; with room to spare, with just
+/// enough, with one byte too few.
+fn exports(cases: &mut Vec<Maker>) {
+    for (name, survey) in [("5 rows", few_rows as fn() -> Survey), ("512 rows", many_rows)] {
+        for (texts, quotes) in [("", false), (", texts with quotes", true)] {
+            add(cases, &format!("export 1 MiB, {name}{texts}"), move || export(survey(), quotes, Room::Ample));
+        }
+        add(cases, &format!("export 1 MiB, {name}, just enough room"), move || export(survey(), false, Room::Exact));
+        add(cases, &format!("export 1 MiB, {name}, no room"), move || export(survey(), false, Room::Short));
+    }
+}
+
+#[derive(Clone, Copy, PartialEq)]
+enum Room {
+    Ample,
+    Exact,
+    Short,
+}
+
+fn export(survey: Survey, quotes: bool, room: Room) -> Case {
+    let def = survey.text();
+    let table = table(&def);
+    let length = table[3] as usize;
+    let mut data = flawed(&table, length, (1 << 20) / (length + 2), Flaw::None);
+    if quotes {
+        for i in (0..table[1] as usize).map(row_at).filter(|&at| table[at + 1] == 4) {
+            let (start, finish) = (table[i + 2] as usize - 1, table[i + 3] as usize);
+            for record in data.chunks_mut(length + 2) {
+                record[start..finish].iter_mut().step_by(2).for_each(|x| *x = b'"');
+            }
+        }
+    }
+    let (mut out, mut answer) = (vec![0; 8 << 20], [0; 5]);
+    assert_eq!(Plain.export(&def, &table, &data, &mut out, &mut answer), 0);
+    let total = answer[4] as usize;
+    let number = if room == Room::Short { 60 } else { 0 };
+    if room != Room::Ample {
+        out.truncate(total - (room == Room::Short) as usize);
+    }
+    let bytes = data.len() + total;
+    let step: Step = Box::new(move |face| {
+        face.export(black_box(&def), black_box(&table), black_box(&data), black_box(&mut out), &mut answer)
+    });
     Case { bytes, number, step }
 }
 

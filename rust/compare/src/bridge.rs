@@ -207,4 +207,19 @@ impl Face for Bridge {
         let inputs = Inputs { table: t, bytes: data, text: &copy, ..Inputs::default() };
         self.call(Call::Matrix, inputs, answer, copy.len(), |changed| out.copy_from_slice(changed))
     }
+
+    fn export(&self, def: &[u8], t: &[i64], data: &[u8], out: &mut [u8], answer: &mut [i64; 5]) -> u64 {
+        let (copy, both) = (out.to_vec(), [def, data].concat());
+        let row = def.len() as u64;
+        let inputs = Inputs { table: t, row, bytes: &both, text: &copy, list: &[0], ..Inputs::default() };
+        let (mut four, mut last) = ([0; 4], [0]);
+        let number = self.call(Call::Export, inputs, &mut four, 8 + copy.len(), |changed| {
+            let (changed_last, changed_out) = changed.split_at(8);
+            numbers(&mut last, changed_last);
+            out.copy_from_slice(changed_out);
+        });
+        answer[..4].copy_from_slice(&four);
+        answer[4] = last[0];
+        number
+    }
 }

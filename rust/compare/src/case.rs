@@ -29,6 +29,8 @@ pub enum Call {
     Mend,
     /// Here too.
     Matrix,
+    /// Here too. The definition stands before the data, its length in `row`; the fifth number goes to the list.
+    Export,
 }
 
 /// A call and its inputs; those that the call doesn't take are empty or 0.
@@ -43,7 +45,7 @@ pub struct Case {
     pub list: Vec<i64>,
     /// Definition, record or data.
     pub bytes: Vec<u8>,
-    /// A text that is written, or the room for mended data or a matrix.
+    /// A text that is written, or the room for mended data, a matrix or an export.
     pub text: Vec<u8>,
     /// A record's numbers.
     pub out: Vec<i64>,
@@ -143,6 +145,14 @@ pub fn run(face: &dyn Face, case: &Case) -> Outcome {
         Call::Normal => face.normal(t, b, a),
         Call::Mend => face.mend(t, b, x, l, a),
         Call::Matrix => face.matrix(t, b, x, a),
+        Call::Export => {
+            let mut five = [ANSWER; 5];
+            let (def, data) = b.split_at(case.row as usize);
+            let number = face.export(def, t, data, x, &mut five);
+            a.copy_from_slice(&five[..4]);
+            l[0] = five[4];
+            number
+        }
     };
     Outcome { number, answer, table: table.all, list: list.all, bytes: bytes.all, text: text.all, out: out.all }
 }
@@ -172,10 +182,13 @@ pub fn keeps(case: &Case, outcome: &Outcome) -> bool {
             (false, false, false)
         }
         Call::Correct => (false, !refused, !refused),
+        Call::Export => (false, true, false),
         _ => (false, false, !refused),
     };
     let out_lent = case.call == Call::ReadRecord && !refused;
-    let text_lent = matches!(case.call, Call::Mend | Call::Matrix) && !refused;
+    // An export that the data's fault ends leaves the lines before it.
+    let cut = case.call == Call::Export && !matches!(outcome.number, 20 | 40 | 60);
+    let text_lent = matches!(case.call, Call::Mend | Call::Matrix) && !refused || cut;
     let numbers = (table || table_lent) && (list || list_lent) && (out || out_lent);
     guards && numbers && (bytes || bytes_lent) && (text || text_lent)
 }

@@ -24,6 +24,7 @@ pub trait Face {
     fn normal(&self, table: &[i64], record: &mut [u8], answer: &mut [i64; 4]) -> u64;
     fn mend(&self, t: &[i64], data: &[u8], out: &mut [u8], list: &mut [i64], answer: &mut [i64; 4]) -> u64;
     fn matrix(&self, t: &[i64], data: &[u8], out: &mut [u8], answer: &mut [i64; 4]) -> u64;
+    fn export(&self, def: &[u8], t: &[i64], data: &[u8], out: &mut [u8], answer: &mut [i64; 5]) -> u64;
 }
 
 /// The plain Rust implementation.
@@ -128,6 +129,11 @@ impl Face for Plain {
 
     fn matrix(&self, t: &[i64], data: &[u8], out: &mut [u8], answer: &mut [i64; 4]) -> u64 {
         give(answer, plain::matrix(t, data, out))
+    }
+
+    fn export(&self, def: &[u8], t: &[i64], data: &[u8], out: &mut [u8], answer: &mut [i64; 5]) -> u64 {
+        *answer = plain::export(def, t, data, out);
+        answer[0] as u64
     }
 }
 
@@ -347,6 +353,22 @@ impl Face for Library {
     fn matrix(&self, t: &[i64], data: &[u8], out: &mut [u8], answer: &mut [i64; 4]) -> u64 {
         unsafe {
             zarfolin::ffi::zarfolin_matrix(
+                t.as_ptr(),
+                t.len(),
+                data.as_ptr(),
+                data.len(),
+                out.as_mut_ptr(),
+                out.len(),
+                answer.as_mut_ptr(),
+            )
+        }
+    }
+
+    fn export(&self, def: &[u8], t: &[i64], data: &[u8], out: &mut [u8], answer: &mut [i64; 5]) -> u64 {
+        unsafe {
+            zarfolin::ffi::zarfolin_export(
+                def.as_ptr(),
+                def.len(),
                 t.as_ptr(),
                 t.len(),
                 data.as_ptr(),

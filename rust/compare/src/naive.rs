@@ -1146,4 +1146,9 @@ impl Face for Naive {
     fn matrix(&self, t: &[i64], data: &[u8], out: &mut [u8], answer: &mut [i64; 4]) -> u64 {
         give(answer, crate::naive_02::matrix(t, data, out))
     }
+
+    fn export(&self, def: &[u8], t: &[i64], data: &[u8], out: &mut [u8], answer: &mut [i64; 5]) -> u64 {
+        *answer = crate::naive_02::export(def, t, data, out);
+        answer[0] as u64
+    }
 }

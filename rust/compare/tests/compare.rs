@@ -977,6 +977,49 @@ fn matrices_of_files() {
     tally.end("matrices of files", 2_000, &[0, 20, 22, 23, 241, 242, 30, 31, 80, 81, 82]);
 }
 
+/// A definition with names of every sort, its table, and data, mostly sound: to be exported with so much room. Now and then the table is
+/// another's, or the definition damaged.
+fn export_case(r: &mut Rng, room: usize) -> Case {
+    let variables = 1 + r.below(4);
+    let model = definitions::model(r, Size { variables, lines: 4, text: 6 });
+    let style = Style::any(r);
+    let (mut def, mut table) = definitions::sound(r, style, &model);
+    let data = if r.once_in(4) { records::file(r, &table) } else { records::sound_file(r, &table, 4) };
+    match r.below(30) {
+        0 => tables::changed(r, &mut table),
+        1 => definitions::damage_bytes(r, &mut def),
+        // A text place that the definition doesn't yield leaves a table well formed.
+        2 => table[row_at(0) + 14] += 1,
+        3 => table.push(7),
+        _ => {}
+    }
+    let row = def.len() as u64;
+    let bytes = [def, data].concat();
+    Case { table, row, bytes, list: vec![0], text: vec![0x55; room], ..Case::new(Call::Export) }
+}
+
+/// Files as text: with room, with just enough, with one byte too few.
+#[test]
+fn exports_of_files() {
+    let mut tally = Tally::default();
+    for seed in seeds(1_500) {
+        let mut r = Rng::new(seed ^ 0x1616);
+        let case = export_case(&mut r, 60_000);
+        let done = check(&mut tally, seed, &case);
+        if matches!(done.number, 20 | 40 | 60) {
+            assert_eq!((&done.answer[1..], done.list[8]), (&[0; 3][..], 0), "seed {seed}");
+            continue;
+        }
+        let total = done.list[8] as usize;
+        let room = |text: usize| Case { text: vec![0x55; text], ..case.clone() };
+        let exact = check(&mut tally, seed, &room(total));
+        let same = exact.text[8..8 + total] == done.text[8..8 + total];
+        assert!(exact.answer == done.answer && same, "seed {seed}: an exact fit");
+        assert_eq!(check(&mut tally, seed, &room(total - 1)).number, 60, "seed {seed}");
+    }
+    tally.end("exports of files", 3_000, &[0, 20, 22, 23, 241, 242, 30, 31, 40, 60]);
+}
+
 /// The comparison itself: faults put into a copy of the plain Rust are found and cut down.
 mod planted {
     use super::*;
@@ -1134,6 +1177,30 @@ mod planted {
             }
             number
         }
+        fn export(&self, def: &[u8], t: &[i64], data: &[u8], out: &mut [u8], answer: &mut [i64; 5]) -> u64 {
+            let kept = out.to_vec();
+            let number = Plain.export(def, t, data, out, answer);
+            let length = answer[4] as usize;
+            match self.0 {
+                // 40 before 20; the fault's own line begun; the byte behind the text; a quote not doubled; the length of a cut text not told.
+                24 if number == 20 => {
+                    answer[0] = 40;
+                    return 40;
+                }
+                25 if number > 40 && length > 0 => out[length..].iter_mut().take(1).for_each(|x| *x = b','),
+                26 if number == 0 => out[length..].iter_mut().take(1).for_each(|x| *x = 0),
+                27 if number == 0 => {
+                    if let Some(at) = out[..length].windows(2).position(|two| two == b"\"\"") {
+                        out.copy_within(at + 1..length, at);
+                        out[length - 1] = kept[length - 1];
+                        answer[4] -= 1;
+                    }
+                }
+                28 if number != 0 => answer[4] = 0,
+                _ => {}
+            }
+            number
+        }
         fn matrix(&self, t: &[i64], data: &[u8], out: &mut [u8], answer: &mut [i64; 4]) -> u64 {
             let number = Plain.matrix(t, data, out, answer);
             let [_, total, records, columns] = answer.map(|x| x as usize);
@@ -1164,7 +1231,7 @@ mod planted {
 
     #[test]
     fn faults_are_found() {
-        for fault in 0..24 {
+        for fault in 0..29 {
             let found = (0..2_000).any(|seed| {
                 let mut r = Rng::new(seed);
                 let model = definitions::model(&mut r, SMALL);
@@ -1214,6 +1281,7 @@ mod planted {
                     }
                     20..=22 => matrix_case(&mut r, table, 60_000),
                     23 => matrix_case(&mut r, table, 0),
+                    24..=28 => export_case(&mut r, 60_000),
                     _ => Case { bytes: records::file(&mut r, &table), table, ..Case::new(Call::JudgeFile) },
                 };
                 run(&Plain, &case) != run(&Wrong(fault), &case)

@@ -267,6 +267,27 @@ pub unsafe extern "C" fn zarfolin_matrix(
 }
 
 #[unsafe(no_mangle)]
+pub unsafe extern "C" fn zarfolin_export(
+    def: *const u8,
+    def_len: usize,
+    table: *const i64,
+    table_len: usize,
+    data: *const u8,
+    data_len: usize,
+    out: *mut u8,
+    out_len: usize,
+    answer: *mut i64,
+) -> Number {
+    unsafe {
+        let (def, table) = (from_raw_parts(def, def_len), from_raw_parts(table, table_len));
+        let data = from_raw_parts(data, data_len);
+        let numbers = plain::export(def, table, data, from_raw_parts_mut(out, out_len));
+        from_raw_parts_mut(answer, 5).copy_from_slice(&numbers);
+        numbers[0] as Number
+    }
+}
+
+#[unsafe(no_mangle)]
 pub unsafe extern "C" fn zarfolin_correct(
     table: *const i64,
     table_len: usize,

@@ -62,6 +62,17 @@ pub struct Matrix {
     pub columns: usize,
 }
 
+/// What an export wrote.
+#[derive(Clone, Copy, Debug, PartialEq, Eq)]
+pub struct Exported {
+    /// The text's bytes.
+    pub length: usize,
+    /// Its lines behind the name line.
+    pub records: u64,
+    /// Why it ends there, if the data has a fault.
+    pub fault: Option<FileFault>,
+}
+
 /// The version of the archive that is linked: [`VERSION`](crate::VERSION), or the two don't belong together.
 pub fn version() -> u64 {
     // SAFETY: it takes nothing.
@@ -379,6 +390,45 @@ pub fn matrix(table: &[i64], data: &[u8], out: &mut [u8]) -> Result<Matrix, File
     };
     counted(number, answer)?;
     Ok(Matrix { total: answer[1] as usize, records: answer[2] as u64, columns: answer[3] as usize })
+}
+
+/// Writes a data file into `out` as comma-separated text (RFC 4180): a line of the names as the definition decodes them, and a line for each
+/// record before the first fault, which is told as [`judge_file`] tells it. `out` keeps what stands behind the text. It keeps all of it on
+/// [`Refusal::Table`], [`Refusal::OtherTable`] (the definition yields another table, or is refused) and [`Refusal::ExportRoom`].
+///
+/// ```
+/// use zarfolin::{Definition, Refusal};
+/// # let text = b"SSS VERSION 1.1 SURVEY RECORD R VARIABLE 1 NAME \"a,b\" LABEL \"\" TYPE QUANTITY POSITION 1 TO 4 VALUES -9.9 TO 9.9
+/// #     END VALUES END VARIABLE END RECORD END SURVEY END SSS";
+/// let definition = Definition::read(text).unwrap();
+/// let mut out = [0; 30];
+/// let exported = definition.export(b"-0.5\n 7.5\n", &mut out).unwrap();
+/// assert_eq!((exported.records, exported.fault), (2, None));
+/// assert_eq!(&out[..exported.length], b"\"a,b\"\r\n-0.5\r\n7.5\r\n");
+/// assert_eq!(definition.export(b"-0.5\n 7.5\n", &mut out[..17]), Err(Refusal::ExportRoom));
+/// ```
+pub fn export(def: &[u8], table: &[i64], data: &[u8], out: &mut [u8]) -> Result<Exported, Refusal> {
+    let mut answer = [0i64; 5];
+    // SAFETY: as above; this answer has five numbers.
+    let number = unsafe {
+        zarfolin_export(
+            def.as_ptr(),
+            def.len(),
+            table.as_ptr(),
+            table.len(),
+            data.as_ptr(),
+            data.len(),
+            out.as_mut_ptr(),
+            out.len(),
+            answer.as_mut_ptr(),
+        )
+    };
+    let [_, record, row, place, length] = answer;
+    match (Refusal::of(number), counted(number, [0, record, row, place])) {
+        (Some(refusal @ (Refusal::Table | Refusal::OtherTable | Refusal::ExportRoom)), _) => Err(refusal),
+        (_, Ok(records)) => Ok(Exported { length: length as usize, records, fault: None }),
+        (_, Err(fault)) => Ok(Exported { length: length as usize, records: fault.record - 1, fault: Some(fault) }),
+    }
 }
 
 /// The record that starts at `from`, if the data reaches that far. The terminator is the one that the data's first CR or

@@ -103,6 +103,10 @@ refusals! {
     Unended = 30, "the last record has no terminator";
     /// 31: length differs from the first record's.
     Length = 31, "the record's length differs from the first record's";
+    /// 40: the table is not the one that the definition yields, or the definition is refused.
+    OtherTable = 40, "the table is not the one that this definition yields";
+    /// 60: output too short for the exported text.
+    ExportRoom = 60, "the lent output is too short for the exported text";
     /// 70: output or list too short for the mended file.
     MendRoom = 70, "the lent output or list is too short for the mended file";
     /// 80: no column at all.
@@ -196,7 +200,7 @@ pub struct RecordFault {
 #[derive(Clone, Copy, Debug, PartialEq, Eq)]
 #[non_exhaustive]
 pub struct FileFault {
-    /// The record, from 1; 0 where none is meant (20, 29, 80 to 82).
+    /// The record, from 1; 0 where none is meant (20, 29, 40, 60, 80 to 82).
     pub record: u64,
     /// What is wrong with it.
     pub fault: RecordFault,

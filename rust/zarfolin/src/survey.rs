@@ -1,6 +1,6 @@
 //! A definition and the records of its data, in Rust's own types.
 
-use crate::calls::{self, Matrix};
+use crate::calls::{self, Exported, Matrix};
 use crate::table::{self, column, header, kind, limit, line};
 use crate::{Correction, DefinitionError, FileFault, ReadError, RecordFault, Refusal, Text, Value};
 use alloc::vec;
@@ -151,6 +151,11 @@ impl<'t> Definition<'t> {
     /// Writes a data file into `out` as a matrix of 64-bit floats: [`calls::matrix`].
     pub fn matrix(&self, data: &[u8], out: &mut [u8]) -> Result<Matrix, FileFault> {
         calls::matrix(&self.table, data, out)
+    }
+
+    /// Writes a data file into `out` as comma-separated text: [`calls::export`].
+    pub fn export(&self, data: &[u8], out: &mut [u8]) -> Result<Exported, Refusal> {
+        calls::export(self.text, &self.table, data, out)
     }
 
     fn cells(&self, row: usize) -> &[i64] {

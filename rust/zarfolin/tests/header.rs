@@ -47,6 +47,7 @@ fn numbers() {
     same!("", limit: MAX_LEVEL MAX_MATRIX);
     take("VERSION", VERSION);
     take("ANSWER", 4);
+    take("EXPORT_ANSWER", 5);
     take("OK", 0);
     assert_eq!(limit::MAX_SET as i64, limit::MAX_CATEGORY);
     assert!(text.contains("#define ZARFOLIN_MAX_SET ZARFOLIN_MAX_CATEGORY"));

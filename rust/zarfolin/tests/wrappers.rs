@@ -303,6 +303,33 @@ fn matrices() {
     assert_eq!(out, kept);
 }
 
+/// A file as text: what it says, where it stands; cut by a fault; 20, 40 and 60 change nothing.
+#[test]
+fn exports() {
+    let definition = Definition::read(SAMPLE).unwrap();
+    let data = b" 710x1x-1.0ab   1\n                 \n";
+    let mut out = [0x55; 300];
+    let exported = definition.export(data, &mut out).unwrap();
+    assert_eq!((exported.records, exported.fault), (2, None));
+    let text = out[..exported.length].to_vec();
+    let lines: Vec<&[u8]> = text.split(|&x| x == b'\n').collect();
+    assert_eq!(lines.len(), 4, "{}", text.escape_ascii());
+    assert_eq!(lines[0].iter().filter(|&&x| x == b',').count(), definition.variables().count() - 1);
+    assert_eq!(lines[2].iter().filter(|&&x| x != b',').count(), 1, "missing throughout, and CR");
+    assert!(out[exported.length..].iter().all(|&x| x == 0x55));
+    let kept = [0x55; 300];
+    let mut out = kept;
+    assert_eq!(definition.export(data, &mut out[..exported.length - 1]), Err(Refusal::ExportRoom));
+    assert_eq!(calls::export(b"", definition.table(), data, &mut out), Err(Refusal::OtherTable));
+    assert_eq!(calls::export(SAMPLE, &[11], data, &mut out), Err(Refusal::Table));
+    assert_eq!(out, kept);
+    let cut = definition.export(&data[..data.len() - 1], &mut out).unwrap();
+    let fault = cut.fault.unwrap();
+    assert_eq!((cut.records, fault.record, fault.fault.refusal), (1, 2, Refusal::Unended));
+    assert_eq!(out[..cut.length], text[..cut.length]);
+    assert!(cut.length < text.len() && out[cut.length] == 0x55);
+}
+
 #[test]
 fn files() {
     let definition = Definition::read(SAMPLE).unwrap();
@@ -411,7 +438,7 @@ fn threads() {
 /// A refusal that this version doesn't know is a refusal, with its number, and no panic.
 #[test]
 fn unknown_refusals() {
-    for number in [11, 24, 40, 50, u64::MAX] {
+    for number in [11, 24, 39, 50, u64::MAX] {
         let refusal = Refusal::of(number).unwrap();
         assert_eq!((refusal, refusal.number()), (Refusal::Unknown(number), number));
         assert!(refusal.to_string().ends_with(&format!("[{number}]")));

@@ -6,17 +6,13 @@ use Rattle.definition.specs.Code.{laidOver, headerBy}
 use borrow.Author.Needs.{needs}
 use Rattle.definition.proofs.lay.Statement.{statement}
 use Rattle.definition.proofs.lay.Tie as tie
-use Rattle.definition.proofs.lay.Reads as reads
-use Rattle.definition.proofs.lay.Lts as lts
-use Rattle.cells.proofs.paste.Reads as paste-reads
-use Rattle.layout.proofs.Row.base.Reads as base-reads
-use Rattle.rows.proofs.put_header.Reads as put-header-reads
 
-base-requires : tie.Need-base-requires
-base-requires c κs = search needs
+header-by-requires : tie.Need-header-by-requires
+header-by-requires c κs = search needs
 
 put-header-requires : tie.Need-put-header-requires
-put-header-requires c κs = search needs
+unfolding headerBy
+put-header-requires c κs = rw (c .header-by .ensures) (search needs)
 
 mul-paste : tie.Need-mul-paste
 mul-paste c = search needs
@@ -27,8 +23,8 @@ slice-aggregate-paste c = sym (length-take-le _ (c .before .before .before .befo
 paste-requires : tie.Need-paste-requires
 paste-requires c κs = rw (length-take-le (18 * c .before .before .before .before .before .before .before .args .y .rows) (c .before .before .before .before .before .before .before .args .rows .now) (omega arith)) (omega (arith, c .before .before .before .before .put-header .kept))
 
-base-requires-2 : tie.Need-base-requires-2
-base-requires-2 c κs = search needs
+base-requires : tie.Need-base-requires
+base-requires c κs = search needs
 
 mul-paste-2 : tie.Need-mul-paste-2
 mul-paste-2 c = search needs
@@ -37,7 +33,7 @@ slice-aggregate-paste-2 : tie.Need-slice-aggregate-paste-2
 slice-aggregate-paste-2 c = sym (length-take-le _ (c .before .before .before .before .before .before .before .before .before .before .before .before .before .args .lines .now) (omega arith))
 
 paste-requires-2 : tie.Need-paste-requires-2
-paste-requires-2 c κs = rw (length-take-le (4 * c .before .before .before .before .before .before .before .before .before .before .before .before .before .args .y .lines) (c .before .before .before .before .before .before .before .before .before .before .before .before .before .args .lines .now) (omega arith), c .before .before .base2 .ensures) (omega (arith, c .before .before .before .before .before .before .before .before .before .before .put-header .kept, c .before .before .before .before .before .paste .kept))
+paste-requires-2 c κs = rw (length-take-le (4 * c .before .before .before .before .before .before .before .before .before .before .before .before .before .args .y .lines) (c .before .before .before .before .before .before .before .before .before .before .before .before .before .args .lines .now) (omega arith), c .before .before .base .ensures) (omega (arith, c .before .before .before .before .before .before .before .before .before .before .put-header .kept, c .before .before .before .before .before .paste .kept))
 
 same-length : tie.Need-same-length
 same-length c = search needs
@@ -46,18 +42,18 @@ returns : tie.Need-returns
 unfolding laidOver headerBy
 returns c =
     c .before .paste2 .ensures
-    ∙ rw (c .before .before .before .before .before .before .before .paste .ensures, c .before .before .before .before .before .before .before .before .before .before .before .before .put-header .ensures, c .before .before .before .before .base2 .ensures, c .before .before .before .before .before .before .before .before .before .before .before .before .before .before .base .ensures)
+    ∙ rw (c .before .before .before .before .before .before .before .paste .ensures, c .before .before .before .before .before .before .before .before .before .before .before .before .put-header .ensures, c .before .before .before .before .base .ensures, c .before .before .before .before .before .before .before .before .before .before .before .before .before .header-by .ensures)
 
 pub lay-spec : {M : Type 1} → statement M
 lay-spec =
     tie.close
     (tie.spec
-    base-requires
+    header-by-requires
     put-header-requires
     mul-paste
     slice-aggregate-paste
     paste-requires
-    base-requires-2
+    base-requires
     mul-paste-2
     slice-aggregate-paste-2
     paste-requires-2

@@ -58,11 +58,16 @@ fn told(definition: &Definition, text: &Text, name: &str, data: &[u8], fault: Fi
     match refusal {
         Refusal::NoColumn => {
             let _ = writeln!(std::io::stderr(), "{}: {refusal}", text.input.name);
-            return Ok(Status::Definition);
+            Ok(Status::Definition)
         }
-        Refusal::MatrixSize => return Err(Failure::Output(format!("{name}: {refusal}"))),
-        _ => {}
+        Refusal::MatrixSize => Err(Failure::Output(format!("{name}: {refusal}"))),
+        _ => first_faulty(definition, name, data, fault),
     }
+}
+
+/// Tells every fault of the first record that has one.
+pub fn first_faulty(definition: &Definition, name: &str, data: &[u8], fault: FileFault) -> Outcome {
+    let refusal = fault.fault.refusal;
     let record = definition.records(data).find(|record| record.number() == fault.record);
     let record = record.ok_or_else(|| ruled_out(refusal))?;
     let shape = Shape::of(data);

@@ -5,6 +5,7 @@ mod apply;
 mod check;
 mod completion;
 mod explain;
+mod export;
 mod list;
 mod lister;
 mod matrix;
@@ -44,6 +45,7 @@ pub const ALL: &[&Command] = &[
     &normal::COMMAND,
     &mend::COMMAND,
     &matrix::COMMAND,
+    &export::COMMAND,
     &same::COMMAND,
     &explain::COMMAND,
     &completion::COMMAND,

@@ -1,0 +1,50 @@
+-- AS MANY LINES as records before the first fault, and one for the names.
+-- Assumes nothing.
+use mathlib.Core.Path.{_≡_, refl, sym, ap, _∙_}
+use mathlib.Core.Bool.{true}
+use mathlib.Core.List.{List, [], _∷_}
+use Prim.Native.Nat.{ℕ, zero, suc, _+_, _-_, _≤_}
+use native.Mathlib.Omega.{arith}
+use lib.IntN.{ℤ}
+use lib.ListN.{length}
+use Rattle.cuts.specs.rule.Records.{Records, over, unended, record-and, recordsOf}
+use Rattle.sound.specs.rule.Sound.{wellFormed}
+use Rattle.records.specs.rule.Verdict.{Verdict, sound, refused, lowByte, badField}
+use Rattle.files.specs.rule.File.{FileVerdict, fileVerdict, recordVerdict, goOn, firstLength, recordsVerdict}
+use Rattle.record_lines.specs.rule.Lines.{before, recordLine, linesOf}
+use Rattle.exports.specs.rule.Text.{linesWith, exportLines}
+
+-- so many records are there, each with its line
+abbrev Counted : List ℤ → ℕ → ℕ → Records → Type 0
+Counted t n b rs = (n ≤ b) × (length (linesOf t (b - n) rs) ≡ b - n)
+
+none : (t : List ℤ) (m : ℕ) (rs : Records) → m ≡ 0 → length (linesOf t m rs) ≡ m
+unfolding linesOf
+none t m rs e = rw e
+
+counted : (t : List ℤ) (rs : Records) (n first : ℕ) → Counted t n (before (recordsVerdict t n first rs)) rs
+unfolding recordsVerdict before goOn linesOf
+counted t over n first = (omega arith, none t (n - n) over (omega arith))
+counted t (unended r) n first = (omega arith, none t (n + 1 - 1 - n) (unended r) (omega arith))
+counted t (record-and r rs) n first =
+    let f = firstLength n first (length r) in go (recordVerdict t f r) (recordsVerdict t (n + 1) f rs) (counted t rs (n + 1) f)
+  where
+    stop : (m : ℕ) → m ≡ n + 1 - 1 → Counted t n m (record-and r rs)
+    stop m e = (omega arith, none t (m - n) (record-and r rs) (omega arith))
+
+    step : (b : ℕ) → Counted t (n + 1) b rs → Counted t n b (record-and r rs)
+    step b h = let e : b - n ≡ suc (b - (n + 1)) = omega (arith, h .0) in (omega (arith, h .0), rw e (ap suc (h .1)))
+
+    go : (v : Verdict) (rest : FileVerdict) → Counted t (n + 1) (before rest) rs → Counted t n (before (goOn v n rest)) (record-and r rs)
+    go sound rest h = step (before rest) h
+    go (refused k) rest h = stop (n + 1 - 1) refl
+    go (lowByte p) rest h = stop (n + 1 - 1) refl
+    go (badField i x) rest h = stop (n + 1 - 1) refl
+
+pub export-lines : (def : List ℕ) (t : List ℤ) (d : List ℕ) → wellFormed t ≡ true
+    → length (exportLines def t d) ≡ suc (before (fileVerdict t d))
+unfolding exportLines linesWith fileVerdict
+export-lines def t d g =
+    let n = before (recordsVerdict t 0 0 (recordsOf d)) in
+    let e : n - 0 ≡ n = omega arith in
+    rw g (ap suc (rw e at (counted t (recordsOf d) 0 0 .1)))

@@ -1,0 +1,102 @@
+// The lines of a data file's records as they are exported. Above it stands the export of a file.
+ghost use mathlib.Core.Path.{_≡_};
+ghost use Prim.Native.Nat.{_-_, _≤_};
+ghost use lib.ListN.{length};
+ghost use Rattle.cuts.specs.rule.Records.{recordsFrom};
+ghost use Rattle.files.specs.rule.File.{fileSaid};
+ghost use Rattle.listing.specs.rule.Turns.{Ready};
+ghost use Rattle.commas.specs.rule.Csv.{lineBytes, textBytes};
+ghost use Rattle.sink.specs.rule.Sent.{Sent};
+ghost use Rattle.record_lines.specs.rule.Lines.{before, recordLine, linesOf};
+ghost use Rattle.record_lines.specs.Lines.{Long};
+use cuts::Next;
+use cuts::Terminator;
+use files::Judgement;
+use layout::Header;
+
+// The record before the one that a fault names.
+fn one_less(n: usize) -> usize
+    ensures { λ r. ⌜ r ≡ n - 1 ⌝ }
+{
+    if n == 0 { 0 } else { n - 1 }
+}
+
+// How many records come before the first fault.
+pub fn count_before(j: Judgement) -> usize
+    ensures { λ r. ⌜ r ≡ before (fileSaid j) ⌝ }
+{
+    match j {
+        Judgement::Sound(n) => n,
+        Judgement::BadTable => 0,
+        Judgement::Unended(n) => one_less(n),
+        Judgement::OtherLength(n) => one_less(n),
+        Judgement::Fault(n, _) => one_less(n),
+    }
+}
+
+// The line of a record: a field for each row.
+pub fn send_line(
+    powers: &[u64; 16],
+    t: &[i64],
+    h: Header,
+    bytes: &[u8],
+    list: &mut [i64],
+    bound: usize,
+    out: &mut [u8],
+    at: usize,
+) -> usize
+    requires { ⌜ Ready (now powers) (now t) h (length (now list)) ⌝ }
+    requires { ⌜ h .length ≤ length (now bytes) ⌝ }
+    ensures { λ r. ⌜ Sent bound (now (out .entry)) at (lineBytes (recordLine (now (t .entry)) (now (bytes .entry)))) (now (out .exit)) r ⌝ }
+{
+    let mut end = at;
+    let mut i: usize = 0;
+    while i < h.rows {
+        end = commas::send_comma(bound, out, end, i);
+        end = value_fields::send_row(powers, t, h, i, bytes, list, bound, out, end);
+        i += 1;
+    }
+    commas::send_end(bound, out, end)
+}
+
+// The lines of the first n records of some data, which are long enough.
+pub fn send_lines(
+    powers: &[u64; 16],
+    t: &[i64],
+    h: Header,
+    d: &[u8],
+    w: Terminator,
+    n: usize,
+    list: &mut [i64],
+    bound: usize,
+    out: &mut [u8],
+    at: usize,
+) -> usize
+    requires { ⌜ Ready (now powers) (now t) h (length (now list)) ⌝ }
+    requires { ⌜ (w .size ≤ 2) × Long (h .length) n (recordsFrom w (now d)) ⌝ }
+    ensures { λ r. ⌜ Sent bound (now (out .entry)) at (textBytes (linesOf (now (t .entry)) n (recordsFrom w (now (d .entry))))) (now (out .exit)) r ⌝ }
+{
+    let mut end = at;
+    let mut from: usize = 0;
+    let mut k = n;
+    while 0 < k {
+        match cuts::next_from(d, w, from) {
+            Next::Ended {
+                start,
+                end: stop,
+                next,
+            } => {
+                end = send_line(powers, t, h, &d[start..stop], list, bound, out, end);
+                from = next;
+                k -= 1;
+            }
+            Next::Unended { start: _, end: _ } => {
+                return end;
+            }
+            Next::Nothing => {
+                return end;
+            }
+        }
+    }
+    end
+}

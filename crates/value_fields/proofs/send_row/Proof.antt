@@ -1,0 +1,41 @@
+-- `value_fields::send_row` meets its contract.
+use mathlib.Core.Path.{_≡_, refl, sym, ap, _∙_}
+use native.Mathlib.Omega.{arith}
+use borrow.Author.Needs.{needs}
+use Rattle.listing.specs.RowLaws.{row-stands, row-ready, row-listable}
+use Rattle.value_fields.specs.Rows.{row-decimals, row-empty, row-field}
+use Rattle.value_fields.specs.rule.Values.{valueText}
+use Rattle.commas.specs.rule.Csv.{fieldBytes}
+use Rattle.sink.specs.Sent.{sent-as, nothing-sent}
+use Rattle.value_fields.proofs.send_row.Statement.{statement}
+use Rattle.value_fields.proofs.send_row.Tie as tie
+
+read-requires : tie.Need-read-requires
+read-requires c κs = row-stands (c .before .before .pre .0 .tested) (c .before .before .pre .1 .0)
+
+read-row-requires : tie.Need-read-row-requires
+read-row-requires c κs = row-ready (c .before .before .before .before .pre .0 .tested) (c .before .before .before .before .pre .1 .0) (c .before .read .ensures) (c .before .before .before .before .args .bytes .now) (c .before .before .before .before .pre .1 .1)
+
+returns : tie.Need-returns
+returns c = sent-as (nothing-sent _ _ _) (row-empty (c .before .before .before .before .before .before .before .before .pre .0 .tested) (c .before .before .before .before .before .before .before .before .pre .1 .0) (c .before .before .before .before .before .read .ensures) _ (c .before .before .before .before .before .before .before .before .pre .1 .1) (c .before .before .before .read-row .ensures) (sym (c .before .is-illegal .ensures) ∙ c .if1 .taken))
+
+send-value-requires : tie.Need-send-value-requires
+send-value-requires c κs = (c .before .before .before .before .before .before .before .before .before .before .before .pre .0 .tens, (row-listable (c .before .before .before .before .before .before .before .before .before .before .before .pre .0 .tested) (c .before .before .before .before .before .before .before .before .before .before .before .pre .1 .0) (c .before .before .before .before .before .before .before .before .read .ensures) _ (c .before .before .before .before .before .before .before .before .before .before .before .pre .1 .1) (c .before .before .before .before .before .before .read-row .ensures) (c .before .before .before .before .before .before .before .before .before .before .before .pre .0 .list) (sym (c .before .before .before .before .is-illegal .ensures) ∙ c .before .before .before .if1 .left), rw (c .before .decimals .ensures) (row-decimals (c .before .before .before .before .before .before .before .before .before .before .before .pre .0 .tested) (c .before .before .before .before .before .before .before .before .before .before .before .pre .1 .0) (c .before .before .before .before .before .before .before .before .read .ensures))))
+
+returns-2 : tie.Need-returns-2
+returns-2 c = sent-as (rw (c .before .before .before .before .decimals .ensures) at (c .before .before .send-value .ensures)) (row-field (c .before .before .before .before .before .before .before .before .before .before .before .before .before .before .pre .0 .tested) (c .before .before .before .before .before .before .before .before .before .before .before .before .before .before .pre .1 .0) (c .before .before .before .before .before .before .before .before .before .before .before .read .ensures) _ (c .before .before .before .before .before .before .before .before .before .before .before .before .before .before .pre .1 .1) (c .before .before .before .before .before .before .before .before .before .read-row .ensures) (c .before .before .before .before .before .before .before .before .before .before .before .before .before .before .pre .0 .list) (sym (c .before .before .before .before .before .before .before .is-illegal .ensures) ∙ c .before .before .before .before .before .before .if1 .left))
+
+pub send-row-spec : {M : Type 1} → statement M
+send-row-spec =
+    tie.close
+    (tie.spec
+    read-requires
+    read-row-requires
+    (λ c κs. search needs)
+    (λ c. search needs)
+    returns
+    (λ c κs. search needs)
+    send-value-requires
+    (λ c. search needs)
+    (λ c. search needs)
+    returns-2)

@@ -1,0 +1,4 @@
+pub mod rule
+pub mod Plain
+pub mod Values
+pub mod Rows
