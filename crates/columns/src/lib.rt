@@ -8,16 +8,17 @@ ghost use lib.ListN.{length};
 ghost use Rattle.below.specs.rule.Below.{anyBelow};
 ghost use Rattle.ascii.specs.rule.Tens.{Tens};
 ghost use Rattle.cells.specs.rule.Cell.{cell, eqZ};
-ghost use Rattle.fields.specs.rule.Legal.{legal};
+ghost use Rattle.fields.specs.rule.Legal.{inRange, legal};
 ghost use Rattle.fields.specs.rule.Row.{defined, readingOf};
 ghost use Rattle.fields.specs.Facts.{LineFacts};
-ghost use Rattle.sets.specs.Marks.{Besides};
+ghost use Rattle.sets.specs.Marks.{Marks, Besides};
 ghost use Rattle.record_values.specs.Rows.{membersIn};
 ghost use Rattle.files.specs.rule.Tested.{Tested};
 ghost use Rattle.matrix.specs.Put.{putEntries};
 ghost use Rattle.columns.specs.rule.Columns.{rowColumns, columnsFrom, decimalsBy, numberEntry, entriesOf};
 ghost use Rattle.columns.specs.Reach.{shapeOf, digitsReach, bitsReach, reachBy, Readable, Covered};
 ghost use Rattle.columns.specs.Marked.{answerEntry, isSet, markedEntry, markedEntries, memberEntries};
+ghost use Rattle.columns.specs.Stretch.{Starts, Ends, markAmong, Unmarked};
 ghost use Rattle.columns.specs.Room.{Room, PutAs, Ready};
 use layout::Header;
 use layout::Kind;
@@ -146,6 +147,36 @@ fn member_entry(there: bool, mark: u8) -> Entry
     Entry::Absent
 }
 
+// Whether one of the sixteen marks from i on is set. Nothing leaves the loop early: that lets the compiler look at all of them at once.
+fn mark_among(marks: &[u8], i: usize) -> bool
+    requires { ⌜ i + 16 ≤ length (now marks) ⌝ }
+    ensures { λ r. ⌜ r ≡ markAmong (now (marks .entry)) i 16 ⌝ }
+{
+    let mut any = false;
+    let mut k: usize = 0;
+    while k < 16 {
+        any = any | (marks[i + k] == 1);
+        k += 1;
+    }
+    any
+}
+
+// A place from `from` on with no mark set before it.
+fn pass_unmarked(marks: &[u8], from: usize) -> usize
+    requires { ⌜ from ≤ length (now marks) ⌝ }
+    ensures { λ r. ⌜ Unmarked (now (marks .entry)) from r ⌝ }
+{
+    let n = marks.len();
+    let mut i = from;
+    while n - i >= 16 {
+        if mark_among(marks, i) {
+            return i;
+        }
+        i += 16;
+    }
+    i
+}
+
 // The entries of the categories that are marked as legal, and how many they are.
 fn put_members(
     allowed: &[u8],
@@ -168,9 +199,70 @@ fn put_members(
             let e = member_entry(there, present[b]);
             matrix::put_entry(out, flags + k, values + 8 * k, e);
             k += 1;
+        } else {
+            c = pass_unmarked(allowed, c);
         }
     }
     k
+}
+
+// How many of the first n numbers lie below z.
+fn start_of(z: i64, n: usize) -> usize
+    requires { ⌜ n ≤ 10000 ⌝ }
+    ensures { λ r. ⌜ Starts z n r ⌝ }
+{
+    if cells::not_above(z, 0) {
+        return 0;
+    }
+    let k = cells::count_of(z);
+    if k < n {
+        return k;
+    }
+    n
+}
+
+// How many of the first n numbers are not above z.
+fn end_of(z: i64, n: usize) -> usize
+    requires { ⌜ n ≤ 10000 ⌝ }
+    ensures { λ r. ⌜ Ends z n r ⌝ }
+{
+    if cells::not_above(0, z) {
+        let k = cells::count_of(z);
+        if k < n {
+            return k + 1;
+        }
+        return n;
+    }
+    0
+}
+
+// The numbers of the row's range marked, and no other: a stretch, so that not each of them is asked for.
+fn mark_range(row: Row, marks: &mut [u8])
+    requires { ⌜ length (now marks) ≤ 10000 ⌝ }
+    ensures { λ _. ⌜ Marks (λ x. inRange row x) (now (marks .exit)) ⌝ }
+{
+    let from = row.from;
+    let to = row.to;
+    sets::marks::clear(marks);
+    if !row.range {
+        return;
+    }
+    let past = end_of(to, marks.len());
+    let mut c = start_of(from, past);
+    while c < past {
+        marks[c] = 1;
+        c += 1;
+    }
+}
+
+// The numbers that the row allows marked, and no other. A row may have thousands of categories, and each record marks them anew.
+fn mark_legal(t: &[i64], rows: usize, row: Row, marks: &mut [u8])
+    requires { ⌜ LineFacts (now t) rows row ⌝ }
+    requires { ⌜ length (now marks) ≤ 10000 ⌝ }
+    ensures { λ _. ⌜ Marks (λ x. legal (now (t .entry)) rows row x) (now (marks .exit)) ⌝ }
+{
+    mark_range(row, marks);
+    sets::marks::mark_lines(t, rows, row, marks);
 }
 
 // The entries of a multiple's categories, and how many they are. The marks reach every category of the row.
@@ -192,7 +284,7 @@ fn put_multiple(
     ensures { λ r. ⌜ PutAs (memberEntries (readingOf (now (t .entry)) rows row (now (bytes .entry))) (defined (legal (now (t .entry)) rows row) 1 9999)) flags values (now (out .entry)) (now (out .exit)) r ⌝ }
 {
     let a = readings::read_row(t, rows, row, bytes, list);
-    sets::marks::mark_legal(t, rows, row, allowed);
+    mark_legal(t, rows, row, allowed);
     sets::marks::clear(present);
     mark_members(list, members_in(a), present);
     put_members(allowed, present, is_set(a), out, flags, values)
@@ -358,7 +450,7 @@ fn count_categories(t: &[i64], rows: usize, row: Row, allowed: &mut [u8]) -> usi
     requires { ⌜ Covered (now t) rows row (length (now allowed)) ⌝ }
     ensures { λ r. ⌜ r ≡ length (defined (legal (now (t .entry)) rows row) 1 9999) ⌝ }
 {
-    sets::marks::mark_legal(t, rows, row, allowed);
+    mark_legal(t, rows, row, allowed);
     count_marked(allowed)
 }
 

@@ -1,6 +1,7 @@
 // Whether the bytes of a bitstring's categories are alike, each one of two bytes: a range's stand side by side, and a line gives one
 // category. So no category from 1 to w is asked whether the row allows it.
 ghost use mathlib.Core.Path.{_≡_};
+ghost use mathlib.Core.Bool.{true};
 ghost use Prim.Native.Nat.{_+_, _≤_};
 ghost use lib.ListN.{length, getD};
 ghost use Rattle.below.specs.rule.Below.{allBelow};
@@ -8,6 +9,7 @@ ghost use Rattle.cells.specs.rule.Cell.{eqZ};
 ghost use Rattle.fields.specs.rule.Legal.{inRange, onLine, legal};
 ghost use Rattle.fields.specs.Facts.{LineFacts};
 ghost use Rattle.sets.specs.Alike.{oneOf, allAt, FirstOf, LastOf};
+ghost use Rattle.sets.specs.Full.{EachLegal};
 ghost use Rattle.sets.specs.Sets.{BitsRoom};
 use layout::Line;
 use layout::Row;
@@ -19,7 +21,7 @@ fn is_one(b: u8, x: u8, y: u8) -> bool
 }
 
 // Whether the n bytes from a place on are. The first one decides most often; the rest are tested with no way out, many at a time.
-fn run_is(bytes: &[u8], a: usize, n: usize, x: u8, y: u8) -> bool
+pub fn run_is(bytes: &[u8], a: usize, n: usize, x: u8, y: u8) -> bool
     requires { ⌜ a + n ≤ length (now bytes) ⌝ }
     ensures { λ r. ⌜ r ≡ allBelow n (λ k. oneOf x y (getD (now (bytes .entry)) (a + k) 0)) ⌝ }
 {
@@ -139,4 +141,26 @@ pub fn all_are(
         return false;
     }
     lines_are(t, rows, row, bytes, at, w, x, y)
+}
+
+// Whether the first w lines of the row are the categories from 1 to w, in this order, as they mostly are: then each is a category, and
+// none needs a test of its own.
+pub fn lines_count(t: &[i64], rows: usize, row: Row, w: usize) -> bool
+    requires { ⌜ LineFacts (now t) rows row ⌝ }
+    requires { ⌜ w ≤ 9999 ⌝ }
+    ensures { λ r. ⌜ (r ≡ true → EachLegal (now (t .entry)) rows row w) ⌝ }
+{
+    if row.lines < w {
+        return false;
+    }
+    let before = row.before;
+    let mut k: usize = 0;
+    while k < w {
+        let place = Line::base(rows, before + k);
+        if !cells::same(t[place], cells::cell_of(k + 1)) {
+            return false;
+        }
+        k += 1;
+    }
+    true
 }

@@ -1,6 +1,6 @@
 // A bitstring: byte c of the position for each category c that the row allows, each `0` or `1`. No other byte is looked at.
 ghost use mathlib.Core.Path.{_≡_};
-ghost use mathlib.Core.Bool.{true, cond};
+ghost use mathlib.Core.Bool.{cond};
 ghost use lib.Dec.{eqb};
 ghost use Prim.Native.Nat.{_+_, _≤_};
 ghost use lib.ListN.{length};
@@ -9,12 +9,13 @@ ghost use Rattle.fields.specs.rule.Legal.{legal};
 ghost use Rattle.fields.specs.rule.Field.{holds, members, setBits, bitsField};
 ghost use Rattle.fields.specs.rule.Row.{defined, bitPlaces};
 ghost use Rattle.fields.specs.Facts.{LineFacts};
-ghost use Rattle.sets.specs.Full.{hasAll, always};
+ghost use Rattle.sets.specs.Full.{always, EachLegal};
 ghost use Rattle.sets.specs.Marks.{Marks};
 ghost use Rattle.sets.specs.rule.Sets.{filledOf, isIllegal};
 ghost use Rattle.sets.specs.Sets.{BitsRoom, ReadSet};
 use super::SetRead;
 use super::alike::all_are;
+use super::alike::run_is;
 use super::marks::allows;
 use super::marks::mark_legal;
 use layout::Row;
@@ -152,8 +153,8 @@ fn list_set(
     SetRead::Short
 }
 
-// The same where the row's range has every category.
-pub fn list_each(
+// A bitstring of which every category is one, as a set at the start of the list.
+pub fn read_each(
     t: &[i64],
     rows: usize,
     row: Row,
@@ -162,11 +163,16 @@ pub fn list_each(
     w: usize,
     list: &mut [i64],
 ) -> SetRead
-    requires { ⌜ hasAll row w ≡ true ⌝ }
+    requires { ⌜ EachLegal (now t) rows row w ⌝ }
     requires { ⌜ BitsRoom at w (length (now bytes)) ⌝ }
-    requires { ⌜ bitsField (defined (legal (now t) rows row) 1 w) (pick (now bytes) (bitPlaces at (defined (legal (now t) rows row) 1 w))) ≡ holds (members (setBits (defined (legal (now t) rows row) 1 w) (pick (now bytes) (bitPlaces at (defined (legal (now t) rows row) 1 w))))) ⌝ }
     ensures { λ r. ⌜ ReadSet (bitsField (defined (legal (now (t .entry)) rows row) 1 w) (pick (now (bytes .entry)) (bitPlaces at (defined (legal (now (t .entry)) rows row) 1 w)))) (now (list .entry)) (now (list .exit)) r ⌝ }
 {
+    if run_is(bytes, at, w, 32, 32) {
+        return SetRead::Missing;
+    }
+    if !run_is(bytes, at, w, 48, 49) {
+        return SetRead::Illegal;
+    }
     let n = count_each(bytes, at, w);
     if n <= list.len() {
         fill_each(bytes, at, w, list);

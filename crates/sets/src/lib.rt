@@ -67,14 +67,17 @@ pub fn read_bits(
 {
     let w = row.width;
     let at = row.start - 1;
+    if marks::range_has(row, w) {
+        return bits::read_each(t, rows, row, bytes, at, w, list);
+    }
+    if alike::lines_count(t, rows, row, w) {
+        return bits::read_each(t, rows, row, bytes, at, w, list);
+    }
     if alike::all_are(t, rows, row, bytes, at, w, 32, 32) {
         return SetRead::Missing;
     }
     if !alike::all_are(t, rows, row, bytes, at, w, 48, 49) {
         return SetRead::Illegal;
-    }
-    if marks::range_has(row, w) {
-        return bits::list_each(t, rows, row, bytes, at, w, list);
     }
     let n = marks_worth(row.lines, w, w + 1, scratch.len());
     bits::mark_and_list(t, rows, row, &mut scratch[..n], bytes, at, w, list)

@@ -1,15 +1,17 @@
 -- A gap is its first space or comment, and then the gap from its end on.
-use mathlib.Core.Path.{_≡_, refl, _∙_, sym}
+use mathlib.Core.Path.{_≡_, refl, ap, _∙_, sym}
 use mathlib.Core.Bool.{Bool, true, false, cond}
 use mathlib.Core.List.{List}
 use Prim.Native.Nat.{ℕ, _+_, _-_, _≤_, _<_}
 use native.Mathlib.Omega.{arith}
-use lib.Dec.{eqb}
-use lib.ListN.{length}
+use lib.Dec.{eqb, ltb}
+use lib.ListN.{length, getD}
+use borrow.Author.Tests.{lt-ltb, ltb-true, ltb-false}
+use Rattle.ascii.specs.rule.Class.{classOf}
 use Rattle.scan.specs.rule.Text.{Text, stop, sign, text}
 use Rattle.scan.specs.rule.Number.{isSpace}
 use Rattle.scan.specs.rule.Loop.{Next, Again, Done, loopOf}
-use Rattle.scan.proofs.Texts.{From, at-stop, at-sign, from-text}
+use Rattle.scan.proofs.Texts.{From, at-stop, at-sign, from-text, text-dropped, text-kept, kept-byte}
 use Rattle.scan.proofs.Loops.{loop-again, loop-done}
 use Rattle.marks.specs.declared.Skip.{Skip}
 use Rattle.marks.specs.declared.Skip.the-variants.{Past, Unclosed, Bad}
@@ -57,3 +59,24 @@ module _ (d : List ℕ) (n : ℕ) where
   pub gap-done : {g : Reading} → gapStep (text d n) ≡ Done g → gapAt d n ≡ g
   unfolding gapAt
   gap-done e = loop-done (λ n. gapStep (text d n)) (At 0) (λ n. length d - n) (λ s s′. gap-less d (from-text d s)) e
+
+-- ---- a byte of 32 or below at n is passed: the gap from the next place on ends as it does
+gap-same : (d : List ℕ) (n m : ℕ) → text d n ≡ text d m → gapAt d n ≡ gapAt d m
+gap-same d n m e = by (gapStep (text d n)) refl where
+  by : (s : Next ℕ Reading) → gapStep (text d n) ≡ s → gapAt d n ≡ gapAt d m
+  by (Again k) h = gap-again d n h ∙ sym (gap-again d m (ap gapStep (sym e) ∙ h))
+  by (Done g) h = gap-done d n h ∙ sym (gap-done d m (ap gapStep (sym e) ∙ h))
+
+low-dropped : (b : ℕ) → b < 32 → classOf b ≡ 0
+unfolding classOf
+low-dropped b h = rw (lt-ltb b 32 h)
+
+space-on : (d : List ℕ) (n : ℕ) → n < length d → getD d n 0 ≡ 32 → gapStep (text d n) ≡ Again (n + 1)
+unfolding gapStep isSpace classOf
+space-on d n h e = rw (text-kept d n h (kept-byte (getD d n 0) (omega arith)), e)
+
+pub gap-blank : (d : List ℕ) (n : ℕ) → n < length d → getD d n 0 ≤ 32 → gapAt d n ≡ gapAt d (n + 1)
+gap-blank d n h l = by (ltb (getD d n 0) 32) refl where
+  by : (q : Bool) → ltb (getD d n 0) 32 ≡ q → gapAt d n ≡ gapAt d (n + 1)
+  by true q = gap-same d n (n + 1) (text-dropped d n h (low-dropped (getD d n 0) (ltb-true (getD d n 0) 32 q)))
+  by false q = let g = ltb-false (getD d n 0) 32 q in gap-again d n (space-on d n h (omega arith))

@@ -4,6 +4,7 @@ use marks::Skip;
 use scan::Step;
 use scan::Word;
 ghost use mathlib.Core.Path.{_≡_};
+ghost use Prim.Native.Nat.{_≤_};
 ghost use Rattle.ascii.specs.Class.{Classes};
 ghost use Rattle.scan.specs.rule.Text.{text};
 ghost use Rattle.tokens.specs.rule.Gap.{gapStep, gapAt};
@@ -55,6 +56,20 @@ fn step_gap(classes: &[u8; 256], d: &[u8], at: usize) -> Pace
     }
 }
 
+// Most of a gap: the dropped bytes and spaces from a place on, which are those of 32 and below, in a loop of their own.
+fn pass_blanks(d: &[u8], at: usize) -> usize
+    ensures { λ r. ⌜ (gapAt (now (d .entry)) at ≡ gapAt (now (d .entry)) r) × (at ≤ r) ⌝ }
+{
+    let mut i = at;
+    while i < d.len() {
+        if 32 < d[i] {
+            return i;
+        }
+        i += 1;
+    }
+    i
+}
+
 // The spaces and comments from a place on: the place of the token behind them.
 pub fn skip_gap(classes: &[u8; 256], d: &[u8], at: usize) -> Reading
     requires { ⌜ Classes (now classes) ⌝ }
@@ -62,7 +77,8 @@ pub fn skip_gap(classes: &[u8; 256], d: &[u8], at: usize) -> Reading
 {
     let mut n = at;
     loop {
-        match step_gap(classes, d, n) {
+        let place = pass_blanks(d, n);
+        match step_gap(classes, d, place) {
             Pace::On(m) => {
                 n = m;
             }

@@ -1,9 +1,10 @@
 //! Measurements: the linked library (feature `ffi`) against the plain Rust, same input, same buffers, interleaved in one
 //! run. Without the feature the plain Rust stands on both sides, which shows the noise.
 //!
-//! `rust/bench/run [--time] [--quick] [--callgrind] [PART..]` builds and runs it, under an emulator where the machine is
+//! `rust/bench/run [--time] [--quick] [--best] [--callgrind] [PART..]` builds and runs it, under an emulator where the machine is
 //! none of x86-64. Where something counts instructions (`count.c` in the emulator) they are what is measured, unless
-//! `--time` is asked for; `--callgrind` counts them with valgrind. PART: only cases whose name holds one of these.
+//! `--time` is asked for; `--callgrind` counts them with valgrind. `--best`: the least time of each side, not the medians, for a machine
+//! that others use. PART: only cases whose name holds one of these.
 
 mod cases;
 mod inputs;
@@ -43,7 +44,7 @@ fn main() {
         let (figures, digits) = match &counter {
             Some(counter) => (counter.count(&mut case, &other), 0),
             None if asked("--callgrind") => (callgrind(&name), 0),
-            None => (time(&mut case, &other, asked("--quick")), 1),
+            None => (time(&mut case, &other, asked("--quick"), asked("--best")), 1),
         };
         let Figures { ours, plain, ratio } = figures;
         let bytes = if case.bytes == 0 { "-".to_string() } else { case.bytes.to_string() };
@@ -81,7 +82,7 @@ fn speed(bytes: f64, figure: f64, counted: bool) -> String {
 fn headline(ours: &str, counted: bool) {
     println!("ours: {ours}    plain: {}", Plain.name());
     println!(
-        "buffers: the same for both, warm; calls interleaved in one run, pair by pair; medians, the ratio's too\n"
+        "buffers: the same for both, warm; calls interleaved in one run, pair by pair; medians, the ratio's too (--best: the least)\n"
     );
     let (what, rate) = match counted {
         true => ("instructions of one call", "a byte"),

@@ -5,15 +5,22 @@ use std::hint::black_box;
 use std::time::Duration;
 use zarfolin_compare::face::{Face, Plain};
 
-/// The figures of one case: medians of one call on both sides, and the median of their ratios, pair by pair.
+/// The figures of one case: medians of one call on both sides, and the median of their ratios, pair by pair; or the least of
+/// each side and their ratio.
 pub struct Figures {
     pub ours: f64,
     pub plain: f64,
     pub ratio: f64,
 }
 
-/// Calls both sides in turn, who comes first changing, and takes the medians.
-fn pairs(case: &mut Case, other: &dyn Face, count: usize, sample: impl Fn(&mut Case, &dyn Face) -> f64) -> Figures {
+/// Calls both sides in turn, who comes first changing, and takes the medians, or the least.
+fn pairs(
+    case: &mut Case,
+    other: &dyn Face,
+    count: usize,
+    best: bool,
+    sample: impl Fn(&mut Case, &dyn Face) -> f64,
+) -> Figures {
     let (mut ours, mut plain) = (vec![], vec![]);
     for i in 0..count {
         if i % 2 == 0 {
@@ -24,6 +31,10 @@ fn pairs(case: &mut Case, other: &dyn Face, count: usize, sample: impl Fn(&mut C
             ours.push(sample(case, other));
         }
     }
+    if best {
+        let (ours, plain) = (least(&ours), least(&plain));
+        return Figures { ours, plain, ratio: ours / plain };
+    }
     let ratios = ours.iter().zip(&plain).map(|(a, b)| a / b).collect();
     Figures { ours: median(ours), plain: median(plain), ratio: median(ratios) }
 }
@@ -33,8 +44,12 @@ fn median(mut samples: Vec<f64>) -> f64 {
     samples[samples.len() / 2]
 }
 
+fn least(samples: &[f64]) -> f64 {
+    samples.iter().copied().fold(f64::INFINITY, f64::min)
+}
+
 /// Nanoseconds. Short samples and many: on a shared machine few of them are disturbed.
-pub fn time(case: &mut Case, other: &dyn Face, quick: bool) -> Figures {
+pub fn time(case: &mut Case, other: &dyn Face, quick: bool, best: bool) -> Figures {
     let (samples, length) = if quick { (15, Duration::from_micros(200)) } else { (151, Duration::from_micros(400)) };
     let sample = |case: &mut Case, face: &dyn Face, rounds: u32| {
         let start = cpu_time();
@@ -45,7 +60,7 @@ pub fn time(case: &mut Case, other: &dyn Face, quick: bool) -> Figures {
     };
     let once = sample(case, &Plain, 1).max(sample(case, &Plain, 3));
     let rounds = ((length.as_nanos() as f64 / once) as u32).clamp(1, 1_000_000);
-    pairs(case, other, samples, |case, face| sample(case, face, rounds))
+    pairs(case, other, samples, best, |case, face| sample(case, face, rounds))
 }
 
 /// This thread's time on a processor: what others run at the same time doesn't count.
@@ -107,7 +122,7 @@ impl Counter {
 
     /// Instructions of one call.
     pub fn count(&self, case: &mut Case, other: &dyn Face) -> Figures {
-        pairs(case, other, 5, |case, face| {
+        pairs(case, other, 5, false, |case, face| {
             let before = self.now().expect("the count");
             black_box((case.step)(face));
             let after = self.now().expect("the count");

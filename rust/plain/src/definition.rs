@@ -16,7 +16,7 @@ pub struct Definition {
 pub fn read_definition(def: &[u8], table: &mut [i64]) -> Definition {
     match read(def, table) {
         Ok((variables, lines)) => Definition { number: 0, place: 0, variables, lines },
-        Err(Fault { number, place }) => Definition { number: number as u32, place, variables: 0, lines: 0 },
+        Err(Fault { number, place }) => Definition { number: number.get() as u32, place, variables: 0, lines: 0 },
     }
 }
 
@@ -95,14 +95,21 @@ impl Block {
 
 impl Reader<'_> {
     /// NOTE and its string, as often as they stand here; then past blanks and comments to the next token.
-    #[inline]
+    #[inline(always)]
     fn notes(&mut self) -> Outcome<()> {
         self.s.gap()?;
-        while self.s.word(b"NOTE") {
+        if self.s.word(b"NOTE") { self.rest_of_notes() } else { Ok(()) }
+    }
+
+    #[inline(never)]
+    fn rest_of_notes(&mut self) -> Outcome<()> {
+        loop {
             self.s.text()?;
             self.s.gap()?;
+            if !self.s.word(b"NOTE") {
+                return Ok(());
+            }
         }
-        Ok(())
     }
 
     /// A word that is due, after notes.

@@ -1,11 +1,12 @@
 //! The scanner: blanks, comments, strings, words and numbers of a definition.
 
 use crate::MAX_LEVEL;
+use std::num::NonZeroU8;
 
-/// A refusal: its number and its place.
+/// A refusal: its number and its place. The number is never 0, so that an outcome without a value fits two registers.
 #[derive(Clone, Copy, Debug, PartialEq, Eq)]
 pub(crate) struct Fault {
-    pub number: u8,
+    pub number: NonZeroU8,
     pub place: usize,
 }
 
@@ -13,7 +14,7 @@ pub(crate) type Outcome<T> = Result<T, Fault>;
 
 #[cold]
 pub(crate) fn fault<T>(number: u8, place: usize) -> Outcome<T> {
-    Err(Fault { number, place })
+    Err(Fault { number: NonZeroU8::new(number).expect("a refusal"), place })
 }
 
 /// Eight bytes at once: what a search asks of a word. The lowest flagged byte of an answer is one that was looked for.
@@ -48,42 +49,30 @@ pub(crate) mod lanes {
 /// The first place from `from` on that `flags` flags, or the length.
 #[inline(always)]
 pub(crate) fn find(b: &[u8], from: usize, flags: impl Fn(u64) -> u64) -> usize {
-    let mut p = from;
-    // Most runs are short: word by word first, then four words at a time.
-    let mut short = 3;
-    loop {
-        let Some(rest) = b.get(p..) else { return b.len() };
-        if short == 0 {
-            let Some(chunk) = rest.first_chunk::<32>() else {
-                short = 4;
-                continue;
-            };
-            let words = chunk.as_chunks::<8>().0;
-            let mut any = 0;
-            for word in words {
-                any |= flags(u64::from_le_bytes(*word));
-            }
-            if any == 0 {
-                p += 32;
-            } else {
-                short = 4;
-            }
-            continue;
-        }
-        short -= 1;
-        let Some(word) = rest.first_chunk::<8>() else {
-            // The last bytes, filled up with nothing that counts.
-            let mut last = [0; 8];
-            last[..rest.len()].copy_from_slice(rest);
-            let met = flags(u64::from_le_bytes(last)).trailing_zeros() as usize / 8;
-            return p + met.min(rest.len());
-        };
+    let Some(rest) = b.get(from..) else { return b.len() };
+    let (words, last) = rest.as_chunks::<8>();
+    let mut i = 0;
+    while let Some(word) = words.get(i) {
         let met = flags(u64::from_le_bytes(*word));
         if met != 0 {
-            return p + met.trailing_zeros() as usize / 8;
+            return from + 8 * i + met.trailing_zeros() as usize / 8;
         }
-        p += 8;
+        i += 1;
+        // Most runs are short; a longer one goes on by four words at a time.
+        if i % 4 == 0 {
+            while let Some(four) = words[i..].first_chunk::<4>() {
+                if four.iter().fold(0, |any, word| any | flags(u64::from_le_bytes(*word))) != 0 {
+                    break;
+                }
+                i += 4;
+            }
+        }
     }
+    // The last bytes, filled up with nothing that counts.
+    let mut word = [0; 8];
+    word[..last.len()].copy_from_slice(last);
+    let met = flags(u64::from_le_bytes(word)).trailing_zeros() as usize / 8;
+    from + 8 * words.len() + met.min(last.len())
 }
 
 /// The first byte below 32 from `from` on, or the length. Blocks without one are passed by in one piece.
@@ -165,13 +154,6 @@ impl Scan<'_> {
     /// Past spaces and dropped bytes.
     #[inline]
     pub fn blank(&mut self) {
-        // Often none, or one.
-        for _ in 0..2 {
-            match self.bytes.get(self.at) {
-                Some(&x) if x <= 32 => self.at += 1,
-                _ => return,
-            }
-        }
         self.at = find(self.bytes, self.at, lanes::above_32);
     }
 
@@ -186,7 +168,20 @@ impl Scan<'_> {
 
     #[inline(never)]
     fn longer_gap(&mut self) -> Outcome<()> {
+        // Often one space.
+        if let Some(&[b' ', x]) = self.bytes[self.at..].first_chunk::<2>()
+            && x > 32
+            && x != b'<'
+        {
+            self.at += 1;
+            return Ok(());
+        }
         self.blank();
+        if self.bytes.get(self.at) == Some(&b'<') { self.comments() } else { Ok(()) }
+    }
+
+    #[inline(never)]
+    fn comments(&mut self) -> Outcome<()> {
         while self.bytes.get(self.at) == Some(&b'<') {
             self.comment()?;
             self.blank();

@@ -41,6 +41,14 @@ fn within(x: i64, most: i64) -> bool {
     x as u64 <= most as u64
 }
 
+/// Whether none of these is above the most bytes of a definition, a power of two. `all` holds them one over the other: below it,
+/// each is. Only a text at the very end of the longest definition needs more.
+#[inline]
+fn texts_within(all: u64, each: impl FnOnce() -> bool) -> bool {
+    const { assert!(MAX_DEFINITION.is_power_of_two()) };
+    all < MAX_DEFINITION as u64 || each()
+}
+
 pub(crate) fn view(table: &[i64]) -> Option<Table<'_>> {
     let (header, rest) = table.split_first_chunk::<HEADER>()?;
     let &[version, v, e, least, rows_at, lines_at] = header;
@@ -108,11 +116,9 @@ fn row_sound(row: &Row, lines: &[Line]) -> bool {
         label_length,
     ] = row;
     let text = MAX_DEFINITION as i64;
+    let texts = [name, name_length, label, label_length];
     if !(1 <= start && start <= finish && finish <= MAX_LOCATION)
-        || !within(name, text)
-        || !within(name_length, text)
-        || !within(label, text)
-        || !within(label_length, text)
+        || !texts_within((name | name_length | label | label_length) as u64, || texts.iter().all(|&x| within(x, text)))
         || !within(range, 1)
     {
         return false;
@@ -181,17 +187,22 @@ fn block_sound(range: i64, from: i64, to: i64, lines: &[Line], low: i64, high: i
     let mut last = low - 1;
     for &[value, special, place, length] in lines {
         flags |= special as u64;
-        texts = (place as u64).max(length as u64).max(texts);
+        texts |= (place | length) as u64;
         if value <= last {
             return unordered(range, from, to, lines, low, high);
         }
         last = value;
     }
-    if flags > 1 || texts > MAX_DEFINITION as u64 || high < last {
+    if flags > 1 || high < last || !texts_within(texts, || lines_within(lines)) {
         return None;
     }
     let first = lines[0][0];
     Some(if range == 1 { (first.min(from), last.max(to)) } else { (first, last) })
+}
+
+#[cold]
+fn lines_within(lines: &[Line]) -> bool {
+    lines.iter().all(|line| within(line[2], MAX_DEFINITION as i64) && within(line[3], MAX_DEFINITION as i64))
 }
 
 /// The same, of lines that don't rise or begin too low. The range is sound.

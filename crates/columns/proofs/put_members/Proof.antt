@@ -11,6 +11,7 @@ use Rattle.matrix.specs.declared.Entry.{Entry}
 use Rattle.matrix.specs.Put.{putEntries}
 use Rattle.matrix.specs.Entry.{entries-none}
 use Rattle.columns.specs.Marked.{markedEntry, markedFrom, markedEntries, marked-on, marked-off, marked-none, marked-good}
+use Rattle.columns.specs.Stretch.{unmarked-same}
 use Rattle.columns.specs.Room.{entry-then}
 use Rattle.columns.proofs.put_members.Statement.{statement}
 use Rattle.columns.proofs.put_members.Tie as tie
@@ -78,14 +79,18 @@ loop-again c =
           ∙ ap (λ (es : List Entry). putEntries (l .out) (a .flags + l .k) (a .values + 8 * l .k) es) (sym e) ∙ l .inv .2),
     )
 
+pass-unmarked-requires : tie.Need-pass-unmarked-requires Inv-loop μ-loop
+pass-unmarked-requires c κs = omega (arith, c .before .before .loop-test .taken)
+
 loop-less-2 : tie.Need-loop-less-2 Inv-loop μ-loop
-loop-less-2 c = omega (arith, c .before .before .loop-test .taken)
+loop-less-2 c = omega (arith, c .before .before .before .loop-test .taken, c .pass-unmarked .ensures .on)
 
 loop-again-2 : tie.Need-loop-again-2 Inv-loop μ-loop
 loop-again-2 c =
-    let l = c .before .before .before .loop in
-    let a = c .before .before .before .before .before .before .before .args in
-    let e = marked-off (a .there) (a .allowed .now) (a .present .now) (l .c) (c .before .before .loop-test .taken) (c .if1 .left) in
+    let l = c .before .before .before .before .loop in
+    let a = c .before .before .before .before .before .before .before .before .args in
+    let e = marked-off (a .there) (a .allowed .now) (a .present .now) (l .c) (c .before .before .before .loop-test .taken) (c .before .if1 .left)
+    ∙ unmarked-same (a .there) (a .allowed .now) (a .present .now) (l .c + 1) (c .pass-unmarked .result) (c .pass-unmarked .ensures) in
     (omega (arith, ap (λ (es : List Entry). length es) e, l .inv .0), l .inv .1, ap (λ (es : List Entry). putEntries (l .out) (a .flags + l .k) (a .values + 8 * l .k) es) (sym e) ∙ l .inv .2)
 
 same-length : tie.Need-same-length Inv-loop μ-loop
@@ -119,6 +124,7 @@ put-members-spec =
     add-k
     loop-less
     loop-again
+    pass-unmarked-requires
     loop-less-2
     loop-again-2
     same-length

@@ -1,6 +1,7 @@
 -- `tokens::skip_gap` meets its contract. The invariant: the gap from here on ends as the whole gap does.
 use mathlib.Core.Path.{_≡_, refl, _∙_, sym}
 use Prim.Native.Nat.{_-_}
+use native.Mathlib.Omega.{arith}
 use lib.ListN.{length}
 use borrow.Author.Needs.{needs}
 use Rattle.scan.proofs.Texts.{from-text}
@@ -16,15 +17,24 @@ abbrev μ-loop : tie.MeasureT-loop
 μ-loop classes d at n₀ n = length d - n
 
 loop-less : tie.Need-loop-less Inv-loop μ-loop
-loop-less c = gap-less _ (from-text _ _) (pace-on (sym (c .before .before .before .step-gap .ensures) ∙ c .before .m .given .1))
+loop-less c =
+    let p = c .before .before .before .before .pass-blanks .ensures .1 in
+    omega (arith, gap-less _ (from-text _ _) (pace-on (sym (c .before .before .before .step-gap .ensures) ∙ c .before .m .given .1)))
 
 loop-again : tie.Need-loop-again Inv-loop μ-loop
-loop-again c = c .before .before .before .before .loop .inv ∙ gap-again _ _ (pace-on (sym (c .before .before .before .step-gap .ensures) ∙ c .before .m .given .1))
+loop-again c =
+    c .before .before .before .before .before .loop .inv
+    ∙ c .before .before .before .before .pass-blanks .ensures .0
+    ∙ gap-again _ _ (pace-on (sym (c .before .before .before .step-gap .ensures) ∙ c .before .m .given .1))
 
 returns : tie.Need-returns Inv-loop μ-loop
-returns c = sym (c .before .before .before .before .loop .inv ∙ gap-done _ _ (pace-over (sym (c .before .before .before .step-gap .ensures) ∙ c .before .r .given .1)))
+returns c =
+    sym
+    (c .before .before .before .before .before .loop .inv
+    ∙ c .before .before .before .before .pass-blanks .ensures .0
+    ∙ gap-done _ _ (pace-over (sym (c .before .before .before .step-gap .ensures) ∙ c .before .r .given .1)))
 
 pub skip-gap-spec : {M : Type 1} → statement M
 skip-gap-spec =
     tie.close
-    (tie.spec Inv-loop μ-loop (λ c. refl) (λ c κs. search needs) (λ c. search needs) loop-less loop-again (λ c. search needs) returns)
+    (tie.spec Inv-loop μ-loop (λ c. refl) (λ c κs. search needs) (λ c κs. search needs) (λ c. search needs) loop-less loop-again (λ c. search needs) returns)
