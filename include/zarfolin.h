@@ -22,7 +22,7 @@
  *   Threads   The library has no state: no variable of its own, no allocation, no lock, no errno, no locale. Calls may run
  *             at once on any threads as long as each keeps to "Change"; a table or a record that is only read may be
  *             shared by all of them. A call may be made in a signal handler, if there is stack enough.
- *   Stack     See ZARFOLIN_STACK_READ_DEFINITION below: up to 261,000 bytes. A small thread (musl gives 128 KiB) is not enough.
+ *   Stack     See ZARFOLIN_STACK_EXPORT below: up to 348,000 bytes. A small thread (musl gives 128 KiB) is not enough.
  *   Needs     Of the C library memcpy and memset alone.
  *   Refusal   The value returned is 0 for done, otherwise a refusal, ZARFOLIN_E_TOO_LONG to ZARFOLIN_E_LENGTH below, which
  *             zarfolin_message puts into words. zarfolin_next_record alone has its own meaning for it. A later library may
@@ -98,8 +98,12 @@ enum {
     /* of a data file */
     ZARFOLIN_E_UNENDED = 30, /* last record has no terminator */
     ZARFOLIN_E_LENGTH = 31,  /* length differs from the first record's */
+    /* of a clean definition, and 40 of an export */
+    ZARFOLIN_E_OTHER_TABLE = 40, /* the table is not the one that the definition yields; of an export also: the definition is
+                                  * refused */
+    ZARFOLIN_E_CLEAN_SIZE = 41,  /* clean text above ZARFOLIN_MAX_DEFINITION bytes */
+    ZARFOLIN_E_CLEAN_ROOM = 42,  /* output too short for the clean text */
     /* of an export */
-    ZARFOLIN_E_OTHER_TABLE = 40, /* the table is not the one that the definition yields, or the definition is refused */
     ZARFOLIN_E_EXPORT_ROOM = 60, /* output too short for the text */
     /* of mending */
     ZARFOLIN_E_MEND_ROOM = 70, /* output or list too short */
@@ -249,6 +253,22 @@ enum {
  * def:    only read. */
 zarfolin_number zarfolin_read_definition(const uint8_t *def, size_t def_len, int64_t *table, size_t table_len,
                                          int64_t *answer);
+
+/* Writes a definition anew, clean: every statement on a line of its own that CR LF ends, one space between two tokens, keywords in
+ * capitals and in one order, TO for every POSITION and OF for every SPREAD; texts and numbers as they stand, bytes below 32 dropped;
+ * comments, notes and what follows END SSS left out. The clean text is read without a refusal. Its table is the same but for
+ * ZARFOLIN_NAME to ZARFOLIN_LABEL_LENGTH and ZARFOLIN_LINE_TEXT and its length, every text decodes to the same numbers, and cleaned
+ * again it comes out as it is.
+ *
+ * Answers 0; or 1 to 9, as zarfolin_read_definition does; or the first of 40 (the table is not the one that the definition yields),
+ * 41 (the clean text is longer than ZARFOLIN_MAX_DEFINITION), 42 (it doesn't fit) that holds.
+ * answer: the number; its place in the definition (2 to 9, else 0); the length of the clean text (on 0, else 0); 0.
+ * out:    on 0 the clean text from its start on; what lies beyond is kept. On a refusal all of it is kept. With
+ *         ZARFOLIN_MAX_DEFINITION bytes 42 can't come.
+ * def, table: only read. The table is the one that zarfolin_read_definition made of def, the places and lengths of texts included;
+ *         more numbers are not looked at. */
+zarfolin_number zarfolin_write_definition(const uint8_t *def, size_t def_len, const int64_t *table, size_t table_len,
+                                          uint8_t *out, size_t out_len, int64_t *answer);
 
 /* Reads one row's value from a record.
  *
@@ -455,6 +475,7 @@ zarfolin_number zarfolin_export(const uint8_t *def, size_t def_len, const int64_
  * counted is what the dynamic linker takes where it binds memcpy at a first call. No function of the archive calls itself
  * but the one that skips comments, at most ZARFOLIN_MAX_LEVEL deep, so leave some room and no more. */
 #define ZARFOLIN_STACK_READ_DEFINITION 261000
+#define ZARFOLIN_STACK_WRITE_DEFINITION 261000
 #define ZARFOLIN_STACK_DECODE_TEXT 600
 #define ZARFOLIN_STACK_READ_VALUE 38000
 #define ZARFOLIN_STACK_READ_RECORD 102000
@@ -468,7 +489,7 @@ zarfolin_number zarfolin_export(const uint8_t *def, size_t def_len, const int64_
 #define ZARFOLIN_STACK_JUDGE_PART 27500
 #define ZARFOLIN_STACK_MEND 17600
 #define ZARFOLIN_STACK_MATRIX 129000
-#define ZARFOLIN_STACK_EXPORT 270000
+#define ZARFOLIN_STACK_EXPORT 348000
 #define ZARFOLIN_STACK_NEXT_RECORD 128
 #define ZARFOLIN_STACK_VERSION 16
 
@@ -521,6 +542,8 @@ ZARFOLIN_INLINE const char *zarfolin_message(zarfolin_number number) {
     case ZARFOLIN_E_UNENDED: return "the last record has no terminator";
     case ZARFOLIN_E_LENGTH: return "the record's length differs from the first record's";
     case ZARFOLIN_E_OTHER_TABLE: return "the table is not the one that this definition yields";
+    case ZARFOLIN_E_CLEAN_SIZE: return "the clean definition is longer than 1,048,576 bytes";
+    case ZARFOLIN_E_CLEAN_ROOM: return "the lent output is too short for the clean definition";
     case ZARFOLIN_E_EXPORT_ROOM: return "the lent output is too short for the exported text";
     case ZARFOLIN_E_MEND_ROOM: return "the lent output or list is too short for the mended file";
     case ZARFOLIN_E_NO_COLUMN: return "the matrix has no column, since every variable is a text";

@@ -454,6 +454,114 @@ static void exports(void) {
     CHECK(is(answer, 0, 0, 0, 0) && answer[4] == (int64_t)sizeof names - 1 && answer[ZARFOLIN_EXPORT_ANSWER] == 12345);
 }
 
+/* A definition that is refused, with its number and the place of what is at fault, whatever the table; the output is kept. */
+static void not_clean(const char *text, int64_t number, const char *fault) {
+    uint8_t out[3] = {'?', '?', '?'};
+    int64_t answer[4];
+    CHECK(zarfolin_write_definition(bytes(text), strlen(text), table, table_len, out, sizeof out, answer) == (zarfolin_number)number);
+    CHECK(is(answer, number, strstr(text, fault) - text, 0, 0) && out[0] == '?' && out[1] == '?' && out[2] == '?');
+}
+
+/* A definition of one LOGICAL whose title makes its clean text so long. */
+static size_t titled(uint8_t *text, size_t clean_len) {
+    static const char before[] = "SSSVERSION1.1SURVEYTITLE\"";
+    static const char behind[] = "\"RECORDRVARIABLE1NAME\"\"LABEL\"\"TYPELOGICALPOSITION1ENDVARIABLEENDRECORDENDSURVEYENDSSS";
+    static const char clean[] = "SSS\r\nVERSION 1.1\r\nSURVEY\r\nTITLE \"\"\r\nRECORD R\r\nVARIABLE 1\r\nNAME \"\"\r\nLABEL \"\"\r\n"
+                                "TYPE LOGICAL\r\nPOSITION 1 TO 1\r\nEND VARIABLE\r\nEND RECORD\r\nEND SURVEY\r\nEND SSS\r\n";
+    const size_t title = clean_len - (sizeof clean - 1);
+    memcpy(text, before, sizeof before - 1);
+    memset(text + sizeof before - 1, 'x', title);
+    memcpy(text + sizeof before - 1 + title, behind, sizeof behind - 1);
+    return sizeof before - 1 + title + sizeof behind - 1;
+}
+
+#define OPENING "SSS VERSION 1.1 SURVEY RECORD R VARIABLE "
+#define LOGICAL "NAME \"\" LABEL \"\" TYPE LOGICAL POSITION "
+#define SINGLE "NAME \"\" LABEL \"\" TYPE SINGLE POSITION 1 VALUES "
+#define CLOSING " END VARIABLE END RECORD END SURVEY END SSS"
+
+/* A definition written clean, with room, with just enough, with one byte too few; every refusal. */
+static void cleans(void) {
+    static const char due[] =
+        "SSS\r\nVERSION 1.1\r\nSURVEY\r\nRECORD R\r\n"
+        "VARIABLE 1\r\nNAME \"desk\"\r\nLABEL \"Desk\"\r\nTYPE SINGLE\r\nPOSITION 1 TO 2\r\n"
+        "VALUES\r\n1 TO 12\r\nEND VALUES\r\nEND VARIABLE\r\n"
+        "VARIABLE 2\r\nNAME \"seen\"\r\nLABEL \"Seen\"\r\nTYPE MULTIPLE\r\nPOSITION 3 TO 6\r\n"
+        "VALUES\r\n1 \"a\"\r\n2 \"b\"\r\n4 \"d\" SPECIAL\r\nEND VALUES\r\nEND VARIABLE\r\n"
+        "VARIABLE 3\r\nNAME \"wait\"\r\nLABEL \"Wait\"\r\nTYPE QUANTITY\r\nPOSITION 7 TO 11\r\n"
+        "VALUES\r\n-1.0 TO 99.5\r\nEND VALUES\r\nEND VARIABLE\r\n"
+        "VARIABLE 4\r\nNAME \"word\"\r\nLABEL \"Word\"\r\nTYPE CHARACTER\r\nPOSITION 12 TO 16\r\nSIZE 5\r\nEND VARIABLE\r\n"
+        "VARIABLE 5\r\nNAME \"back\"\r\nLABEL \"Back\"\r\nTYPE LOGICAL\r\nPOSITION 17 TO 17\r\nEND VARIABLE\r\n"
+        "VARIABLE 6\r\nNAME \"two\"\r\nLABEL \"Two\"\r\nTYPE MULTIPLE\r\nPOSITION 18 TO 21\r\nSPREAD 2 OF 2\r\n"
+        "VALUES\r\n1 TO 20\r\nEND VALUES\r\nEND VARIABLE\r\n"
+        "END RECORD\r\nEND SURVEY\r\nEND SSS\r\n";
+    enum { LENGTH = sizeof due - 1 };
+    static uint8_t out[ZARFOLIN_MAX_DEFINITION], text[ZARFOLIN_MAX_DEFINITION + 1];
+    static int64_t own[ZARFOLIN_MAX_TABLE];
+    int64_t answer[4];
+    const uint8_t *const def = bytes(definition);
+    const size_t def_len = sizeof definition - 1;
+
+    memset(out, '?', sizeof out);
+    CHECK(zarfolin_write_definition(def, def_len, table, table_len, out, LENGTH, answer) == ZARFOLIN_OK);
+    CHECK(is(answer, 0, 0, LENGTH, 0) && memcmp(out, due, LENGTH) == 0 && out[LENGTH] == '?');
+    /* Read again: the same table but for the places and lengths of texts. Cleaned again: the same text. */
+    CHECK(zarfolin_read_definition(out, LENGTH, own, ZARFOLIN_MAX_TABLE, answer) == ZARFOLIN_OK && is(answer, 0, 0, 6, 3));
+    CHECK(zarfolin_write_definition(out, LENGTH, own, table_len, text, LENGTH, answer) == ZARFOLIN_OK);
+    CHECK(is(answer, 0, 0, LENGTH, 0) && memcmp(text, due, LENGTH) == 0);
+    for (size_t i = 0; i < table_len; i++) {
+        const size_t lines_at = ZARFOLIN_TABLE(6, 0), in_line = (i - lines_at) % ZARFOLIN_LINE;
+        const size_t in_row = i < ZARFOLIN_HEADER ? ZARFOLIN_IDENT : (i - ZARFOLIN_HEADER) % ZARFOLIN_ROW;
+        const int of_row = in_row >= ZARFOLIN_NAME && in_row <= ZARFOLIN_LABEL_LENGTH;
+        const int is_text = i < lines_at ? of_row : in_line >= ZARFOLIN_LINE_TEXT;
+        CHECK(is_text || own[i] == table[i]);
+    }
+    /* More numbers are not looked at; every number that the definition yields is, and none may be missing. */
+    CHECK(zarfolin_write_definition(def, def_len, table, ZARFOLIN_MAX_TABLE, out, sizeof out, answer) == ZARFOLIN_OK);
+    memset(out, '?', sizeof out);
+    CHECK(zarfolin_write_definition(def, def_len, table, table_len - 1, out, sizeof out, answer) == ZARFOLIN_E_OTHER_TABLE);
+    CHECK(is(answer, 40, 0, 0, 0));
+    for (size_t i = 0; i < table_len; i++) {
+        table[i]++;
+        CHECK(zarfolin_write_definition(def, def_len, table, table_len, out, sizeof out, answer) == ZARFOLIN_E_OTHER_TABLE);
+        table[i]--;
+    }
+    CHECK(zarfolin_write_definition(def, def_len, table, table_len, out, LENGTH - 1, answer) == ZARFOLIN_E_CLEAN_ROOM);
+    CHECK(is(answer, 42, 0, 0, 0));
+    for (size_t i = 0; i <= LENGTH; i++) {
+        CHECK(out[i] == '?');
+    }
+
+    /* The definition's own refusals come first, with their places. */
+    memset(text, ' ', sizeof text);
+    CHECK(zarfolin_write_definition(text, sizeof text, table, 0, out, 0, answer) == ZARFOLIN_E_TOO_LONG && is(answer, 1, 0, 0, 0));
+    not_clean("SSS VERSION 1.1 SURVEY +", 2, "+");
+    not_clean("<?xml version=\"1.0\"?><sss version=\"1.2\">", 2, "<?xml"); /* 1.1 alone is written */
+    not_clean("SSS VERSION 1.1 <a <comment>", 3, "<a");
+    not_clean("SSS VERSION 1.2", 4, "1.2");
+    not_clean(OPENING "0000 " LOGICAL "1" CLOSING, 5, "0000");
+    not_clean(OPENING "1 " SINGLE "8 TO 7 END VALUES" CLOSING, 6, "7 END");
+    not_clean(OPENING "1 " LOGICAL "0" CLOSING, 7, "0 END");
+    not_clean(OPENING "1 " LOGICAL "16385" CLOSING, 8, "16385");
+    not_clean("SSS VERSION 1.1 STANDARD NAMES SURVEY RECORD R VARIABLE 1 "
+              "NAME \"1st\" LABEL \"\" TYPE LOGICAL POSITION 1" CLOSING, 9, "\"1st");
+
+    /* The longest clean text, and one that is a byte longer: 41 comes before 42. */
+    size_t length = titled(text, ZARFOLIN_MAX_DEFINITION);
+    CHECK(zarfolin_read_definition(text, length, own, ZARFOLIN_MAX_TABLE, answer) == ZARFOLIN_OK);
+    CHECK(zarfolin_write_definition(text, length, own, ZARFOLIN_MAX_TABLE, out, sizeof out, answer) == ZARFOLIN_OK);
+    CHECK(is(answer, 0, 0, ZARFOLIN_MAX_DEFINITION, 0) && out[sizeof out - 1] == '\n');
+    CHECK(zarfolin_write_definition(text, length, own, ZARFOLIN_MAX_TABLE, out, sizeof out - 1, answer) == ZARFOLIN_E_CLEAN_ROOM);
+    length = titled(text, ZARFOLIN_MAX_DEFINITION + 1);
+    CHECK(zarfolin_read_definition(text, length, own, ZARFOLIN_MAX_TABLE, answer) == ZARFOLIN_OK);
+    memset(out, '?', sizeof out);
+    for (size_t room = 0; room <= sizeof out; room += sizeof out) {
+        CHECK(zarfolin_write_definition(text, length, own, ZARFOLIN_MAX_TABLE, out, room, answer) == ZARFOLIN_E_CLEAN_SIZE);
+        CHECK(is(answer, 41, 0, 0, 0) && out[0] == '?' && out[sizeof out - 1] == '?');
+    }
+    CHECK(zarfolin_write_definition(text, length, table, table_len, out, 0, answer) == ZARFOLIN_E_OTHER_TABLE);
+}
+
 /* Every refusal has words of its own, and a number of none has some too. */
 static void messages(void) {
     CHECK(zarfolin_version() == ZARFOLIN_VERSION);
@@ -464,6 +572,7 @@ static void messages(void) {
     CHECK(zarfolin_message(ZARFOLIN_E_MEND_ROOM) != unknown);
     CHECK(zarfolin_message(ZARFOLIN_E_NO_COLUMN) != unknown && zarfolin_message(ZARFOLIN_E_MATRIX_SIZE) != unknown);
     CHECK(zarfolin_message(ZARFOLIN_E_MATRIX_ROOM) != unknown);
+    CHECK(zarfolin_message(ZARFOLIN_E_CLEAN_SIZE) != unknown && zarfolin_message(ZARFOLIN_E_CLEAN_ROOM) != unknown);
     CHECK(zarfolin_message(ZARFOLIN_E_OTHER_TABLE) != unknown && zarfolin_message(ZARFOLIN_E_EXPORT_ROOM) != unknown);
     for (zarfolin_number a = 0; a <= ZARFOLIN_E_LENGTH; a++) {
         const int none = (a > ZARFOLIN_E_TABLE_ROOM && a < ZARFOLIN_E_TABLE) || a == 24;
@@ -487,6 +596,7 @@ int main(void) {
     mends();
     matrices();
     exports();
+    cleans();
     printf("face for C: %d checks, all as they should be\n", checks);
     return 0;
 }

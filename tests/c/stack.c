@@ -45,6 +45,8 @@ static uint8_t matrix_out[ZARFOLIN_MAX_MATRIX];
 static size_t matrix_len = ZARFOLIN_MAX_MATRIX;
 static uint8_t export_out[1 << 20];
 static size_t export_len = sizeof export_out;
+static uint8_t clean_out[ZARFOLIN_MAX_DEFINITION];
+static size_t clean_len = sizeof clean_out;
 static volatile zarfolin_number got;
 
 #define TABLE table, ZARFOLIN_MAX_TABLE
@@ -74,6 +76,7 @@ static void matrix(void) { got = zarfolin_matrix(TABLE, record, record_len, matr
 static void export_file(void) {
     got = zarfolin_export(TEXT, TABLE, record, record_len, export_out, export_len, five);
 }
+static void write_definition(void) { got = zarfolin_write_definition(TEXT, TABLE, clean_out, clean_len, answer); }
 static void next_record(void) { got = zarfolin_next_record(record, record_len, row, answer); }
 
 static struct measured {
@@ -100,6 +103,7 @@ static struct measured {
     {"zarfolin_mend", mend, ZARFOLIN_STACK_MEND, 0, 0},
     {"zarfolin_matrix", matrix, ZARFOLIN_STACK_MATRIX, 0, 0},
     {"zarfolin_export", export_file, ZARFOLIN_STACK_EXPORT, 0, 0},
+    {"zarfolin_write_definition", write_definition, ZARFOLIN_STACK_WRITE_DEFINITION, 0, 0},
     {"zarfolin_next_record", next_record, ZARFOLIN_STACK_NEXT_RECORD, 0, 0},
     {"zarfolin_normal", normal, ZARFOLIN_STACK_NORMAL, 0, 0},
 };
@@ -165,10 +169,24 @@ static void variable(int ident, const char *rest) {
     add(" END VARIABLE ");
 }
 
+/* Read; and written clean, with room and with none. */
+static zarfolin_number whole_definition(void) {
+    measure(read_definition);
+    const zarfolin_number read = got;
+    for (clean_len = 0; clean_len <= sizeof clean_out; clean_len += sizeof clean_out) {
+        measure(write_definition);
+    }
+    clean_len = sizeof clean_out;
+    if (read == ZARFOLIN_OK && got != ZARFOLIN_OK) {
+        fprintf(stderr, "a definition that is read was not written: %d\n", (int)got);
+        exit(1);
+    }
+    return got = read;
+}
+
 static zarfolin_number end(void) {
     add("END RECORD END SURVEY END SSS");
-    measure(read_definition);
-    return got;
+    return whole_definition();
 }
 
 /* The texts of the first row: with room, with none, cut short, and one byte too long. */
@@ -416,13 +434,13 @@ int main(void) {
                 }
                 memcpy(def + def_len, whole + i, whole_len - i);
                 def_len += whole_len - i;
-                measure(read_definition);
+                whole_definition();
             }
         }
     }
     free(whole);
     def_len = ZARFOLIN_MAX_DEFINITION + 1;
-    measure(read_definition);
+    whole_definition();
 
     int status = 0;
     for (size_t i = 0; i < CALLS; i++) {

@@ -1,7 +1,8 @@
 -- THE DEMANDS, one by one: the final theorems over the promises of the public calls, restated here and each proved by name elsewhere. The
 -- promises stand in specs/rule of their crates: TableTested (sound), ValueRead and RecordJudged (records), Written (writes), NextFound
--- (cuts), FileJudged (files), PartJudged (parts), MatrixWritten (matrices), Exported (exports), DefinitionRead (definition), ListCorrected
--- (corrections), Mends (mends), Normalised (normal); those of the exported functions (zarfolin) hold them, or are they.
+-- (cuts), FileJudged (files), PartJudged (parts), MatrixWritten (matrices), Exported (exports), DefinitionRead (definition),
+-- DefinitionWritten (clean), ListCorrected (corrections), Mends (mends), Normalised (normal); those of the exported functions (zarfolin)
+-- hold them, or are they.
 use mathlib.Core.Path.{_≡_}
 use mathlib.Core.Logic.{_↔_, ⊎-elim}
 use mathlib.Core.Bool.{Bool, true, false}
@@ -62,6 +63,20 @@ use Rattle.export_laws.specs.Quoted as quoted
 use Rattle.export_laws.specs.Apart as apart
 use Rattle.value_fields.specs.rule.Values.{rowField}
 use Rattle.zarfolin.specs.rule.Export.{ExportTold}
+use Rattle.survey.specs.rule.Survey.{Survey}
+use Rattle.clean_text.specs.rule.Clean.{cleanLines, cleanOf}
+use Rattle.clean.specs.declared.Written as clean
+use Rattle.clean.specs.declared.Written.the-variants as clean-answer
+use Rattle.clean.specs.rule.Written.{writingOf, writtenOf, DefinitionWritten}
+use Rattle.clean_laws.specs.rule.Lined.{Lined}
+use Rattle.clean_laws.specs.rule.Reads.{Reads}
+use Rattle.clean_laws.specs.Reads as clean-back
+use Rattle.write_laws.specs.rule.Exactly.{Unread, WriteOutcome}
+use Rattle.write_laws.specs.rule.Output.{CleanStands, SaysSame}
+use Rattle.write_laws.specs.Low as low
+use Rattle.write_laws.specs.Exactly as cleaning
+use Rattle.write_laws.specs.Output as cleaned
+use Rattle.zarfolin.specs.rule.Clean.{CleanTold}
 use lib.Ieee.{binary64, toBits}
 use Rattle.writes.specs.rule.Public.{refusalOf, Written}
 use Rattle.definition.specs.declared.Answer.{Answer}
@@ -201,6 +216,15 @@ module _ {d : List ℕ} {t : List ℤ} where
 
   pub refused-definition-keeps : {t′ : List ℤ} {n p : ℕ} → DefinitionRead d t t′ (definition.Refused n p) → t′ ≡ t
   refused-definition-keeps = settled.definition-refused-keeps
+
+module _ {d : List ℕ} {t : List ℤ} {out : List ℕ} where
+  pub one-clean : {o₁ o₂ : List ℕ} {a₁ a₂ : clean.Written} → DefinitionWritten d t out o₁ a₁ → DefinitionWritten d t out o₂ a₂
+      → (a₁ ≡ a₂) × (o₁ ≡ o₂)
+  one-clean = cleaning.write-one
+
+  pub one-clean-told : {o₁ o₂ : List ℕ} {a₁ a₂ : List ℤ} {r₁ r₂ : ℕ} → CleanTold d t out o₁ a₁ r₁ → CleanTold d t out o₂ a₂ r₂
+      → ((r₁ ≡ r₂) × (a₁ ≡ a₂)) × (o₁ ≡ o₂)
+  one-clean-told = face.clean-told-one
 
 module _ {d : List ℕ} {place long : ℕ} {l : List ℤ} where
   pub one-text-told : {l₁ l₂ a₁ a₂ : List ℤ} {r₁ r₂ : ℕ} → TextTold d place long l l₁ a₁ r₁ → TextTold d place long l l₂ a₂ r₂
@@ -628,3 +652,30 @@ plain-when = quoted.plain-when
 pub lines-apart : (t : List ℤ) (r s : List ℕ) → 1 ≤ rowsOf t → lineBytes (recordLine t r) ≡ lineBytes (recordLine t s)
     → (i : ℕ) → i < rowsOf t → rowField t r i ≡ rowField t s i
 lines-apart = apart.record-same
+
+-- ---- A CLEAN DEFINITION (C-11): 1 to 9 as reading refuses, 40, 41, 42, or written, exactly when what that says is so
+pub clean-so : (d : List ℕ) (t : List ℤ) (room : ℕ) → WriteOutcome d t room (writtenOf (writingOf d t room))
+clean-so = cleaning.write-named
+
+pub so-clean : (d : List ℕ) (t : List ℤ) (room : ℕ) {a : clean.Written} → WriteOutcome d t room a → writtenOf (writingOf d t room) ≡ a
+so-clean d t room o = cleaning.write-only d t room o
+
+pub clean-to-nine : (d : List ℕ) {number place : ℕ} → Unread d number place → (1 ≤ number) × (number ≤ 9) × (place ≤ length d)
+clean-to-nine d u = low.unread-told d u
+
+-- the output keeps all it held, or holds the clean text, and behind it what stood there
+pub clean-kept : {d : List ℕ} {t : List ℤ} {out out′ : List ℕ} {number place : ℕ}
+    → DefinitionWritten d t out out′ (clean-answer.Refused number place) → out′ ≡ out
+clean-kept a = cleaned.write-kept a
+
+module _ {d : List ℕ} {t : List ℤ} {out out′ : List ℕ} {n : ℕ} where
+  pub clean-stands : DefinitionWritten d t out out′ (clean-answer.Done n) → CleanStands d t out out′ n
+  clean-stands a = cleaned.write-stands a
+
+  -- that text is read, says what the definition says, and is written again byte for byte
+  pub clean-says-same : (w : CleanStands d t out out′ n) → SaysSame d (take n out′) (w .survey) n
+  clean-says-same w = cleaned.write-reads w
+
+-- it has as many lines as statements, each of bytes from 32 on, one at least, and CR LF
+pub clean-lines : (d : List ℕ) (s : Survey) → Reads d s → Lined (length (cleanLines d s)) (cleanOf d s)
+clean-lines = clean-back.clean-lines

@@ -9,3 +9,4 @@ pub mod Whole
 pub mod Texts
 pub mod Normal
 pub mod Mend
+pub mod Clean

@@ -21,6 +21,7 @@ ghost use Rattle.matrices.specs.rule.Matrix.{matrixSaid};
 ghost use Rattle.zarfolin.specs.rule.Matrix.{matrixCells, MatrixTold};
 ghost use Rattle.exports.specs.rule.Text.{exportSaid};
 ghost use Rattle.zarfolin.specs.rule.Export.{exportCells, exportLength, TellingFive, ExportTold};
+ghost use Rattle.zarfolin.specs.rule.Clean.{cleanCells, CleanTold};
 ghost use Rattle.corrections.specs.rule.Truth.{badTruth};
 ghost use Rattle.corrections.specs.rule.Correction.{ListCorrected};
 ghost use Rattle.zarfolin.specs.rule.Truth.{TruthTold};
@@ -276,6 +277,20 @@ fn definition_cells(a: definition::Answer) -> Told
     }
 }
 
+fn clean_cells(w: clean::Written) -> Told
+    ensures { λ r. ⌜ r ≡ cleanCells w ⌝ }
+{
+    match w {
+        clean::Written::Done(n) => Told {
+            number: 0,
+            first: 0,
+            second: cell(n),
+            third: 0,
+        },
+        clean::Written::Refused { number, place } => with_one(number as u64, cell(place)),
+    }
+}
+
 fn next_cells(n: Next) -> Told
     ensures { λ r. ⌜ r ≡ nextCells n ⌝ }
 {
@@ -417,6 +432,19 @@ pub extern "C" fn zarfolin_read_definition(
         answer,
         definition_cells(definition::read_definition(d, table)),
     )
+}
+
+// Writes a clean text of a definition, whose table is lent too.
+#[no_mangle]
+pub extern "C" fn zarfolin_write_definition(
+    d: &[u8],
+    table: &[i64],
+    out: &mut [u8],
+    answer: &mut [i64; 4],
+) -> u64
+    ensures { λ r. ⌜ CleanTold (now (d .entry)) (now (table .entry)) (now (out .entry)) (now (out .exit)) (now (answer .exit)) r ⌝ }
+{
+    tell(answer, clean_cells(clean::write_definition(d, table, out)))
 }
 
 // Decodes a text of a definition: the signs of a name, a label or a line's text.

@@ -34,6 +34,7 @@ pub fn cases() -> Vec<Maker> {
     mended_files(&mut cases);
     matrices(&mut cases);
     exports(&mut cases);
+    cleans(&mut cases);
     cases
 }
 
@@ -383,6 +384,42 @@ fn export(survey: Survey, quotes: bool, room: Room) -> Case {
     let bytes = data.len() + total;
     let step: Step = Box::new(move |face| {
         face.export(black_box(&def), black_box(&table), black_box(&data), black_box(&mut out), &mut answer)
+    });
+    Case { bytes, number, step }
+}
+
+/// Definitions written clean: every shape that is read above, the surveys that the speed issue measures, and 512 variables with just enough
+/// room and with one byte too few. One gets too long, as each of its lines gets a CR.
+fn cleans(cases: &mut Vec<Maker>) {
+    for shape in SHAPES {
+        for (size, bytes) in [("1 KiB", 1 << 10), ("16 KiB", 1 << 14), ("256 KiB", 1 << 18)] {
+            add(cases, &format!("clean {size}, {shape}"), move || clean(sized(shape, bytes), Room::Ample, 0));
+        }
+    }
+    for shape in ["rising", "comments", "long strings"] {
+        add(cases, &format!("clean 1 MiB, {shape}"), move || clean(sized(shape, 1 << 20), Room::Ample, 0));
+    }
+    add(cases, "clean 1 MiB, too long", || clean(blocks("SINGLE", 1, 4096, Order::Rising, 248), Room::Ample, 41));
+    for (variables, lines) in [(6, 8), (60, 8), (60, 100), (512, 8), (512, 20)] {
+        let name = format!("clean a survey, {variables} variables, {lines} lines");
+        add(cases, &name, move || clean(desk_survey(variables, lines), Room::Ample, 0));
+    }
+    for (name, room, number) in [("just enough room", Room::Exact, 0), ("no room", Room::Short, 42)] {
+        let name = format!("clean a survey, 512 variables, {name}");
+        add(cases, &name, move || clean(desk_survey(512, 8), room, number));
+    }
+}
+
+fn clean(def: Vec<u8>, room: Room, number: u64) -> Case {
+    let table = table(&def);
+    let (mut out, mut answer) = (vec![0; 1 << 20], [0; 4]);
+    if room != Room::Ample {
+        assert_eq!(Plain.write_definition(&def, &table, &mut out, &mut answer), 0);
+        out.truncate(answer[2] as usize - (room == Room::Short) as usize);
+    }
+    let bytes = def.len();
+    let step: Step = Box::new(move |face| {
+        face.write_definition(black_box(&def), black_box(&table), black_box(&mut out), &mut answer)
     });
     Case { bytes, number, step }
 }

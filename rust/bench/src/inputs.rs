@@ -279,6 +279,43 @@ pub fn one_variable(rest: &str) -> Vec<u8> {
     format!("SSS VERSION 1.1 SURVEY RECORD R VARIABLE 1 NAME \"\" LABEL \"\" TYPE {rest} END VALUES END VARIABLE END RECORD END SURVEY END SSS").into_bytes()
 }
 
+/// A survey of six types in turn, laid out as an editor does: what the speed issue measures (its maker is no part of this repository).
+pub fn desk_survey(variables: usize, lines: usize) -> Vec<u8> {
+    let listed = |answer: &dyn Fn(usize) -> String| {
+        let lines: String = (1..=lines).map(|i| format!("            {i} \"{}\"\r\n", answer(i))).collect();
+        format!("          VALUES\r\n{lines}          END VALUES\r\n")
+    };
+    let mut t = String::from(
+        "SSS\r\n  VERSION 1.1\r\n  DATE \"1 May 1998\"\r\n  STANDARD NAMES\r\n  SURVEY\r\n    TITLE \"A survey\"\r\n    RECORD A\r\n",
+    );
+    let mut at = 1;
+    for v in 1..=variables {
+        let (kind, width, rest) = match (v - 1) % 6 {
+            0 => ("SINGLE", 4, listed(&|i| format!("Answer number {i}"))),
+            1 => ("MULTIPLE", lines, listed(&|i| format!("Place {i}, also known as {{\"}}P{i}{{\"}}"))),
+            2 => {
+                let rest = "          SPREAD 5 OF 3\r\n          VALUES\r\n            1 TO 500 WITH\r\n            997 \"None\"\r\n\
+                            \x20           998 \"Don't know\" SPECIAL\r\n          END VALUES\r\n";
+                ("MULTIPLE", 15, rest.to_string())
+            }
+            3 => {
+                let rest = "          VALUES\r\n            -99.50 TO 999.75 WITH\r\n            9999.99 \"Not stated\" SPECIAL\r\n\
+                            \x20         END VALUES\r\n";
+                ("QUANTITY", 7, rest.to_string())
+            }
+            4 => ("CHARACTER", 30, "          SIZE 30\r\n".to_string()),
+            _ => ("LOGICAL", 1, String::new()),
+        };
+        t += &format!(
+            "      VARIABLE {v}\r\n          NAME \"Q{v}\"\r\n          LABEL \"The text of question number {v} of the survey\"\r\n\
+             \x20         TYPE {kind}\r\n          POSITION {at} TO {}\r\n{rest}      END VARIABLE\r\n",
+            at + width - 1
+        );
+        at += width;
+    }
+    (t + "    END RECORD\r\n  END SURVEY\r\nEND SSS\r\n").into_bytes()
+}
+
 /// The order of a block's lines.
 #[derive(Clone, Copy)]
 pub enum Order {

@@ -36,8 +36,7 @@ impl Output {
         let found = fs::metadata(to).ok();
         let id = found.as_ref().map(|data| FileId(data.dev(), data.ino()));
         if let Some(input) = inputs.iter().find(|input| input.id.is_some() && input.id == id) {
-            let message = format!("{name} is an input, {}: name another file; --in-place replaces DATA", input.name);
-            return Err(Failure::Usage(message));
+            return Err(Failure::Usage(format!("{name} is an input, {}: name another file", input.name)));
         }
         match found {
             Some(data) if data.is_dir() => Err(Failure::Create(format!("{name}: Is a directory"))),

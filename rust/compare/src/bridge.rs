@@ -222,4 +222,10 @@ impl Face for Bridge {
         answer[4] = last[0];
         number
     }
+
+    fn write_definition(&self, def: &[u8], t: &[i64], out: &mut [u8], answer: &mut [i64; 4]) -> u64 {
+        let copy = out.to_vec();
+        let inputs = Inputs { table: t, bytes: def, text: &copy, ..Inputs::default() };
+        self.call(Call::WriteDefinition, inputs, answer, copy.len(), |changed| out.copy_from_slice(changed))
+    }
 }

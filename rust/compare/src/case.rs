@@ -31,6 +31,8 @@ pub enum Call {
     Matrix,
     /// Here too. The definition stands before the data, its length in `row`; the fifth number goes to the list.
     Export,
+    /// The clean text goes to `text`.
+    WriteDefinition,
 }
 
 /// A call and its inputs; those that the call doesn't take are empty or 0.
@@ -45,7 +47,7 @@ pub struct Case {
     pub list: Vec<i64>,
     /// Definition, record or data.
     pub bytes: Vec<u8>,
-    /// A text that is written, or the room for mended data, a matrix or an export.
+    /// A text that is written, or the room for mended data, a matrix, an export or a clean definition.
     pub text: Vec<u8>,
     /// A record's numbers.
     pub out: Vec<i64>,
@@ -153,6 +155,7 @@ pub fn run(face: &dyn Face, case: &Case) -> Outcome {
             l[0] = five[4];
             number
         }
+        Call::WriteDefinition => face.write_definition(b, t, x, a),
     };
     Outcome { number, answer, table: table.all, list: list.all, bytes: bytes.all, text: text.all, out: out.all }
 }
@@ -178,9 +181,12 @@ pub fn keeps(case: &Case, outcome: &Outcome) -> bool {
     let (table_lent, list_lent, bytes_lent) = match case.call {
         Call::ReadDefinition => (!refused, false, false),
         Call::ReadValue | Call::ReadRecord | Call::DecodeText | Call::Mend => (false, !refused, false),
-        Call::JudgeRecord | Call::JudgeFile | Call::NextRecord | Call::JudgePart | Call::Matrix => {
-            (false, false, false)
-        }
+        Call::JudgeRecord
+        | Call::JudgeFile
+        | Call::NextRecord
+        | Call::JudgePart
+        | Call::Matrix
+        | Call::WriteDefinition => (false, false, false),
         Call::Correct => (false, !refused, !refused),
         Call::Export => (false, true, false),
         _ => (false, false, !refused),
@@ -188,7 +194,7 @@ pub fn keeps(case: &Case, outcome: &Outcome) -> bool {
     let out_lent = case.call == Call::ReadRecord && !refused;
     // An export that the data's fault ends leaves the lines before it.
     let cut = case.call == Call::Export && !matches!(outcome.number, 20 | 40 | 60);
-    let text_lent = matches!(case.call, Call::Mend | Call::Matrix) && !refused || cut;
+    let text_lent = matches!(case.call, Call::Mend | Call::Matrix | Call::WriteDefinition) && !refused || cut;
     let numbers = (table || table_lent) && (list || list_lent) && (out || out_lent);
     guards && numbers && (bytes || bytes_lent) && (text || text_lent)
 }

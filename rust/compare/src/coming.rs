@@ -1,6 +1,7 @@
 //! The calls of document 02 that the library will get, as a trait: what each takes and gives, over slices. The plain Rust and the
 //! naive one stand behind it now, and are held against each other; the library joins them as each request lands (its call then stands
-//! in [`Face`](crate::face::Face) too: `judge_part`, `correct`, `normal`, `mend`, `matrix`, `export`).
+//! in [`Face`](crate::face::Face) too: `judge_part`, `correct`, `normal`, `mend`, `matrix`, `export`,
+//! `write_definition`).
 
 use crate::naive_02;
 use zarfolin_plain as plain;

@@ -25,6 +25,7 @@ pub trait Face {
     fn mend(&self, t: &[i64], data: &[u8], out: &mut [u8], list: &mut [i64], answer: &mut [i64; 4]) -> u64;
     fn matrix(&self, t: &[i64], data: &[u8], out: &mut [u8], answer: &mut [i64; 4]) -> u64;
     fn export(&self, def: &[u8], t: &[i64], data: &[u8], out: &mut [u8], answer: &mut [i64; 5]) -> u64;
+    fn write_definition(&self, def: &[u8], t: &[i64], out: &mut [u8], answer: &mut [i64; 4]) -> u64;
 }
 
 /// The plain Rust implementation.
@@ -134,6 +135,10 @@ impl Face for Plain {
     fn export(&self, def: &[u8], t: &[i64], data: &[u8], out: &mut [u8], answer: &mut [i64; 5]) -> u64 {
         *answer = plain::export(def, t, data, out);
         answer[0] as u64
+    }
+
+    fn write_definition(&self, def: &[u8], t: &[i64], out: &mut [u8], answer: &mut [i64; 4]) -> u64 {
+        give(answer, plain::write_definition(def, t, out))
     }
 }
 
@@ -373,6 +378,20 @@ impl Face for Library {
                 t.len(),
                 data.as_ptr(),
                 data.len(),
+                out.as_mut_ptr(),
+                out.len(),
+                answer.as_mut_ptr(),
+            )
+        }
+    }
+
+    fn write_definition(&self, def: &[u8], t: &[i64], out: &mut [u8], answer: &mut [i64; 4]) -> u64 {
+        unsafe {
+            zarfolin::ffi::zarfolin_write_definition(
+                def.as_ptr(),
+                def.len(),
+                t.as_ptr(),
+                t.len(),
                 out.as_mut_ptr(),
                 out.len(),
                 answer.as_mut_ptr(),

@@ -1151,4 +1151,8 @@ impl Face for Naive {
         *answer = crate::naive_02::export(def, t, data, out);
         answer[0] as u64
     }
+
+    fn write_definition(&self, def: &[u8], t: &[i64], out: &mut [u8], answer: &mut [i64; 4]) -> u64 {
+        give(answer, crate::naive_02::write_definition(def, t, out))
+    }
 }

@@ -7,12 +7,12 @@
 use std::collections::BTreeMap;
 use std::io::Write;
 use zarfolin_compare::case::{Call, Case, Difference, Outcome, compare, report, run};
-use zarfolin_compare::definitions::{self, SMALL, Size, Style};
+use zarfolin_compare::definitions::{self, Model, SMALL, Size, Style, Token};
 use zarfolin_compare::face::{Correction, Face, Plain, other};
 use zarfolin_compare::naive::Naive;
 use zarfolin_compare::records;
 use zarfolin_compare::rng::Rng;
-use zarfolin_compare::shape::{length, row_at};
+use zarfolin_compare::shape::{LINE, ROW, length, line_at, row_at};
 use zarfolin_compare::tables;
 
 /// The other implementation, and how often each number was met in a test.
@@ -1020,6 +1020,246 @@ fn exports_of_files() {
     tally.end("exports of files", 3_000, &[0, 20, 22, 23, 241, 242, 30, 31, 40, 60]);
 }
 
+/// A definition and a table, to be written clean into so much room: sound ones, and ones that each of 1 to 9 and 40 may come of.
+fn clean_case(r: &mut Rng, room: usize) -> Case {
+    let model = definitions::model(r, SMALL);
+    let style = Style::any(r);
+    let (mut bytes, mut table) = definitions::sound(r, style, &model);
+    if r.once_in(4) {
+        let mut tokens = model.tokens.clone();
+        match r.below(4) {
+            0 => definitions::damage_tokens(r, &mut tokens),
+            1 => broken_names(r, &model, &mut tokens),
+            _ => definitions::damage_figures(r, &mut tokens),
+        }
+        bytes = definitions::render(r, style, &tokens).0;
+        table = yielded(&bytes).unwrap_or(table);
+    } else if r.once_in(10) {
+        definitions::damage_bytes(r, &mut bytes);
+        table = yielded(&bytes).unwrap_or(table);
+    }
+    match r.below(24) {
+        0 => drop(table.pop()),
+        1 => table.truncate(r.below(table.len())),
+        2 => table.push(r.next() as i64),
+        3 | 4 => {
+            let at = r.below(table.len());
+            table[at] += r.pick(&[1, -1, 1 << 32]);
+        }
+        5 => {
+            // A text place that the definition doesn't yield leaves a table well formed.
+            let at = model.texts[r.below(model.texts.len())] + r.below(2);
+            if let Some(cell) = table.get_mut(at) {
+                *cell += 1;
+            }
+        }
+        6 => tables::changed(r, &mut table),
+        _ => {}
+    }
+    Case { bytes, table, text: vec![0x55; room], ..Case::new(Call::WriteDefinition) }
+}
+
+/// STANDARD NAMES, and a name that is none.
+fn broken_names(r: &mut Rng, model: &Model, tokens: &mut Vec<Token>) {
+    let name = r.pick(&[&b"1a"[..], b"", b"a b", b"{31}", b"a_", b"{NL}"]).to_vec();
+    if let Some(at) = tokens.iter().position(|token| matches!(token, Token::Word("NAME"))) {
+        tokens[at + 1] = Token::Text(name, None);
+    }
+    if !model.standard {
+        tokens.splice(3..3, [Token::Word("STANDARD"), Token::Word("NAMES")]);
+    }
+}
+
+/// The table that a definition yields, where it is not refused.
+fn yielded(def: &[u8]) -> Option<Vec<i64>> {
+    let mut table = vec![0; length(512, 4096)];
+    let mut answer = [0; 4];
+    let number = Plain.read_definition(def, &mut table, &mut answer);
+    table.truncate(length(answer[2] as usize, answer[3] as usize));
+    (number == 0).then_some(table)
+}
+
+/// Definitions written clean: with room, with just enough, with one byte too few; and behind them those at the limits.
+#[test]
+fn clean_definitions() {
+    let mut tally = Tally::default();
+    for seed in seeds(12_000) {
+        let mut r = Rng::new(seed ^ 0x1111);
+        let case = clean_case(&mut r, 30_000);
+        let done = check(&mut tally, seed, &case);
+        let [number, place, total, last] = done.answer;
+        assert!(last == 0 && (place == 0 || (2..=9).contains(&number)) && (total == 0 || number == 0), "seed {seed}");
+        if number != 0 {
+            continue;
+        }
+        let total = total as usize;
+        assert!(done.text[8 + total..30_008].iter().all(|&x| x == 0x55), "seed {seed}: beyond the text");
+        let room = |text: usize| Case { text: vec![0x55; text], ..case.clone() };
+        let exact = check(&mut tally, seed, &room(total));
+        let same = exact.text[8..8 + total] == done.text[8..8 + total];
+        assert!(exact.answer == done.answer && same, "seed {seed}: an exact fit");
+        assert_eq!(check(&mut tally, seed, &room(total - 1)).answer, [42, 0, 0, 0], "seed {seed}");
+    }
+    for seed in seeds(1) {
+        clean_limits(&mut tally, seed);
+    }
+    tally.end("clean definitions", 20_000, &[0, 1, 2, 3, 4, 5, 6, 7, 8, 9, 40, 41, 42]);
+}
+
+/// A clean text of just 1,048,576 bytes and of one more, by a title and by lines that grow; a definition of one byte too many.
+fn clean_limits(tally: &mut Tally, seed: u64) {
+    let titled = |n: usize| {
+        let title = "x".repeat(n);
+        format!(
+            "SSSVERSION1.1SURVEYTITLE\"{title}\"RECORDRVARIABLE1NAME\"\"LABEL\"\"TYPELOGICALPOSITION1ENDVARIABLEENDRECORDENDSURVEYENDSSS"
+        )
+        .into_bytes()
+    };
+    let mut ask = |bytes: &[u8], table: Option<Vec<i64>>, room: usize| {
+        let table = table.or_else(|| yielded(bytes)).unwrap_or_default();
+        let text = vec![0x55; room];
+        check(tally, seed, &Case { bytes: bytes.to_vec(), table, text, ..Case::new(Call::WriteDefinition) }).answer
+    };
+    let own = ask(&titled(0), None, 500)[2];
+    let most = 1_048_576 - own as usize;
+    let full = titled(most);
+    assert_eq!(ask(&full, None, 1_048_576), [0, 0, 1_048_576, 0]);
+    assert_eq!(ask(&full, None, 1_100_000), [0, 0, 1_048_576, 0]);
+    assert_eq!(ask(&full, None, 1_048_575), [42, 0, 0, 0]);
+    let over = titled(most + 1);
+    for room in [0, 1_048_576, 1_048_577, 1_100_000] {
+        // 41 comes before 42, and 40 before 41.
+        assert_eq!(ask(&over, None, room), [41, 0, 0, 0]);
+        assert_eq!(ask(&over, Some(vec![]), room), [40, 0, 0, 0]);
+    }
+    let lines: String = (0..4_096).map(|i| format!("{i}\"{}\"", "x".repeat(248))).collect();
+    let grown = format!(
+        "SSSVERSION1.1SURVEYRECORDRVARIABLE1NAME\"\"LABEL\"\"TYPEQUANTITYPOSITION1TO9VALUES{lines}ENDVALUES\
+         ENDVARIABLEENDRECORDENDSURVEYENDSSS"
+    );
+    assert_eq!(ask(grown.as_bytes(), None, 1_048_576), [41, 0, 0, 0]);
+    let mut long = titled(0);
+    long.resize(1_048_576, b' ');
+    assert_eq!(ask(&long, None, 500), [0, 0, own, 0]);
+    long.push(b' ');
+    assert_eq!(ask(&long, Some(vec![]), 0), [1, 0, 0, 0]);
+    // XML is read as 1.1 here, whatever its table.
+    assert_eq!(ask(b"<sss version=\"1.2\"><survey>", Some(vec![12]), 500), [2, 0, 0, 0]);
+}
+
+/// The stored definitions, each with the clean text that is due: both sides give just that, of it too.
+#[test]
+fn stored_clean_definitions() {
+    let mut tally = Tally::default();
+    let read = |name: &str| {
+        let path = format!("{}/../../examples/clean/{name}", env!("CARGO_MANIFEST_DIR"));
+        std::fs::read(&path).unwrap_or_else(|error| panic!("{path}: {error}"))
+    };
+    for name in ["document-003", "many", "odd"] {
+        let due = read(&format!("{name}.clean.sss"));
+        for bytes in [read(&format!("{name}.sss")), due.clone()] {
+            let table = yielded(&bytes).unwrap();
+            let case = Case { bytes, table, text: vec![0x55; due.len()], ..Case::new(Call::WriteDefinition) };
+            let done = check(&mut tally, 0, &case);
+            assert_eq!(done.answer, [0, 0, due.len() as i64, 0], "{name}");
+            assert!(done.text[8..8 + due.len()] == due[..], "{name}: another text than is stored");
+        }
+    }
+    tally.end("stored clean definitions", 6, &[0]);
+}
+
+/// What a text of a definition decodes to, on both sides.
+fn decoded(tally: &mut Tally, seed: u64, def: &[u8], place: usize, size: usize) -> Vec<i64> {
+    let (row, number) = (place as u64, size as i64);
+    let case = Case { bytes: def.to_vec(), row, number, list: vec![-7; size], ..Case::new(Call::DecodeText) };
+    let done = check(tally, seed, &case);
+    assert_eq!(done.number, 0, "seed {seed}: {}", zarfolin_compare::case::show(&case));
+    done.list[8..8 + done.answer[1] as usize].to_vec()
+}
+
+/// A table with nothing in the cells of its texts.
+fn but_for_texts(model: &Model, table: &[i64]) -> Vec<i64> {
+    let mut table = table.to_vec();
+    model.texts.iter().for_each(|&at| table[at..at + 2].fill(0));
+    table
+}
+
+/// What the request promises of every definition that is read: the clean text's lines, what reading it gives, its texts, the heading's
+/// and the title's too, and that cleaning it gives it again. Both sides are asked each time; how many lines and which texts there must be
+/// the maker of the definition knows.
+#[test]
+fn clean_definitions_say_the_same() {
+    let mut tally = Tally::default();
+    let mut texts = 0;
+    for seed in seeds(1_500) {
+        let mut r = Rng::new(seed ^ 0x11aa);
+        let model = definitions::model(&mut r, SMALL);
+        let style = Style::any(&mut r);
+        let (bytes, table) = definitions::sound(&mut r, style, &model);
+        let case = Case { bytes, table, text: vec![0x55; 30_000], ..Case::new(Call::WriteDefinition) };
+        let done = check(&mut tally, seed, &case);
+        assert_eq!(done.number, 0, "seed {seed}");
+        let clean = done.text[8..8 + done.answer[2] as usize].to_vec();
+        // CR LF ends every line, the last too, and no other byte below 32 is there.
+        let lines: Vec<&[u8]> = clean.strip_suffix(b"\r\n").unwrap().split(|&x| x == b'\n').collect();
+        let (last, others) = lines.split_last().unwrap();
+        let mut ended: Vec<&[u8]> = others.iter().map(|line| line.strip_suffix(b"\r").unwrap()).collect();
+        ended.push(last);
+        assert!(ended.iter().all(|line| !line.is_empty() && line.iter().all(|&x| x >= 32)), "seed {seed}");
+        assert_eq!(ended.len(), statements(&model), "seed {seed}: {}", clean.escape_ascii());
+        let read = check(&mut tally, seed, &definition(clean.clone(), case.table.len()));
+        assert_eq!(read.answer, [0, 0, case.table[1], case.table[2]], "seed {seed}: {}", clean.escape_ascii());
+        let again = inner(&read).to_vec();
+        assert_eq!(but_for_texts(&model, &again), but_for_texts(&model, &case.table), "seed {seed}");
+        for &at in &model.texts {
+            let mut of = |def: &[u8], t: &[i64]| decoded(&mut tally, seed, def, t[at] as usize, t[at + 1] as usize);
+            assert_eq!(of(&clean, &again), of(&case.bytes, &case.table), "seed {seed}: the text of cell {at}");
+            texts += 1;
+        }
+        for (word, body) in free_texts(&model) {
+            let line = ended.iter().find(|line| line.starts_with(format!("{word} \"").as_bytes()));
+            let line = line.unwrap_or_else(|| panic!("seed {seed}: no line of {word}"));
+            let kept = &line[word.len() + 2..line.len() - 1];
+            let of = decoded(&mut tally, seed, kept, 0, kept.len());
+            assert_eq!(of, decoded(&mut tally, seed, body, 0, body.len()), "seed {seed}: {word}");
+            texts += 1;
+        }
+        let (bytes, text) = (clean.clone(), vec![0x55; clean.len()]);
+        let twice = check(&mut tally, seed, &Case { bytes, table: again, text, ..Case::new(Call::WriteDefinition) });
+        assert_eq!((twice.answer, &twice.text[8..8 + clean.len()]), (done.answer, &clean[..]), "seed {seed}: again");
+    }
+    assert!(texts > 10_000 || std::env::var_os("ZARFOLIN_SEED").is_some(), "only {texts} texts");
+    tally.end("clean definitions read again", 25_000, &[0]);
+}
+
+/// The texts of the heading and the title, each behind its word.
+fn free_texts(model: &Model) -> Vec<(&'static str, &[u8])> {
+    let pairs = model.tokens.windows(2).filter_map(|pair| match pair {
+        [Token::Word(word @ ("DATE" | "TIME" | "ORIGIN" | "USER" | "TITLE")), Token::Text(body, None)] => {
+            Some((*word, &body[..]))
+        }
+        _ => None,
+    });
+    pairs.collect()
+}
+
+/// How many lines the clean text has: one for each of these words where it begins a statement, each range, each line of values, each END.
+fn statements(model: &Model) -> usize {
+    let word = |at: usize| match model.tokens.get(at) {
+        Some(Token::Word(word)) => *word,
+        _ => "",
+    };
+    let counted = (0..model.tokens.len()).filter(|&at| match word(at) {
+        "SSS" | "SURVEY" | "RECORD" | "VARIABLE" | "VALUES" => at == 0 || word(at - 1) != "END",
+        "VERSION" | "DATE" | "TIME" | "ORIGIN" | "USER" | "STANDARD" | "TITLE" | "NAME" | "LABEL" | "TYPE" => true,
+        "POSITION" | "SPREAD" | "SIZE" | "END" => true,
+        _ => false,
+    });
+    let rows = model.table[1] as usize;
+    let ranges = (0..rows).filter(|&row| model.table[row_at(row) + 9] == 1).count();
+    counted.count() + ranges + (model.table.len() - line_at(rows, 0)) / LINE
+}
+
 /// The comparison itself: faults put into a copy of the plain Rust are found and cut down.
 mod planted {
     use super::*;
@@ -1201,6 +1441,37 @@ mod planted {
             }
             number
         }
+        fn write_definition(&self, def: &[u8], t: &[i64], out: &mut [u8], answer: &mut [i64; 4]) -> u64 {
+            let kept = out.to_vec();
+            let number = Plain.write_definition(def, t, out, answer);
+            match self.0 {
+                // The place not told; the text's places and lengths not compared; a refusal that writes.
+                29 if (2..=9).contains(&number) => answer[1] = 0,
+                30 if number == 40 => {
+                    let own = yielded(def).unwrap();
+                    let cells = (0..own.len()).filter(|&at| t.get(at) != Some(&own[at]));
+                    let lines = row_at(own[1] as usize);
+                    let of_row = |at: usize| at >= row_at(0) && (14..18).contains(&((at - row_at(0)) % ROW));
+                    let text = |at: usize| if at < lines { of_row(at) } else { (at - lines) % LINE >= 2 };
+                    if cells.into_iter().all(text) {
+                        return Plain.write_definition(def, &own, out, answer);
+                    }
+                }
+                31 if number == 42 => out.iter_mut().take(1).for_each(|x| *x = b'S'),
+                _ if number == 0 => {
+                    let text = out[..answer[2] as usize].to_vec();
+                    let text = self.otherwise(def, text);
+                    out.copy_from_slice(&kept);
+                    out[..text.len()].copy_from_slice(&text);
+                    answer[2] = text.len() as i64;
+                    if self.0 == 32 {
+                        out[text.len()..].iter_mut().take(1).for_each(|x| *x = 0);
+                    }
+                }
+                _ => {}
+            }
+            number
+        }
         fn matrix(&self, t: &[i64], data: &[u8], out: &mut [u8], answer: &mut [i64; 4]) -> u64 {
             let number = Plain.matrix(t, data, out, answer);
             let [_, total, records, columns] = answer.map(|x| x as usize);
@@ -1229,9 +1500,41 @@ mod planted {
         }
     }
 
+    impl Wrong {
+        /// A clean text with the issue's faults: WITH forgotten; OF left out; hex case changed; the heading in file order; the last CR LF
+        /// missing; a dropped byte carried over; a number written by value; a note kept; an added finish that is not written as its start.
+        fn otherwise(&self, def: &[u8], text: Vec<u8>) -> Vec<u8> {
+            let replaced = |from: &[u8], to: &[u8]| match text.windows(from.len()).position(|part| part == from) {
+                Some(at) => [&text[..at], to, &text[at + from.len()..]].concat(),
+                None => text.clone(),
+            };
+            let holds = |word: &[u8]| def.windows(word.len()).position(|part| part == word);
+            match self.0 {
+                33 => replaced(b" WITH\r\n", b"\r\n"),
+                34 => replaced(b" OF 1\r\n", b"\r\n"),
+                35 => replaced(b"{4a", b"{4A"),
+                36 => match (holds(b"USER"), holds(b"DATE")) {
+                    (Some(user), Some(date)) if user < date => {
+                        let mut lines: Vec<&[u8]> = text.split_inclusive(|&x| x == b'\n').collect();
+                        let last = lines.iter().rposition(|line| line.starts_with(b"USER \"")).unwrap_or(2);
+                        lines[2..=last].rotate_right(1);
+                        lines.concat()
+                    }
+                    _ => text,
+                },
+                37 => text[..text.len() - 2].to_vec(),
+                38 if def.contains(&b'\t') => replaced(b"POSITION", b"POSI\tTION"),
+                39 => replaced(b"VARIABLE 0", b"VARIABLE "),
+                40 if holds(b"NOTE").is_some() => replaced(b"SURVEY\r\n", b"NOTE \"\"\r\nSURVEY\r\n"),
+                41 => replaced(b" TO 0", b" TO "),
+                _ => text,
+            }
+        }
+    }
+
     #[test]
     fn faults_are_found() {
-        for fault in 0..29 {
+        for fault in 0..42 {
             let found = (0..2_000).any(|seed| {
                 let mut r = Rng::new(seed);
                 let model = definitions::model(&mut r, SMALL);
@@ -1282,6 +1585,8 @@ mod planted {
                     20..=22 => matrix_case(&mut r, table, 60_000),
                     23 => matrix_case(&mut r, table, 0),
                     24..=28 => export_case(&mut r, 60_000),
+                    31 => clean_case(&mut r, 100),
+                    29..=41 => clean_case(&mut r, 30_000),
                     _ => Case { bytes: records::file(&mut r, &table), table, ..Case::new(Call::JudgeFile) },
                 };
                 run(&Plain, &case) != run(&Wrong(fault), &case)

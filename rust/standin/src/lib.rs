@@ -288,6 +288,22 @@ pub unsafe extern "C" fn zarfolin_export(
 }
 
 #[unsafe(no_mangle)]
+pub unsafe extern "C" fn zarfolin_write_definition(
+    def: *const u8,
+    def_len: usize,
+    table: *const i64,
+    table_len: usize,
+    out: *mut u8,
+    out_len: usize,
+    answer: *mut i64,
+) -> Number {
+    unsafe {
+        let (def, table) = (from_raw_parts(def, def_len), from_raw_parts(table, table_len));
+        give(answer, plain::write_definition(def, table, from_raw_parts_mut(out, out_len)))
+    }
+}
+
+#[unsafe(no_mangle)]
 pub unsafe extern "C" fn zarfolin_correct(
     table: *const i64,
     table_len: usize,

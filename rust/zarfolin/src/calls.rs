@@ -92,6 +92,49 @@ pub fn read_definition(def: &[u8], table: &mut [i64]) -> Result<Counts, Definiti
     }
 }
 
+/// Writes a definition anew into `out`, clean, and answers the text's length: a statement a line with CR LF, in one order, every width
+/// stated, comments and notes left out, texts and numbers as they stand without dropped bytes. Reading it gives the same table but for
+/// the places and lengths of texts, and texts that decode alike. `out` keeps what stands behind the text, and on a refusal all of it:
+/// the definition's own, with its place; [`Refusal::OtherTable`] (the definition yields another table), [`Refusal::CleanSize`],
+/// [`Refusal::CleanRoom`] with place 0. With [`MAX_DEFINITION`](crate::table::limit::MAX_DEFINITION) bytes the last can't come.
+///
+/// ```
+/// use zarfolin::{Refusal, calls, table::limit::MAX_TABLE};
+/// let text = b"SSS VERSION 1.1 <draft> SURVEY RECORD R VARIABLE 007 NAME \"a\" LABEL \"{4A}\" TYPE logical POSITION 05 NOTE \"?\"
+///     END VARIABLE END RECORD END SURVEY END SSS";
+/// let mut table = [0; MAX_TABLE];
+/// calls::read_definition(text, &mut table)?;
+/// let mut out = [0; 200];
+/// let length = calls::write_definition(text, &table, &mut out)?;
+/// let clean = "SSS\r\nVERSION 1.1\r\nSURVEY\r\nRECORD R\r\nVARIABLE 007\r\nNAME \"a\"\r\nLABEL \"{4A}\"\r\nTYPE LOGICAL\r\n\
+///     POSITION 05 TO 05\r\nEND VARIABLE\r\nEND RECORD\r\nEND SURVEY\r\nEND SSS\r\n";
+/// assert_eq!(&out[..length], clean.as_bytes());
+/// let error = calls::write_definition(text, &table, &mut out[..length - 1]).unwrap_err();
+/// assert_eq!((error.refusal, error.place), (Refusal::CleanRoom, 0));
+/// table[6] = 8;
+/// assert_eq!(calls::write_definition(text, &table, &mut out).unwrap_err().refusal, Refusal::OtherTable);
+/// # Ok::<(), zarfolin::DefinitionError>(())
+/// ```
+pub fn write_definition(def: &[u8], table: &[i64], out: &mut [u8]) -> Result<usize, DefinitionError> {
+    let mut answer = [0i64; 4];
+    // SAFETY: as above.
+    let number = unsafe {
+        zarfolin_write_definition(
+            def.as_ptr(),
+            def.len(),
+            table.as_ptr(),
+            table.len(),
+            out.as_mut_ptr(),
+            out.len(),
+            answer.as_mut_ptr(),
+        )
+    };
+    match Refusal::of(number) {
+        None => Ok(answer[2] as usize),
+        Some(refusal) => Err(DefinitionError { refusal, place: answer[1] as usize }),
+    }
+}
+
 /// Reads one row's value from a record. A set goes to the start of the list and is answered as a part of it;
 /// with [`MAX_SET`](crate::table::limit::MAX_SET) numbers the list is long enough for any.
 pub fn read_value<'a>(table: &[i64], row: u64, record: &'a [u8], list: &'a mut [i64]) -> Result<Value<'a>, ReadError> {

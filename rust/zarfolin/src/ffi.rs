@@ -184,6 +184,17 @@ unsafe extern "C" {
         answer: *mut i64,
     ) -> Number;
 
+    /// Writes a definition anew, clean. [`calls::write_definition`](crate::calls::write_definition).
+    pub fn zarfolin_write_definition(
+        def: *const u8,
+        def_len: usize,
+        table: *const i64,
+        table_len: usize,
+        out: *mut u8,
+        out_len: usize,
+        answer: *mut i64,
+    ) -> Number;
+
     /// Writes a data file as comma-separated text. Its answer has five numbers. [`calls::export`](crate::calls::export).
     pub fn zarfolin_export(
         def: *const u8,

@@ -103,8 +103,12 @@ refusals! {
     Unended = 30, "the last record has no terminator";
     /// 31: length differs from the first record's.
     Length = 31, "the record's length differs from the first record's";
-    /// 40: the table is not the one that the definition yields, or the definition is refused.
+    /// 40: the table is not the one that the definition yields; of an export also: the definition is refused.
     OtherTable = 40, "the table is not the one that this definition yields";
+    /// 41: clean text above 1,048,576 bytes.
+    CleanSize = 41, "the clean definition is longer than 1,048,576 bytes";
+    /// 42: output too short for the clean text.
+    CleanRoom = 42, "the lent output is too short for the clean definition";
     /// 60: output too short for the exported text.
     ExportRoom = 60, "the lent output is too short for the exported text";
     /// 70: output or list too short for the mended file.
@@ -139,7 +143,7 @@ impl Error for Refusal {}
 pub struct DefinitionError {
     /// Why.
     pub refusal: Refusal,
-    /// The first byte of what is at fault, from 0; 0 where no byte is (1 and 10).
+    /// The first byte of what is at fault, from 0; 0 where no byte is (1, 10, 40 to 42).
     pub place: usize,
 }
 
@@ -209,7 +213,9 @@ pub struct FileFault {
 impl fmt::Display for DefinitionError {
     fn fmt(&self, f: &mut fmt::Formatter) -> fmt::Result {
         match self.refusal {
-            Refusal::TooLong | Refusal::TableRoom => write!(f, "{}", self.refusal),
+            Refusal::TooLong | Refusal::TableRoom | Refusal::OtherTable | Refusal::CleanSize | Refusal::CleanRoom => {
+                write!(f, "{}", self.refusal)
+            }
             refusal => write!(f, "byte {}: {refusal}", self.place),
         }
     }

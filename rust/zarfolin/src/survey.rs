@@ -158,6 +158,29 @@ impl<'t> Definition<'t> {
         calls::export(self.text, &self.table, data, out)
     }
 
+    /// The definition written anew, clean: [`calls::write_definition`]. It is refused only where the clean text would be longer than a
+    /// definition may be ([`Refusal::CleanSize`]).
+    ///
+    /// ```
+    /// # let text = std::fs::read("../../examples/counter/survey.sss").unwrap();
+    /// use zarfolin::Definition;
+    /// let definition = Definition::read(&text)?;
+    /// let clean = definition.clean().unwrap();
+    /// assert!(clean.starts_with(b"SSS\r\nVERSION 1.1\r\n"));
+    /// let again = Definition::read(&clean)?;
+    /// assert_eq!(again.record_length(), definition.record_length());
+    /// assert_eq!(again.clean().unwrap(), clean);
+    /// # Ok::<(), zarfolin::DefinitionError>(())
+    /// ```
+    pub fn clean(&self) -> Result<Vec<u8>, Refusal> {
+        let mut out = vec![0; limit::MAX_DEFINITION];
+        // The text was read into this table, so that none of 1 to 9 and 40 can come: no place is lost.
+        let length = calls::write_definition(self.text, &self.table, &mut out).map_err(|error| error.refusal)?;
+        out.truncate(length);
+        out.shrink_to_fit();
+        Ok(out)
+    }
+
     fn cells(&self, row: usize) -> &[i64] {
         &self.table[table::row_at(row)..][..table::ROW]
     }

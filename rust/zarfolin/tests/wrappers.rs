@@ -330,6 +330,44 @@ fn exports() {
     assert!(cut.length < text.len() && out[cut.length] == 0x55);
 }
 
+/// Every buffer as the header says, every refusal with its place; above it the whole text in one call.
+#[test]
+fn clean_definitions() {
+    let definition = Definition::read(SAMPLE).unwrap();
+    let clean = definition.clean().unwrap();
+    let again = Definition::read(&clean).unwrap();
+    assert_eq!(again.clean().unwrap(), clean);
+    let words = b"POSITION 17 TO 17\r\nEND VARIABLE\r\nEND RECORD\r\nEND SURVEY\r\nEND SSS\r\n";
+    assert!(clean.ends_with(words), "{}", clean.escape_ascii());
+    for (before, after) in definition.variables().zip(again.variables()) {
+        assert_eq!((before.ident(), before.kind(), before.columns()), (after.ident(), after.kind(), after.columns()));
+        assert_eq!((before.range(), before.name().as_bytes()), (after.range(), after.name().as_bytes()));
+    }
+    let mut out = vec![0x55; clean.len() + 3];
+    assert_eq!(calls::write_definition(SAMPLE, definition.table(), &mut out), Ok(clean.len()));
+    assert!(out[..clean.len()] == clean && out[clean.len()..] == [0x55; 3]);
+
+    let kept = vec![0x55; clean.len()];
+    let mut out = kept.clone();
+    let refused = |def: &[u8], table: &[i64], out: &mut [u8]| {
+        let error = calls::write_definition(def, table, out).unwrap_err();
+        (error.refusal, error.place)
+    };
+    let table = definition.table();
+    assert_eq!(refused(b"SSS VERSION 1.2", table, &mut out), (Refusal::Version, 12));
+    assert_eq!(refused(&vec![b' '; 1_048_577], table, &mut out), (Refusal::TooLong, 0));
+    assert_eq!(refused(SAMPLE, &table[..table.len() - 1], &mut out), (Refusal::OtherTable, 0));
+    assert_eq!(refused(SAMPLE, again.table(), &mut out), (Refusal::OtherTable, 0));
+    assert_eq!(refused(SAMPLE, table, &mut out[1..]), (Refusal::CleanRoom, 0));
+    assert_eq!(out, kept);
+    let error = calls::write_definition(SAMPLE, &[], &mut out).unwrap_err();
+    assert_eq!(error.to_string(), "the table is not the one that this definition yields [40]");
+
+    let title = format!("SURVEY TITLE \"{}\" RECORD", "x".repeat(1_048_576 - SAMPLE.len() - 9));
+    let long = String::from_utf8(SAMPLE.to_vec()).unwrap().replace("SURVEY RECORD", &title);
+    assert_eq!(Definition::read(long.as_bytes()).unwrap().clean(), Err(Refusal::CleanSize));
+}
+
 #[test]
 fn files() {
     let definition = Definition::read(SAMPLE).unwrap();

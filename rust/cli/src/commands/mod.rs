@@ -3,6 +3,7 @@
 
 mod apply;
 mod check;
+mod clean;
 mod completion;
 mod explain;
 mod export;
@@ -46,6 +47,7 @@ pub const ALL: &[&Command] = &[
     &mend::COMMAND,
     &matrix::COMMAND,
     &export::COMMAND,
+    &clean::COMMAND,
     &same::COMMAND,
     &explain::COMMAND,
     &completion::COMMAND,
@@ -125,7 +127,10 @@ impl Text {
 /// Where the new data goes: to OUT, or to the place of the old.
 fn output(given: &Given, data: &OsStr, inputs: &[&Input]) -> Result<Output, Failure> {
     match (given.value(OUTPUT.long), given.has(IN_PLACE.long)) {
-        (Some(out), false) => Output::create(out, inputs),
+        (Some(out), false) => Output::create(out, inputs).map_err(|failure| match failure {
+            Failure::Usage(words) => Failure::Usage(format!("{words}; --in-place replaces DATA")),
+            other => other,
+        }),
         (None, true) => Output::in_place(data),
         (Some(_), true) => Err(Failure::Usage("-o and --in-place exclude each other".into())),
         (None, false) => Err(Failure::Usage("-o OUT or --in-place is due".into())),

@@ -1,0 +1,3 @@
+pub mod Cleaning
+pub mod Sample
+pub mod Odd

@@ -1,0 +1,4 @@
+pub mod Items
+pub mod Whole
+pub mod Fine
+pub mod Read

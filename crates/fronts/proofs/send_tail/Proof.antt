@@ -1,0 +1,30 @@
+use mathlib.Core.Path.{_≡_, refl, sym, ap, _∙_}
+use native.Mathlib.Omega.{arith}
+use borrow.Author.Needs.{needs}
+use Rattle.sink.specs.Sent.{then}
+use Rattle.fronts.specs.Front.{tailText}
+use Rattle.fronts.proofs.send_tail.Statement.{statement}
+use Rattle.fronts.proofs.send_tail.Tie as tie
+
+same-length : tie.Need-same-length
+same-length c = c .before .before .send-bytes3 .ensures .room ∙ c .before .before .before .before .before .before .before .send-byte .ensures .room ∙ c .before .before .before .before .before .before .before .before .before .before .before .send-bytes2 .ensures .room ∙ c .before .before .before .before .before .before .before .before .before .before .before .before .before .before .before .before .send-perhaps .ensures .room ∙ c .before .before .before .before .before .before .before .before .before .before .before .before .before .before .before .before .before .before .before .before .before .send-bytes .ensures .room
+
+returns : tie.Need-returns
+unfolding tailText
+returns c = then (c .before .before .before .before .before .before .before .before .before .before .before .before .before .before .before .before .before .before .before .before .before .send-bytes .ensures) (then (c .before .before .before .before .before .before .before .before .before .before .before .before .before .before .before .before .send-perhaps .ensures) (then (c .before .before .before .before .before .before .before .before .before .before .before .send-bytes2 .ensures) (then (c .before .before .before .before .before .before .before .send-byte .ensures) (c .before .before .send-bytes3 .ensures))))
+
+pub send-tail-spec : {M : Type 1} → statement M
+send-tail-spec =
+    tie.close
+    (tie.spec
+    (λ c. search needs)
+    (λ c κs. search needs)
+    (λ c. search needs)
+    (λ c κs. c .before .before .before .before .before .before .before .before .before .pre)
+    (λ c. search needs)
+    (λ c κs. search needs)
+    (λ c κs. search needs)
+    (λ c. search needs)
+    (λ c κs. search needs)
+    same-length
+    returns)

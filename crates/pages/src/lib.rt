@@ -1,0 +1,673 @@
+// The clean lines of a definition that was read before, a statement at a time: each is walked anew, past its things, and its line is sent to
+// be measured or stored. Above it stands the clean text as a whole.
+use scan::Step;
+use steps::Found;
+use steps::Span;
+ghost use mathlib.Core.Path.{_≡_};
+ghost use mathlib.Core.Bool.{cond};
+ghost use mathlib.Core.List.{[], _∷_, _++_};
+ghost use Prim.Native.Nat.{_+_, _^_, _≤_, _<_};
+ghost use lib.ListN.{length};
+ghost use Rattle.ascii.specs.Class.{Classes};
+ghost use Rattle.ascii.specs.rule.Tens.{Tens};
+ghost use Rattle.fields.specs.rule.Number.{padded};
+ghost use Rattle.sink.specs.rule.Sent.{Sent};
+ghost use Rattle.statements.specs.rule.Words.{VALUES, END};
+ghost use Rattle.steps.specs.Step.{statementFound, keywordPast};
+ghost use Rattle.clean_text.specs.rule.Span.{spanOf};
+ghost use Rattle.clean_text.specs.rule.Clean.{plainDigits};
+ghost use Rattle.pages.specs.Page.{Paged, framed, numberPage, phrasePage, typeAt, typeText, positionAt, positionText, roomOf, spreadAt, evenOf, spreadText};
+ghost use Rattle.pages.specs.Page.{lineAt, lineText, linesPage, rangeAt, rangeText, blockPage, valuesPage, restPage, endPage, titlesPage, variablePage};
+ghost use Rattle.pages.specs.Page.{variablesPage};
+
+// Where what was sent ends, and where reading stands.
+pub struct Walked {
+    pub at: usize,
+    pub next: usize,
+}
+
+// ---- bytes
+// The kept bytes of a stretch.
+pub fn send_span(
+    classes: &[u8; 256],
+    d: &[u8],
+    bound: usize,
+    out: &mut [u8],
+    at: usize,
+    from: usize,
+    end: usize,
+) -> usize
+    requires { ⌜ Classes (now classes) ⌝ }
+    ensures { λ r. ⌜ Sent bound (now (out .entry)) at (spanOf (now (d .entry)) from end) (now (out .exit)) r ⌝ }
+{
+    let mut n = from;
+    let mut p = at;
+    loop {
+        match scan::next_byte(classes, d, n) {
+            Step::Byte { byte, place, next } => {
+                if end <= place {
+                    return p;
+                }
+                p = sink::send_byte(bound, out, p, byte);
+                n = next;
+            }
+            Step::End { place: _ } => {
+                return p;
+            }
+        }
+    }
+}
+
+// A stretch between two literals.
+pub fn send_framed(
+    classes: &[u8; 256],
+    d: &[u8],
+    bound: usize,
+    out: &mut [u8],
+    at: usize,
+    pre: &[u8],
+    s: Span,
+    post: &[u8],
+) -> usize
+    requires { ⌜ Classes (now classes) ⌝ }
+    ensures { λ r. ⌜ Sent bound (now (out .entry)) at (framed (now (d .entry)) (now (pre .entry)) s (now (post .entry))) (now (out .exit)) r ⌝ }
+{
+    let a = sink::send_bytes(bound, out, at, pre);
+    let b = send_span(classes, d, bound, out, a, s.from, s.end);
+    sink::send_bytes(bound, out, b, post)
+}
+
+// The last w digits of n.
+fn send_digits(
+    powers: &[u64; 16],
+    bound: usize,
+    out: &mut [u8],
+    at: usize,
+    w: usize,
+    n: u64,
+) -> usize
+    requires { ⌜ Tens (now powers) ⌝ }
+    requires { ⌜ (n < 10 ^ 16) × (w ≤ 20) ⌝ }
+    ensures { λ r. ⌜ Sent bound (now (out .entry)) at (padded w n) (now (out .exit)) r ⌝ }
+{
+    let mut room = [0u8; 20];
+    digits::put_digits(powers, &mut room, 0, w, n);
+    sink::send_bytes(bound, out, at, &room[..w])
+}
+
+// A count in plain digits.
+fn send_count(powers: &[u64; 16], bound: usize, out: &mut [u8], at: usize, n: u64) -> usize
+    requires { ⌜ Tens (now powers) ⌝ }
+    requires { ⌜ n < 10 ^ 16 ⌝ }
+    ensures { λ r. ⌜ Sent bound (now (out .entry)) at (plainDigits n) (now (out .exit)) r ⌝ }
+{
+    let w = ascii::digit_count(powers, n);
+    send_digits(powers, bound, out, at, w, n)
+}
+
+// ---- statements of a word and a number, or a word and a string
+pub fn send_number(
+    classes: &[u8; 256],
+    d: &[u8],
+    n: usize,
+    bound: usize,
+    out: &mut [u8],
+    at: usize,
+    w: &[u8],
+    pre: &[u8],
+) -> Walked
+    requires { ⌜ Classes (now classes) ⌝ }
+    ensures { λ r. ⌜ Paged bound (now (out .entry)) at (now (out .exit)) r (numberPage (now (d .entry)) n (now (w .entry)) (now (pre .entry))) ⌝ }
+{
+    let a = steps::past_statement(classes, d, n, w);
+    let x = steps::number_span(classes, d, a);
+    let end = send_framed(classes, d, bound, out, at, pre, x, b"\r\n");
+    Walked {
+        at: end,
+        next: x.next,
+    }
+}
+
+pub fn send_phrase(
+    classes: &[u8; 256],
+    d: &[u8],
+    n: usize,
+    bound: usize,
+    out: &mut [u8],
+    at: usize,
+    w: &[u8],
+    pre: &[u8],
+) -> Walked
+    requires { ⌜ Classes (now classes) ⌝ }
+    ensures { λ r. ⌜ Paged bound (now (out .entry)) at (now (out .exit)) r (phrasePage (now (d .entry)) n (now (w .entry)) (now (pre .entry))) ⌝ }
+{
+    let a = steps::past_statement(classes, d, n, w);
+    let x = steps::string_span(classes, d, a);
+    let end = send_framed(classes, d, bound, out, at, pre, x, b"\"\r\n");
+    Walked {
+        at: end,
+        next: x.next,
+    }
+}
+
+// END and a word.
+pub fn send_end(
+    classes: &[u8; 256],
+    d: &[u8],
+    n: usize,
+    bound: usize,
+    out: &mut [u8],
+    at: usize,
+    w: &[u8],
+    line: &[u8],
+) -> Walked
+    requires { ⌜ Classes (now classes) ⌝ }
+    ensures { λ r. ⌜ Paged bound (now (out .entry)) at (now (out .exit)) r (endPage (now (d .entry)) n (now (w .entry)) (now (line .entry))) ⌝ }
+{
+    let a = steps::past_statement(classes, d, n, b"END");
+    let next = steps::past_keyword(classes, d, a, w);
+    let end = sink::send_bytes(bound, out, at, line);
+    Walked { at: end, next }
+}
+
+// ---- TYPE
+// The number of the type, and the place behind its word.
+pub struct Sort {
+    pub kind: usize,
+    pub next: usize,
+}
+
+fn type_at(classes: &[u8; 256], d: &[u8], n: usize) -> Sort
+    requires { ⌜ Classes (now classes) ⌝ }
+    ensures { λ r. ⌜ r ≡ typeAt (now (d .entry)) n ⌝ }
+{
+    let a = steps::past_statement(classes, d, n, b"TYPE");
+    let one = steps::find_word(classes, d, a, b"SINGLE");
+    if one.there {
+        return Sort {
+            kind: 1,
+            next: one.next,
+        };
+    }
+    let two = steps::find_word(classes, d, a, b"MULTIPLE");
+    if two.there {
+        return Sort {
+            kind: 2,
+            next: two.next,
+        };
+    }
+    let three = steps::find_word(classes, d, a, b"QUANTITY");
+    if three.there {
+        return Sort {
+            kind: 3,
+            next: three.next,
+        };
+    }
+    let four = steps::find_word(classes, d, a, b"CHARACTER");
+    if four.there {
+        return Sort {
+            kind: 4,
+            next: four.next,
+        };
+    }
+    let next = steps::past_keyword(classes, d, a, b"LOGICAL");
+    Sort { kind: 5, next }
+}
+
+fn send_type(bound: usize, out: &mut [u8], at: usize, kind: usize) -> usize
+    ensures { λ r. ⌜ Sent bound (now (out .entry)) at (typeText kind) (now (out .exit)) r ⌝ }
+{
+    if kind == 1 {
+        return sink::send_bytes(bound, out, at, b"TYPE SINGLE\r\n");
+    }
+    if kind == 2 {
+        return sink::send_bytes(bound, out, at, b"TYPE MULTIPLE\r\n");
+    }
+    if kind == 3 {
+        return sink::send_bytes(bound, out, at, b"TYPE QUANTITY\r\n");
+    }
+    if kind == 4 {
+        return sink::send_bytes(bound, out, at, b"TYPE CHARACTER\r\n");
+    }
+    sink::send_bytes(bound, out, at, b"TYPE LOGICAL\r\n")
+}
+
+// ---- POSITION
+pub struct Places {
+    pub start: Span,
+    pub finish: Span,
+    pub next: usize,
+}
+
+fn position_at(classes: &[u8; 256], d: &[u8], n: usize) -> Places
+    requires { ⌜ Classes (now classes) ⌝ }
+    ensures { λ r. ⌜ r ≡ positionAt (now (d .entry)) n ⌝ }
+{
+    let a = steps::past_statement(classes, d, n, b"POSITION");
+    let x = steps::number_span(classes, d, a);
+    let f = steps::find_word(classes, d, x.next, b"TO");
+    if f.there {
+        let y = steps::number_span(classes, d, f.next);
+        return Places {
+            start: x,
+            finish: y,
+            next: y.next,
+        };
+    }
+    Places {
+        start: x,
+        finish: x,
+        next: f.next,
+    }
+}
+
+fn send_position(
+    classes: &[u8; 256],
+    d: &[u8],
+    bound: usize,
+    out: &mut [u8],
+    at: usize,
+    p: Places,
+) -> usize
+    requires { ⌜ Classes (now classes) ⌝ }
+    ensures { λ r. ⌜ Sent bound (now (out .entry)) at (positionText (now (d .entry)) p) (now (out .exit)) r ⌝ }
+{
+    let start = p.start;
+    let finish = p.finish;
+    let a = send_framed(classes, d, bound, out, at, b"POSITION ", start, b" TO ");
+    send_framed(classes, d, bound, out, a, b"", finish, b"\r\n")
+}
+
+// How many positions a variable has.
+fn room_of(start: u64, finish: u64) -> u64
+    ensures { λ r. ⌜ r ≡ roomOf start finish ⌝ }
+{
+    if 16384 < finish {
+        return 0;
+    }
+    if finish < start {
+        return 0;
+    }
+    finish - start + 1
+}
+
+// ---- SPREAD
+pub struct Parts {
+    pub there: bool,
+    pub count: Span,
+    pub of: bool,
+    pub width: Span,
+    pub next: usize,
+}
+
+fn spread_at(classes: &[u8; 256], d: &[u8], n: usize) -> Parts
+    requires { ⌜ Classes (now classes) ⌝ }
+    ensures { λ r. ⌜ r ≡ spreadAt (now (d .entry)) n ⌝ }
+{
+    let f = steps::find_statement(classes, d, n, b"SPREAD");
+    let x = steps::number_span(classes, d, f.next);
+    let g = steps::find_word(classes, d, x.next, b"OF");
+    let w = steps::number_span(classes, d, g.next);
+    if f.there {
+        if g.there {
+            return Parts {
+                there: true,
+                count: x,
+                of: true,
+                width: w,
+                next: w.next,
+            };
+        }
+        return Parts {
+            there: true,
+            count: x,
+            of: false,
+            width: x,
+            next: g.next,
+        };
+    }
+    Parts {
+        there: false,
+        count: x,
+        of: false,
+        width: x,
+        next: n,
+    }
+}
+
+// The width of each of `count` equal parts.
+fn even_of(room: u64, count: u64) -> u64
+    ensures { λ r. ⌜ r ≡ evenOf room count ⌝ }
+{
+    if count == 0 { 0 } else { room / count }
+}
+
+fn send_spread(
+    classes: &[u8; 256],
+    powers: &[u64; 16],
+    d: &[u8],
+    bound: usize,
+    out: &mut [u8],
+    at: usize,
+    p: Parts,
+    room: u64,
+) -> usize
+    requires { ⌜ Classes (now classes) ⌝ }
+    requires { ⌜ Tens (now powers) ⌝ }
+    requires { ⌜ evenOf room (p .count .size) < 10 ^ 16 ⌝ }
+    ensures { λ r. ⌜ Sent bound (now (out .entry)) at (spreadText (now (d .entry)) room p) (now (out .exit)) r ⌝ }
+{
+    if !p.there {
+        return at;
+    }
+    let count = p.count;
+    let width = p.width;
+    let a = send_framed(classes, d, bound, out, at, b"SPREAD ", count, b" OF ");
+    if p.of {
+        return send_framed(classes, d, bound, out, a, b"", width, b"\r\n");
+    }
+    let b = send_count(powers, bound, out, a, even_of(room, count.size));
+    sink::send_bytes(bound, out, b, b"\r\n")
+}
+
+// ---- VALUES
+pub struct LineParts {
+    pub value: Span,
+    pub text: Span,
+    pub special: bool,
+    pub next: usize,
+}
+
+fn line_at(classes: &[u8; 256], d: &[u8], n: usize) -> LineParts
+    requires { ⌜ Classes (now classes) ⌝ }
+    ensures { λ r. ⌜ r ≡ lineAt (now (d .entry)) n ⌝ }
+{
+    let g = steps::past_notes(classes, d, n);
+    let value = steps::value_span(classes, d, g);
+    let text = steps::string_span(classes, d, value.next);
+    let s = steps::find_word(classes, d, text.next, b"SPECIAL");
+    LineParts {
+        value,
+        text,
+        special: s.there,
+        next: s.next,
+    }
+}
+
+fn send_line(
+    classes: &[u8; 256],
+    d: &[u8],
+    bound: usize,
+    out: &mut [u8],
+    at: usize,
+    l: LineParts,
+) -> usize
+    requires { ⌜ Classes (now classes) ⌝ }
+    ensures { λ r. ⌜ Sent bound (now (out .entry)) at (lineText (now (d .entry)) l) (now (out .exit)) r ⌝ }
+{
+    let value = l.value;
+    let text = l.text;
+    let a = send_framed(classes, d, bound, out, at, b"", value, b" \"");
+    if l.special {
+        return send_framed(classes, d, bound, out, a, b"", text, b"\" SPECIAL\r\n");
+    }
+    send_framed(classes, d, bound, out, a, b"", text, b"\"\r\n")
+}
+
+// Whether END stands behind the notes. In a function of its own: a literal in a loop would be one more thing that the loop keeps.
+fn find_end(classes: &[u8; 256], d: &[u8], n: usize) -> Found
+    requires { ⌜ Classes (now classes) ⌝ }
+    ensures { λ r. ⌜ r ≡ statementFound (now (d .entry)) n END ⌝ }
+{
+    steps::find_statement(classes, d, n, b"END")
+}
+
+fn past_values(classes: &[u8; 256], d: &[u8], n: usize) -> usize
+    requires { ⌜ Classes (now classes) ⌝ }
+    ensures { λ r. ⌜ r ≡ keywordPast (now (d .entry)) n VALUES ⌝ }
+{
+    steps::past_keyword(classes, d, n, b"VALUES")
+}
+
+// The lines of a block, from the place behind VALUES or WITH.
+fn send_lines(
+    classes: &[u8; 256],
+    d: &[u8],
+    start: usize,
+    bound: usize,
+    out: &mut [u8],
+    at: usize,
+) -> Walked
+    requires { ⌜ Classes (now classes) ⌝ }
+    ensures { λ r. ⌜ Paged bound (now (out .entry)) at (now (out .exit)) r (linesPage 4096 (now (d .entry)) start) ⌝ }
+{
+    let mut n = start;
+    let mut p = at;
+    let mut k: usize = 0;
+    while k < 4096 {
+        let l = line_at(classes, d, n);
+        p = send_line(classes, d, bound, out, p, l);
+        let e = find_end(classes, d, l.next);
+        if e.there {
+            let next = past_values(classes, d, e.next);
+            return Walked { at: p, next };
+        }
+        n = l.next;
+        k += 1;
+    }
+    Walked { at: p, next: n }
+}
+
+pub struct RangeParts {
+    pub there: bool,
+    pub from: Span,
+    pub to: Span,
+    pub with: bool,
+    pub next: usize,
+}
+
+fn range_at(classes: &[u8; 256], d: &[u8], n: usize) -> RangeParts
+    requires { ⌜ Classes (now classes) ⌝ }
+    ensures { λ r. ⌜ r ≡ rangeAt (now (d .entry)) n ⌝ }
+{
+    let g = steps::past_notes(classes, d, n);
+    let from = steps::value_span(classes, d, g);
+    let f = steps::find_word(classes, d, from.next, b"TO");
+    if f.there {
+        let h = steps::past_gap(classes, d, f.next);
+        let to = steps::value_span(classes, d, h);
+        let w = steps::find_word(classes, d, to.next, b"WITH");
+        return RangeParts {
+            there: true,
+            from,
+            to,
+            with: w.there,
+            next: w.next,
+        };
+    }
+    RangeParts {
+        there: false,
+        from,
+        to: from,
+        with: false,
+        next: n,
+    }
+}
+
+fn send_range(
+    classes: &[u8; 256],
+    d: &[u8],
+    bound: usize,
+    out: &mut [u8],
+    at: usize,
+    r: RangeParts,
+) -> usize
+    requires { ⌜ Classes (now classes) ⌝ }
+    ensures { λ e. ⌜ Sent bound (now (out .entry)) at (rangeText (now (d .entry)) r) (now (out .exit)) e ⌝ }
+{
+    if !r.there {
+        return at;
+    }
+    let from = r.from;
+    let to = r.to;
+    let a = send_framed(classes, d, bound, out, at, b"", from, b" TO ");
+    if r.with {
+        return send_framed(classes, d, bound, out, a, b"", to, b" WITH\r\n");
+    }
+    send_framed(classes, d, bound, out, a, b"", to, b"\r\n")
+}
+
+// What stands behind the range, or behind VALUES, up to END VALUES.
+fn send_block(
+    classes: &[u8; 256],
+    d: &[u8],
+    bound: usize,
+    out: &mut [u8],
+    at: usize,
+    r: RangeParts,
+) -> Walked
+    requires { ⌜ Classes (now classes) ⌝ }
+    ensures { λ w. ⌜ Paged bound (now (out .entry)) at (now (out .exit)) w (blockPage (now (d .entry)) r) ⌝ }
+{
+    if r.there & !r.with {
+        let a = steps::past_statement(classes, d, r.next, b"END");
+        let next = steps::past_keyword(classes, d, a, b"VALUES");
+        return Walked { at, next };
+    }
+    send_lines(classes, d, r.next, bound, out, at)
+}
+
+pub fn send_values(
+    classes: &[u8; 256],
+    d: &[u8],
+    n: usize,
+    bound: usize,
+    out: &mut [u8],
+    at: usize,
+) -> Walked
+    requires { ⌜ Classes (now classes) ⌝ }
+    ensures { λ w. ⌜ Paged bound (now (out .entry)) at (now (out .exit)) w (valuesPage (now (d .entry)) n) ⌝ }
+{
+    let a = steps::past_statement(classes, d, n, b"VALUES");
+    let r = range_at(classes, d, a);
+    let b = sink::send_bytes(bound, out, at, b"VALUES\r\n");
+    let c = send_range(classes, d, bound, out, b, r);
+    let e = send_block(classes, d, bound, out, c, r);
+    let end = sink::send_bytes(bound, out, e.at, b"END VALUES\r\n");
+    Walked {
+        at: end,
+        next: e.next,
+    }
+}
+
+// ---- a variable
+// What its type has behind its position, of `room` bytes.
+fn send_rest(
+    classes: &[u8; 256],
+    powers: &[u64; 16],
+    d: &[u8],
+    n: usize,
+    kind: usize,
+    room: u64,
+    bound: usize,
+    out: &mut [u8],
+    at: usize,
+) -> Walked
+    requires { ⌜ Classes (now classes) ⌝ }
+    requires { ⌜ Tens (now powers) ⌝ }
+    requires { ⌜ room ≤ 16384 + 1 ⌝ }
+    ensures { λ w. ⌜ Paged bound (now (out .entry)) at (now (out .exit)) w (restPage (now (d .entry)) n kind room) ⌝ }
+{
+    if kind == 5 {
+        return Walked { at, next: n };
+    }
+    if kind == 4 {
+        return send_number(classes, d, n, bound, out, at, b"SIZE", b"SIZE ");
+    }
+    if kind == 2 {
+        let p = spread_at(classes, d, n);
+        let a = send_spread(classes, powers, d, bound, out, at, p, room);
+        return send_values(classes, d, p.next, bound, out, a);
+    }
+    send_values(classes, d, n, bound, out, at)
+}
+
+fn send_titles(
+    classes: &[u8; 256],
+    d: &[u8],
+    n: usize,
+    bound: usize,
+    out: &mut [u8],
+    at: usize,
+) -> Walked
+    requires { ⌜ Classes (now classes) ⌝ }
+    ensures { λ w. ⌜ Paged bound (now (out .entry)) at (now (out .exit)) w (titlesPage (now (d .entry)) n) ⌝ }
+{
+    let a = send_number(classes, d, n, bound, out, at, b"VARIABLE", b"VARIABLE ");
+    let b = send_phrase(classes, d, a.next, bound, out, a.at, b"NAME", b"NAME \"");
+    send_phrase(classes, d, b.next, bound, out, b.at, b"LABEL", b"LABEL \"")
+}
+
+pub fn send_variable(
+    classes: &[u8; 256],
+    powers: &[u64; 16],
+    d: &[u8],
+    n: usize,
+    bound: usize,
+    out: &mut [u8],
+    at: usize,
+) -> Walked
+    requires { ⌜ Classes (now classes) ⌝ }
+    requires { ⌜ Tens (now powers) ⌝ }
+    ensures { λ w. ⌜ Paged bound (now (out .entry)) at (now (out .exit)) w (variablePage (now (d .entry)) n) ⌝ }
+{
+    let a = send_titles(classes, d, n, bound, out, at);
+    let t = type_at(classes, d, a.next);
+    let b = send_type(bound, out, a.at, t.kind);
+    let p = position_at(classes, d, t.next);
+    let c = send_position(classes, d, bound, out, b, p);
+    let start = p.start;
+    let finish = p.finish;
+    let room = room_of(start.size, finish.size);
+    let e = send_rest(classes, powers, d, p.next, t.kind, room, bound, out, c);
+    send_end(
+        classes,
+        d,
+        e.next,
+        bound,
+        out,
+        e.at,
+        b"VARIABLE",
+        b"END VARIABLE\r\n",
+    )
+}
+
+// All variables, and the END behind them.
+pub fn send_variables(
+    classes: &[u8; 256],
+    powers: &[u64; 16],
+    d: &[u8],
+    start: usize,
+    bound: usize,
+    out: &mut [u8],
+    at: usize,
+) -> Walked
+    requires { ⌜ Classes (now classes) ⌝ }
+    requires { ⌜ Tens (now powers) ⌝ }
+    ensures { λ w. ⌜ Paged bound (now (out .entry)) at (now (out .exit)) w (variablesPage 512 (now (d .entry)) start) ⌝ }
+{
+    let mut n = start;
+    let mut p = at;
+    let mut k: usize = 0;
+    while k < 512 {
+        let v = send_variable(classes, powers, d, n, bound, out, p);
+        p = v.at;
+        n = v.next;
+        let e = find_end(classes, d, n);
+        if e.there {
+            return Walked { at: p, next: n };
+        }
+        k += 1;
+    }
+    Walked { at: p, next: n }
+}

@@ -1,0 +1,5 @@
+pub mod Left
+pub mod Words
+pub mod Runs
+pub mod Strings
+pub mod Lines
