@@ -1,4 +1,4 @@
-/* Zarfolin: reading, judging and correcting Triple-S 1.1 survey files.
+/* Zarfolin: reading, judging and correcting Triple-S survey files: definitions of version 1.1 and in XML 1.2.
  *
  * The face of the verified static library, for C. Link with libzarfolin.a, which `rt staticlib zarfolin` builds
  * (target/staticlib) and a release has in lib/:
@@ -22,7 +22,7 @@
  *   Threads   The library has no state: no variable of its own, no allocation, no lock, no errno, no locale. Calls may run
  *             at once on any threads as long as each keeps to "Change"; a table or a record that is only read may be
  *             shared by all of them. A call may be made in a signal handler, if there is stack enough.
- *   Stack     See ZARFOLIN_STACK_EXPORT below: up to 348,000 bytes. A small thread (musl gives 128 KiB) is not enough.
+ *   Stack     See ZARFOLIN_STACK_EXPORT below: up to 357,000 bytes. A small thread (musl gives 128 KiB) is not enough.
  *   Needs     Of the C library memcpy and memset alone.
  *   Refusal   The value returned is 0 for done, otherwise a refusal, ZARFOLIN_E_TOO_LONG to ZARFOLIN_E_LENGTH below, which
  *             zarfolin_message puts into words. zarfolin_next_record alone has its own meaning for it. A later library may
@@ -33,7 +33,8 @@
  *   Counting  Rows, lines, byte places and text places count from 0; records, and the locations of POSITION, from 1.
  *   Encoding  Data and definitions are bytes. Outside its texts a definition means what it means in ASCII. Names, labels and
  *             texts of values are handed on undecoded, as place and length in the definition; zarfolin_decode_text drops
- *             bytes below 32 and decodes brace forms ({"} {{} {NL} {hex}), in the encoding that the sender used.
+ *             bytes below 32 and decodes brace forms ({"} {{} {NL} {hex}), in the encoding that the sender used. Those of a
+ *             definition in XML it decodes to UTF-8, whether the file is in that or in ISO-8859-1.
  *   Table     The numbers of a table are int64_t in the machine's own byte order. It is for memory, not for files: its shape
  *             belongs to ZARFOLIN_VERSION.
  *
@@ -54,7 +55,7 @@ extern "C" {
 
 /* The version of this face. It is raised by each change that a program compiled before it would not survive: another shape
  * of the table, another meaning of a call or a number. A new call, or a refusal met in a new case, doesn't raise it. */
-#define ZARFOLIN_VERSION 2
+#define ZARFOLIN_VERSION 3
 
 /* The version of the archive that is linked. A program asks once, when it starts:
  *
@@ -75,7 +76,7 @@ enum {
     ZARFOLIN_E_TOKEN = 2,       /* another token was due */
     ZARFOLIN_E_MARK = 3,        /* string or comment unclosed, bad brace form, comment of level 33; not the inside of a text
                                  * (zarfolin_decode_text) */
-    ZARFOLIN_E_VERSION = 4,     /* version not 1.1 */
+    ZARFOLIN_E_VERSION = 4,     /* version not 1.1; in XML neither 1.1 nor 1.2 */
     ZARFOLIN_E_IDENT = 5,       /* ident 0, over four digits, or repeated */
     ZARFOLIN_E_VALUES = 6,      /* value form wrong for its type, range reversed, decimals differ, value repeated */
     ZARFOLIN_E_POSITION = 7,    /* start 0, finish below start, subfields or SIZE 0, subfield width 0 or inexact, or
@@ -103,6 +104,11 @@ enum {
                                   * refused */
     ZARFOLIN_E_CLEAN_SIZE = 41,  /* clean text above ZARFOLIN_MAX_DEFINITION bytes */
     ZARFOLIN_E_CLEAN_ROOM = 42,  /* output too short for the clean text */
+    /* of a definition in XML, besides 1, 2 and 4 to 10 */
+    ZARFOLIN_E_XML = 50,     /* XML not well formed */
+    ZARFOLIN_E_ELEMENT = 51, /* element or attribute unknown or misplaced */
+    ZARFOLIN_E_USE = 52,     /* use or filter rule broken: a second serial or weight, one of a wrong type or with a filter, a filter
+                              * that is not the name of just one variable before it, a LOGICAL */
     /* of an export */
     ZARFOLIN_E_EXPORT_ROOM = 60, /* output too short for the text */
     /* of mending */
@@ -185,7 +191,7 @@ enum {
 
 /* The numbers of the header. */
 enum {
-    ZARFOLIN_H_MARK = 0,      /* ZARFOLIN_MARK */
+    ZARFOLIN_H_MARK = 0,      /* ZARFOLIN_MARK or ZARFOLIN_MARK_XML */
     ZARFOLIN_H_VARIABLES = 1, /* rows, V */
     ZARFOLIN_H_LINES = 2,     /* lines, E */
     ZARFOLIN_H_RECORD = 3,    /* least length of a record, L: the highest finish */
@@ -194,8 +200,9 @@ enum {
     ZARFOLIN_HEADER = 6
 };
 
-/* The first number of every table of a 1.1 definition. */
+/* The first number of every table of a 1.1 definition, and of one in XML. */
 #define ZARFOLIN_MARK 11
+#define ZARFOLIN_MARK_XML 12
 
 /* The columns of a row. Those that its type lacks are 0. */
 enum {
@@ -217,7 +224,17 @@ enum {
     ZARFOLIN_NAME_LENGTH = 15,
     ZARFOLIN_LABEL = 16,
     ZARFOLIN_LABEL_LENGTH = 17,
-    ZARFOLIN_ROW = 18
+    ZARFOLIN_USE = 18,    /* ZARFOLIN_NO_USE to ZARFOLIN_WEIGHT; 0 in a table of a 1.1 definition */
+    ZARFOLIN_FILTER = 19, /* the number plus one of the earlier LOGICAL row that filters this one, 0 where none does; 0 as above.
+                           * No call reads, judges or writes otherwise for the sake of use or filter. */
+    ZARFOLIN_ROW = 20
+};
+
+/* The uses of a row: at most one serial, a QUANTITY or CHARACTER, and one weight, a QUANTITY, neither with a filter. */
+enum {
+    ZARFOLIN_NO_USE = 0,
+    ZARFOLIN_SERIAL = 1,
+    ZARFOLIN_WEIGHT = 2
 };
 
 /* The types of a row. */
@@ -232,7 +249,7 @@ enum {
 /* The columns of a line. */
 enum {
     ZARFOLIN_LINE_VALUE = 0,   /* scaled by the row's decimals */
-    ZARFOLIN_LINE_SPECIAL = 1, /* whether SPECIAL stands with it, 0 or 1 */
+    ZARFOLIN_LINE_SPECIAL = 1, /* whether SPECIAL stands with it, 0 or 1; 0 in a table of XML */
     ZARFOLIN_LINE_TEXT = 2,    /* place and length of the undecoded text in the definition */
     ZARFOLIN_LINE_TEXT_LENGTH = 3,
     ZARFOLIN_LINE = 4
@@ -244,9 +261,10 @@ enum {
 
 /* ---- the calls ----------------------------------------------------------------------------------------------------- */
 
-/* Reads a definition into a lent table.
+/* Reads a definition into a lent table: one in XML where it begins with `<?xml` or `<sss`, alone or behind the byte order mark of
+ * UTF-8, otherwise one of version 1.1.
  *
- * Answers 0, or 1 to 10.
+ * Answers 0, or 1 to 10; of one in XML 0, 1, 2, 4 to 10, or 50 to 52.
  * answer: the number; its place in the definition (0 for 0, 1 and 10); V; E (both 0 when refused).
  * table:  on 0 its first ZARFOLIN_TABLE(V, E) numbers are header, rows and lines, and what lies beyond is kept. On a
  *         refusal all of it is kept. With ZARFOLIN_MAX_TABLE numbers 10 can't come.
@@ -307,11 +325,13 @@ zarfolin_number zarfolin_read_record(const int64_t *table, size_t table_len, con
  *
  * Answers 0, or the first of 3, 25 that holds.
  * answer: the number; the count of signs; 0; 0. On a refusal all behind the number are 0.
- * list:   on 0 the signs stand at its start, a byte as itself, a new line {NL} as ZARFOLIN_BREAK; the rest is kept. On a refusal
- *         all of it is kept. A text has at most as many signs as bytes: room for `length` numbers is enough.
+ * list:   on 0 the signs stand at its start, a byte as itself, a new line ({NL}, in XML <br/>) as ZARFOLIN_BREAK; the rest is kept.
+ *         On a refusal all of it is kept. A text has at most as many signs as bytes, in XML twice as many (a byte of ISO-8859-1 may
+ *         be two of UTF-8): room for 2 * `length` numbers is always enough.
  * place, length: any. 3 where the bytes of that length from that place are not the inside of a text: they pass the definition's
- *         end, hold a quote outside a brace form, or a bad or unfinished form. What a table that was read from this definition
- *         has of a text is never 3.
+ *         end, hold a quote outside a brace form, or a bad or unfinished form; in XML where they are not whole characters,
+ *         references, comments, <br/> and <text> elements. What a table that was read from this definition has of a text is
+ *         never 3. In XML the texts of other languages, which stand in <text>, say nothing.
  * def:    only read. */
 zarfolin_number zarfolin_decode_text(const uint8_t *def, size_t def_len, uint64_t place, uint64_t length, int64_t *list,
                                      size_t list_len, int64_t *answer);
@@ -474,9 +494,9 @@ zarfolin_number zarfolin_export(const uint8_t *def, size_t def_len, const int64_
  * not proved: on painted stacks, over the inputs of tests/c/stack.c, which the merge gate holds to these figures. Not
  * counted is what the dynamic linker takes where it binds memcpy at a first call. No function of the archive calls itself
  * but the one that skips comments, at most ZARFOLIN_MAX_LEVEL deep, so leave some room and no more. */
-#define ZARFOLIN_STACK_READ_DEFINITION 261000
-#define ZARFOLIN_STACK_WRITE_DEFINITION 261000
-#define ZARFOLIN_STACK_DECODE_TEXT 600
+#define ZARFOLIN_STACK_READ_DEFINITION 270000
+#define ZARFOLIN_STACK_WRITE_DEFINITION 270000
+#define ZARFOLIN_STACK_DECODE_TEXT 1600
 #define ZARFOLIN_STACK_READ_VALUE 38000
 #define ZARFOLIN_STACK_READ_RECORD 102000
 #define ZARFOLIN_STACK_JUDGE_RECORD 27500
@@ -489,7 +509,7 @@ zarfolin_number zarfolin_export(const uint8_t *def, size_t def_len, const int64_
 #define ZARFOLIN_STACK_JUDGE_PART 27500
 #define ZARFOLIN_STACK_MEND 17600
 #define ZARFOLIN_STACK_MATRIX 129000
-#define ZARFOLIN_STACK_EXPORT 348000
+#define ZARFOLIN_STACK_EXPORT 357000
 #define ZARFOLIN_STACK_NEXT_RECORD 128
 #define ZARFOLIN_STACK_VERSION 16
 
@@ -520,7 +540,7 @@ ZARFOLIN_INLINE const char *zarfolin_message(zarfolin_number number) {
     case ZARFOLIN_E_TOKEN: return "another word, number or text was due here";
     case ZARFOLIN_E_MARK:
         return "a string or comment is not closed, has a bad brace form, or is a comment of level 33, or these bytes are no text";
-    case ZARFOLIN_E_VERSION: return "the version is not 1.1";
+    case ZARFOLIN_E_VERSION: return "the version is not 1.1 (or, in XML, 1.2)";
     case ZARFOLIN_E_IDENT: return "the ident is 0, has over four digits, or is repeated";
     case ZARFOLIN_E_VALUES:
         return "the value has the wrong form for its type, reverses its range, differs in decimals, or is repeated";
@@ -544,6 +564,9 @@ ZARFOLIN_INLINE const char *zarfolin_message(zarfolin_number number) {
     case ZARFOLIN_E_OTHER_TABLE: return "the table is not the one that this definition yields";
     case ZARFOLIN_E_CLEAN_SIZE: return "the clean definition is longer than 1,048,576 bytes";
     case ZARFOLIN_E_CLEAN_ROOM: return "the lent output is too short for the clean definition";
+    case ZARFOLIN_E_XML: return "the XML is not well formed here";
+    case ZARFOLIN_E_ELEMENT: return "this element or attribute is unknown, or may not stand here";
+    case ZARFOLIN_E_USE: return "the use or the filter breaks its rule";
     case ZARFOLIN_E_EXPORT_ROOM: return "the lent output is too short for the exported text";
     case ZARFOLIN_E_MEND_ROOM: return "the lent output or list is too short for the mended file";
     case ZARFOLIN_E_NO_COLUMN: return "the matrix has no column, since every variable is a text";

@@ -21,7 +21,7 @@ import sys
 
 ROOM = 120  # room of a refused definition where the case says nothing: more than its table would need
 CASES = []
-HEADER, ROW, LINE = 6, 18, 4  # numbers of the header, of a row, of a line
+HEADER, ROW, LINE = 6, 20, 4  # numbers of the header, of a row, of a line
 
 
 def size(rows, lines=0):
@@ -41,14 +41,14 @@ def refused(title, number, text, room=ROOM):
     CASES.append((title, bare(text), room, f"{number} {place} kept\n"))
 
 
-def row(ident, kind, start, finish, w, dec=0, point=0, sub=(0, 0), rng=None, lines=()):
-    return [ident, kind, start, finish, w, dec, point, *sub, *((1, *rng) if rng else (0, 0, 0))], [
-        (line, 0) if isinstance(line, int) else line for line in lines
-    ]
+def row(ident, kind, start, finish, w, dec=0, point=0, sub=(0, 0), rng=None, lines=(), use=0, filter=0):
+    """Use and filter are 0 in a 1.1 definition, which gives none."""
+    columns = [ident, kind, start, finish, w, dec, point, *sub, *((1, *rng) if rng else (0, 0, 0))]
+    return columns, [(line, 0) if isinstance(line, int) else line for line in lines], [use, filter]
 
 
-def sound(title, text, *rows, room=None):
-    """Each text between `~`; `room` numbers are lent, five more than needed where the case says nothing."""
+def sound(title, text, *rows, room=None, mark=11):
+    """Each text between `~`; `room` numbers are lent, five more than needed where the case says nothing; mark 12 for XML."""
     plain = text.replace("@", "")
     texts, at = [], 0
     parts = plain.split("~")
@@ -59,13 +59,13 @@ def sound(title, text, *rows, room=None):
         at += len(part)
     texts = iter(texts)
     variables, values, before = [], [], 0
-    for columns, lines in rows:
-        variables += columns + [before, len(lines), *next(texts), *next(texts)]
+    for columns, lines, uses in rows:
+        variables += columns + [before, len(lines), *next(texts), *next(texts), *uses]
         for value, special in lines:
             values += [value, special, *next(texts)]
         before += len(lines)
     assert next(texts, None) is None, title
-    header = [11, len(rows), before, max(c[3] for c, _ in rows), HEADER, size(len(rows))]
+    header = [mark, len(rows), before, max(c[3] for c, _, _ in rows), HEADER, size(len(rows))]
     table = header + variables + values
     assert len(table) == size(len(rows), before), title
     needed = len(table)
@@ -812,6 +812,66 @@ sound("a dropped byte before the point", quantity(".5 TO \r\n.9", "1 TO 2"), row
 refused("narrowness is judged after END VARIABLE, by the code of the whole block", 7, quantity('.5 TO .9 WITH 0.1 "x"', "@1 TO 2"))
 refused("a bare number repeated", 6, quantity('.5 "x" -.5 "y" @.5 "z"'))
 refused("bare numbers unlike in decimals", 6, quantity('.5 TO @.50'))
+
+# ---------------------------------------------------------------------------------------------- definitions in XML (C-15)
+OPENED = '<sss version="1.2"><survey><record ident="A">'
+CLOSED = "</record></survey></sss>"
+ASKED = '<variable ident="2" type="logical"><name>~Q1~</name><label>~Ever?~</label><position start="5"/></variable>'
+
+
+def sheet(text, start=OPENED):
+    return start + text + CLOSED
+
+
+def item(type, rest, ident=1, name="~n~", start="1", finish="1", use=""):
+    """One variable; `rest` stands behind its position."""
+    return (
+        f'<variable ident="{ident}" type="{type}"{use}><name>{name}</name><label>~l~</label>'
+        f'<position start="{start}" finish="{finish}"/>{rest}</variable>'
+    )
+
+
+sound(
+    "serial, weight, a filter, a spread, two languages, a declaration and a DOCTYPE",
+    '<?xml version="1.0" encoding="UTF-8"?>\r\n<!DOCTYPE sss SYSTEM "sss.dtd">\r\n<!-- by hand -->'
+    + sheet(
+        '<variable ident="1" type="character" use="serial"><name>~ID~</name><label>~No. &amp; <br/>name~</label><position start="1" finish="4"/>'
+        "<size>4</size></variable>"
+        + ASKED
+        + '<variable ident="3" type="multiple"><name>~Q2~</name><label/>~~<position finish="9" start="6"></position><filter>Q&#49;</filter>'
+        '<spread subfields="2" width="2"/><values><value code="1">~Here~</value>'
+        '<value code="12">~There<text xml:lang="de">Dort</text>~</value></values></variable>'
+        '<variable ident="4" type="quantity" use="weight"><name>~W~</name><label>~w~</label><position start="10" finish="13"/>'
+        '<values><range from="0.00" to="9.99"/></values></variable>',
+        '<sss version="1.2" languages="en de"><survey><record ident="A">',
+    ),
+    row(1, CHARACTER, 1, 4, 4, use=1),
+    row(2, LOGICAL, 5, 5, 1),
+    row(3, MULTIPLE, 6, 9, 2, sub=(2, 2), lines=(1, 12), filter=2),
+    row(4, QUANTITY, 10, 13, 4, 2, 1, rng=(0, 999), use=2),
+    mark=12,
+)
+refused("XML: text where a tag is due", 2, sheet("@x"))
+refused("XML: an unknown type", 2, sheet(item("@text", "")))
+refused("XML: version 2.0", 4, sheet(ASKED, '<sss version="@2.0"><survey><record ident="A">'))
+refused("XML: an ident repeated", 5, sheet(ASKED + item("logical", "", ident="@2")))
+refused("XML: a range reversed", 6, sheet(item("single", '<values><range from="2" to="@1"/></values>')))
+refused("XML: finish below start, which stands behind it", 7, sheet(item("logical", "", start="2", finish="@1")))
+refused("XML: a position too narrow, once the variable is read", 7, sheet(item("single", '<values><value code="10">x</value></values>', start="@1")))
+refused("XML: start above 16,384", 8, sheet(item("logical", "", start="@16385", finish="16385")))
+refused(
+    "XML: standardnames, a name repeated but for case", 9,
+    sheet(item("logical", "", name="Q") + item("logical", "", ident=2, name="@q"), '<sss version="1.2" options="standardnames"><survey><record ident="A">'),
+)
+refused("XML: room short of one number", 10, sheet(ASKED), room=size(1) - 1)
+refused("XML: an end tag of another name", 50, sheet(item("logical", "@</variables>")))
+refused("XML: the file ends inside a tag", 50, '<sss version="1.2"><survey>@<record ident="A"')
+refused("XML: an element that document 000 doesn't name", 51, sheet("@<variables>"))
+refused("XML: use in version 1.1", 51, sheet(item("quantity", "", use=' @use="weight"'), '<sss version="1.1"><survey><record ident="A">'))
+refused("XML: a weight that is no quantity", 52, sheet(item("character", "<size>1</size>", use=' use="@weight"')))
+refused("XML: a filter that names no logical", 52, sheet(ASKED + item("logical", "<filter>@n</filter>", ident=3, name="Q3")))
+decoded("XML: a reference, a comment, a break, another language", OPENED + "~a&lt;&#x41;<!--b--><br/>c<text xml:lang='de'>d</text>~", ["a", "<", "A", BREAK, "c"])
+decoded("XML: an end tag is no content", OPENED + "~a</name>~", number=3)
 
 
 def made():

@@ -1,5 +1,5 @@
-/* Lists the variables of a definition: ident, name and label of each, as they read. A new line in a label, {NL}, goes on in the next
- * line; a byte below 32, as {0A} is, is none and is shown as a point.
+/* Lists the variables of a definition, of either kind: ident, name and label of each, as they read. A new line in a label, {NL} or in
+ * XML <br/>, goes on in the next line; a byte below 32, as {0A} is, is none and is shown as a point.
  *
  *     cc -I include examples/c/labels.c target/staticlib/libzarfolin.a -o labels
  *     ./labels <examples/counter/survey.sss
@@ -10,11 +10,11 @@
 #include "zarfolin.h"
 
 /* Shows a text by its place and length in the table: one of the definition that the table was read from is never refused, and has at
- * most as many signs as bytes. */
+ * most as many signs as bytes, in XML twice as many. */
 static void show(const uint8_t *def, size_t def_len, int64_t place, int64_t length) {
-    static int64_t signs[ZARFOLIN_MAX_DEFINITION];
+    static int64_t signs[2 * ZARFOLIN_MAX_DEFINITION];
     int64_t answer[ZARFOLIN_ANSWER];
-    zarfolin_decode_text(def, def_len, (uint64_t)place, (uint64_t)length, signs, ZARFOLIN_MAX_DEFINITION, answer);
+    zarfolin_decode_text(def, def_len, (uint64_t)place, (uint64_t)length, signs, 2 * ZARFOLIN_MAX_DEFINITION, answer);
     for (int64_t i = 0; i < answer[1]; i++) {
         if (signs[i] == ZARFOLIN_BREAK) {
             printf("\n      ");

@@ -454,6 +454,53 @@ static void exports(void) {
     CHECK(is(answer, 0, 0, 0, 0) && answer[4] == (int64_t)sizeof names - 1 && answer[ZARFOLIN_EXPORT_ANSWER] == 12345);
 }
 
+/* A definition in XML that is refused, with its number and the place of what is at fault. */
+static int not_xml(const char *text, int64_t number, const char *fault) {
+    int64_t answer[4];
+    const zarfolin_number got = zarfolin_read_definition(bytes(text), strlen(text), table, 0, answer);
+    return got == (zarfolin_number)number && is(answer, number, strstr(text, fault) - text, 0, 0);
+}
+
+/* Definitions in XML: mark, use and filter; texts in UTF-8; what they alone are refused with. */
+static void in_xml(void) {
+#define HEAD "<sss version=\"1.2\"><survey><record ident=\"A\">"
+#define TAIL "</record></survey></sss>"
+    static const char text[] = "<?xml version=\"1.0\" encoding=\"ISO-8859-1\"?>" HEAD
+        "<variable ident=\"9\" type=\"character\" use=\"serial\"><name>no</name><label/>"
+        "<position start=\"1\" finish=\"3\"/><size>3</size></variable>"
+        "<variable ident=\"7\" type=\"logical\"><name>\xe9</name><label>a<br/>&amp;&#x20AC;<!-- c --></label>"
+        "<position start=\"4\"/></variable>"
+        "<variable ident=\"8\" type=\"logical\"><name>x</name><label/><position start=\"5\"/><filter>\xe9</filter></variable>" TAIL;
+    int64_t xml[ZARFOLIN_TABLE(3, 0) + 1], answer[4], list[8];
+    const size_t length = sizeof text - 1;
+    xml[ZARFOLIN_TABLE(3, 0)] = -7;
+    CHECK(zarfolin_read_definition(bytes(text), length, xml, ZARFOLIN_TABLE(3, 0) - 1, answer) == ZARFOLIN_E_TABLE_ROOM);
+    CHECK(zarfolin_read_definition(bytes(text), length, xml, ZARFOLIN_TABLE(3, 0) + 1, answer) == ZARFOLIN_OK);
+    CHECK(is(answer, 0, 0, 3, 0) && xml[ZARFOLIN_H_MARK] == ZARFOLIN_MARK_XML && xml[ZARFOLIN_TABLE(3, 0)] == -7);
+    CHECK(zarfolin_row(xml, 0)[ZARFOLIN_USE] == ZARFOLIN_SERIAL && zarfolin_row(xml, 1)[ZARFOLIN_USE] == ZARFOLIN_NO_USE);
+    CHECK(zarfolin_row(xml, 2)[ZARFOLIN_FILTER] == 2 && zarfolin_row(xml, 1)[ZARFOLIN_FILTER] == 0);
+    /* A byte of ISO-8859-1 is two of UTF-8. */
+    const int64_t *const row = zarfolin_row(xml, 1);
+    CHECK(row[ZARFOLIN_NAME_LENGTH] == 1);
+    CHECK(zarfolin_decode_text(bytes(text), length, (uint64_t)row[ZARFOLIN_NAME], 1, list, 1, answer) == ZARFOLIN_E_LIST_ROOM);
+    CHECK(zarfolin_decode_text(bytes(text), length, (uint64_t)row[ZARFOLIN_NAME], 1, list, 2, answer) == ZARFOLIN_OK);
+    CHECK(is(answer, 0, 2, 0, 0) && list[0] == 0xc3 && list[1] == 0xa9);
+    const uint64_t label = (uint64_t)row[ZARFOLIN_LABEL], label_len = (uint64_t)row[ZARFOLIN_LABEL_LENGTH];
+    CHECK(zarfolin_decode_text(bytes(text), length, label, label_len, list, 8, answer) == ZARFOLIN_OK);
+    CHECK(is(answer, 0, 6, 0, 0) && list[0] == 'a' && list[1] == ZARFOLIN_BREAK && list[2] == '&' && list[3] == 0xe2);
+    CHECK(zarfolin_decode_text(bytes(text), length, 0, 5, list, 8, answer) == ZARFOLIN_E_MARK && is(answer, 3, 0, 0, 0));
+    /* Records are read by it as by any table. */
+    CHECK(zarfolin_judge_record(xml, ZARFOLIN_TABLE(3, 0), bytes("ab 1 "), 5, answer) == ZARFOLIN_OK);
+    CHECK(not_xml(HEAD "x", ZARFOLIN_E_TOKEN, "x") && not_xml("<sss version=\"2\">", ZARFOLIN_E_VERSION, "2"));
+    CHECK(not_xml("<sss version=\"1.2\"><survey></survey>", ZARFOLIN_E_TOKEN, "</survey>"));
+    CHECK(not_xml("<?xml version=\"1.1\"?>", ZARFOLIN_E_XML, "1.1") && not_xml(HEAD "<variable", ZARFOLIN_E_XML, "<variable"));
+    CHECK(not_xml(HEAD "<record>", ZARFOLIN_E_ELEMENT, "<record>"));
+    CHECK(not_xml("<sss xmlns=\"x\" version=\"1.2\">", ZARFOLIN_E_ELEMENT, "xmlns"));
+    CHECK(not_xml(HEAD "<variable ident=\"1\" type=\"logical\" use=\"weight\">", ZARFOLIN_E_USE, "weight"));
+    CHECK(not_xml(HEAD "<variable ident=\"1\" type=\"logical\"><name>a</name><label/><position start=\"1\"/><filter>a</filter></variable>",
+                  ZARFOLIN_E_USE, "a</filter>"));
+}
+
 /* A definition that is refused, with its number and the place of what is at fault, whatever the table; the output is kept. */
 static void not_clean(const char *text, int64_t number, const char *fault) {
     uint8_t out[3] = {'?', '?', '?'};
@@ -574,6 +621,8 @@ static void messages(void) {
     CHECK(zarfolin_message(ZARFOLIN_E_MATRIX_ROOM) != unknown);
     CHECK(zarfolin_message(ZARFOLIN_E_CLEAN_SIZE) != unknown && zarfolin_message(ZARFOLIN_E_CLEAN_ROOM) != unknown);
     CHECK(zarfolin_message(ZARFOLIN_E_OTHER_TABLE) != unknown && zarfolin_message(ZARFOLIN_E_EXPORT_ROOM) != unknown);
+    CHECK(zarfolin_message(ZARFOLIN_E_XML) != unknown && zarfolin_message(ZARFOLIN_E_ELEMENT) != unknown);
+    CHECK(zarfolin_message(ZARFOLIN_E_USE) != unknown);
     for (zarfolin_number a = 0; a <= ZARFOLIN_E_LENGTH; a++) {
         const int none = (a > ZARFOLIN_E_TABLE_ROOM && a < ZARFOLIN_E_TABLE) || a == 24;
         CHECK((strcmp(zarfolin_message(a), unknown) == 0) == none);
@@ -587,6 +636,7 @@ static void messages(void) {
 int main(void) {
     messages();
     definitions();
+    in_xml();
     readings();
     texts();
     writes();

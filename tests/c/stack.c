@@ -16,7 +16,7 @@
 #include <string.h>
 #include <ucontext.h>
 
-#define STACK (1u << 19)
+#define STACK (1u << 20)
 #define PAINT 0xa5
 
 static uint8_t stack[STACK] __attribute__((aligned(64)));
@@ -112,9 +112,10 @@ enum { CALLS = sizeof calls / sizeof calls[0] };
 static void (*to_run)(void);
 static void run(void) { to_run(); }
 
-/* The bytes of a painted stack that a call touches, the frames that lead to it among them. */
-static size_t touched(void (*call)(void)) {
-    memset(stack, PAINT, STACK);
+/* The bytes of a stack that a call touches, the frames that lead to it among them. So many are painted; if it goes deeper, all. */
+static size_t touched(void (*call)(void), size_t deep) {
+    const size_t from = STACK - (deep < STACK ? deep : STACK);
+    memset(stack + from, PAINT, STACK - from);
     to_run = call;
     getcontext(&away);
     away.uc_stack.ss_sp = stack;
@@ -122,25 +123,26 @@ static size_t touched(void (*call)(void)) {
     away.uc_link = &home;
     makecontext(&away, run, 0);
     swapcontext(&home, &away);
-    size_t free = 0;
+    size_t free = from;
     while (free < STACK && *(const uint64_t *)(stack + free) == PAINT * UINT64_C(0x0101010101010101)) {
         free += 8;
     }
-    return STACK - free;
+    return free == from && from > 0 ? touched(call, STACK) : STACK - free;
 }
 
 static void measure(void (*call)(void)) {
     static size_t base;
     if (base == 0) {
-        touched(nothing);
-        base = touched(nothing);
+        touched(nothing, STACK);
+        base = touched(nothing, STACK);
     }
     for (size_t i = 0; i < CALLS; i++) {
         if (calls[i].call == call) {
+            const size_t deep = 2 * calls[i].figure + (1u << 16);
             if (calls[i].runs++ < 2) {
-                touched(call);
+                touched(call, STACK);
             }
-            const size_t used = touched(call) - base;
+            const size_t used = touched(call, deep) - base;
             calls[i].most = used > calls[i].most ? used : calls[i].most;
         }
     }
@@ -267,6 +269,49 @@ static void export_of_one(void) {
         measure(export_file);
     }
     export_len = sizeof export_out;
+}
+
+/* A definition in XML: one variable of each kind, or so many of 8 lines each. */
+static void sheet(int many) {
+    static const char *const variables[] = {
+        "<variable ident=\"1\" type=\"character\" use=\"serial\"><name>a</name>"
+        "<label>x&amp;<br/>&#x20AC;<text xml:lang=\"f\">y<br/></text></label>"
+        "<position finish=\"9\" start=\"1\"/><size>9</size></variable>",
+        "<variable ident=\"2\" type=\"logical\"><name>b</name><label/><position start=\"10\"/></variable>",
+        "<variable ident=\"3\" type=\"single\"><name>c</name><label/><position start=\"11\" finish=\"14\"/><filter>b</filter><values>"
+        "<range from=\"1\" to=\"12\"/><value code=\"9999\">n</value></values></variable>",
+        "<variable ident=\"4\" type=\"multiple\"><name>d</name><label/><position start=\"15\" finish=\"20\"/>"
+        "<spread subfields=\"3\" width=\"2\"/><values>"
+        "<value code=\"7\">u</value><value code=\"5\"/></values></variable>",
+        "<variable ident=\"5\" type=\"multiple\"><name>e</name><label/><position start=\"21\" finish=\"29\"/>"
+        "<values><range from=\"1\" to=\"9\"/></values></variable>",
+        "<variable ident=\"6\" type=\"quantity\" use=\"weight\"><name>f</name><label/><position start=\"30\" finish=\"35\"/><values>"
+        "<range from=\"-1.00\" to=\"99.50\"/></values></variable>",
+    };
+    def_len = 0;
+    add("<?xml version=\"1.0\" encoding=\"ISO-8859-1\"?><!DOCTYPE sss SYSTEM \"s\"><!-- c -->"
+        "<sss version=\"1.2\" options=\"standardnames\" "
+        "languages=\"e f\"><date>d</date><survey><title>t<br/></title><record ident=\"A\">");
+    for (size_t v = 0; many == 0 && v < sizeof variables / sizeof variables[0]; v++) {
+        add(variables[v]);
+    }
+    for (int v = many; v > 0; v--) {
+        char text[200];
+        snprintf(text, sizeof text,
+                 "<variable ident=\"%d\" type=\"quantity\"><name>v%d</name><label/><position start=\"%d\" finish=\"%d\"/><values>",
+                 v, v, 20 * v, 20 * v + 19);
+        add(text);
+        for (int i = 8; i > 0; i--) {
+            snprintf(text, sizeof text, "<value code=\"-%d%d.25\">t</value>", i, v);
+            add(text);
+        }
+        add("</values></variable>");
+    }
+}
+static zarfolin_number end_of_sheet(void) {
+    add("</record></survey></sss>");
+    measure(read_definition);
+    return got;
 }
 
 /* Files with each terminator, of sound and faulty records. */
@@ -413,6 +458,28 @@ int main(void) {
         fprintf(stderr, "the largest definition was refused: %d at %d\n", (int)got, (int)answer[1]);
         return 1;
     }
+    /* In XML: every type, use and filter, texts of every kind; the largest table; cut short now and then. */
+    sheet(0);
+    for (size_t whole = def_len; def_len > 0 && whole > 0; def_len -= def_len > 97 ? 97 : def_len) {
+        measure(read_definition);
+    }
+    sheet(0);
+    if (end_of_sheet() != ZARFOLIN_OK) {
+        fprintf(stderr, "the definition in XML was refused: %d at %d\n", (int)got, (int)answer[1]);
+        return 1;
+    }
+    texts();
+    records();
+    files();
+    sheet(ZARFOLIN_MAX_VARIABLES);
+    if (end_of_sheet() != ZARFOLIN_OK) {
+        fprintf(stderr, "the largest definition in XML was refused: %d at %d\n", (int)got, (int)answer[1]);
+        return 1;
+    }
+    records();
+    record_len = (size_t)table[ZARFOLIN_H_RECORD];
+    memset(record, ' ', record_len);
+    export_of_one();
     /* 32 levels of comments before each token of a definition, and cut short there. */
     begin("NOTE \"n\" STANDARD NAMES");
     variable(1, "MULTIPLE POSITION 1 TO 6 SPREAD 3 OF 2 NOTE \"x\" VALUES 1 TO 3 WITH NOTE \"n\" 7 \"a\" SPECIAL 5 \"b\" END VALUES");

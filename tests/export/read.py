@@ -47,7 +47,11 @@ records = {}
 for line in said('list', '--format', 'lister', definition, data).decode('latin-1').split('\n')[:-2]:
     number, ident, letter, *rest = line.split(' ', 3)
     records.setdefault(int(number), []).append(field(letter, rest, decimals[int(ident)]))
-due = [[row['name'] for row in rows]] + [records[number] for number in sorted(records)]
+names = [row['name'] for row in rows]
+if open(definition, 'rb').read(5) == b'<?xml':
+    # Names of a definition in XML are exported in UTF-8, whatever else the text holds.
+    names = [name.encode('utf-8').decode('latin-1') for name in names]
+due = [names] + [records[number] for number in sorted(records)]
 found = list(csv.reader(io.StringIO(text, newline=''), strict=True))
 # A line of one empty field is an empty line, which Python reads as no field.
 found = [line or [''] for line in found]

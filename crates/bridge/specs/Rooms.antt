@@ -127,7 +127,7 @@ module _ (d : List ℕ) (n : Figure) (name : Text) (i : ℕ) (label : Text) (j :
     by (inl e) = rw (← e) h
     by (inr e) = omega (arith, e .1)
 
-  spread-fate : (x : Telling) (s : Spread) (b : Block) → room p < 1000000000000000 → x .subfields ≡ capped (s .count .value)
+  pub spread-fate : (x : Telling) (s : Spread) (b : Block) → room p < 1000000000000000 → x .subfields ≡ capped (s .count .value)
       → x .subwidth ≡ evenOr (room p) (x .subfields) (s .width)
       → 1 ≤ x .subfields → 1 ≤ x .subwidth → Fate x 2 (multiple (some s) b)
   spread-fate x s b small u v g h = by (s .width) refl (big-or (s .count .value)) where

@@ -16,7 +16,7 @@ use Rattle.tokens.specs.rule.Gap.{fault}
 use Rattle.tokens.specs.Gap.{gapOn}
 use Rattle.tokens.specs.Token.{choiceOf, numberOn, numberHere, pastNumber}
 use Rattle.statements.specs.rule.Words.{POSITION, TO, OF, SIZE}
-use Rattle.statements.specs.Position.{judgePosition, bothOf, positionRest, positionOn}
+use Rattle.statements.specs.Position.{belowOf, judgePosition, bothOf, positionRest, positionOn}
 use Rattle.statements.specs.Spread.{judgeOf, judgeEven, fieldsOf, evenOf, rest, spreadRest}
 use Rattle.statements.specs.Size.{judgeSize, sizeOn}
 use Rattle.statements.specs.declared.Stated.{Stated}
@@ -67,12 +67,12 @@ module _ (d : List ℕ) where
 
   position-least : {i j : ℕ} (x : Figure) (b : Option Figure) {m e : ℕ} (n : ℕ) → Known d i x m → Known d j (Option·getD b x) e
       → x .place ≤ Option·getD b x .place
-      → judgePosition d (figures x m) (figures (Option·getD b x) e) n
+      → judgePosition (belowOf d (figures (Option·getD b x) e) (figures x m)) (figures x m) (figures (Option·getD b x) e) n
       ≡ toStated (judged (positionCharges x (Option·getD b x)) (placed x b) n)
   unfolding judgePosition chain positionCharges rising before
   position-least x b {m} {e} n k l h =
       let y = Option·getD b x in
-      let p : judgePosition d (figures x m) (figures y e) n ≡ chain stated.Not (toStated (Is (placed x b) n)) (positionCharges x y) =
+      let p : judgePosition (belowOf d (figures y e) (figures x m)) (figures x m) (figures y e) n ≡ chain stated.Not (toStated (Is (placed x b) n)) (positionCharges x y) =
       rw (capped-zero (x .value), capped-limit 16384 (x .value) (omega arith), capped-limit 16384 (y .value) (omega arith))
       (rw (k .says, l .says)) in
       p ∙ chain-least toStated (placed x b) n (positionCharges x y) (rw (le-leb (x .place) (y .place) h))

@@ -26,7 +26,7 @@ use Rattle.values.specs.declared.Judged.{Judged}
 use Rattle.values.specs.declared.Judged.the-variants as judgment
 use Rattle.values.specs.declared.Ranged.the-variants as ranging
 use Rattle.values.specs.Value.{scaledOf, pointsOf}
-use Rattle.values.specs.Range.{limitRange, judgeRange, settled, rangedOf, withOr, rangeRest}
+use Rattle.values.specs.Range.{limitRange, reversedOf, judgeRange, settled, rangedOf, withOr, rangeRest}
 use Rattle.values.specs.Line.{stateOf, linesFrom}
 use Rattle.values.specs.Line as given
 use Rattle.values.specs.Block.{emptyBlock, closedBy, rangeThen, toOr, valuesOn}
@@ -183,9 +183,9 @@ module _ (d : List ℕ) (quantity : Bool) (first : ℕ) where
         (judgment.Bad (fault 6 (b .place)))) (judgment.Bad (fault 6 (b .place)))) (judgment.Bad (fault 6 (a .place)))
 
     range-judged : (w : Bool) (n : ℕ)
-        → ((k : books.Block) → settled (judgeRange d quantity va vb) w n ≡ ranging.Is k w n
+        → ((k : books.Block) → settled (judgeRange (reversedOf d va vb) quantity va vb) w n ≡ ranging.Is k w n
         → Reached d quantity first (stateOf (valueHere d (notesOn d (At n))) k []))
-        → SameGiven d (rangeThen d quantity first (settled (judgeRange d quantity va vb) w n))
+        → SameGiven d (rangeThen d quantity first (settled (judgeRange (reversedOf d va vb) quantity va vb) w n))
         (bind (judged (rangeCharges quantity a b) (rangeFrom a b) n) (onward w))
     unfolding judgeRange limitRange chain rangeCharges rangeThen scaledOf
     range-judged w n reached =
@@ -197,10 +197,10 @@ module _ (d : List ℕ) (quantity : Bool) (first : ℕ) where
       where
         by : (p q e v g h : Bool) → formIs quantity a ≡ p → formIs quantity b ≡ q → eqb (a .decimals) (b .decimals) ≡ e
             → ltZ (scaled b) (scaled a) ≡ v → large quantity a ≡ g → large quantity b ≡ h
-            → judgeRange d quantity va vb ≡ judge p q e v g h
-            → ((k : books.Block) → settled (judgeRange d quantity va vb) w n ≡ ranging.Is k w n
+            → judgeRange (reversedOf d va vb) quantity va vb ≡ judge p q e v g h
+            → ((k : books.Block) → settled (judgeRange (reversedOf d va vb) quantity va vb) w n ≡ ranging.Is k w n
             → Reached d quantity first (stateOf (valueHere d (notesOn d (At n))) k []))
-            → SameGiven d (rangeThen d quantity first (settled (judgeRange d quantity va vb) w n))
+            → SameGiven d (rangeThen d quantity first (settled (judgeRange (reversedOf d va vb) quantity va vb) w n))
             (bind (cond (not p) (Not (fault 6 (a .place)))
             (cond (not q) (Not (fault 6 (b .place))) (cond (not e) (Not (fault 6 (b .place))) (cond v (Not (fault 6 (b .place)))
             (cond g (Not (fault 8 (a .place))) (cond h (Not (fault 8 (b .place))) (Is (rangeFrom a b) n))))))) (onward w))
@@ -247,8 +247,8 @@ module _ (d : List ℕ) (quantity : Bool) (first : ℕ) where
 
         reached : (w : Bool) (n : ℕ) (c : books.Block)
             → withOr d quantity A B (gapAt d m′) (choiceOf d (gapAt d m′) WITH)
-            ≡ settled (judgeRange d quantity (written a x y m) (written b x′ y′ m′)) w n
-            → settled (judgeRange d quantity (written a x y m) (written b x′ y′ m′)) w n ≡ ranging.Is c w n
+            ≡ settled (judgeRange (reversedOf d (written a x y m) (written b x′ y′ m′)) quantity (written a x y m) (written b x′ y′ m′)) w n
+            → settled (judgeRange (reversedOf d (written a x y m) (written b x′ y′ m′)) quantity (written a x y m) (written b x′ y′ m′)) w n ≡ ranging.Is c w n
             → Reached d quantity first (stateOf (valueHere d (notesOn d (At n))) c [])
         reached w n c p q = behind (At k₀) (At j) {b = c} {w = w} {n = n} (rw here-a (to-with ∙ p ∙ q))
     second j i after e₁ e₂ unvalued = rw (e₁, e₂) refuses

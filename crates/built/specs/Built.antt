@@ -17,13 +17,14 @@ use Rattle.layout.specs.declared.Columns.{Columns}
 use Rattle.layout.specs.declared.Header.{Header}
 use Rattle.sound.specs.rule.Sound.{valueAt, columnsOf, linesAt, finishAt, linesBefore, highestFinish, goodAt, headCounts, headSums}
 use Rattle.sound.specs.rule.Sound.{rowsGood, wellFormed}
+use Rattle.uses.specs.rule.Uses.{unused, rowsUnused, kindGood}
 use Rattle.values.proofs.Rooms.{length-pasted}
 use Rattle.measures.specs.Width.{widthOf}
 use Rattle.measures.specs.Survey.{Variable, linesAll, highestIn, headerFor, tableOf}
 use Rattle.measures.specs.Good.{Good}
 use Rattle.measures.proofs.Snoc.{table-length}
 use Rattle.built.specs.Nth.{Nth, nth, few-rows, few-lines, sum-all, highest-all}
-use Rattle.built.specs.Rows.{before-column, lines-here, finish-here, lines-before, row-good, width-here, idents-differ}
+use Rattle.built.specs.Rows.{unused-column, before-column, lines-here, finish-here, lines-before, row-good, width-here, idents-differ}
 use Rattle.built.specs.Cells.{laid, header-back, columns-of}
 
 module _ (t : List ℤ) (l : List Variable) (g : Good l) where
@@ -51,6 +52,12 @@ module _ (t : List ℤ) (l : List Variable) (g : Good l) where
       (eq-eqb (linesBefore (laid t l) (length l)) (linesAll l) (sum-all g (linesAt (laid t l)) (lines-here t l))))
       (eq-eqb (highestFinish (laid t l) (length l)) (highestIn l) (highest-all g (finishAt (laid t l)) (finish-here t l)))
 
+  kind-good : kindGood (laid t l) (headerFor l) ≡ true
+  unfolding kindGood rowsUnused headerFor
+  kind-good =
+      all-of (λ i. unused (columnsOf (laid t l) i)) (length l)
+      (λ i h. let r = nth g i h in ap unused (columns-of t r) ∙ unused-column (linesAll (r .before)) (r .variable))
+
 pub table-well-formed :
     (l : List Variable) (t : List ℤ)
     → Good l
@@ -60,12 +67,13 @@ pub table-well-formed :
 unfolding wellFormed headerFor
 table-well-formed l t g h m =
     rw (header-back t l)
-    (both-and (both-and (both-and (counts-good t l g h) (sums-good t l g m)) (rows-good t l g)) (idents-differ t l g))
+    (both-and (both-and (both-and (both-and (counts-good t l g h) (sums-good t l g m)) (rows-good t l g)) (idents-differ t l g))
+    (kind-good t l g))
 
 -- ---- in the paper's words
 module _ (t : List ℤ) (l : List Variable) where
   -- "A header of counts and offsets, six numbers: 11, variables V, value lines E, least record length L (the highest finish), offset
-  -- of rows 6, offset of lines 6 + 18V"
+  -- of rows 6, offset of lines 6 + 18V", 20V since C-15
   pub mark-is : headerOf (laid t l) .mark ≡ 11
   unfolding headerFor
   mark-is = ap (λ (h : Header). h .mark) (header-back t l)
@@ -86,7 +94,7 @@ module _ (t : List ℤ) (l : List Variable) where
   unfolding headerFor
   rows-offset = ap (λ (h : Header). h .«rows_at») (header-back t l)
 
-  pub lines-offset : headerOf (laid t l) .«lines_at» ≡ 6 + 18 * length l
+  pub lines-offset : headerOf (laid t l) .«lines_at» ≡ 6 + 20 * length l
   unfolding headerFor
   lines-offset = ap (λ (h : Header). h .«lines_at») (header-back t l)
 
@@ -104,7 +112,7 @@ module _ (t : List ℤ) (l : List Variable) where
   unfolding rowOf
   width-is i r = rw (columns-of t r) (width-here t l r)
 
-  -- "Numbers beyond 6 + 18V + 4E are kept"
+  -- "Numbers beyond 6 + 18V + 4E are kept" (20V since C-15)
   pub beyond-kept : (k : ℕ) → length (tableOf l) ≤ k → cell (laid t l) k ≡ cell t k
   unfolding pasted
   beyond-kept k h =

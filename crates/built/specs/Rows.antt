@@ -19,6 +19,7 @@ use Rattle.layout.specs.declared.Kind.the-variants.{Single, Multiple, Quantity,
 use Rattle.widths.specs.rule.Width.{need}
 use Rattle.sound.specs.rule.Sound.{valueAt, plainAt, linePlain, linesPlain, valuesFit, widest, rangeWidth, linesGood, valuesGood}
 use Rattle.sound.specs.rule.Sound.{widthsGood, columnsGood, rowGood, linesAt, finishAt, linesBefore, goodAt, identsDiffer}
+use Rattle.uses.specs.rule.Uses.{unused}
 use Rattle.values.specs.Line.{numberAt, cellsOf}
 use Rattle.measures.specs.Width.{plainColumns, widened, fullColumns, linesWidth, widestOf, widthOf}
 use Rattle.measures.specs.Survey.{Variable, linesIn, countedIn, columnsIn, holdsIn, linesAll}
@@ -45,6 +46,11 @@ module _ (b : ℕ) (v : Variable) where
   pub before-column : columnsIn b v .before ≡ b
   unfolding columnsIn fullColumns widened plainColumns
   before-column = refl
+
+  -- "the rows of 1.1 files carry 0 in both"
+  pub unused-column : unused (columnsIn b v) ≡ true
+  unfolding columnsIn fullColumns widened plainColumns
+  unused-column = refl
 
   finish-column : columnsIn b v .finish ≡ v .head .finish
   unfolding columnsIn fullColumns widened plainColumns

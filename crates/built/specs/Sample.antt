@@ -119,11 +119,11 @@ some-good =
 
 -- the table that they give
 pub table-is : tableOf both ≡
-    pos 11 ∷ pos 2 ∷ pos 2 ∷ pos 3 ∷ pos 6 ∷ pos 42
+    pos 11 ∷ pos 2 ∷ pos 2 ∷ pos 3 ∷ pos 6 ∷ pos 46
     ∷ pos 1 ∷ pos 1 ∷ pos 1 ∷ pos 2 ∷ pos 2 ∷ pos 0 ∷ pos 0 ∷ pos 0 ∷ pos 0 ∷ pos 0 ∷ pos 0 ∷ pos 0 ∷ pos 0
-    ∷ pos 2 ∷ pos 20 ∷ pos 3 ∷ pos 40 ∷ pos 3
+    ∷ pos 2 ∷ pos 20 ∷ pos 3 ∷ pos 40 ∷ pos 3 ∷ pos 0 ∷ pos 0
     ∷ pos 2 ∷ pos 5 ∷ pos 3 ∷ pos 3 ∷ pos 1 ∷ pos 0 ∷ pos 0 ∷ pos 0 ∷ pos 0 ∷ pos 0 ∷ pos 0 ∷ pos 0 ∷ pos 2
-    ∷ pos 0 ∷ pos 20 ∷ pos 3 ∷ pos 40 ∷ pos 3
+    ∷ pos 0 ∷ pos 20 ∷ pos 3 ∷ pos 40 ∷ pos 3 ∷ pos 0 ∷ pos 0
     ∷ pos 1 ∷ pos 0 ∷ pos 80 ∷ pos 3
     ∷ pos 12 ∷ pos 0 ∷ pos 80 ∷ pos 3 ∷ []
 unfolding countsGood placesGood valuesFit allDiffer numberNew rangeWidth widthGood roomGood _and_ allBelow maxBelow countOf signedOf eqZ

@@ -16,10 +16,11 @@ use Rattle.survey.specs.rule.Table.{tableOf}
 use Rattle.reading.specs.rule.Result.{Is}
 use Rattle.reading.specs.rule.Whole.{surveyOf}
 use Rattle.bridge.specs.Lowest.{never}
+use Rattle.laying.specs.rule.Begins.{begins}
 use Rattle.definition.specs.declared.Against.{Against}
 use Rattle.definition.specs.declared.Against.the-variants.{Same, Other, Refused}
 use Rattle.definition.specs.rule.Definition.{Outcome, Built, Refusal, outcomeOf}
-use Rattle.definition.specs.rule.Against.{begins, held, againstOf}
+use Rattle.definition.specs.rule.Against.{held, againstOf}
 use Rattle.grammar_laws.specs.Outcome.{Settles, read, too-long, stopped, misnamed, no-room, outcome-exactly}
 use Rattle.grammar_laws.specs.Whole.{survey-is}
 use Rattle.sink.specs.rule.Sent.{Sent}

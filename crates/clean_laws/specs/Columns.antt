@@ -202,6 +202,8 @@ untexted c = record {
   «name_len» = 0;
   label = 0;
   «label_len» = 0;
+  usage = c .usage;
+  filter = c .filter;
 }
 
 module _ (d p : List ℕ) where

@@ -86,9 +86,9 @@ pub clean-cleaned : cleanFrom clean ≡ clean
 unfolding definitions cleaning
 clean-cleaned = refl
 
--- ---- the two tables: 6 + 18 * 2 + 4 * 3 numbers, by the places of the texts and by the length of `b{22}`
+-- ---- the two tables: 6 + 20 * 2 + 4 * 3 numbers, by the places of the texts and by the length of `b{22}`
 abbrev header : Header
-header = record { mark = 11; rows = 2; lines = 3; length = 5; «rows_at» = 6; «lines_at» = 42 }
+header = record { mark = 11; rows = 2; lines = 3; length = 5; «rows_at» = 6; «lines_at» = 46 }
 
 -- two subfields of two bytes each, in bytes 1 to 4: 1 to 9, and two of them labelled
 abbrev q1 : ℕ → ℕ → Columns
@@ -111,6 +111,8 @@ q1 name label = record {
   «name_len» = 2;
   label = label;
   «label_len» = 7;
+  usage = 0;
+  filter = 0;
 }
 
 -- a SINGLE in byte 5
@@ -134,15 +136,17 @@ q2 name label = record {
   «name_len» = 2;
   label = label;
   «label_len» = 0;
+  usage = 0;
+  filter = 0;
 }
 
 abbrev linesWith : ℕ → ℕ → ℕ → ℕ → List ℤ
 linesWith a b long x =
     pos 8 ∷ pos 1 ∷ pos a ∷ pos 1 ∷ pos 9 ∷ pos 0 ∷ pos b ∷ pos long ∷ pos 1 ∷ pos 0 ∷ pos x ∷ pos 1 ∷ []
 
--- the lent table of 54 numbers, once a definition is read into it
+-- the lent table of 58 numbers, once a definition is read into it
 abbrev tableFrom : List ℕ → List ℤ
-tableFrom d = tableAfter (outcomeOf d 54) (replicate 54 (pos 99))
+tableFrom d = tableAfter (outcomeOf d 58) (replicate 58 (pos 99))
 
 pub messy-read :
     tableFrom messy ≡ headerCells header ++ rowCells (q1 147 158) ++ rowCells (q2 290 301) ++ linesWith 228 241 6 337

@@ -44,7 +44,8 @@ use Rattle.definition.specs.Books.{Faulty, closed, judged}
 use Rattle.definition.specs.Books as books
 use Rattle.definition.specs.rule.Definition.{Outcome, Built, Refusal, fitting, namesOf, quoteAt, judgeNames, settled, outcomeOf}
 use Rattle.definition.specs.rule.Definition.{answerOf, tableAfter}
-use Rattle.definition.specs.rule.Against.{begins, held}
+use Rattle.laying.specs.rule.Begins.{begins}
+use Rattle.definition.specs.rule.Against.{held}
 use Rattle.definition.specs.declared.Against.{Against}
 use Rattle.definition.specs.declared.Against.the-variants as against
 
@@ -60,11 +61,11 @@ module _ {d : List ℕ} where
   sames-more none h = more h none
   sames-more (more g r) h = more g (sames-more r h)
 
-  sames-count : {l : List kept.Variable} {m : List Variable} → Sames d l m → length l ≡ length m
+  pub sames-count : {l : List kept.Variable} {m : List Variable} → Sames d l m → length l ≡ length m
   sames-count none = refl
   sames-count (more h r) = rw (sames-count r)
 
-  sames-lines : {l : List kept.Variable} {m : List Variable} → Sames d l m → kept.linesAll l ≡ linesAll m
+  pub sames-lines : {l : List kept.Variable} {m : List Variable} → Sames d l m → kept.linesAll l ≡ linesAll m
   unfolding kept.linesAll linesAll
   sames-lines none = refl
   sames-lines (more h r) = rw (lines-count (h .lines), sames-lines r)
@@ -90,7 +91,7 @@ module _ {d : List ℕ} where
   sames-cells none = refl
   sames-cells (more h r) = rw (lines-cells (h .lines), sames-cells r)
 
-  sames-table : {l : List kept.Variable} {m : List Variable} → Sames d l m → kept.tableOf l ≡ tableOf m
+  pub sames-table : {l : List kept.Variable} {m : List Variable} → Sames d l m → kept.tableOf l ≡ tableOf m
   unfolding kept.tableOf tableOf kept.headerFor headerFor
   sames-table s = rw (sames-count s, sames-lines s, sames-highest s) (rw (sames-rows s 0, sames-cells s))
 

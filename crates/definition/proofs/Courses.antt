@@ -40,12 +40,12 @@ use Rattle.entries.specs.Entry.{Stored}
 use Rattle.entries.specs.Entry as entry
 use Rattle.entries.specs.Good.{EntryGood}
 use Rattle.entries.proofs.Goods.{entry-good, entry-left}
-use Rattle.definition.specs.declared.Tally.{Tally}
+use Rattle.laying.specs.declared.Tally.{Tally}
 use Rattle.definition.specs.declared.Turn.{Turn}
 use Rattle.definition.specs.declared.Turn.the-variants as turn
 use Rattle.definition.specs.Books.{Variables, Course, course, endOr, entered, variableStep, variablesFrom}
 use Rattle.definition.specs.Books as variables
-use Rattle.definition.specs.Code.{zeros, tallyOf, tallyWith, turnOr, followed, turnAfter, RowStored}
+use Rattle.definition.specs.Code.{tallyOf, turnOr, followed, turnAfter, RowStored}
 use Rattle.definition.proofs.Small.{row-ident, row-finish, ident-few}
 use Rattle.built.specs.Nth.{few-rows, few-lines}
 

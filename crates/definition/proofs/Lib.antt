@@ -8,4 +8,3 @@ pub mod Bridge
 pub mod Goods
 pub mod Lows
 pub mod Wholes
-pub mod Matched

@@ -11,7 +11,7 @@ use lib.ListN.{length, getD, set, length-set}
 use lib.Seq.{getD-set-same, getD-set-other}
 use Rattle.below.specs.Below.{or-true}
 use Rattle.cells.specs.rule.Cell.{pasted}
-use Rattle.cells.specs.Cell.{paste-more, paste-none}
+use Rattle.cells.specs.Cell.{paste-none}
 use Rattle.layout.specs.rule.Layout.{rowSize, lineSize, mostRows, mostLines}
 use Rattle.scan.specs.rule.Loop.{Next, Again, Done}
 use Rattle.tokens.specs.declared.Fault.{Fault}
@@ -34,14 +34,17 @@ use Rattle.entries.specs.Entry.{Stored}
 use Rattle.entries.specs.Entry as entry
 use Rattle.entries.specs.Good.{EntryGood}
 use Rattle.entries.proofs.Goods.{entry-good}
-use Rattle.definition.specs.declared.Tally.{Tally}
+use Rattle.laying.specs.declared.Tally.{Tally}
 use Rattle.definition.specs.declared.Turn.{Turn}
 use Rattle.definition.specs.declared.Turn.the-variants as turn
 use Rattle.definition.specs.declared.Run.{Run}
 use Rattle.definition.specs.declared.Run.the-variants as run
 use Rattle.definition.specs.Books.{Variables, Course, course, endOr, entered, variableStep, variablesFrom}
 use Rattle.definition.specs.Books as variables
-use Rattle.definition.specs.Code.{zeros, tallyOf, tallyWith, turnOr, followed, turnAfter, RowStored, runOf, Laid}
+use Rattle.laying.specs.Code.{zeros, tallyWith}
+use Rattle.laying.proofs.Overs.{at-start}
+use Rattle.laying.proofs.Zeros.{zero-at}
+use Rattle.definition.specs.Code.{tallyOf, turnOr, followed, turnAfter, RowStored, runOf, Laid}
 use Rattle.definition.proofs.Small.{row-ident, row-finish, ident-few}
 use Rattle.definition.proofs.Courses.{next-entry, entry-same, from-again, from-done}
 use Rattle.built.specs.Nth.{few-rows, few-lines}
@@ -98,9 +101,6 @@ module _ (d : List ℕ) (y : Tally) where
     by (Taken m) j = none cc
     by Left j = none cc
 
-pub at-start : (l p s : List ℤ) (k : ℕ) → k ≡ length p → length p ≤ length l → pasted (pasted l 0 p) k s ≡ pasted l 0 (p ++ s)
-at-start l p s k e h = let q : k ≡ 0 + length p = omega arith in rw q (paste-more l p s 0 (omega arith))
-
 or-false : (b : Bool) → b ≡ (b || false)
 or-false true = refl
 or-false false = refl
@@ -115,20 +115,6 @@ pub record Ran (d : List ℕ) (t₀ : Reading) (rows₀ lines₀ : List ℤ) (at
   pub lines-are : lines ≡ pasted lines₀ 0 (allLines read)
   pub good : Good read
   pub seen-long : length seen ≡ 10000
-
-zero-at : (k n : ℕ) → getD (zeros k) n 0 ≡ 0
-unfolding zeros
-zero-at zero n = refl
-zero-at (suc k) zero = refl
-zero-at (suc k) (suc n) = zero-at k n
-
-zeros-count : (n : ℕ) → length (zeros n) ≡ n
-unfolding zeros
-zeros-count zero = refl
-zeros-count (suc n) = ap suc (zeros-count n)
-
-pub zeros-long : (seen : List ℕ) → seen ≡ zeros 10000 → length seen ≡ 10000
-zeros-long seen e = ap length e ∙ zeros-count 10000
 
 pub ran-none : (d : List ℕ) (t : Reading) (rows lines : List ℤ) (seen : List ℕ) (y : Tally) → seen ≡ zeros 10000 → length seen ≡ 10000 → y ≡ tallyOf [] → Ran d t rows lines t y seen rows lines
 unfolding identMet rowsFrom allLines
@@ -168,7 +154,7 @@ module _ (d : List ℕ) (t₀ : Reading) (rows₀ lines₀ : List ℤ) (at : Rea
     not-here f i = same ∙ from-done d (course at l) (variables.Not f) (rw (sym entry-here ∙ not-of d y here f i))
 
     -- one variable more
-    module _ (v : Variable) (n : ℕ) (e : here ≡ entry.Is v n) (long : length d ≤ 1048576) (wide : length rows₀ ≡ 9216) (many : length lines₀ ≡ 16384) where
+    module _ (v : Variable) (n : ℕ) (e : here ≡ entry.Is v n) (long : length d ≤ 1048576) (wide : length rows₀ ≡ rowSize * mostRows) (many : length lines₀ ≡ lineSize * mostLines) where
       read-good : EntryGood (marked seen) (y .rows) (y .lines) v
       read-good = entry-good d at (marked seen) (y .rows) (y .lines) v n long (few-here .1) e
 
@@ -228,7 +214,7 @@ module _ (d : List ℕ) (t₀ : Reading) (rows₀ lines₀ : List ℤ) (at : Rea
 
 -- ---- carried on: another variable, the END behind the last, a refusal
 module _ (d : List ℕ) (t₀ : Reading) (rows₀ lines₀ : List ℤ) (at : Reading) (y : Tally) (seen : List ℕ) (rows lines : List ℤ) (r : Ran d t₀ rows₀ lines₀ at y seen rows lines)
-    (long : length d ≤ 1048576) (wide : length rows₀ ≡ 9216) (many : length lines₀ ≡ 16384) where
+    (long : length d ≤ 1048576) (wide : length rows₀ ≡ rowSize * mostRows) (many : length lines₀ ≡ lineSize * mostLines) where
   abbrev entry-now : Entry
   entry-now = entryOf d at (marked seen) (y .rows) (y .lines)
 

@@ -2,34 +2,32 @@
 -- are its names.
 use mathlib.Core.Path.{_≡_, refl, sym, ap, _∙_}
 use mathlib.Core.Bool.{Bool, true, false, cond}
-use mathlib.Core.List.{List, [], _∷_, _++_, append-assoc}
+use mathlib.Core.List.{List, [], _∷_, _++_}
 use Prim.Native.Nat.{ℕ, zero, suc, _+_, _-_, _*_, _≤_, _<_}
 use native.Mathlib.Omega.{arith}
 use native.Mathlib.Nat.{le-of-suc-le-suc, not-suc-le-zero}
-use borrow.Author.Tests.{ltb-true, ltb-false, lt-ltb, le-ltb}
+use borrow.Author.Tests.{lt-ltb, le-ltb}
 use lib.Dec.{ltb}
 use lib.IntN.{ℤ, pos}
-use lib.ListN.{length, take, getD, length-append}
+use lib.ListN.{length, take, getD}
 use lib.Seq.{getD-append-add, getD-take}
 use Rattle.cells.specs.rule.Cell.{cell, countOf, pasted}
-use Rattle.cells.specs.Cell.{paste-more}
 use Rattle.scan.specs.rule.Text.{text}
 use Rattle.marks.specs.declared.Inside.the-variants.{Plain}
 use Rattle.marks.specs.rule.Spelling.{decodeOf}
-use Rattle.layout.specs.rule.Layout.{headerSize, rowSize, lineSize, linesBase, lineBase}
-use Rattle.layout.specs.declared.Header.{Header}
-use Rattle.definition.proofs.Rans.{at-start}
+use Rattle.layout.specs.rule.Layout.{mark, rowSize, lineSize, lineBase}
 use Rattle.rows.specs.rule.Cells.{rowCells, headerCells}
 use Rattle.names.specs.rule.Standard.{nameAt, nameFault}
 use Rattle.measures.specs.Width.{fullColumns, widened, plainColumns}
 use Rattle.measures.specs.Survey.{Variable, linesIn, columnsIn, linesAll, highestIn, headerFor, rowsFrom, allLines, tableOf}
-use Rattle.measures.proofs.Snoc.{row-length, rows-length, lines-length, table-length}
-use Rattle.definition.specs.declared.Tally.{Tally}
+use Rattle.measures.proofs.Snoc.{row-length, table-length}
+use Rattle.laying.specs.declared.Tally.{Tally}
 use Rattle.definition.specs.declared.Answer.{Answer}
 use Rattle.definition.specs.declared.Answer.the-variants as answer
-use Rattle.definition.specs.declared.Rooms.the-variants as rooms
+use Rattle.laying.specs.declared.Rooms.the-variants as rooms
 use Rattle.definition.specs.Books.{namesOf, quoteAt, Outcome, Built, Refusal, fitting, named, answerIn, tableIn}
-use Rattle.definition.specs.Code.{tallyOf, Held, nameIn, NamesJudged, headerBy, laidOver, fillSays, fillLeaves, cellsIn, NamesSettled}
+use Rattle.laying.specs.Code.{headerBy, cellsIn, filledOver}
+use Rattle.definition.specs.Code.{tallyOf, Held, nameIn, NamesJudged, fillSays, NamesSettled}
 
 -- ---- the place of the name of variable i
 unfoldable placeAt : List Variable → ℕ → ℕ
@@ -65,10 +63,6 @@ unfolding namesOf
 names-count d [] = refl
 names-count d (v ∷ l) = ap suc (names-count d l)
 
-header-length : (h : Header) → length (headerCells h) ≡ 6
-unfolding headerCells
-header-length h = refl
-
 -- ---- what the rooms hold
 module _ (d : List ℕ) (y : Tally) (rows lines : List ℤ) (l : List Variable) (h : Held l y rows lines) where
   pub count-is : y .rows ≡ length l
@@ -92,35 +86,14 @@ module _ (d : List ℕ) (y : Tally) (rows lines : List ℤ) (l : List Variable) 
       (λ i k. let q : i < length l = omega (arith, count-is) in ap (λ (p : ℕ). decodeOf Plain 0 (text d p)) (place-here i q) ∙ sym (name-at d l i q))
 
   -- the numbers that the rooms hold are those of the survey
-  pub cells-are : cellsIn y rows lines ≡ tableOf l
+  pub cells-are : cellsIn mark y rows lines ≡ tableOf l
   unfolding cellsIn headerBy tallyOf headerFor tableOf headerCells allLines rowsFrom
-  cells-are = ap (λ (z : Tally). cellsIn z rows lines) (h .tally) ∙ held-parts where
+  cells-are = ap (λ (z : Tally). cellsIn mark z rows lines) (h .tally) ∙ held-parts where
     held-parts : headerCells (headerFor l) ++ (take (rowSize * length l) rows ++ take (lineSize * linesAll l) lines) ≡ tableOf l
     held-parts = rw (h .rows-held, h .lines-held) refl
 
-  -- and so are those laid over the table
+  -- and so is what is laid over the table
   module _ (t : List ℤ) where
-    laid-table : length (tableOf l) ≤ length t → laidOver t y rows lines ≡ pasted t 0 (tableOf l)
-    unfolding laidOver headerBy tallyOf headerFor tableOf headerCells allLines rowsFrom
-    laid-table g = ap (λ (z : Tally). laidOver t z rows lines) (h .tally) ∙ rw (h .rows-held, h .lines-held) (two ∙ ap (pasted t 0) (append-assoc head (rowsFrom 0 l) (allLines l)))
-      where
-        head : List ℤ
-        head = headerCells (headerFor l)
-
-        six : length head ≡ 6
-        six = header-length (headerFor l)
-
-        front : length (head ++ rowsFrom 0 l) ≡ linesBase (length l)
-        front = length-append head (rowsFrom 0 l) ∙ rw (six, rows-length 0 l)
-
-        room : lineBase (length l) (linesAll l) ≤ length t
-        room = rw (← table-length l) g
-
-        two : pasted (pasted (pasted t 0 head) headerSize (rowsFrom 0 l)) (linesBase (length l)) (allLines l) ≡ pasted t 0 ((head ++ rowsFrom 0 l) ++ allLines l)
-        two =
-            ap (λ (s : List ℤ). pasted s (linesBase (length l)) (allLines l)) (at-start t head (rowsFrom 0 l) headerSize (sym six) (omega (arith, six, room)))
-            ∙ at-start t (head ++ rowsFrom 0 l) (allLines l) (linesBase (length l)) (sym front) (omega (arith, front, room))
-
     pub says-fit : fillSays y (length t) ≡ answerIn (fitting (length t) l)
     unfolding fillSays fitting answerIn
     says-fit = rw (count-is, lines-is, table-length l) (by (ltb (length t) (lineBase (length l) (linesAll l))))
@@ -132,13 +105,13 @@ module _ (d : List ℕ) (y : Tally) (rows lines : List ℤ) (l : List Variable) 
     base-is : lineBase (y .rows) (y .lines) ≡ length (tableOf l)
     base-is = rw (count-is, lines-is) (sym (table-length l))
 
-    pub leaves-fit : fillLeaves y rows lines t ≡ tableIn (fitting (length t) l) t
-    unfolding fillLeaves fitting tableIn
-    leaves-fit = rw base-is (by (ltb (length t) (length (tableOf l))) refl)
+    pub leaves-fit : filledOver mark y rows lines t ≡ tableIn (fitting (length t) l) t
+    unfolding filledOver fitting tableIn
+    leaves-fit = rw (base-is, cells-are) (by (ltb (length t) (length (tableOf l))))
       where
-        by : (b : Bool) → ltb (length t) (length (tableOf l)) ≡ b → cond b t (laidOver t y rows lines) ≡ tableIn (cond b (Refusal 10 0) (Built l)) t
-        by true e = refl
-        by false e = laid-table (ltb-false (length t) (length (tableOf l)) e)
+        by : (b : Bool) → cond b t (pasted t 0 (tableOf l)) ≡ tableIn (cond b (Refusal 10 0) (Built l)) t
+        by true = refl
+        by false = refl
 
   -- with STANDARD NAMES, where all names are good
   good-outcome : (n r : ℕ) → NamesJudged d rows (y .rows) r → y .rows ≤ r → named d n true l ≡ fitting n l

@@ -21,10 +21,11 @@ use Rattle.entries.specs.Entry.{stoodOf}
 use Rattle.entries.specs.Entry as entry
 use Rattle.entries.specs.Good.{EntryGood}
 use Rattle.entries.proofs.Goods.{entry-good}
-use Rattle.definition.specs.declared.Tally.{Tally}
+use Rattle.laying.specs.declared.Tally.{Tally}
 use Rattle.definition.specs.declared.Turn.{Turn}
 use Rattle.definition.specs.declared.Turn.the-variants as turn
-use Rattle.definition.specs.Code.{tallyWith, followed, turnAfter, RowStored}
+use Rattle.laying.specs.Code.{tallyWith}
+use Rattle.definition.specs.Code.{followed, turnAfter, RowStored}
 use Rattle.definition.proofs.Small.{small-row}
 
 none : {A : Type 0} → _≡_ {A = ℕ} 0 1 → A

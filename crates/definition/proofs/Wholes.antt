@@ -10,7 +10,7 @@ use lib.IntN.{ℤ}
 use lib.ListN.{length, take}
 use lib.Seq.{take-at}
 use Rattle.cells.specs.rule.Cell.{pasted}
-use Rattle.layout.specs.rule.Layout.{rowSize, lineSize, lineBase, mostRows, mostLines}
+use Rattle.layout.specs.rule.Layout.{mark, rowSize, lineSize, lineBase, mostRows, mostLines}
 use Rattle.tokens.specs.declared.Fault.{Fault}
 use Rattle.tokens.specs.declared.Reading.{Reading}
 use Rattle.tokens.specs.declared.Reading.the-variants.{At, Refused}
@@ -20,16 +20,17 @@ use Rattle.measures.specs.Survey.{Variable, linesAll, highestIn, rowsFrom, allL
 use Rattle.measures.specs.Good.{Good}
 use Rattle.measures.proofs.Snoc.{rows-length, lines-length, table-length}
 use Rattle.built.specs.Nth.{few-rows, few-lines}
-use Rattle.definition.specs.declared.Tally.{Tally}
+use Rattle.laying.specs.declared.Tally.{Tally}
 use Rattle.definition.specs.declared.Run.{Run}
 use Rattle.definition.specs.declared.Run.the-variants as run
-use Rattle.definition.specs.declared.Rooms.{Rooms}
-use Rattle.definition.specs.declared.Rooms.the-variants as rooms
+use Rattle.laying.specs.declared.Rooms.{Rooms}
+use Rattle.laying.specs.declared.Rooms.the-variants as rooms
 use Rattle.definition.specs.Books.{Variables, course, variablesFrom, endsOn, Read, Whole, Faulty, ended, closed, surveyOf}
 use Rattle.definition.specs.Books.{Outcome, Built, Refusal, fitting, named, judged, outcomeIn, answerIn, tableIn}
 use Rattle.definition.specs.Books as variables
-use Rattle.definition.specs.Code.{tallyOf, runOf, Laid, Held, NamesSettled, Standing, RoomsRead, fillSays, fillLeaves, cellsIn, comparedBy}
-use Rattle.definition.specs.rule.Against.{begins}
+use Rattle.definition.specs.Code.{tallyOf, runOf, Laid, Held, NamesSettled, Standing, RoomsRead, fillSays, comparedBy}
+use Rattle.laying.specs.rule.Begins.{begins}
+use Rattle.laying.specs.Code.{cellsIn, filledOver}
 use Rattle.definition.proofs.Bridge.{heldIn}
 use Rattle.definition.proofs.Settles.{count-is, lines-is, cells-are, says-fit, leaves-fit}
 use Rattle.definition.proofs.Goods.{AllGood, variables-good}
@@ -133,7 +134,7 @@ module _ (d : List ℕ) (rows lines : List ℤ) (y : Tally) (s : Standing d rows
   pub filled-says : (t : List ℤ) → fillSays y (length t) ≡ answerIn (judged d (length t) (surveyOf d))
   filled-says t = says-fit d y rows lines (s .read) (s .held) t ∙ ap answerIn (sym (s .outcome (length t)))
 
-  pub filled-leaves : (t : List ℤ) → fillLeaves y rows lines t ≡ tableIn (judged d (length t) (surveyOf d)) t
+  pub filled-leaves : (t : List ℤ) → filledOver mark y rows lines t ≡ tableIn (judged d (length t) (surveyOf d)) t
   filled-leaves t = leaves-fit d y rows lines (s .read) (s .held) t ∙ ap (λ (w : Outcome). tableIn w t) (sym (s .outcome (length t)))
 
   -- a table of any definition has room enough
@@ -144,6 +145,6 @@ module _ (d : List ℕ) (rows lines : List ℤ) (y : Tally) (s : Standing d rows
       omega (arith, table-length (s .read), s .few .0, s .few .1, count-is d y rows lines (s .read) (s .held), lines-is d y rows lines (s .read) (s .held)) in
       rw (le-ltb (lineBase mostRows mostLines) (length (tableOf (s .read))) f)
 
-  pub held-says : (t : List ℤ) → comparedBy (begins (cellsIn y rows lines) t) ≡ heldIn (judged d (lineBase mostRows mostLines) (surveyOf d)) t
+  pub held-says : (t : List ℤ) → comparedBy (begins (cellsIn mark y rows lines) t) ≡ heldIn (judged d (lineBase mostRows mostLines) (surveyOf d)) t
   unfolding comparedBy heldIn
   held-says t = rw (cells-are d y rows lines (s .read) (s .held)) (sym (ap (λ (w : Outcome). heldIn w t) (s .outcome (lineBase mostRows mostLines) ∙ any-fits)))

@@ -1,8 +1,8 @@
 -- What the code keeps of the variables: counts, and their rows and lines in rooms of its own.
 use mathlib.Core.Path.{_≡_}
-use mathlib.Core.Bool.{Bool, true, false, cond}
-use mathlib.Core.List.{List, [], _∷_, _++_}
-use Prim.Native.Nat.{ℕ, zero, suc, _+_, _-_, _*_, _≤_, _<_, max}
+use mathlib.Core.Bool.{Bool, cond}
+use mathlib.Core.List.{List}
+use Prim.Native.Nat.{ℕ, _+_, _-_, _*_, _≤_, _<_}
 use lib.Dec.{ltb}
 use lib.IntN.{ℤ}
 use lib.ListN.{length, take}
@@ -11,10 +11,8 @@ use Rattle.signs.specs.declared.Sign.{Sign}
 use Rattle.scan.specs.rule.Text.{text}
 use Rattle.marks.specs.declared.Inside.the-variants.{Plain}
 use Rattle.marks.specs.rule.Spelling.{decodeOf}
-use Rattle.layout.specs.rule.Layout.{mark, headerSize, rowSize, lineSize, linesBase, lineBase, mostRows, mostLines}
-use Rattle.layout.specs.declared.Columns.{Columns}
-use Rattle.layout.specs.declared.Header.{Header}
-use Rattle.rows.specs.rule.Cells.{rowCells, headerCells}
+use Rattle.layout.specs.rule.Layout.{rowSize, lineSize, lineBase, mostRows, mostLines}
+use Rattle.rows.specs.rule.Cells.{rowCells}
 use Rattle.rows.specs.Cells.{nameColumn}
 use Rattle.tokens.specs.declared.Fault.{Fault}
 use Rattle.tokens.specs.declared.Reading.{Reading}
@@ -29,32 +27,24 @@ use Rattle.measures.specs.Survey.{Variable, linesIn, columnsIn, linesAll, highe
 use Rattle.measures.specs.Good.{Good}
 use Rattle.entries.specs.Entry.{Entry}
 use Rattle.entries.specs.Entry as entry
+use Rattle.laying.specs.declared.Tally.{Tally}
+use Rattle.laying.specs.declared.Rooms.{Rooms}
+use Rattle.laying.specs.declared.Rooms.the-variants as rooms
+use Rattle.laying.specs.Code.{tallyWith}
 use Rattle.definition.specs.Books.{Variables, Outcome, Refusal, fitting, named, judged, surveyOf}
 use Rattle.definition.specs.Books as variables
-use Rattle.definition.specs.declared.Tally.{Tally}
 use Rattle.definition.specs.declared.Turn.{Turn}
 use Rattle.definition.specs.declared.Turn.the-variants as turn
 use Rattle.definition.specs.declared.Run.{Run}
 use Rattle.definition.specs.declared.Run.the-variants as run
 use Rattle.definition.specs.declared.Answer.{Answer}
 use Rattle.definition.specs.declared.Answer.the-variants as answer
-use Rattle.definition.specs.declared.Rooms.{Rooms}
-use Rattle.definition.specs.declared.Rooms.the-variants as rooms
 use Rattle.definition.specs.declared.Against.{Against}
 use Rattle.definition.specs.declared.Against.the-variants as against
-
--- nothing marked yet
-unfoldable pub zeros : ℕ → List ℕ
-zeros zero = []
-zeros (suc n) = 0 ∷ zeros n
 
 -- ---- counts
 unfoldable pub tallyOf : List Variable → Tally
 tallyOf l = record { rows = length l; lines = linesAll l; length = highestIn l }
-
--- with one variable more, of these columns, after which there are `last` lines
-unfoldable pub tallyWith : Tally → Columns → ℕ → Tally
-tallyWith y c last = record { rows = y .rows + 1; lines = last; length = max (y .length) (c .finish) }
 
 -- ---- one variable, and what follows it
 abbrev pub turnOr : ℕ → Tally → Reading → Choice → Turn
@@ -100,26 +90,9 @@ pub record NamesJudged (d : List ℕ) (rows : List ℤ) (count r : ℕ) : Type 0
   pub fault-is : (names : List (List Sign)) → length names ≡ count → ((i : ℕ) → i < count → nameIn d rows i ≡ nameAt names i)
       → r ≡ nameFault names
 
-unfoldable pub headerBy : Tally → Header
-headerBy y = record {
-  mark = mark;
-  rows = y .rows;
-  lines = y .lines;
-  length = y .length;
-  «rows_at» = headerSize;
-  «lines_at» = linesBase (y .rows);
-}
-
-unfoldable pub laidOver : List ℤ → Tally → List ℤ → List ℤ → List ℤ
-laidOver t y rows lines =
-    pasted (pasted (pasted t 0 (headerCells (headerBy y))) headerSize (take (rowSize * y .rows) rows)) (linesBase (y .rows)) (take (lineSize * y .lines) lines)
-
--- 10 where the table is too short, else they are laid over it
+-- 10 where the table is too short, else how many they are
 unfoldable pub fillSays : Tally → ℕ → Answer
 fillSays y n = cond (ltb n (lineBase (y .rows) (y .lines))) (answer.Refused 10 0) (answer.Read (y .rows) (y .lines))
-
-unfoldable pub fillLeaves : Tally → List ℤ → List ℤ → List ℤ → List ℤ
-fillLeaves y rows lines t = cond (ltb (length t) (lineBase (y .rows) (y .lines))) t (laidOver t y rows lines)
 
 -- 9 judged of the variables that the rooms hold
 pub record NamesSettled (d : List ℕ) (standard : Bool) (y : Tally) (rows : List ℤ) (r : Rooms) : Type 0 where
@@ -139,9 +112,6 @@ pub record RoomsRead (d : List ℕ) (rows lines : List ℤ) (r : Rooms) : Type 0
   pub stands : {y : Tally} → r ≡ rooms.Held y → Standing d rows lines y
   pub refuses : {k p : ℕ} → r ≡ rooms.Refused k p → (n : ℕ) → judged d n (surveyOf d) ≡ Refusal k p
 
--- the table that the rooms hold, and what is said of it
-unfoldable pub cellsIn : Tally → List ℤ → List ℤ → List ℤ
-cellsIn y rows lines = headerCells (headerBy y) ++ (take (rowSize * y .rows) rows ++ take (lineSize * y .lines) lines)
-
+-- what is said of the table that the rooms hold
 unfoldable pub comparedBy : Bool → Against
 comparedBy b = cond b against.Same against.Other

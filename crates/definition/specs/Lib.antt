@@ -1,4 +1,3 @@
 pub mod rule
 pub mod Books
 pub mod Code
-pub mod Against

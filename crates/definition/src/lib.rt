@@ -2,9 +2,9 @@
 // so that every refusal keeps the table; they are laid into it at the end, or held against it where a caller asks whether a table is the
 // definition's own. Above it stand the face, the lister and the writers of texts.
 use entries::Stood;
-use layout::Columns;
+use laying::Rooms;
+use laying::Tally;
 use layout::Header;
-use layout::Line;
 use layout::Row;
 use tokens::Choice;
 use tokens::Fault;
@@ -12,49 +12,26 @@ use tokens::Reading;
 ghost use mathlib.Core.Path.{_≡_};
 ghost use mathlib.Core.List.{[]};
 ghost use Prim.Native.Nat.{_+_, _-_, _*_, _≤_, _<_};
-ghost use lib.ListN.{length, take, drop};
+ghost use lib.ListN.{length};
 ghost use Rattle.ascii.specs.Class.{Classes};
 ghost use Rattle.ascii.specs.rule.Tens.{Tens};
 ghost use Rattle.cells.specs.rule.Cell.{cell, countOf};
-ghost use Rattle.layout.specs.rule.Layout.{rowSize, lineSize, lineBase, mostRows, mostLines};
+ghost use Rattle.layout.specs.rule.Layout.{markXml, rowSize, lineSize, mostRows, mostLines};
 ghost use Rattle.rows.specs.Cells.{nameColumn};
 ghost use Rattle.variables.specs.Ident.{marked};
-ghost use Rattle.entries.specs.Entry.{entryOf};
-ghost use Rattle.entries.specs.Entry.{Stored};
+ghost use Rattle.entries.specs.Entry.{entryOf, Stored};
+ghost use Rattle.laying.specs.rule.Begins.{begins};
+ghost use Rattle.laying.specs.Code.{zeros, cellsIn, filledOver};
 ghost use Rattle.definition.specs.rule.Definition.{DefinitionRead};
-ghost use Rattle.definition.specs.rule.Against.{begins, againstOf};
+ghost use Rattle.definition.specs.rule.Against.{againstOf};
 ghost use Rattle.definition.specs.Books.{course, variablesFrom, endsOn};
-ghost use Rattle.definition.specs.Code.{zeros, tallyWith, followed, turnAfter, RowStored, runOf, Laid, NamesJudged, NamesSettled, RoomsRead};
-ghost use Rattle.definition.specs.Code.{headerBy, laidOver, fillSays, fillLeaves, cellsIn, comparedBy};
-
-// Room for the most rows, and for the most lines.
-const ROWS_ROOM: usize = Row::SIZE * Header::MOST_ROWS;
-
-const LINES_ROOM: usize = Line::SIZE * Header::MOST_LINES;
+ghost use Rattle.definition.specs.Code.{followed, turnAfter, RowStored, runOf, Laid, NamesJudged, NamesSettled, RoomsRead};
+ghost use Rattle.definition.specs.Code.{fillSays, comparedBy};
 
 // The outcome: how many variables and value lines were read; or the refusal's number and place.
 pub enum Answer {
     Read { rows: usize, lines: usize },
     Refused { number: usize, place: usize },
-}
-
-// What the variables so far come to: how many they are, their value lines in all, and the highest finish.
-pub struct Tally {
-    pub rows: usize,
-    pub lines: usize,
-    pub length: usize,
-}
-
-// With one variable more, after which there are so many lines.
-fn tally_with(y: Tally, c: Columns, last: usize) -> Tally
-    requires { ⌜ y .rows < mostRows ⌝ }
-    ensures { λ r. ⌜ r ≡ tallyWith y c last ⌝ }
-{
-    Tally {
-        rows: y.rows + 1,
-        lines: last,
-        length: sound::larger(y.length, c.finish),
-    }
 }
 
 // What follows a variable: another one, or END and the place after it.
@@ -128,7 +105,7 @@ fn one_variable(
             next,
         } => {
             rows::put_row(rows, Row::SIZE * count, columns);
-            let more = tally_with(y, columns, last);
+            let more = laying::tally_with(y, columns, last);
             follow(classes, d, columns.ident, more, next)
         }
         Stood::Not(f) => Turn::Not(f),
@@ -221,63 +198,11 @@ fn names_fault(classes: &[u8; 256], d: &[u8], rows: &[i64], count: usize) -> usi
     names::first_fault(&keys, count)
 }
 
-// The header of so many rows and lines.
-fn header_by(y: Tally) -> Header
-    requires { ⌜ (y .rows ≤ mostRows) × (y .lines ≤ mostLines) × (y .length ≤ 16384) ⌝ }
-    ensures { λ r. ⌜ r ≡ headerBy y ⌝ }
-{
-    Header {
-        mark: Header::MARK,
-        rows: y.rows,
-        lines: y.lines,
-        length: y.length,
-        rows_at: Header::SIZE,
-        lines_at: Row::base(y.rows),
-    }
-}
-
-// Header, rows and lines at the start of the table.
-fn lay(table: &mut [i64], rows: &[i64], lines: &[i64], y: Tally)
-    requires { ⌜ (y .rows ≤ mostRows) × (y .lines ≤ mostLines) × (y .length ≤ 16384) ⌝ }
-    requires { ⌜ (length (now rows) ≡ rowSize * mostRows) × (length (now lines) ≡ lineSize * mostLines) × (lineBase (y .rows) (y .lines) ≤ length (now table)) ⌝ }
-    ensures { λ _. ⌜ now (table .exit) ≡ laidOver (now (table .entry)) y (now (rows .entry)) (now (lines .entry)) ⌝ }
-{
-    rows::put_header(table, header_by(y));
-    cells::paste(table, Header::SIZE, &rows[..Row::SIZE * y.rows]);
-    cells::paste(table, Row::base(y.rows), &lines[..Line::SIZE * y.lines]);
-}
-
-// 10 where the table is too short; else it is filled.
-fn fill(rows: &[i64], lines: &[i64], y: Tally, table: &mut [i64]) -> Answer
-    requires { ⌜ (y .rows ≤ mostRows) × (y .lines ≤ mostLines) × (y .length ≤ 16384) ⌝ }
-    requires { ⌜ (length (now rows) ≡ rowSize * mostRows) × (length (now lines) ≡ lineSize * mostLines) ⌝ }
-    ensures { λ r. ⌜ r ≡ fillSays y (length (now (table .entry))) ⌝ }
-    ensures { λ r. ⌜ now (table .exit) ≡ fillLeaves y (now (rows .entry)) (now (lines .entry)) (now (table .entry)) ⌝ }
-{
-    if table.len() < Line::base(y.rows, y.lines) {
-        return Answer::Refused {
-            number: 10,
-            place: 0,
-        };
-    }
-    lay(table, rows, lines, y);
-    Answer::Read {
-        rows: y.rows,
-        lines: y.lines,
-    }
-}
-
 // The opening quote before a text.
 fn quote_before(place: usize) -> usize
     ensures { λ r. ⌜ r ≡ place - 1 ⌝ }
 {
     if place == 0 { 0 } else { place - 1 }
-}
-
-// What the rooms of a call hold, once read and judged (2 to 9): so many rows and lines; or the refusal's number and place.
-pub enum Rooms {
-    Held(Tally),
-    Refused { number: usize, place: usize },
 }
 
 // After END SSS: 9.
@@ -299,8 +224,8 @@ fn settle(classes: &[u8; 256], d: &[u8], standard: bool, y: Tally, rows: &[i64])
     Rooms::Held(y)
 }
 
-// The whole definition, with rooms for rows and lines.
-fn read_in(
+// The whole definition, with rooms for rows and lines: those of the call, which may read a definition of the other kind into them.
+pub fn read_in(
     classes: &[u8; 256],
     powers: &[u64; 16],
     d: &[u8],
@@ -334,6 +259,27 @@ fn read_in(
     }
 }
 
+// 10 where the table is too short; else it is filled, by the mark of the definition's kind.
+pub fn fill(mark: usize, rows: &[i64], lines: &[i64], y: Tally, table: &mut [i64]) -> Answer
+    requires { ⌜ mark ≤ markXml ⌝ }
+    requires { ⌜ (y .rows ≤ mostRows) × (y .lines ≤ mostLines) × (y .length ≤ 16384) ⌝ }
+    requires { ⌜ (length (now rows) ≡ rowSize * mostRows) × (length (now lines) ≡ lineSize * mostLines) ⌝ }
+    ensures { λ r. ⌜ r ≡ fillSays y (length (now (table .entry))) ⌝ }
+    ensures { λ r. ⌜ now (table .exit) ≡ filledOver mark y (now (rows .entry)) (now (lines .entry)) (now (table .entry)) ⌝ }
+{
+    if laying::fill(mark, rows, lines, y, table) {
+        Answer::Read {
+            rows: y.rows,
+            lines: y.lines,
+        }
+    } else {
+        Answer::Refused {
+            number: 10,
+            place: 0,
+        }
+    }
+}
+
 // Reads a definition into a lent table. The table is filled from its start, or kept whole.
 pub fn read_definition(d: &[u8], table: &mut [i64]) -> Answer
     ensures { λ r. ⌜ DefinitionRead (now (d .entry)) (now (table .entry)) (now (table .exit)) r ⌝ }
@@ -346,8 +292,8 @@ pub fn read_definition(d: &[u8], table: &mut [i64]) -> Answer
     }
     let classes = ascii::classes();
     let powers = ascii::powers();
-    let mut rows = [0i64; ROWS_ROOM];
-    let mut lines = [0i64; LINES_ROOM];
+    let mut rows = [0i64; laying::ROWS_ROOM];
+    let mut lines = [0i64; laying::LINES_ROOM];
     let mut marks = [0u16; 16384];
     let mut seen = [0u8; 10000];
     match read_in(
@@ -359,42 +305,9 @@ pub fn read_definition(d: &[u8], table: &mut [i64]) -> Answer
         &mut marks,
         &mut seen,
     ) {
-        Rooms::Held(y) => fill(&rows, &lines, y, table),
+        Rooms::Held(y) => fill(Header::MARK, &rows, &lines, y, table),
         Rooms::Refused { number, place } => Answer::Refused { number, place },
     }
-}
-
-// Whether the numbers of t from a place on are these.
-fn same_at(t: &[i64], at: usize, part: &[i64]) -> bool
-    requires { ⌜ at + length (now part) ≤ length (now t) ⌝ }
-    ensures { λ r. ⌜ r ≡ begins (now (part .entry)) (drop at (now (t .entry))) ⌝ }
-{
-    let mut j: usize = 0;
-    while j < part.len() {
-        let same = cells::same(part[j], t[at + j]);
-        j += 1;
-        if !same {
-            return false;
-        }
-    }
-    true
-}
-
-// Whether the table begins with the header, the rows and the lines of the rooms.
-fn matches(rows: &[i64], lines: &[i64], y: Tally, t: &[i64]) -> bool
-    requires { ⌜ (y .rows ≤ mostRows) × (y .lines ≤ mostLines) × (y .length ≤ 16384) ⌝ }
-    requires { ⌜ (length (now rows) ≡ rowSize * mostRows) × (length (now lines) ≡ lineSize * mostLines) ⌝ }
-    ensures { λ r. ⌜ r ≡ begins (cellsIn y (now (rows .entry)) (now (lines .entry))) (now (t .entry)) ⌝ }
-{
-    if t.len() < Line::base(y.rows, y.lines) {
-        return false;
-    }
-    let mut header = [0i64; Header::SIZE];
-    rows::put_header(&mut header, header_by(y));
-    let a = same_at(t, 0, &header);
-    let b = same_at(t, Header::SIZE, &rows[..Row::SIZE * y.rows]);
-    let c = same_at(t, Row::base(y.rows), &lines[..Line::SIZE * y.lines]);
-    a & (b & c)
 }
 
 // Whether a table is the one that a definition yields; or the definition's refusal, 1 to 9.
@@ -404,12 +317,14 @@ pub enum Against {
     Refused { number: usize, place: usize },
 }
 
-fn compare(rows: &[i64], lines: &[i64], y: Tally, t: &[i64]) -> Against
+// The table that the rooms hold against another.
+pub fn compare(mark: usize, rows: &[i64], lines: &[i64], y: Tally, t: &[i64]) -> Against
+    requires { ⌜ mark ≤ markXml ⌝ }
     requires { ⌜ (y .rows ≤ mostRows) × (y .lines ≤ mostLines) × (y .length ≤ 16384) ⌝ }
     requires { ⌜ (length (now rows) ≡ rowSize * mostRows) × (length (now lines) ≡ lineSize * mostLines) ⌝ }
-    ensures { λ r. ⌜ r ≡ comparedBy (begins (cellsIn y (now (rows .entry)) (now (lines .entry))) (now (t .entry))) ⌝ }
+    ensures { λ r. ⌜ r ≡ comparedBy (begins (cellsIn mark y (now (rows .entry)) (now (lines .entry))) (now (t .entry))) ⌝ }
 {
-    if matches(rows, lines, y, t) {
+    if laying::matches(mark, rows, lines, y, t) {
         Against::Same
     } else {
         Against::Other
@@ -428,8 +343,8 @@ pub fn judge_against(d: &[u8], t: &[i64]) -> Against
     }
     let classes = ascii::classes();
     let powers = ascii::powers();
-    let mut rows = [0i64; ROWS_ROOM];
-    let mut lines = [0i64; LINES_ROOM];
+    let mut rows = [0i64; laying::ROWS_ROOM];
+    let mut lines = [0i64; laying::LINES_ROOM];
     let mut marks = [0u16; 16384];
     let mut seen = [0u8; 10000];
     match read_in(
@@ -441,7 +356,7 @@ pub fn judge_against(d: &[u8], t: &[i64]) -> Against
         &mut marks,
         &mut seen,
     ) {
-        Rooms::Held(y) => compare(&rows, &lines, y, t),
+        Rooms::Held(y) => compare(Header::MARK, &rows, &lines, y, t),
         Rooms::Refused { number, place } => Against::Refused { number, place },
     }
 }

@@ -21,7 +21,7 @@ pub refused-each :
     × RefusedAt 8 (variable "LOGICAL POSITION ") "16385"
     × RefusedAt 9 (after-version "STANDARD NAMES SURVEY RECORD R VARIABLE 1 NAME ")
     "\"1a\" LABEL \"\" TYPE LOGICAL POSITION 1 END VARIABLE END RECORD END SURVEY END SSS"
-    × ((n : ℕ) → n < 72 → outcomeOf sample n ≡ Refusal 10 0)
+    × ((n : ℕ) → n < 78 → outcomeOf sample n ≡ Refusal 10 0)
 refused-each = (
   too-long,
   refused-2 .0,

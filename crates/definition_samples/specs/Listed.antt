@@ -28,14 +28,14 @@ lines = bytes "1 1 N 7\n" ++ bytes "1 2 S 1,4\n" ++ bytes "1 3 N -10\n"
 abbrev Lists : List ℤ → Type 0
 Lists t = (listingOf t first ≡ lines ++ bytes "ok 1\n") × (listingOf t (first ++ second) ≡ lines ++ bytes "fault 241 2 2\n")
 
-long-enough : (rest : List ℤ) → 72 ≤ length (sampleTable ++ rest)
+long-enough : (rest : List ℤ) → 78 ≤ length (sampleTable ++ rest)
 unfolding rowCells headerCells
 long-enough rest = omega arith
 
 by-table : (rest : List ℤ) → Lists (sampleTable ++ rest)
 unfolding tables rowCells headerCells
-by-table rest = rw (le-leb 72 (length (sampleTable ++ rest)) (long-enough rest)) (refl, refl)
+by-table rest = rw (le-leb 78 (length (sampleTable ++ rest)) (long-enough rest)) (refl, refl)
 
--- THE SAMPLE, whatever the lent table held and however long it is, from 72 numbers on (the lister's has 8,192)
-pub samples-listed : (t : List ℤ) → 72 ≤ length t → Lists (tableAfter (outcomeOf sample (length t)) t)
-samples-listed t h = rw (sample-laid t h .1) (by-table (drop 72 t))
+-- THE SAMPLE, whatever the lent table held and however long it is, from 78 numbers on (the lister's has 8,192)
+pub samples-listed : (t : List ℤ) → 78 ≤ length t → Lists (tableAfter (outcomeOf sample (length t)) t)
+samples-listed t h = rw (sample-laid t h .1) (by-table (drop 78 t))

@@ -6,6 +6,7 @@ use mathlib.Core.List.{List, [], _∷_, _++_}
 use Prim.Native.String.{String}
 use lib.IntN.{ℤ, pos, negsuc}
 use lib.ListN.{replicate}
+use Rattle.layout.specs.rule.Layout.{lineBase}
 use Rattle.definition.specs.rule.Definition.{outcomeOf, tableAfter}
 use Rattle.faults.specs.declared.Fault.the-variants.{Stray}
 use Rattle.records.specs.rule.Value.{nothing, numberIs, setOf, truthIs, badField, readAs, listAs}
@@ -14,17 +15,18 @@ use Rattle.definition_samples.specs.Definitions.{definitions}
 use Rattle.definition_samples.specs.Tables.{tables}
 use Rattle.definition_samples.specs.Refused.{RefusedAt, variable}
 
--- numbers that stand for what the lent memory held before: nine for the list of members, forty for the table
+-- numbers that stand for what the lent memory held before: nine for the list of members, and for the table as many as one row with four
+-- lines has
 abbrev nine : List ℤ
 nine = pos 70 ∷ pos 71 ∷ pos 72 ∷ pos 73 ∷ pos 74 ∷ pos 75 ∷ pos 76 ∷ pos 77 ∷ pos 78 ∷ []
 
-abbrev forty : List ℤ
-forty = replicate 40 (pos 79)
+abbrev lent : List ℤ
+lent = replicate (lineBase 1 4) (pos 79)
 
 -- the table once a definition of one variable is read into it: given are the variable's type, its position and what the type has. (A
--- text that is refused would leave the forty numbers, by which nothing is read.)
+-- text that is refused would leave the numbers lent, by which nothing is read.)
 abbrev tableFrom : String → List ℤ
-tableFrom s = tableAfter (outcomeOf (variable s ++ bytes " END VARIABLE END RECORD END SURVEY END SSS") 40) forty
+tableFrom s = tableAfter (outcomeOf (variable s ++ bytes " END VARIABLE END RECORD END SURVEY END SSS") (lineBase 1 4)) lent
 
 abbrev single : List ℤ
 single = tableFrom "SINGLE POSITION 1 TO 2 VALUES 1 TO 20 END VALUES"

@@ -31,9 +31,9 @@ sample =
     ++ bytes "VALUES -1.0 TO 99.5 END VALUES END VARIABLE\n"
     ++ bytes "END RECORD END SURVEY END SSS\n"
 
--- ---- its table: 6 + 18 * 3 + 4 * 3 = 72 numbers
+-- ---- its table: 6 + 20 * 3 + 4 * 3 = 78 numbers
 abbrev header : Header
-header = record { mark = 11; rows = 3; lines = 3; length = 11; «rows_at» = 6; «lines_at» = 60 }
+header = record { mark = 11; rows = 3; lines = 3; length = 11; «rows_at» = 6; «lines_at» = 66 }
 
 -- 1 TO 12, in bytes 1 and 2
 abbrev desk : Columns
@@ -56,6 +56,8 @@ desk = record {
   «name_len» = 4;
   label = 62;
   «label_len» = 4;
+  usage = 0;
+  filter = 0;
 }
 
 -- a bitstring of 1, 2 and 4, in bytes 3 to 6
@@ -79,6 +81,8 @@ seen = record {
   «name_len» = 4;
   label = 165;
   «label_len» = 4;
+  usage = 0;
+  filter = 0;
 }
 
 -- -1.0 TO 99.5, scaled by ten, in bytes 7 to 11
@@ -102,6 +106,8 @@ wait = record {
   «name_len» = 4;
   label = 280;
   «label_len» = 4;
+  usage = 0;
+  filter = 0;
 }
 
 -- value, special, text place, length
@@ -120,7 +126,7 @@ variablesIn (Not f) = []
 pub sampleVariables : List Variable
 sampleVariables = variablesIn (surveyOf sample)
 
-by-room : (n : ℕ) → outcomeOf sample n ≡ cond (ltb n 72) (Refusal 10 0) (Built sampleVariables)
+by-room : (n : ℕ) → outcomeOf sample n ≡ cond (ltb n 78) (Refusal 10 0) (Built sampleVariables)
 unfolding definitions sampleVariables
 by-room n = refl
 
@@ -128,19 +134,19 @@ gives-table : tableOf sampleVariables ≡ sampleTable
 unfolding definitions sampleVariables
 gives-table = refl
 
--- wherever there is room for 72 numbers the outcome is the variables that give its table
-pub sample-read : (n : ℕ) → 72 ≤ n → (l : List Variable) × (outcomeOf sample n ≡ Built l) × (tableOf l ≡ sampleTable)
-sample-read n h = (sampleVariables, by-room n ∙ rw (le-ltb n 72 h), gives-table)
+-- wherever there is room for 78 numbers the outcome is the variables that give its table
+pub sample-read : (n : ℕ) → 78 ≤ n → (l : List Variable) × (outcomeOf sample n ≡ Built l) × (tableOf l ≡ sampleTable)
+sample-read n h = (sampleVariables, by-room n ∙ rw (le-ltb n 78 h), gives-table)
 
 -- and where there is less room it is 10
-pub sample-too-short : (n : ℕ) → n < 72 → outcomeOf sample n ≡ Refusal 10 0
-sample-too-short n h = by-room n ∙ rw (lt-ltb n 72 h)
+pub sample-too-short : (n : ℕ) → n < 78 → outcomeOf sample n ≡ Refusal 10 0
+sample-too-short n h = by-room n ∙ rw (lt-ltb n 78 h)
 
 -- in the words of the call: it answers three variables and three value lines, and the lent table begins with the sample's, its numbers
 -- behind that kept
-pub sample-laid : (t : List ℤ) → 72 ≤ length t
-    → (answerOf (outcomeOf sample (length t)) ≡ answer.Read 3 3) × (tableAfter (outcomeOf sample (length t)) t ≡ sampleTable ++ drop 72 t)
+pub sample-laid : (t : List ℤ) → 78 ≤ length t
+    → (answerOf (outcomeOf sample (length t)) ≡ answer.Read 3 3) × (tableAfter (outcomeOf sample (length t)) t ≡ sampleTable ++ drop 78 t)
 unfolding definitions sampleVariables
 sample-laid t h =
-    let e : outcomeOf sample (length t) ≡ Built sampleVariables = by-room (length t) ∙ rw (le-ltb (length t) 72 h) in
+    let e : outcomeOf sample (length t) ≡ Built sampleVariables = by-room (length t) ∙ rw (le-ltb (length t) 78 h) in
     (ap answerOf e, ap (λ o. tableAfter o t) e)

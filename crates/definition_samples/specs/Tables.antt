@@ -9,6 +9,7 @@ use Rattle.widths.specs.rule.Width.{need, tailOf, leastWhole, wholeDigits, quan
 use Rattle.strides.specs.rule.Stride.{allDiffer, numberNew}
 use Rattle.sound.specs.rule.Sound.{linesPlain, valuesFit, rangeWidth, widest, widthGood, roomGood, linesGood, valuesGood, widthsGood}
 use Rattle.sound.specs.rule.Sound.{countsGood, placesGood, columnsGood, rowGood, identsDiffer, rowsGood, wellFormed}
+use Rattle.uses.specs.rule.Uses.{rowsUnused, xmlGood, usesGood, useGood, filterGood, isUse, specialsNone, kindGood}
 use Rattle.fields.specs.rule.Legal.{inRange, onLine, legal}
 use Rattle.fields.specs.rule.Number.{allSpaces, unspaced, digitsOnly, decimalFrom, codeAfter, codeOf, amountForm, amountSize, amountOf}
 use Rattle.fields.specs.rule.Number.{quantityAfter, quantityOf, padded}
@@ -38,5 +39,6 @@ unfolding countFrom digitsOf _and_ allBelow anyBelow sumBelow maxBelow countOf s
     rowVerdict byteVerdict rowsVerdict beginsWith terminatorAt terminatorOf wholeAt beginsAt atEnd cut recordsOf recordVerdict goOn
     firstLength isSound numeral numberText codesAfter codes valueText lineText fieldText okText faultText rowText rowsText identOf
     faultLine lastText recordsText listingOf outcomeOf readAs listAs faultNumber orElse fixedOf pointPlace mayStand faultAt numberFrom
-    numberForm spreadForm passes firstFailing plainForm valueFault usable spreadValue formBy valueBy faultOf
+    numberForm spreadForm passes firstFailing plainForm valueFault usable spreadValue formBy valueBy faultOf kindGood rowsUnused xmlGood
+    usesGood useGood filterGood isUse specialsNone
 tables = tt

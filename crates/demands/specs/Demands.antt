@@ -1,6 +1,6 @@
 -- THE DEMANDS, one by one: the final theorems over the promises of the public calls, restated here and each proved by name elsewhere. The
 -- promises stand in specs/rule of their crates: TableTested (sound), ValueRead and RecordJudged (records), Written (writes), NextFound
--- (cuts), FileJudged (files), PartJudged (parts), MatrixWritten (matrices), Exported (exports), DefinitionRead (definition),
+-- (cuts), FileJudged (files), PartJudged (parts), MatrixWritten (matrices), Exported (exports), DefinitionRead (kinds),
 -- DefinitionWritten (clean), ListCorrected (corrections), Mends (mends), Normalised (normal); those of the exported functions (zarfolin)
 -- hold them, or are they.
 use mathlib.Core.Path.{_≡_}
@@ -81,10 +81,12 @@ use lib.Ieee.{binary64, toBits}
 use Rattle.writes.specs.rule.Public.{refusalOf, Written}
 use Rattle.definition.specs.declared.Answer.{Answer}
 use Rattle.definition.specs.declared.Answer.the-variants as definition
-use Rattle.definition.specs.rule.Definition.{DefinitionRead}
-use Rattle.definition.proofs.Goods as goods
+use Rattle.kinds.specs.rule.Definition.{DefinitionRead}
+use Rattle.kinds.specs.Settled as kinds
 use Rattle.table_laws.specs.rule.Signs.{TableSigns}
 use Rattle.table_laws.specs.Signs as signs
+use Rattle.blind_laws.specs.rule.Blind.{Alike, SameRules}
+use Rattle.blind_laws.specs.Blind as blind
 use Rattle.read_laws.specs.Settled as reads
 use Rattle.read_laws.specs.rule.Exactly.{Given, Illegal}
 use Rattle.read_laws.specs.Exactly as exactly
@@ -208,14 +210,14 @@ module _ {d : List ℕ} {from : ℕ} where
 
 module _ {d : List ℕ} {t : List ℤ} where
   pub one-definition : {t₁ t₂ : List ℤ} {a₁ a₂ : Answer} → DefinitionRead d t t₁ a₁ → DefinitionRead d t t₂ a₂ → (a₁ ≡ a₂) × (t₁ ≡ t₂)
-  one-definition = goods.definition-settled
+  one-definition = kinds.definition-settled
 
   pub one-definition-told : {t₁ t₂ a₁ a₂ : List ℤ} {r₁ r₂ : ℕ} → DefinitionTold d t t₁ a₁ r₁ → DefinitionTold d t t₂ a₂ r₂
       → ((r₁ ≡ r₂) × (a₁ ≡ a₂)) × (t₁ ≡ t₂)
   one-definition-told = face.definition-told-one
 
   pub refused-definition-keeps : {t′ : List ℤ} {n p : ℕ} → DefinitionRead d t t′ (definition.Refused n p) → t′ ≡ t
-  refused-definition-keeps = settled.definition-refused-keeps
+  refused-definition-keeps = kinds.definition-refused-keeps
 
 module _ {d : List ℕ} {t : List ℤ} {out : List ℕ} where
   pub one-clean : {o₁ o₂ : List ℕ} {a₁ a₂ : clean.Written} → DefinitionWritten d t out o₁ a₁ → DefinitionWritten d t out o₂ a₂
@@ -395,7 +397,7 @@ so-fit = fits.fit-only
 pub table-signs : (t : List ℤ) → wellFormed t ≡ true → TableSigns t
 table-signs = signs.formed-not-negative
 
--- a definition that is read leaves a well-formed table
+-- a definition of either kind that is read leaves a well-formed table
 pub definition-formed : {d : List ℕ} {t t′ : List ℤ} {v e : ℕ} → DefinitionRead d t t′ (definition.Read v e) → wellFormed t′ ≡ true
 definition-formed = settled.definition-well-formed
 
@@ -679,3 +681,8 @@ module _ {d : List ℕ} {t : List ℤ} {out out′ : List ℕ} {n : ℕ} where
 -- it has as many lines as statements, each of bytes from 32 on, one at least, and CR LF
 pub clean-lines : (d : List ℕ) (s : Survey) → Reads d s → Lined (length (cleanLines d s)) (cleanOf d s)
 clean-lines = clean-back.clean-lines
+
+-- ==== C-15 OF DOCUMENT 02: DEFINITIONS IN XML, its first step: a row's use and filter, and the mark
+-- "Use and filter change no reading or judgement. Record rules are proved once over both kinds of table."
+pub both-kinds-alike : (t u : List ℤ) → wellFormed t ≡ true → wellFormed u ≡ true → Alike t u → SameRules t u
+both-kinds-alike t u g h s = blind.blind t u g h s

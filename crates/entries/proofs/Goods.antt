@@ -213,11 +213,15 @@ module _ (h : Head) (x : Telling) (before : ℕ) (g : GoodHead h) (s : GoodTelli
   unfolding columnsIn fullColumns widened countedIn
   wide = rw (kind-same, widest-same) (width-good _ refl)
 
--- the ident, the position, the subfields and the texts
-module _ (d : List ℕ) (i : Number) (h : Head) (x : Telling) (before : ℕ) (long : length d ≤ 1048576) (g : heads.GoodHead d i h) (some : 1 ≤ h .ident) (short : h .ident ≤ 9999) (s : GoodTelling (h .kind) before x) where
-  within-text : (n : ℕ) → n ≤ length d → leb n 1048576 ≡ true
-  within-text n l = le-leb n 1048576 (omega arith)
+-- the places and lengths of a variable's texts, as those of any file that is read
+pub record TextsShort (h : Head) : Type 0 where
+  pub name : h .name .place ≤ 1048576
+  pub name-len : h .name .length ≤ 1048576
+  pub label : h .label .place ≤ 1048576
+  pub label-len : h .label .length ≤ 1048576
 
+-- the ident, the position, the subfields and the texts; by whatever road the variable came
+module _ (h : Head) (x : Telling) (before : ℕ) (g : GoodHead h) (texts : TextsShort h) (some : 1 ≤ h .ident) (short : h .ident ≤ 9999) (s : GoodTelling (h .kind) before x) where
   spread-whole : Bool·beq (eqb (x .subfields) 0) (eqb (x .subwidth) 0) ≡ true
   spread-whole = ⊎-elim (λ z. rw (z .0, z .1)) (λ z. rw (ne-eqb (x .subfields) 0 (λ e. omega (arith, z .1)), ne-eqb (x .subwidth) 0 (λ e. omega (arith, z .2)))) (s .subfields)
 
@@ -228,20 +232,19 @@ module _ (d : List ℕ) (i : Number) (h : Head) (x : Telling) (before : ℕ) (lo
       (and-true _ _ (le-leb 1 (h .ident) some) (le-leb (h .ident) 9999 short))
       (and-true _ _ (and-true _ _ (le-leb 1 (h .start) (g .from-one)) (le-leb (h .start) (h .finish) (g .ordered))) (le-leb (h .finish) 16384 (g .low))))
       spread-whole)
-      (and-true _ _ (and-true _ _ (and-true _ _ (within-text _ (g .name)) (within-text _ (g .name-len))) (within-text _ (g .label))) (within-text _ (g .label-len)))
+      (and-true _ _ (and-true _ _ (and-true _ _ (le-leb _ 1048576 (texts .name)) (le-leb _ 1048576 (texts .name-len))) (le-leb _ 1048576 (texts .label))) (le-leb _ 1048576 (texts .label-len)))
 
   pub variable-good : holdsIn before (variable h x) ≡ true → GoodVariable before (variable h x)
   variable-good e =
-      let k : GoodHead h = record { kind-some = g .kind-some; kind-few = g .kind-few; from-one = g .from-one; ordered = g .ordered; low = g .low } in
       record {
-        counts = counts h x before k s;
+        counts = counts h x before g s;
         places = places;
-        lacked = lacks-range h x before k s;
-        range = ranges h x before k s;
+        lacked = lacks-range h x before g s;
+        range = ranges h x before g s;
         plain = all-of (λ j. linePlain (lineAt (cellsOf (x .lines)) (lineSize * j))) (length (x .lines)) (line-plain (s .lines .each));
-        fits = fit h x before k s;
+        fits = fit h x before g s;
         differ = all-differ (numberAt (x .lines)) (length (x .lines)) (s .lines .differ);
-        width = wide h x before k s;
+        width = wide h x before g s;
         holds = e;
         few = s .lines .few;
       }
@@ -260,6 +263,18 @@ module _ (d : List ℕ) (t : Reading) (met : ℕ → Bool) (count before : ℕ) 
   narrow-is-7 h x n a b c e = rw (a, b, c, e)
 
   module _ (v : Variable) (n : ℕ) (long : length d ≤ 1048576) (few : before ≤ 4096) where
+    -- what the text gave of its head
+    own : {h : Head} → heads.GoodHead d (identOn d t met count) h → GoodHead h
+    own g = record { kind-some = g .kind-some; kind-few = g .kind-few; from-one = g .from-one; ordered = g .ordered; low = g .low }
+
+    texts : {h : Head} → heads.GoodHead d (identOn d t met count) h → TextsShort h
+    texts g = record {
+      name = omega (arith, g .name, long);
+      name-len = omega (arith, g .name-len, long);
+      label = omega (arith, g .label, long);
+      label-len = omega (arith, g .label-len, long);
+    }
+
     held-good :
         (h : Head) (x : Telling) (m : ℕ)
         → heads.GoodHead d (identOn d t met count) h
@@ -277,7 +292,7 @@ module _ (d : List ℕ) (t : Reading) (met : ℕ → Bool) (count before : ℕ) 
       by true o e =
           let j : variable h x ≡ v = cc in
           rw (← j) (record {
-            good = variable-good d (identOn d t met count) h x before long g (ident .some) (ident .short) s o;
+            good = variable-good h x before (own g) (texts g) (ident .some) (ident .short) s o;
             fresh = ident .fresh;
             left = ident .left;
           })

@@ -40,7 +40,7 @@ use Rattle.variables.specs.declared.Head.{Head}
 use Rattle.variables.specs.declared.Headed.{Headed}
 use Rattle.variables.specs.declared.Headed.the-variants as headed
 use Rattle.variables.specs.Head.{joinTitles, joinHead, headOn}
-use Rattle.statements.specs.Position.{trueOf, judgePosition, bothOf, positionRest, positionOn}
+use Rattle.statements.specs.Position.{trueOf, belowOf, judgePosition, bothOf, positionRest, positionOn}
 
 -- an equation between two different cases
 pub none : {A : Type 0} → _≡_ {A = ℕ} 0 1 → A
@@ -79,7 +79,7 @@ pub record GoodPosition (p : Position) : Type 0 where
   pub ordered : p .start ≤ p .finish
   pub low : p .finish ≤ 16384
 
-judge-good : (d : List ℕ) (a b : Figures) (n : ℕ) (p : Position) → True d a → True d b → judgePosition d a b n ≡ stated.Is p → GoodPosition p
+judge-good : (d : List ℕ) (a b : Figures) (n : ℕ) (p : Position) → True d a → True d b → judgePosition (belowOf d b a) a b n ≡ stated.Is p → GoodPosition p
 unfolding judgePosition
 judge-good d a b n p s t = by (eqb (a .size) 0) (ltb (trueOf d b) (trueOf d a)) (ltb 16384 (a .size)) (ltb 16384 (b .size)) refl refl refl refl where
   by : (q r u v : Bool) → eqb (a .size) 0 ≡ q → ltb (trueOf d b) (trueOf d a) ≡ r → ltb 16384 (a .size) ≡ u → ltb 16384 (b .size) ≡ v

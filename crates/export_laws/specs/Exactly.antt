@@ -11,7 +11,7 @@ use lib.IntN.{ℤ}
 use lib.ListN.{length, take, drop}
 use Rattle.sound.specs.rule.Sound.{wellFormed}
 use Rattle.files.specs.rule.File.{FileVerdict, fileVerdict}
-use Rattle.definition.specs.rule.Against.{yields}
+use Rattle.kinds.specs.rule.Against.{yields}
 use Rattle.exports.specs.rule.Text.{exportText, ExportVerdict, refused, written, fitted, outputAfter}
 use Rattle.exports.specs.rule.Export.{exportVerdict, Exported}
 use Rattle.export_laws.specs.rule.Exactly.{ExportOutcome, bad-table, other-table, short-room, all-written}

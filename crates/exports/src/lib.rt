@@ -1,7 +1,7 @@
 // A data file as comma-separated text: a line of names, and a line for each record before the first fault. The table is tested and held
 // against the definition, the data judged, the text measured, and only then is a byte of it written. Above it stands the face.
 ghost use mathlib.Core.Path.{_≡_};
-ghost use mathlib.Core.Bool.{true};
+ghost use mathlib.Core.Bool.{true, false};
 ghost use mathlib.Core.List.{_++_};
 ghost use Prim.Native.Nat.{_≤_, _<_};
 ghost use lib.Dec.{leb};
@@ -18,7 +18,8 @@ ghost use Rattle.record_lines.specs.Lines.{Long};
 ghost use Rattle.exports.specs.rule.Text.{exportText, exportSaid, fitted, outputAfter};
 ghost use Rattle.exports.specs.rule.Export.{Exported};
 ghost use Rattle.exports.specs.Sizes.{textWith};
-ghost use Rattle.definition.specs.rule.Against.{isSame, yields};
+ghost use Rattle.definition.specs.rule.Against.{isSame};
+ghost use Rattle.kinds.specs.rule.Against.{yields};
 use cuts::Terminator;
 use definition::Against;
 use files::Judgement;
@@ -157,11 +158,11 @@ fn is_same(a: Against) -> bool
     }
 }
 
-// Whether the definition yields the table. The reader's rooms are gone when this returns.
-fn yields(def: &[u8], t: &[i64]) -> bool
+// Whether the definition, of either kind, yields the table. The reader's rooms are gone when this returns.
+pub fn yields(def: &[u8], t: &[i64]) -> bool
     ensures { λ r. ⌜ r ≡ yields (now (def .entry)) (now (t .entry)) ⌝ }
 {
-    is_same(definition::judge_against(def, t))
+    is_same(kinds::judge_against(def, t))
 }
 
 // Writes a data file as comma-separated text by a table and its definition.

@@ -25,8 +25,8 @@ built-derived (read h (sound x c) w r) = derived x c refl
 -- THE SAMPLE: derived, saying the variables that give its table
 pub sample-derived : (l : List Variable) × Derived sample l × (tableOf l ≡ sampleTable)
 sample-derived =
-    let r = sample-read 72 (omega arith) in
-    (r .0, built-derived (outcome-exactly sample 72 (Built (r .0)) .0 (r .1)), r .2)
+    let r = sample-read 78 (omega arith) in
+    (r .0, built-derived (outcome-exactly sample 78 (Built (r .0)) .0 (r .1)), r .2)
 
 -- 003's EXAMPLE, its VALUES alone: whatever table is lent, the grammar stops at `500`
 pub example-stops : (n : ℕ) →

@@ -1,13 +1,14 @@
 -- "No two outcomes" for the test of a table, the next record and the judgement of a file. Those of reading and judging a record stand in
 -- crate `read_laws` (value-settled, verdict-settled), that of writing in Writing (one-outcome), those of the face in `zarfolin`.
 use mathlib.Core.Path.{_≡_, refl, sym, ap, _∙_}
-use mathlib.Core.Bool.{Bool, true, cond}
+use mathlib.Core.Bool.{Bool, true, false, cond}
 use mathlib.Core.List.{List}
 use Prim.Native.Nat.{ℕ}
 use native.Mathlib.Omega.{arith}
 use lib.Dec.{eqb}
 use lib.IntN.{ℤ}
 use lib.ListN.{length}
+use Rattle.cells.specs.rule.Cell.{pasted}
 use Rattle.sound.specs.rule.Sound.{wellFormed, TableTested}
 use Rattle.cuts.specs.rule.Cut.{NextFound}
 use Rattle.cuts.specs.declared.Next.{Next}
@@ -16,7 +17,13 @@ use Rattle.records.specs.declared.Judged.{Judged}
 use Rattle.records.specs.declared.Judged.the-variants as judged
 use Rattle.definition.specs.declared.Answer.the-variants as definition
 use Rattle.definition.proofs.Goods.{read-well-formed}
-use Rattle.definition.specs.rule.Definition.{Outcome, Built, Refusal, outcomeOf, answerOf, tableAfter, DefinitionRead}
+use Rattle.definition.specs.rule.Definition as sss
+use Rattle.prologs.specs.rule.Told.{isXml}
+use Rattle.xml_reading.specs.rule.Role.{Entry}
+use Rattle.xml_reading.specs.rule.Whole as xml
+use Rattle.xml_files.proofs.Few as few
+use Rattle.kinds.specs.rule.Definition.{ofXml, outcomeOf, answerOf, tableAfter, DefinitionRead}
+use Rattle.kinds.specs.Plain.{plain-read}
 use Rattle.files.specs.declared.Judgement.{Judgement}
 use Rattle.files.specs.declared.Judgement.the-variants as J
 use Rattle.files.specs.rule.File.{FileVerdict, soundWith, badTable, faultIn, fileSaid, FileJudged}
@@ -63,20 +70,31 @@ file-one a b = a .says ∙ sym (b .says)
 pub file-settled : {t : List ℤ} {d : List ℕ} (r₁ r₂ : Judgement) → FileJudged t d (fileSaid r₁) → FileJudged t d (fileSaid r₂) → r₁ ≡ r₂
 file-settled r₁ r₂ a b = sym (said-back r₁) ∙ ap unsaid (file-one a b) ∙ said-back r₂
 
--- A REFUSED DEFINITION KEEPS THE TABLE
-pub definition-refused-keeps : {d : List ℕ} {t t′ : List ℤ} {n p : ℕ} → DefinitionRead d t t′ (definition.Refused n p) → t′ ≡ t
-unfolding answerOf tableAfter
-definition-refused-keeps {d} {t} {t′} {n} {p} w = go (outcomeOf d (length t)) (w .says) (w .leaves)
-  where
-    go : (o : Outcome) → definition.Refused n p ≡ answerOf o → t′ ≡ tableAfter o t → t′ ≡ t
-    go (Built l) e q = let z : _≡_ {A = ℕ} 0 1 = cc in absurd (omega arith)
-    go (Refusal k at) e q = q
-
 -- WHAT IS READ IS WELL FORMED: the table that the call leaves passes the test of every call on records
-pub definition-well-formed : {d : List ℕ} {t t′ : List ℤ} {v e : ℕ} → DefinitionRead d t t′ (definition.Read v e) → wellFormed t′ ≡ true
-unfolding answerOf
-definition-well-formed {d} {t} {t′} {v} {e} w = go (outcomeOf d (length t)) refl (w .says)
-  where
-    go : (o : Outcome) → outcomeOf d (length t) ≡ o → definition.Read v e ≡ answerOf o → wellFormed t′ ≡ true
-    go (Built l) q f = rw (w .leaves) (read-well-formed d t l q)
-    go (Refusal k at) q f = let z : _≡_ {A = ℕ} 0 1 = cc in absurd (omega arith)
+module _ {d : List ℕ} {t t′ : List ℤ} {v e : ℕ} where
+  sss-formed : sss.DefinitionRead d t t′ (definition.Read v e) → wellFormed t′ ≡ true
+  unfolding sss.answerOf
+  sss-formed w = go (sss.outcomeOf d (length t)) refl (w .says) where
+    go : (o : sss.Outcome) → sss.outcomeOf d (length t) ≡ o → definition.Read v e ≡ sss.answerOf o → wellFormed t′ ≡ true
+    go (sss.Built l) q f = rw (w .leaves) (read-well-formed d t l q)
+    go (sss.Refusal k at) q f = let z : _≡_ {A = ℕ} 0 1 = cc in absurd (omega arith)
+
+  -- of a 1.1 definition
+  pub plain-well-formed : isXml d ≡ false → DefinitionRead d t t′ (definition.Read v e) → wellFormed t′ ≡ true
+  plain-well-formed p w = sss-formed (plain-read d p t t′ (definition.Read v e) .0 w)
+
+  -- of one in XML
+  pub xml-well-formed : isXml d ≡ true → DefinitionRead d t t′ (definition.Read v e) → wellFormed t′ ≡ true
+  unfolding outcomeOf answerOf tableAfter
+  xml-well-formed p w = go (xml.outcomeOf d (length t)) refl (w .says ∙ rw p) (w .leaves ∙ rw p) where
+    go : (o : xml.Outcome) → xml.outcomeOf d (length t) ≡ o → definition.Read v e ≡ answerOf (ofXml (xml.outcomeOf d (length t)))
+        → t′ ≡ tableAfter (ofXml (xml.outcomeOf d (length t))) t → wellFormed t′ ≡ true
+    go (xml.Built l) q f k = rw (k, q) (few.xml-well-formed d t l q)
+    go (xml.Refusal m at) q f k = let g : definition.Read v e ≡ answerOf (ofXml (xml.Refusal m at)) = f ∙ rw q in let z : _≡_ {A = ℕ} 0 1 = cc in absurd (omega arith)
+
+  -- of both kinds
+  pub definition-well-formed : DefinitionRead d t t′ (definition.Read v e) → wellFormed t′ ≡ true
+  definition-well-formed w = by (isXml d) refl where
+    by : (b : Bool) → isXml d ≡ b → wellFormed t′ ≡ true
+    by true x = xml-well-formed x w
+    by false x = plain-well-formed x w

@@ -56,6 +56,8 @@ pub struct Columns {
     pub name_len: usize,
     pub label: usize,
     pub label_len: usize,
+    pub usage: usize,
+    pub filter: usize,
 }
 
 // A line's numbers, as counts but for its value.
@@ -66,7 +68,7 @@ pub struct Line {
     pub text_len: usize,
 }
 
-// A row as what its numbers mean.
+// A row as what its numbers mean. Use and filter are not among them: no reading, judgement or write goes by these.
 pub struct Row {
     pub ident: usize,
     pub kind: Kind,
@@ -85,6 +87,9 @@ impl Header {
 
     // The first number of every table of a 1.1 definition.
     pub const MARK: usize = 11;
+
+    // The same of one in XML.
+    pub const MARK_XML: usize = 12;
 
     pub const MOST_ROWS: usize = 512;
 
@@ -173,6 +178,8 @@ impl Columns {
             name_len: cells::count_at(t, at + Row::NAME_LEN),
             label: cells::count_at(t, at + Row::LABEL),
             label_len: cells::count_at(t, at + Row::LABEL_LEN),
+            usage: cells::count_at(t, at + Row::USE),
+            filter: cells::count_at(t, at + Row::FILTER),
         }
     }
 }
@@ -206,7 +213,7 @@ pub fn kind_of(c: Columns) -> Kind
 }
 
 impl Row {
-    pub const SIZE: usize = 18;
+    pub const SIZE: usize = 20;
 
     pub const IDENT: usize = 0;
 
@@ -243,6 +250,12 @@ impl Row {
     pub const LABEL: usize = 16;
 
     pub const LABEL_LEN: usize = 17;
+
+    // 0 none, 1 serial, 2 weight.
+    pub const USE: usize = 18;
+
+    // The number plus one of the row that filters this one, 0 where none does.
+    pub const FILTER: usize = 19;
 
     // Where row i stands in a table.
     pub fn base(i: usize) -> usize

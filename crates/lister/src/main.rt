@@ -1,7 +1,7 @@
 // The lister: lists `survey.asc` by the definition `survey.sss`, both in the folder that it is run in, value by value. What it lists is
 // the library's; here files are opened, read and measured, and full buffers written out.
 ghost use mathlib.Core.Path.{_≡_};
-ghost use Prim.Native.Nat.{_≤_};
+ghost use Prim.Native.Nat.{_^_, _≤_, _<_};
 ghost use lib.ListN.{length};
 ghost use Rattle.ascii.specs.rule.Tens.{Tens};
 ghost use Rattle.cuts.specs.rule.Cut.{Found};
@@ -183,20 +183,29 @@ fn list_by(powers: &[u64; 16], t: &[i64], d: &[u8], out: &mut [u8])
     write(&out[..end]);
 }
 
-// Reads the definition and lists the data by its table, or says why it is refused: the refusal's number and place are small, by the
-// theorems of crate `refusals`.
+// A refusal's number or place as it is printed, which a line has room for: 0 for one of 10^16 or more. There is none, since a number is at most
+// 52 and a place at most the file's length; but that is proved of 1.1 definitions alone (crate `refusals`), and this holds without it.
+fn printed(n: usize) -> usize
+    ensures { λ r. ⌜ r < 10 ^ 16 ⌝ }
+{
+    if n < 10_000_000_000_000_000 { n } else { 0 }
+}
+
+// Reads the definition, of either kind, and lists the data by its table, or says why it is refused.
 fn list_files(definition: &[u8], d: &[u8])
     requires { ⌜ (length (now definition) ≤ 65536) × (length (now d) ≤ 65536) ⌝ }
 {
     let powers = ascii::powers();
     let mut table = [0i64; TABLE];
     let mut out = [0u8; OUT];
-    match definition::read_definition(definition, &mut table) {
+    match kinds::read_definition(definition, &mut table) {
         Answer::Read { rows: _, lines: _ } => {
             list_by(&powers, &table, d, &mut out);
         }
         Answer::Refused { number, place } => {
-            let end = lines::append_definition(&powers, &mut out, 0, number, place);
+            let k = printed(number);
+            let p = printed(place);
+            let end = lines::append_definition(&powers, &mut out, 0, k, p);
             write(&out[..end]);
         }
     }

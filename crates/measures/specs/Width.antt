@@ -51,6 +51,8 @@ plainColumns h r before = record {
   «name_len» = h .name .length;
   label = h .label .place;
   «label_len» = h .label .length;
+  usage = 0;
+  filter = 0;
 }
 
 -- ---- w. The lines of the row say f 0, f 1, ..
@@ -89,6 +91,8 @@ widened w c = record {
   «name_len» = c .«name_len»;
   label = c .label;
   «label_len» = c .«label_len»;
+  usage = c .usage;
+  filter = c .filter;
 }
 
 -- all columns

@@ -48,6 +48,8 @@ fn plain_columns(h: Head, r: Rest, before: usize) -> Columns
         name_len: name.length,
         label: label.place,
         label_len: label.length,
+        usage: 0,
+        filter: 0,
     }
 }
 

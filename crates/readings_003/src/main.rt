@@ -3,7 +3,13 @@
 // says the same. `x` stands in the bytes that are ignored, and all round the field. Behind them the same tables with a byte, a point or a
 // number that may not stand there, each with the number of its fault and the place, or the number that is not legal.
 use faults::Fault;
+use layout::Header;
+use layout::Line;
+use layout::Row;
 use records::Reading;
+
+// The numbers of a table of one row and four lines.
+const NUMBERS: usize = Header::SIZE + Row::SIZE + 4 * Line::SIZE;
 
 // A table of one row whose position starts at 21, with up to four lines: f is its decimals, point, subfields and their width; range is
 // whether it has one, and its ends; lines are how many and what they say.
@@ -14,18 +20,26 @@ fn table(
     f: [i64; 4],
     range: [i64; 3],
     lines: [i64; 5],
-) -> [i64; 40] {
-    let head = [11, 1, lines[0], finish, 6, 24];
+) -> [i64; NUMBERS] {
+    let lines_at = Row::base(1);
+    let head = [
+        cells::cell_of(Header::MARK),
+        1,
+        lines[0],
+        finish,
+        cells::cell_of(Header::SIZE),
+        cells::cell_of(lines_at),
+    ];
     let ends = [1, kind, 21, finish, w, f[0], f[1], f[2], f[3]];
     let rest = [range[0], range[1], range[2], 0, lines[0]];
-    let mut t = [0i64; 40];
+    let mut t = [0i64; NUMBERS];
     cells::paste(&mut t, 0, &head);
-    cells::paste(&mut t, 6, &ends);
-    cells::paste(&mut t, 15, &rest);
-    t[24] = lines[1];
-    t[28] = lines[2];
-    t[32] = lines[3];
-    t[36] = lines[4];
+    cells::paste(&mut t, Row::base(0), &ends);
+    cells::paste(&mut t, Row::base(0) + Row::RANGE, &rest);
+    t[lines_at] = lines[1];
+    t[lines_at + Line::SIZE] = lines[2];
+    t[lines_at + 2 * Line::SIZE] = lines[3];
+    t[lines_at + 3 * Line::SIZE] = lines[4];
     t
 }
 
@@ -51,7 +65,7 @@ fn say(label: &[u8], same: bool) {
     }
 }
 
-fn number(label: &[u8], t: &[i64; 40], data: &[u8], want: i64) {
+fn number(label: &[u8], t: &[i64; NUMBERS], data: &[u8], want: i64) {
     let r = record_of(data);
     let mut list = [0i64; 4];
     match records::read_value(t, 0, &r, &mut list) {
@@ -60,7 +74,7 @@ fn number(label: &[u8], t: &[i64; 40], data: &[u8], want: i64) {
     }
 }
 
-fn missing(label: &[u8], t: &[i64; 40], data: &[u8]) {
+fn missing(label: &[u8], t: &[i64; NUMBERS], data: &[u8]) {
     let r = record_of(data);
     let mut list = [0i64; 4];
     match records::read_value(t, 0, &r, &mut list) {
@@ -70,7 +84,7 @@ fn missing(label: &[u8], t: &[i64; 40], data: &[u8]) {
 }
 
 // A position too narrow for its values: no record is read by such a table.
-fn refused(label: &[u8], t: &[i64; 40], data: &[u8]) {
+fn refused(label: &[u8], t: &[i64; NUMBERS], data: &[u8]) {
     let r = record_of(data);
     let mut list = [0i64; 4];
     match records::read_value(t, 0, &r, &mut list) {
@@ -89,7 +103,7 @@ fn fault_is(x: Fault, number: u64, beside: i64) -> bool {
     }
 }
 
-fn fault(label: &[u8], t: &[i64; 40], data: &[u8], number: u64, beside: i64) {
+fn fault(label: &[u8], t: &[i64; NUMBERS], data: &[u8], number: u64, beside: i64) {
     let r = record_of(data);
     let mut list = [0i64; 4];
     match records::read_value(t, 0, &r, &mut list) {
@@ -99,7 +113,7 @@ fn fault(label: &[u8], t: &[i64; 40], data: &[u8], number: u64, beside: i64) {
 }
 
 // The members, of which there are n, and 0 behind them.
-fn members(label: &[u8], t: &[i64; 40], data: &[u8], n: usize, want: [i64; 2]) {
+fn members(label: &[u8], t: &[i64; NUMBERS], data: &[u8], n: usize, want: [i64; 2]) {
     let r = record_of(data);
     let mut list = [0i64; 4];
     match records::read_value(t, 0, &r, &mut list) {

@@ -29,7 +29,7 @@ use Rattle.statements.specs.rule.Words.{POSITION, TO, OF, SIZE}
 use Rattle.statements.specs.Note.{pastNote, noteStep, notesHere, notesOn, statementOn, textOn}
 use Rattle.statements.specs.Opening.{whole, versionHere, openingOf, recordOn}
 use Rattle.statements.specs.Kinds.{or, last, typeHere, typeOn}
-use Rattle.statements.specs.Position.{trueOf, judgePosition, bothOf, positionRest, positionOn}
+use Rattle.statements.specs.Position.{trueOf, belowOf, judgePosition, bothOf, positionRest, positionOn}
 use Rattle.statements.specs.Spread.{judgeOf, judgeEven, fieldsOf, evenOf, rest, spreadRest}
 use Rattle.statements.specs.Size.{judgeSize, sizeOn}
 use Rattle.refusals.specs.Loops.{Onward, loop-keeps}
@@ -127,7 +127,7 @@ module _ (d : List ℕ) where
   StatedStands (stated.Not f) = Met d f
 
   judge-position : (a b : Figures) (n : ℕ) → a .place ≤ length d → b .place ≤ length d → n ≤ length d
-      → StatedStands (judgePosition d a b n)
+      → StatedStands (judgePosition (belowOf d b a) a b n)
   unfolding judgePosition
   judge-position a b n h k l =
       either StatedStands (eqb (a .size) 0) (omega arith)

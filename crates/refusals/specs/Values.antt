@@ -36,7 +36,7 @@ use Rattle.values.specs.declared.Verdict.the-variants.{Good, Bad}
 use Rattle.values.specs.declared.Turn.{Turn}
 use Rattle.values.specs.declared.Turn.the-variants as turn
 use Rattle.values.specs.Value.{formOf, largeOf, trueOf, scaledOf}
-use Rattle.values.specs.Range.{limitRange, judgeRange, settled, rangedOf, withOr, rangeRest}
+use Rattle.values.specs.Range.{limitRange, reversedOf, judgeRange, settled, rangedOf, withOr, rangeRest}
 use Rattle.values.specs.Line.{saidOf, specialOr, lineRest, numberAt, repeatedIn, lineFault, judgeLine, grownBy, endOf, endOr, moreOf}
 use Rattle.values.specs.Line.{Given, Is, Not, Listing, stateOf, after, judgedStep, readStep, lineStep, linesFrom}
 use Rattle.values.specs.Block.{emptyBlock, closedBy, rangeThen, toOr, valuesOn}
@@ -56,7 +56,7 @@ module _ (d : List ℕ) where
   RangedStands (ranged.Is b with n) = n ≤ length d
   RangedStands (ranged.Not f) = Met d f
 
-  judge-range : (quantity : Bool) (a b : Value) → ValueStands d a → ValueStands d b → JudgedStands (judgeRange d quantity a b)
+  judge-range : (quantity : Bool) (a b : Value) → ValueStands d a → ValueStands d b → JudgedStands (judgeRange (reversedOf d a b) quantity a b)
   unfolding judgeRange limitRange
   judge-range quantity a b h k =
       either JudgedStands (formOf quantity a) (either JudgedStands (formOf quantity b)
@@ -71,7 +71,7 @@ module _ (d : List ℕ) where
   ranged-of quantity (amount.Not f) b end with h k l = h
   ranged-of quantity (amount.Is x) (amount.Not f) end with h k l = k
   ranged-of quantity (amount.Is x) (amount.Is y) (Refused f) with h k l = l
-  ranged-of quantity (amount.Is x) (amount.Is y) (At n) with h k l = by (judgeRange d quantity x y) (judge-range quantity x y h k) where
+  ranged-of quantity (amount.Is x) (amount.Is y) (At n) with h k l = by (judgeRange (reversedOf d x y) quantity x y) (judge-range quantity x y h k) where
     by : (j : Judged) → JudgedStands j → RangedStands (settled j with n)
     by (judged.Good b) i = l
     by (judged.Bad f) i = i

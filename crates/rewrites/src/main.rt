@@ -7,13 +7,13 @@ use writes::Wrote;
 
 // SINGLE 1 to 20 in three bytes; the bitstring 1, 2, 3, 9 in ten; a spread of 2 of 3 with 1 to 42; QUANTITY -1.00 to 99.99 in seven;
 // CHARACTER of 4 in six; LOGICAL in two.
-const TABLE: [i64; 130] = [
+const TABLE: [i64; 142] = [
     11,
     6,
     4,
     34,
     6,
-    114, //
+    126, //
     1,
     1,
     1,
@@ -26,6 +26,8 @@ const TABLE: [i64; 130] = [
     1,
     1,
     20,
+    0,
+    0,
     0,
     0,
     0,
@@ -49,6 +51,8 @@ const TABLE: [i64; 130] = [
     0,
     0,
     0,
+    0,
+    0,
     0, //
     3,
     2,
@@ -63,6 +67,8 @@ const TABLE: [i64; 130] = [
     1,
     42,
     4,
+    0,
+    0,
     0,
     0,
     0,
@@ -85,6 +91,8 @@ const TABLE: [i64; 130] = [
     0,
     0,
     0,
+    0,
+    0,
     0, //
     5,
     4,
@@ -99,6 +107,8 @@ const TABLE: [i64; 130] = [
     0,
     0,
     4,
+    0,
+    0,
     0,
     0,
     0,
@@ -121,6 +131,8 @@ const TABLE: [i64; 130] = [
     0,
     0,
     0,
+    0,
+    0,
     0, //
     1,
     0,
@@ -137,7 +149,7 @@ const TABLE: [i64; 130] = [
     9,
     0,
     0,
-    0, //
+    0,
 ];
 
 fn number(w: Wrote) -> [u8; 3] {

@@ -28,6 +28,8 @@ pub record SmallRow (c : Columns) : Type 0 where
   pub name-len : c .«name_len» ≤ limit
   pub label : c .label ≤ limit
   pub label-len : c .«label_len» ≤ limit
+  pub usage : c .usage ≤ limit
+  pub filter : c .filter ≤ limit
 
 pub record SmallHeader (h : Header) : Type 0 where
   pub mark : h .mark ≤ limit

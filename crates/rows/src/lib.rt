@@ -37,6 +37,8 @@ pub fn row_cells(c: Columns) -> [i64; Row::SIZE]
         cells::cell_of(c.name_len),
         cells::cell_of(c.label),
         cells::cell_of(c.label_len),
+        cells::cell_of(c.usage),
+        cells::cell_of(c.filter),
     ]
 }
 

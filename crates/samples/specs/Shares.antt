@@ -2,7 +2,7 @@
 -- (where a minus widened it), read and written; and which tables are well formed. 45 is `-`, 46 the point, 48 to 57 the digits.
 use mathlib.Core.Path.{_≡_, refl}
 use mathlib.Core.Bool.{true, false}
-use mathlib.Core.List.{List, [], _∷_}
+use mathlib.Core.List.{List, [], _∷_, _++_}
 use Prim.Native.Nat.{ℕ}
 use lib.IntN.{ℤ, pos, negsuc}
 use lib.ListN.{set}
@@ -22,7 +22,10 @@ use Rattle.fields.specs.rule.Number.{quantityAfter, quantityOf, padded, amountB
 use Rattle.fields.specs.rule.Field.{number, missing, holds, illegal, numberField, quantitySays}
 use Rattle.fields.specs.rule.Row.{fieldBy, fieldOf, bytesBy, bytesOf}
 use Rattle.sound.specs.rule.Sound.{linesPlain, valuesFit, rangeWidth, widest, widthGood, roomGood, linesGood, valuesGood, widthsGood}
+use Rattle.rows.specs.rule.Cells.{rowCells, headerCells}
+use Rattle.uses.specs.rule.Uses.{rowsUnused, xmlGood, usesGood, useGood, filterGood, isUse, specialsNone, kindGood}
 use Rattle.sound.specs.rule.Sound.{countsGood, placesGood, columnsGood, rowGood, identsDiffer, rowsGood, wellFormed}
+use Rattle.samples.specs.Samples.{Own, header, columns, in-row, FINISH, WIDTH, DECIMALS, POINT, TO}
 
 abbrev hundredths : Format
 hundredths = record { decimals = 2; point = 2 }
@@ -48,11 +51,12 @@ three = row 3 (pos 0)
 abbrev four : Row
 four = row 4 (negsuc 98)
 
+abbrev hundredths-own : Own
+hundredths-own = record { decimals = 2; point = 2; subfields = 0; subwidth = 0; range = 1; from = pos 0; to = pos 99 }
+
 -- a table of one row: `.00 TO .99` in three bytes
 abbrev alone : List ℤ
-alone =
-    pos 11 ∷ pos 1 ∷ pos 0 ∷ pos 3 ∷ pos 6 ∷ pos 24 ∷ pos 1 ∷ pos 3 ∷ pos 1 ∷ pos 3 ∷ pos 3 ∷ pos 2 ∷ pos 2 ∷ pos 0 ∷ pos 0 ∷ pos 1
-    ∷ pos 0 ∷ pos 99 ∷ pos 0 ∷ pos 0 ∷ pos 40 ∷ pos 4 ∷ pos 53 ∷ pos 4 ∷ []
+alone = header 11 1 0 3 ++ columns 1 3 1 3 3 hundredths-own 0 0 0 0
 
 pub shares :
     -- in three bytes only `.50`: neither `050` nor ` 50` nor `0.5`
@@ -76,19 +80,20 @@ pub shares :
     × (bytesOf [] 1 four (number (pos 0)) ≡ 48 ∷ 46 ∷ 48 ∷ 48 ∷ [])
     -- well formed; not with another w, with 1.00, with no decimals, or with point 3
     × (wellFormed alone ≡ true)
-    × (wellFormed (set (set alone 10 (pos 4)) 9 (pos 4)) ≡ false)
-    × (wellFormed (set alone 17 (pos 100)) ≡ false)
-    × (wellFormed (set (set (set alone 11 (pos 0)) 17 (pos 0)) 10 (pos 1)) ≡ false)
-    × (wellFormed (set alone 12 (pos 3)) ≡ false)
+    × (wellFormed (set (set alone (in-row 0 WIDTH) (pos 4)) (in-row 0 FINISH) (pos 4)) ≡ false)
+    × (wellFormed (set alone (in-row 0 TO) (pos 100)) ≡ false)
+    × (wellFormed (set (set (set alone (in-row 0 DECIMALS) (pos 0)) (in-row 0 TO) (pos 0)) (in-row 0 WIDTH) (pos 1)) ≡ false)
+    × (wellFormed (set alone (in-row 0 POINT) (pos 3)) ≡ false)
     -- nor by code 1, which asks for a digit before the point and so for four bytes
-    × (wellFormed (set alone 12 (pos 1)) ≡ false)
+    × (wellFormed (set alone (in-row 0 POINT) (pos 1)) ≡ false)
     × (quantityWidth hundredths (pos 99) ≡ 3)
     × (quantityWidth hundredths (negsuc 98) ≡ 4)
 unfolding wellFormed rowsGood rowGood columnsGood countsGood placesGood valuesGood linesGood widthsGood linesPlain valuesFit
     allDiffer numberNew rangeWidth widest widthGood roomGood identsDiffer _and_ allBelow anyBelow sumBelow maxBelow countOf signedOf eqZ
     headerOf columnsAt lineAt rowOf kindOf spreadOf need tailOf leastWhole wholeDigits quantityWidth mostSize lowest highest digitsOf
     countFrom numberOf inRange onLine legal allSpaces unspaced digitsOnly decimalFrom amountForm amountSize amountOf quantityAfter
-    quantityOf padded amountBytes quantityBytes numberField quantitySays fieldBy bytesBy
+    quantityOf padded amountBytes quantityBytes numberField quantitySays fieldBy bytesBy rowCells headerCells kindGood rowsUnused xmlGood
+    usesGood useGood filterGood isUse specialsNone
 shares = (
   refl,
   refl,

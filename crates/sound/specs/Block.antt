@@ -58,7 +58,7 @@ pub record Placed (r : Row) : Type 0 where
 pub standing-strided : {t : List ℤ} {v b n : ℕ} → Standing t v b n → Strided t (lineBase v b) lineSize n
 standing-strided s = record { few = omega arith; apart = omega arith; near = omega arith; stand = omega arith }
 
--- and rows that stand have idents eighteen apart
+-- and rows that stand have idents a row apart
 pub rows-strided : {t : List ℤ} {v : ℕ} → Standing t v 0 0 → Strided t headerSize rowSize v
 rows-strided s = record { few = omega arith; apart = omega arith; near = omega arith; stand = omega arith }
 

@@ -11,14 +11,15 @@ use lib.IntN.{ℤ}
 use lib.ListN.{length}
 use Rattle.below.specs.rule.Below.{_and_}
 use Rattle.below.specs.Below.{and-both, both-and, and-no, and-nor, and-yes, and-left, and-right, either-true, holds-not}
-use Rattle.layout.specs.rule.Layout.{mark, headerSize, mostRows, mostLines, linesBase, lineBase, headerOf}
+use Rattle.layout.specs.rule.Layout.{headerSize, mostRows, mostLines, linesBase, lineBase, headerOf}
 use Rattle.layout.specs.declared.Header.{Header}
 use Rattle.layout.specs.rule.Row.{kindOf}
 use Rattle.layout.specs.Row.{kind-cases}
 use Rattle.layout.specs.declared.Columns.{Columns}
 use Rattle.widths.specs.Width.{FewDecimals, decimalsOf}
 use Rattle.sound.specs.rule.Sound.{countsGood, subfieldsGood, placesGood}
-use Rattle.sound.specs.rule.Sound.{columnsGood, rowGood, headCounts, headSums, rowsGood, identsDiffer, wellFormed}
+use Rattle.sound.specs.rule.Sound.{columnsGood, rowGood, markKnown, headCounts, headSums, rowsGood, identsDiffer, wellFormed}
+use Rattle.uses.specs.rule.Uses.{kindGood}
 use Rattle.sound.specs.Block.{Standing}
 
 -- the clauses of a row's columns that the values of a row lean on
@@ -134,18 +135,18 @@ row-within t v e before c g = column-facts e before c (and-both g .0) .lines-wit
 -- ---- what the header gives
 pub head-few : (h : Header) → headCounts h ≡ true → (h .rows ≤ mostRows) × (h .lines ≤ mostLines)
 head-few h e =
-    let a = and-left (eqb (h .mark) mark && leb 1 (h .rows) && leb (h .rows) mostRows) (leb (h .lines) mostLines) e in (
-      leb-true (h .rows) mostRows (and-right (eqb (h .mark) mark && leb 1 (h .rows)) (leb (h .rows) mostRows) a),
+    let a = and-left (markKnown h && leb 1 (h .rows) && leb (h .rows) mostRows) (leb (h .lines) mostLines) e in (
+      leb-true (h .rows) mostRows (and-right (markKnown h && leb 1 (h .rows)) (leb (h .rows) mostRows) a),
       leb-true (h .lines) mostLines
-          (and-right (eqb (h .mark) mark && leb 1 (h .rows) && leb (h .rows) mostRows) (leb (h .lines) mostLines) e),
+          (and-right (markKnown h && leb 1 (h .rows) && leb (h .rows) mostRows) (leb (h .lines) mostLines) e),
     )
 
 pub head-some : (h : Header) → headCounts h ≡ true → 1 ≤ h .rows
 head-some h e =
     leb-true 1 (h .rows)
-    (and-right (eqb (h .mark) mark) (leb 1 (h .rows))
-    (and-left (eqb (h .mark) mark && leb 1 (h .rows)) (leb (h .rows) mostRows)
-    (and-left (eqb (h .mark) mark && leb 1 (h .rows) && leb (h .rows) mostRows) (leb (h .lines) mostLines) e)))
+    (and-right (markKnown h) (leb 1 (h .rows))
+    (and-left (markKnown h && leb 1 (h .rows)) (leb (h .rows) mostRows)
+    (and-left (markKnown h && leb 1 (h .rows) && leb (h .rows) mostRows) (leb (h .lines) mostLines) e)))
 
 pub head-standing : (t : List ℤ) (h : Header) → headCounts h ≡ true → headSums h (length t) ≡ true → Standing t (h .rows) 0 (h .lines)
 head-standing t h e f =
@@ -164,17 +165,22 @@ standing-rows s = record { few-rows = s .few-rows; few-lines = omega arith; stan
 module _ (t : List ℤ) where
   pub form-counts : headCounts (headerOf t) ≡ false → wellFormed t ≡ false
   unfolding wellFormed
-  form-counts e = and-no _ _ (and-no _ _ (and-no _ _ e))
+  form-counts e = and-no _ _ (and-no _ _ (and-no _ _ (and-no _ _ e)))
 
   pub form-sums : headSums (headerOf t) (length t) ≡ false → wellFormed t ≡ false
   unfolding wellFormed
-  form-sums e = and-no _ _ (and-no _ _ (and-nor _ _ e))
+  form-sums e = and-no _ _ (and-no _ _ (and-no _ _ (and-nor _ _ e)))
 
   pub form-rows : rowsGood t (headerOf t) ≡ false → wellFormed t ≡ false
   unfolding wellFormed
-  form-rows e = and-no _ _ (and-nor _ _ e)
+  form-rows e = and-no _ _ (and-no _ _ (and-nor _ _ e))
 
-  pub form-idents : headCounts (headerOf t) ≡ true → headSums (headerOf t) (length t) ≡ true → rowsGood t (headerOf t) ≡ true
-      → wellFormed t ≡ identsDiffer t (headerOf t .rows)
+  pub form-idents : identsDiffer t (headerOf t .rows) ≡ false → wellFormed t ≡ false
   unfolding wellFormed
-  form-idents e f g = and-yes _ _ (both-and (both-and e f) g)
+  form-idents e = and-no _ _ (and-nor _ _ e)
+
+  pub form-kind : headCounts (headerOf t) ≡ true → headSums (headerOf t) (length t) ≡ true → rowsGood t (headerOf t) ≡ true
+      → identsDiffer t (headerOf t .rows) ≡ true
+      → wellFormed t ≡ kindGood t (headerOf t)
+  unfolding wellFormed
+  form-kind e f g h = and-yes _ _ (both-and (both-and (both-and e f) g) h)

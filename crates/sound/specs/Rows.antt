@@ -30,6 +30,7 @@ use Rattle.widths.specs.Width.{need-between, need-most, need-some, Valued, most
 use Rattle.widths.specs.Width.{decimalsOf, size-small, FewDecimals}
 use Rattle.fields.specs.rule.Legal.{legal, inRange, onLine, lineValue}
 use Rattle.fields.specs.Facts.{LineFacts, PositionFacts, WidthFacts, SpreadFacts, QuantityFacts, KindFacts, RowFacts}
+use Rattle.uses.specs.rule.Uses.{kindGood}
 use Rattle.sound.specs.rule.Sound.{valueAt, rangeGood, valuesFit, linesGood, valuesGood, rangeWidth}
 use Rattle.sound.specs.rule.Sound.{widest, widthGood, roomGood, holdsWidth, widthsGood, columnsGood}
 use Rattle.sound.specs.rule.Sound.{rowGood, columnsOf, finishAt, highestFinish, linesBefore, goodAt, rowsGood, wellFormed}
@@ -262,16 +263,18 @@ module _ (t : List ℤ) (g : wellFormed t ≡ true) where
     pub standing : Standing t (rowsOf t) 0 (headerOf t .lines)
     pub rows : rowsGood t (headerOf t) ≡ true
     pub some-rows : 1 ≤ rowsOf t
+    pub kind : kindGood t (headerOf t) ≡ true
 
   pub parts : Parts
   unfolding wellFormed
   parts =
-      let a = and-both (and-both g .0) in
+      let a = and-both (and-both (and-both g .0) .0) in
       let b = and-both (a .0) in
       record {
         standing = head-standing t (headerOf t) (b .0) (b .1);
         rows = a .1;
         some-rows = head-some (headerOf t) (b .0);
+        kind = and-both g .1;
       }
 
   row-good : (i : ℕ) → i < rowsOf t → rowGood t (rowsOf t) (headerOf t .lines) (linesBefore t i) (columnsOf t i) ≡ true

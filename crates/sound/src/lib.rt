@@ -31,7 +31,7 @@ use strides::Hull;
 fn head_counts(h: Header) -> bool
     ensures { λ b. ⌜ b ≡ headCounts h ⌝ }
 {
-    (h.mark == Header::MARK)
+    ((h.mark == Header::MARK) | (h.mark == Header::MARK_XML))
         & (1 <= h.rows)
         & (h.rows <= Header::MOST_ROWS)
         & (h.lines <= Header::MOST_LINES)
@@ -548,5 +548,8 @@ pub fn well_formed(t: &[i64]) -> bool
     if !rows_good(t, &powers, h) {
         return false;
     }
-    idents_differ(t, h.rows)
+    if !idents_differ(t, h.rows) {
+        return false;
+    }
+    uses::kind_good(t, h)
 }

@@ -2,7 +2,7 @@
 -- POSITION a [TO b]. It is judged once read: 7 where the start is 0, or the finish below the start by their true values; then 8
 -- where one lies above 16,384.
 use Prim.Native.Nat.{ℕ}
-use mathlib.Core.Bool.{cond}
+use mathlib.Core.Bool.{Bool, cond}
 use mathlib.Core.List.{List}
 use lib.Dec.{eqb, ltb}
 use Rattle.scan.specs.Order.{valueOf}
@@ -25,10 +25,16 @@ use Rattle.statements.specs.declared.Stated.the-variants.{Is, Not}
 abbrev pub trueOf : List ℕ → Figures → ℕ
 trueOf d n = valueOf d (n .place) (n .next)
 
-unfoldable pub judgePosition : List ℕ → Figures → Figures → ℕ → Stated
-judgePosition d a b next =
+-- b says less than a
+abbrev pub belowOf : List ℕ → Figures → Figures → Bool
+belowOf d b a = ltb (trueOf d b) (trueOf d a)
+
+-- `below` says whether the second number is below the first: a judgement asks for the outcome, not for the text, so that another road
+-- to the same numbers can ask it too
+unfoldable pub judgePosition : Bool → Figures → Figures → ℕ → Stated
+judgePosition below a b next =
     cond (eqb (a .size) 0) (Not (fault 7 (a .place)))
-    (cond (ltb (trueOf d b) (trueOf d a)) (Not (fault 7 (b .place)))
+    (cond below (Not (fault 7 (b .place)))
     (cond (ltb 16384 (a .size)) (Not (fault 8 (a .place)))
     (cond (ltb 16384 (b .size)) (Not (fault 8 (b .place)))
     (Is (record { start = a .size; finish = b .size; place = a .place; next = next })))))
@@ -43,7 +49,7 @@ given (number.Is x) k = k x
 given (number.Not f) k = Not f
 
 unfoldable pub bothOf : List ℕ → Number → Number → Reading → Stated
-bothOf d a b end = given a λ x. given b λ y. ended end λ n. judgePosition d x y n
+bothOf d a b end = given a λ x. given b λ y. ended end λ n. judgePosition (belowOf d y x) x y n
 
 -- a second number behind TO, or none
 abbrev pub positionRest : List ℕ → Number → Reading → Choice → Stated

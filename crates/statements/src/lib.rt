@@ -168,10 +168,10 @@ pub enum Stated {
     Not(Fault),
 }
 
-// What is wrong with two locations: 7 comes before 8, and an earlier place before a later.
-fn judge_position(classes: &[u8; 256], d: &[u8], a: Figures, b: Figures, next: usize) -> Stated
-    requires { ⌜ Classes (now classes) ⌝ }
-    ensures { λ r. ⌜ r ≡ judgePosition (now (d .entry)) a b next ⌝ }
+// What is wrong with two locations, of which the second says less than the first where `below`: 7 comes before 8, and an earlier place
+// before a later.
+pub fn judge_position(below: bool, a: Figures, b: Figures, next: usize) -> Stated
+    ensures { λ r. ⌜ r ≡ judgePosition below a b next ⌝ }
 {
     if a.size == 0 {
         return Stated::Not(Fault {
@@ -179,7 +179,7 @@ fn judge_position(classes: &[u8; 256], d: &[u8], a: Figures, b: Figures, next: u
             place: a.place,
         });
     }
-    if scan::less(classes, d, b.place, b.next, a.place, a.next) {
+    if below {
         return Stated::Not(Fault {
             number: 7,
             place: b.place,
@@ -213,7 +213,10 @@ fn both(classes: &[u8; 256], d: &[u8], a: Number, b: Number, end: Reading) -> St
     match a {
         Number::Is(x) => match b {
             Number::Is(y) => match end {
-                Reading::At(n) => judge_position(classes, d, x, y, n),
+                Reading::At(n) => {
+                    let below = scan::less(classes, d, y.place, y.next, x.place, x.next);
+                    judge_position(below, x, y, n)
+                }
                 Reading::Refused(f) => Stated::Not(f),
             },
             Number::Not(f) => Stated::Not(f),
@@ -254,7 +257,7 @@ pub enum Spreading {
 }
 
 // With OF.
-fn judge_fields(n: Figures, w: Figures, next: usize) -> Spreading
+pub fn judge_fields(n: Figures, w: Figures, next: usize) -> Spreading
     ensures { λ r. ⌜ r ≡ judgeOf n w next ⌝ }
 {
     if n.size == 0 {
@@ -277,7 +280,7 @@ fn judge_fields(n: Figures, w: Figures, next: usize) -> Spreading
 }
 
 // Without OF n must divide the position's width exactly.
-fn judge_even(n: Figures, width: u64, next: usize) -> Spreading
+pub fn judge_even(n: Figures, width: u64, next: usize) -> Spreading
     ensures { λ r. ⌜ r ≡ judgeEven n width next ⌝ }
 {
     let count = n.size;
@@ -341,7 +344,7 @@ pub fn spread_rest(classes: &[u8; 256], d: &[u8], t: Reading, width: u64) -> Spr
     }
 }
 
-fn judge_size(n: Number) -> Number
+pub fn judge_size(n: Number) -> Number
     ensures { λ r. ⌜ r ≡ judgeSize n ⌝ }
 {
     match n {

@@ -29,9 +29,10 @@ use Rattle.fields.specs.Facts.{KindFacts, SpreadFacts}
 use Rattle.sound.specs.rule.Sound.{identGood, textsGood, countsGood, placesGood, rangeLacked, columnsGood}
 use Rattle.sound.specs.rule.Sound.{rowGood, columnsOf, linesAt, linesBefore, goodAt, linePlain, plainAt, linesPlain, linesGood}
 use Rattle.sound.specs.rule.Sound.{valuesGood}
-use Rattle.sound.specs.rule.Sound.{rowsGood, wellFormed}
+use Rattle.sound.specs.rule.Sound.{markKnown, rowsGood, wellFormed}
 use Rattle.sound.specs.rule.Rows.{rowsOf}
 use Rattle.sound.specs.Given.{ColumnFacts, column-facts}
+use Rattle.uses.specs.Uses.{UseFew, use-few}
 use Rattle.sound.specs.Rows.{FitAs, good-fits, line-value, parts, row-facts, length-low}
 use Rattle.table_laws.specs.rule.Signs.{NotNegative, HeaderSigns, RowSigns, LineSigns, TableSigns}
 
@@ -82,17 +83,19 @@ module _ (t : List ℤ) (g : wellFormed t ≡ true) where
   pub header-signs : HeaderSigns t
   unfolding wellFormed headerOf
   header-signs =
-      let a = and-both (and-both (and-both g .0) .0) in
+      let a = and-both (and-both (and-both (and-both g .0) .0) .0) in
       let h = headerOf t in
-      let counts = eqb (h .mark) 11 && leb 1 (h .rows) && leb (h .rows) 512 in
+      let counts = markKnown h && leb 1 (h .rows) && leb (h .rows) 512 in
       let c1 = and-left counts (leb (h .lines) 4096) (a .0) in
-      let c2 = and-left (eqb (h .mark) 11 && leb 1 (h .rows)) (leb (h .rows) 512) c1 in
-      let c3 = and-left (eqb (h .mark) 11) (leb 1 (h .rows)) c2 in
+      let c2 = and-left (markKnown h && leb 1 (h .rows)) (leb (h .rows) 512) c1 in
+      let c3 = and-left (markKnown h) (leb 1 (h .rows)) c2 in
       let r6 = eqb (h .«rows_at») 6 in
       let l6 = eqb (h .«lines_at») (linesBase (h .rows)) in
       let s1 = and-left (r6 && l6) (leb (lineBase (h .rows) (h .lines)) (length t)) (a .1) in
-      let e0 = eqb-true (h .mark) 11 c3 in
-      let e1 = leb-true (h .rows) 512 (and-right (eqb (h .mark) 11 && leb 1 (h .rows)) (leb (h .rows) 512) c1) in
+      let e0 : h .mark ≤ 12 =
+      ⊎-elim (λ x. omega (arith, eqb-true (h .mark) 11 x)) (λ x. omega (arith, eqb-true (h .mark) 12 x))
+      (either-true (eqb (h .mark) 11) (eqb (h .mark) 12) c3) in
+      let e1 = leb-true (h .rows) 512 (and-right (markKnown h && leb 1 (h .rows)) (leb (h .rows) 512) c1) in
       let e2 = leb-true (h .lines) 4096 (and-right counts (leb (h .lines) 4096) (a .0)) in
       let e4 = eqb-true (h .«rows_at») 6 (and-left r6 l6 s1) in
       let e5 = eqb-true (h .«lines_at») (linesBase (h .rows)) (and-right r6 l6 s1) in
@@ -151,6 +154,11 @@ module _ (t : List ℤ) (g : wellFormed t ≡ true) where
     width-small : c .width ≤ 9999
     unfolding c rowOf
     width-small = width-few (rowAt t i .kind) (rowAt t i) (row-facts t g i l .kind)
+
+    -- use and filter
+    uses : UseFew i c
+    unfolding c
+    uses = use-few t (headerOf t) (parts t g .kind) i l
 
     -- a text's place and length
     text-few : (c .name ≤ 1048576) × (c .«name_len» ≤ 1048576) × (c .label ≤ 1048576) × (c .«label_len» ≤ 1048576)
@@ -250,6 +258,8 @@ module _ (t : List ℤ) (g : wellFormed t ≡ true) where
           name-length = count-sign (cell t (at + 15)) (omega (arith, text-few .1));
           label = count-sign (cell t (at + 16)) (omega (arith, text-few .2));
           label-length = count-sign (cell t (at + 17)) (omega (arith, text-few .3));
+          use-code = count-sign (cell t (at + 18)) (omega (arith, uses .known));
+          filter = count-sign (cell t (at + 19)) (omega (arith, uses .earlier, l, parts t g .standing .few-rows));
         }
 
     -- ---- line k of the row

@@ -17,7 +17,7 @@ use Rattle.statements.specs.declared.Stated.{Stated}
 use Rattle.statements.specs.declared.Stated.the-variants as stated
 use Rattle.statements.specs.declared.Spreading.{Spreading}
 use Rattle.statements.specs.declared.Spreading.the-variants as spreading
-use Rattle.statements.specs.Position.{trueOf, judgePosition}
+use Rattle.statements.specs.Position.{trueOf, belowOf, judgePosition}
 use Rattle.statements.specs.Spread.{judgeOf, judgeEven}
 use Rattle.statements.specs.Size.{judgeSize}
 
@@ -82,7 +82,7 @@ module _ (d : List ℕ) (a b : Figures) (n : ℕ) (order : a .place ≤ b .place
   PositionSays =
       Says (PositionFault d a b) (stated.Is (record { start = a .size; finish = b .size; place = a .place; next = n })) stated.Not
 
-  position-says : PositionSays (judgePosition d a b n)
+  position-says : PositionSays (judgePosition (belowOf d b a) a b n)
   unfolding judgePosition
   position-says = by (eqb (a .size) 0) (ltb (trueOf d b) (trueOf d a)) (ltb 16384 (a .size)) (ltb 16384 (b .size)) refl refl refl refl where
     by : (p q r s : Bool) → eqb (a .size) 0 ≡ p → ltb (trueOf d b) (trueOf d a) ≡ q → ltb 16384 (a .size) ≡ r → ltb 16384 (b .size) ≡ s
@@ -120,7 +120,7 @@ module _ (d : List ℕ) (a b : Figures) (n : ℕ) (order : a .place ≤ b .place
       on i (start-far x) = let y = ltb-false 16384 (a .size) g in omega arith
       on i (finish-far x) = let y = ltb-false 16384 (b .size) h in omega arith
 
-  pub position-exactly : (r : Stated) → (judgePosition d a b n ≡ r) ↔ PositionSays r
+  pub position-exactly : (r : Stated) → (judgePosition (belowOf d b a) a b n ≡ r) ↔ PositionSays r
   position-exactly r = (λ e. rw e at position-says, says-once position-says)
 
 module _ (n w : Figures) (next : ℕ) (order : n .place ≤ w .place) where

@@ -78,7 +78,7 @@ fn send_amount(
 }
 
 // A number with its minus.
-fn send_number(
+pub fn send_number(
     powers: &[u64; 16],
     bound: usize,
     out: &mut [u8],
@@ -123,7 +123,7 @@ fn send_others(
 }
 
 // The first n codes of a list; `none` where there are none.
-fn send_set(
+pub fn send_set(
     powers: &[u64; 16],
     bound: usize,
     out: &mut [u8],
@@ -187,7 +187,7 @@ fn send_value(
 }
 
 // The decimals of a row: a quantity's block has them.
-fn decimals(k: Kind) -> usize
+pub fn decimals(k: Kind) -> usize
     ensures { λ r. ⌜ r ≡ decimalsOf k ⌝ }
 {
     match k {

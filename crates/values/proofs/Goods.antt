@@ -47,7 +47,7 @@ use Rattle.values.specs.declared.Verdict.the-variants.{Good, Bad}
 use Rattle.values.specs.declared.Turn.{Turn}
 use Rattle.values.specs.declared.Turn.the-variants as turn
 use Rattle.values.specs.Value.{formOf, largeOf, trueOf, scaledOf, pointOf, pointsOf}
-use Rattle.values.specs.Range.{limitRange, judgeRange, settled, rangedOf, withOr, rangeRest}
+use Rattle.values.specs.Range.{limitRange, reversedOf, judgeRange, settled, rangedOf, withOr, rangeRest}
 use Rattle.values.specs.Line.{Given, Is, Not, lineRest, numberOn, numberAt, repeatedIn, lineFault, judgeLine, grownPoint, grownBy, endOf}
 use Rattle.values.specs.Line.{endOr, moreOf, Listing, stateOf, after, judgedStep, readStep, lineStep, linesFrom}
 use Rattle.values.specs.Block.{emptyBlock, closedBy, rangeThen, toOr, valuesOn}
@@ -70,11 +70,16 @@ run-stops d {n} (at-sign {p = p} {b = b} {u = u} g w i r) q = by (isDigit b) ref
 
 -- decimals have a point before them, the size is the true one up to the cap, one in form has a digit, and one with none before its point
 -- lies nearer zero than 1
-pub record Genuine (d : List ℕ) (v : Value) : Type 0 where
+-- (z is what its digits say in full)
+pub record Genuine (z : ℕ) (v : Value) : Type 0 where
   pub pointed : (v .decimals ≡ 0) ⊎ (v .point ≡ true)
-  pub sized : v .size ≡ capped (valueOf d (v .first) (v .last))
+  pub sized : v .size ≡ capped z
   pub some : v .formed ≡ true → (0 < v .whole) ⊎ (0 < v .decimals)
   pub near : v .whole ≡ 0 → v .size < 10 ^ v .decimals
+
+-- what the digits of a value say in a text
+abbrev pub sizeIn : List ℕ → Value → ℕ
+sizeIn d v = valueOf d (v .first) (v .last)
 
 mark-pointed : (d : List ℕ) (k : ℕ) (t : Text) → bytesOf isDigit (text d k) ≡ [] → (length (bytesOf isDigit (text d (markOf k 46 t .next))) ≡ 0) ⊎ (markOf k 46 t .there ≡ true)
 unfolding markOf
@@ -91,11 +96,11 @@ value-pointed d at =
     let k = runOf isDigit m (text d m) in
     ⊎-elim (λ e. inl (ap (λ (n : ℕ). 0 + n) e)) inr (mark-pointed d k (text d k) (run-stops d (from-text d m) refl))
 
-pub value-genuine : (d : List ℕ) (t : Reading) (v : Value) → valueHere d t ≡ amount.Is v → Genuine d v
+pub value-genuine : (d : List ℕ) (t : Reading) (v : Value) → valueHere d t ≡ amount.Is v → Genuine (sizeIn d v) v
 unfolding valueHere ofValue
 value-genuine d (Refused f) v e = let z : _≡_ {A = ℕ} 0 1 = cc in absurd (omega arith)
 value-genuine d (At n) v e = by (eqb (valueAt d n .next) n) e where
-  by : (x : Bool) → cond x (amount.Not (fault 2 n)) (amount.Is (valueAt d n)) ≡ amount.Is v → Genuine d v
+  by : (x : Bool) → cond x (amount.Not (fault 2 n)) (amount.Is (valueAt d n)) ≡ amount.Is v → Genuine (sizeIn d v) v
   by true e = let z : _≡_ {A = ℕ} 0 1 = cc in absurd (omega arith)
   by false e = let j : valueAt d n ≡ v = cc in rw (← j) (record { pointed = value-pointed d n; sized = value-true d n; some = value-some d n; near = value-near d n })
 
@@ -106,24 +111,24 @@ pub record Fit (quantity : Bool) (v : Value) : Type 0 where
   pub category : quantity ≡ false → (v .minus ≡ false) × (v .point ≡ false) × (0 < v .size) × (v .size ≤ 9999)
   pub share : pointOf v ≡ 2 → (1 ≤ v .decimals) × (v .size < 10 ^ v .decimals)
 
-share-of : {d : List ℕ} {v : Value} → Genuine d v → v .formed ≡ true → pointOf v ≡ 2 → (1 ≤ v .decimals) × (v .size < 10 ^ v .decimals)
+share-of : {z : ℕ} {v : Value} → Genuine z v → v .formed ≡ true → pointOf v ≡ 2 → (1 ≤ v .decimals) × (v .size < 10 ^ v .decimals)
 share-of {v = v} g f e =
     let w = code-bare v e in
     (⊎-elim (λ x. absurd (omega arith)) (λ x. x) (g .some f), g .near w)
 
 -- digits alone have no decimals
-whole : {d : List ℕ} {v : Value} → Genuine d v → v .point ≡ false → v .decimals ≡ 0
+whole : {z : ℕ} {v : Value} → Genuine z v → v .point ≡ false → v .decimals ≡ 0
 whole g p = ⊎-elim (λ e. e) (λ q. holds-not q p) (g .pointed)
 
-pub fits : (d : List ℕ) (quantity : Bool) (v : Value) → Genuine d v → formOf quantity v ≡ true → largeOf quantity v ≡ false → Fit quantity v
+pub fits : (z : ℕ) (quantity : Bool) (v : Value) → Genuine z v → formOf quantity v ≡ true → largeOf quantity v ≡ false → Fit quantity v
 unfolding formOf largeOf
-fits d true v g f l = record {
+fits n true v g f l = record {
   small = ltb-false 999999999999999 (v .size) (or-none _ (ltb 9 (v .decimals)) l);
   places = ltb-false 9 (v .decimals) (or-neither (ltb 999999999999999 (v .size)) _ l);
   category = λ e. holds-not refl e;
   share = share-of g f;
 }
-fits d false v g f l =
+fits n false v g f l =
     let a = and-right (v .formed) (not (v .minus) && (not (v .point) && ltb 0 (v .size))) f in
     let b = and-right (not (v .minus)) (not (v .point) && ltb 0 (v .size)) a in
     let m = not-true (v .minus) (and-left (not (v .minus)) (not (v .point) && ltb 0 (v .size)) a) in
@@ -155,9 +160,13 @@ cap-own n m e h = by (ltb 1000000000000000 n) e where
   by true e = absurd (omega arith)
   by false e = sym e
 
-pub true-scaled : {d : List ℕ} {quantity : Bool} {v : Value} → Genuine d v → Fit quantity v → trueOf d v ≡ scaledOf v
-unfolding trueOf scaledOf
-true-scaled {d} {v = v} g f = ap (numberOf (v .minus)) (cap-own (valueOf d (v .first) (v .last)) (v .size) (g .sized) (f .small))
+pub true-said : {z : ℕ} {quantity : Bool} {v : Value} → Genuine z v → Fit quantity v → numberOf (v .minus) z ≡ scaledOf v
+unfolding scaledOf
+true-said {z} {v = v} g f = ap (numberOf (v .minus)) (cap-own z (v .size) (g .sized) (f .small))
+
+pub true-scaled : (d : List ℕ) {quantity : Bool} {v : Value} → Genuine (sizeIn d v) v → Fit quantity v → trueOf d v ≡ scaledOf v
+unfolding trueOf
+true-scaled d g f = true-said g f
 
 not-below : (a b : ℤ) → ltZ b a ≡ false → leZ a b ≡ true
 not-below (pos a) (pos b) e = le-leb a b (ltb-false b a e)
@@ -174,31 +183,28 @@ near-said {v = v} f e = rw (size-number (v .minus) (v .size)) (f .share e .1)
 abbrev rangeBlock : Value → Value → Block
 rangeBlock x y = record { ranged = true; from = scaledOf x; to = scaledOf y; known = true; decimals = x .decimals; point = pointsOf (pointOf x) (pointOf y) }
 
-module _ (d : List ℕ) (quantity : Bool) where
-  range-good : (x y : Value) → Genuine d x → Genuine d y → Fit quantity x → Fit quantity y → x .decimals ≡ y .decimals
-      → ltZ (trueOf d y) (trueOf d x) ≡ false → GoodBlock quantity (rangeBlock x y)
-  range-good x y gx gy fx fy s e = record {
+module _ (quantity : Bool) (below : Bool) (x y : Value) (n m′ : ℕ) (gx : Genuine n x) (gy : Genuine m′ y)
+    (order : below ≡ ltZ (numberOf (y .minus) m′) (numberOf (x .minus) n)) where
+  range-good : Fit quantity x → Fit quantity y → x .decimals ≡ y .decimals → below ≡ false → GoodBlock quantity (rangeBlock x y)
+  range-good fx fy s e = record {
     few-decimals = fx .places;
     point-code = codes-low (pointOf x) (pointOf y) (code-low x);
     pointed = ⊎-elim inl (λ p. inr (codes-first (pointOf x) (pointOf y) (code-some x p))) (gx .pointed);
     shared = λ p. fx .share (codes-same (pointOf x) (pointOf y) p .0) .0;
     category = λ q. (whole gx (fx .category q .1), rw (code-none x (fx .category q .1), code-none y (fy .category q .1)));
     unranged = λ q. holds-not refl q;
-    ordered = λ q. not-below (scaledOf x) (scaledOf y) (rw (true-scaled gx fx, true-scaled gy fy) at e);
+    ordered = λ q. not-below (scaledOf x) (scaledOf y) (rw (true-said gx fx, true-said gy fy) at (sym order ∙ e));
     from-limited = λ q. value-limited quantity x fx;
     to-limited = λ q. value-limited quantity y fy;
     from-near = λ q p. near-said fx (codes-same (pointOf x) (pointOf y) p .0);
     to-near = λ q p. rw s (near-said fy (codes-same (pointOf x) (pointOf y) p .1));
   }
 
-  -- what is known of a block that a range made
-  unfoldable pub Made : Block → Type 0
-  Made b = GoodBlock quantity b × (b .ranged ≡ true) × (b .known ≡ true)
-
-  judged-good : (x y : Value) {b : Block} → Genuine d x → Genuine d y → judgeRange d quantity x y ≡ judged.Good b → Made b
-  unfolding judgeRange limitRange Made
-  judged-good x y {b} gx gy = by (formOf quantity x) (formOf quantity y) (eqb (x .decimals) (y .decimals)) (ltZ (trueOf d y) (trueOf d x)) (largeOf quantity x) (largeOf quantity y) refl refl refl refl refl refl where
-    by : (f g q r l m : Bool) → formOf quantity x ≡ f → formOf quantity y ≡ g → eqb (x .decimals) (y .decimals) ≡ q → ltZ (trueOf d y) (trueOf d x) ≡ r → largeOf quantity x ≡ l → largeOf quantity y ≡ m → cond f (cond g (cond q (cond r (judged.Bad (fault 6 (y .place))) (cond l (judged.Bad (fault 8 (x .place))) (cond m (judged.Bad (fault 8 (y .place))) (judged.Good (rangeBlock x y))))) (judged.Bad (fault 6 (y .place)))) (judged.Bad (fault 6 (y .place)))) (judged.Bad (fault 6 (x .place))) ≡ judged.Good b → GoodBlock quantity b × (b .ranged ≡ true) × (b .known ≡ true)
+  -- a range that stands is a good block, whatever road its values came by
+  pub judged-good : {b : Block} → judgeRange below quantity x y ≡ judged.Good b → GoodBlock quantity b × (b .ranged ≡ true) × (b .known ≡ true)
+  unfolding judgeRange limitRange
+  judged-good {b} = by (formOf quantity x) (formOf quantity y) (eqb (x .decimals) (y .decimals)) below (largeOf quantity x) (largeOf quantity y) refl refl refl refl refl refl where
+    by : (f g q r l m : Bool) → formOf quantity x ≡ f → formOf quantity y ≡ g → eqb (x .decimals) (y .decimals) ≡ q → below ≡ r → largeOf quantity x ≡ l → largeOf quantity y ≡ m → cond f (cond g (cond q (cond r (judged.Bad (fault 6 (y .place))) (cond l (judged.Bad (fault 8 (x .place))) (cond m (judged.Bad (fault 8 (y .place))) (judged.Good (rangeBlock x y))))) (judged.Bad (fault 6 (y .place)))) (judged.Bad (fault 6 (y .place)))) (judged.Bad (fault 6 (x .place))) ≡ judged.Good b → GoodBlock quantity b × (b .ranged ≡ true) × (b .known ≡ true)
     by false g q r l m ef eg eq er el em e = let z : _≡_ {A = ℕ} 0 1 = cc in absurd (omega arith)
     by true false q r l m ef eg eq er el em e = let z : _≡_ {A = ℕ} 0 1 = cc in absurd (omega arith)
     by true true false r l m ef eg eq er el em e = let z : _≡_ {A = ℕ} 0 1 = cc in absurd (omega arith)
@@ -207,19 +213,24 @@ module _ (d : List ℕ) (quantity : Bool) where
     by true true true false false true ef eg eq er el em e = let z : _≡_ {A = ℕ} 0 1 = cc in absurd (omega arith)
     by true true true false false false ef eg eq er el em e =
         let j : rangeBlock x y ≡ b = cc in
-        rw (← j) (range-good x y gx gy (fits d quantity x gx ef el) (fits d quantity y gy eg em) (eqb-true _ _ eq) er, refl, refl)
+        rw (← j) (range-good (fits n quantity x gx ef el) (fits m′ quantity y gy eg em) (eqb-true _ _ eq) er, refl, refl)
 
-  ranged-good : (a c : Amount) (end : Reading) (w : Bool) {b : Block} {with : Bool} {n : ℕ} → ((v : Value) → a ≡ amount.Is v → Genuine d v) → ((v : Value) → c ≡ amount.Is v → Genuine d v) → rangedOf d quantity a c end w ≡ ranged.Is b with n → Made b
-  unfolding rangedOf
+module _ (d : List ℕ) (quantity : Bool) where
+  -- what is known of a block that a range made
+  unfoldable pub Made : Block → Type 0
+  Made b = GoodBlock quantity b × (b .ranged ≡ true) × (b .known ≡ true)
+
+  ranged-good : (a c : Amount) (end : Reading) (w : Bool) {b : Block} {with : Bool} {n : ℕ} → ((v : Value) → a ≡ amount.Is v → Genuine (sizeIn d v) v) → ((v : Value) → c ≡ amount.Is v → Genuine (sizeIn d v) v) → rangedOf d quantity a c end w ≡ ranged.Is b with n → Made b
+  unfolding rangedOf Made trueOf
   ranged-good (amount.Not f) c end w ga gc e = let z : _≡_ {A = ℕ} 0 1 = cc in absurd (omega arith)
   ranged-good (amount.Is x) (amount.Not f) end w ga gc e = let z : _≡_ {A = ℕ} 0 1 = cc in absurd (omega arith)
   ranged-good (amount.Is x) (amount.Is y) (Refused f) w ga gc e = let z : _≡_ {A = ℕ} 0 1 = cc in absurd (omega arith)
-  ranged-good (amount.Is x) (amount.Is y) (At m) w {b} {with} {n} ga gc e = by (judgeRange d quantity x y) refl e where
-    by : (j : Judged) → judgeRange d quantity x y ≡ j → settled j w m ≡ ranged.Is b with n → Made b
-    by (judged.Good k) i e = let q : k ≡ b = cc in judged-good x y (ga x refl) (gc y refl) (rw q at i)
+  ranged-good (amount.Is x) (amount.Is y) (At m) w {b} {with} {n} ga gc e = by (judgeRange (reversedOf d x y) quantity x y) refl e where
+    by : (j : Judged) → judgeRange (reversedOf d x y) quantity x y ≡ j → settled j w m ≡ ranged.Is b with n → Made b
+    by (judged.Good k) i e = let q : k ≡ b = cc in judged-good quantity (reversedOf d x y) x y (sizeIn d x) (sizeIn d y) (ga x refl) (gc y refl) refl (rw q at i)
     by (judged.Bad f) i e = let z : _≡_ {A = ℕ} 0 1 = cc in absurd (omega arith)
 
-  pub rest-good : (a : Amount) (t : Reading) {b : Block} {with : Bool} {n : ℕ} → ((v : Value) → a ≡ amount.Is v → Genuine d v) → rangeRest d quantity a t ≡ ranged.Is b with n → Made b
+  pub rest-good : (a : Amount) (t : Reading) {b : Block} {with : Bool} {n : ℕ} → ((v : Value) → a ≡ amount.Is v → Genuine (sizeIn d v) v) → rangeRest d quantity a t ≡ ranged.Is b with n → Made b
   unfolding rangeRest valueOn
   rest-good a t {b} {with} {n} ga = by (choiceOf d (gapOn d (pastValue c)) WITH) where
     c : Amount
@@ -279,8 +290,8 @@ near-still : (b : Block) (v : Value) (z : ℤ) → b .known ≡ true → (b .kno
 unfolding grownBy
 near-still b v z k s n p = rw (s k) (n (grown-shares b v p .before k))
 
-grown-good : {d : List ℕ} (quantity : Bool) (b : Block) (v : Value) → GoodBlock quantity b → (b .ranged ≡ true → b .known ≡ true)
-    → (b .known ≡ true → v .decimals ≡ b .decimals) → Genuine d v → Fit quantity v → GoodBlock quantity (grownBy b v)
+grown-good : {z : ℕ} (quantity : Bool) (b : Block) (v : Value) → GoodBlock quantity b → (b .ranged ≡ true → b .known ≡ true)
+    → (b .known ≡ true → v .decimals ≡ b .decimals) → Genuine z v → Fit quantity v → GoodBlock quantity (grownBy b v)
 unfolding grownBy
 grown-good quantity b v k r s g f = record {
   few-decimals = f .places;
@@ -338,7 +349,7 @@ module _ (d : List ℕ) (quantity : Bool) (first : ℕ) (h : length d ≤ 104857
     near : (i : ℕ) → i < length l → Near b (numberAt l i)
 
   record Sofar (l : Listing) : Type 0 where
-    value : (v : Value) → l .amount ≡ amount.Is v → Genuine d v
+    value : (v : Value) → l .amount ≡ amount.Is v → Genuine (sizeIn d v) v
     block : GoodBlock quantity (l .block)
     lines : GoodLines quantity first (l .lines)
     known : Known (l .block) (l .lines)
@@ -387,7 +398,7 @@ module _ (d : List ℕ) (quantity : Bool) (first : ℕ) (h : length d ≤ 104857
         let t = good-line (numberAt (l .lines)) (length (l .lines)) first quantity (l .block) (s .value) i in
         let g = k .value (s .value) (line-value d (l .amount) s j) in
         let w = sound-value quantity (l .block) (s .value) (t .sound) in
-        let f = fits d quantity (s .value) g (w .0) (w .1) in
+        let f = fits (sizeIn d (s .value)) quantity (s .value) g (w .0) (w .1) in
         more-keeps (grownBy (l .block) (s .value)) (l .lines ++ s ∷ []) (s .next)
         (grown-good quantity (l .block) (s .value) (k .block) (k .known .ranged) (w .2) g f)
         (lines-good quantity first (l .lines) s (k .lines) (value-limited quantity (s .value) f) (t .fresh) (t .few) (line-good d (l .amount) s h j))
@@ -410,7 +421,7 @@ module _ (d : List ℕ) (quantity : Bool) (first : ℕ) (h : length d ≤ 104857
   no-lines : first ≤ 4096 → GoodLines quantity first []
   no-lines r = record { few = omega arith; limited = λ i e. absurd (omega arith); differ = λ i j a e. absurd (omega arith); each = none }
 
-  lines-given : (a : Amount) (b : Block) → first ≤ 4096 → ((v : Value) → a ≡ amount.Is v → Genuine d v) → GoodBlock quantity b → (b .ranged ≡ true → b .known ≡ true) → GoodGiven (linesFrom d quantity first (stateOf a b []))
+  lines-given : (a : Amount) (b : Block) → first ≤ 4096 → ((v : Value) → a ≡ amount.Is v → Genuine (sizeIn d v) v) → GoodBlock quantity b → (b .ranged ≡ true → b .known ≡ true) → GoodGiven (linesFrom d quantity first (stateOf a b []))
   unfolding linesFrom
   lines-given a b r ga gb kn =
       loops (suc (4096 - (first + 0))) (stateOf a b [])

@@ -40,7 +40,7 @@ use Rattle.values.specs.Good.{Limited}
 use Rattle.values.specs.Order.{trues, trueAt, paperLine, paperRead, paperStep, paperFrom, Reached, alone, behind, next}
 use Rattle.values.proofs.Facts.{sound-value}
 use Rattle.values.proofs.Lists.{good-line, line-value}
-use Rattle.values.proofs.Goods.{Genuine, value-genuine, fits, value-limited, true-scaled, Made, rest-good}
+use Rattle.values.proofs.Goods.{Genuine, sizeIn, value-genuine, fits, value-limited, true-scaled, Made, rest-good}
 
 -- ---- a value too large says no number within the limits
 -- a size above a number below the cap is that of a true number above it
@@ -67,15 +67,15 @@ category-plain v f =
     let a = and-right (v .formed) (not (v .minus) && (not (v .point) && ltb 0 (v .size))) f in
     not-true (v .minus) (and-left (not (v .minus)) (not (v .point) && ltb 0 (v .size)) a)
 
-too-large : {d : List ℕ} (quantity : Bool) (v : Value) → Genuine d v → formOf quantity v ≡ true → v .decimals ≤ 9
+too-large : (d : List ℕ) (quantity : Bool) (v : Value) → Genuine (sizeIn d v) v → formOf quantity v ≡ true → v .decimals ≤ 9
     → largeOf quantity v ≡ true → Limited quantity (trueOf d v) → ⊥
 unfolding largeOf trueOf
-too-large {d} true v g f h e =
+too-large d true v g f h e =
     ⊎-elim
     (λ s. quantity-beyond (v .minus) (valueOf d (v .first) (v .last)) (above-cap _ _ (v .size) (g .sized) (ltb-true _ (v .size) s)))
     (λ s. let k = ltb-true 9 (v .decimals) s in absurd (omega arith))
     (either-true (ltb 999999999999999 (v .size)) (ltb 9 (v .decimals)) e)
-too-large {d} false v g f h e =
+too-large d false v g f h e =
     rw (category-plain v f) (category-beyond (valueOf d (v .first) (v .last)) (above-cap _ _ (v .size) (g .sized) (ltb-true _ (v .size) e)))
 
 -- ---- what holds wherever the reader of lines can stand
@@ -103,12 +103,12 @@ module _ (d : List ℕ) (quantity : Bool) (first : ℕ) where
 
   -- the lines of a block that has not said its decimals are none
   record Steady (l : Listing) : Type 0 where
-    value : (v : Value) → l .amount ≡ amount.Is v → Genuine d v
+    value : (v : Value) → l .amount ≡ amount.Is v → Genuine (sizeIn d v) v
     places : l .block .decimals ≤ 9
     unsaid : l .block .known ≡ false → l .lines ≡ []
     lines : Held (l .lines)
 
-  module _ (l : Listing) (k : Steady l) (v : Value) (g : Genuine d v) where
+  module _ (l : Listing) (k : Steady l) (v : Value) (g : Genuine (sizeIn d v) v) where
     abbrev unlike : Bool
     unlike = l .block .known && not (eqb (v .decimals) (l .block .decimals))
 
@@ -129,7 +129,7 @@ module _ (d : List ℕ) (quantity : Bool) (first : ℕ) where
         not-it : (i : ℕ) → i < length (l .lines) → (x : Bool) → eqZ (numberAt (l .lines) i) (trueOf d v) ≡ x → x ≡ false
         not-it i q false s = refl
         not-it i q true s =
-            absurd (too-large quantity v g f h e (rw (same-true (numberAt (l .lines) i) (trueOf d v) s) at (held-limited (k .lines) i q)))
+            absurd (too-large d quantity v g f h e (rw (same-true (numberAt (l .lines) i) (trueOf d v) s) at (held-limited (k .lines) i q)))
 
       by : (x : Bool) → l .block .known ≡ x → (x && not (eqb (v .decimals) (l .block .decimals))) ≡ false
           → again (trueOf d v) ≡ false
@@ -163,7 +163,7 @@ module _ (d : List ℕ) (quantity : Bool) (first : ℕ) where
       by false y z f u e = refl
       by true true z f u e = refl
       by true false true f u e = rw (large-fresh f u e)
-      by true false false f u e = rw (true-scaled g (fits d quantity v g f e))
+      by true false false f u e = rw (true-scaled d g (fits (sizeIn d v) quantity v g f e))
 
   -- ---- it holds at the start of the lines, and behind each
   start-alone : (t : Reading) → Steady (stateOf (valueHere d t) emptyBlock [])
@@ -197,9 +197,9 @@ module _ (d : List ℕ) (quantity : Bool) (first : ℕ) where
         let t = good-line (numberAt (l .lines)) (length (l .lines)) first quantity (l .block) (s .value) i in
         let g = k .value (s .value) (line-value d (l .amount) s j) in
         let w = sound-value quantity (l .block) (s .value) (t .sound) in
-        let f = fits d quantity (s .value) g (w .0) (w .1) in
+        let f = fits (sizeIn d (s .value)) quantity (s .value) g (w .0) (w .1) in
         more-steady (grownBy (l .block) (s .value)) (l .lines ++ s ∷ []) (s .next) (f .places) refl
-        (held-more s (k .lines) (value-limited quantity (s .value) f) (true-scaled g f))
+        (held-more s (k .lines) (value-limited quantity (s .value) f) (true-scaled d g f))
         e
     judge s (Bad f) j i e = let z : _≡_ {A = ℕ} 0 1 = cc in absurd (omega arith)
 

@@ -37,11 +37,16 @@ limitRange quantity a b =
       point = pointsOf (pointOf a) (pointOf b);
     })))
 
-unfoldable pub judgeRange : List ℕ → Bool → Value → Value → Judged
-judgeRange d quantity a b =
+-- b lies below a, by their true values
+abbrev pub reversedOf : List ℕ → Value → Value → Bool
+reversedOf d a b = ltZ (trueOf d b) (trueOf d a)
+
+-- `below` says whether the second lies below the first: the judgement asks for the outcome, not for the text
+unfoldable pub judgeRange : Bool → Bool → Value → Value → Judged
+judgeRange below quantity a b =
     cond (formOf quantity a) (cond (formOf quantity b)
     (cond (eqb (a .decimals) (b .decimals))
-    (cond (ltZ (trueOf d b) (trueOf d a)) (Bad (fault 6 (b .place)))
+    (cond below (Bad (fault 6 (b .place)))
     (limitRange quantity a b))
     (Bad (fault 6 (b .place))))
     (Bad (fault 6 (b .place))))
@@ -61,7 +66,7 @@ ended (Refused f) k = Not f
 
 -- the first 2 or 3 met, and then the judgement
 unfoldable pub rangedOf : List ℕ → Bool → Amount → Amount → Reading → Bool → Ranged
-rangedOf d quantity a b end with = given a λ x. given b λ y. ended end λ n. settled (judgeRange d quantity x y) with n
+rangedOf d quantity a b end with = given a λ x. given b λ y. ended end λ n. settled (judgeRange (reversedOf d x y) quantity x y) with n
 
 abbrev pub withOr : List ℕ → Bool → Amount → Amount → Reading → Choice → Ranged
 withOr d quantity a b g (Taken m) = rangedOf d quantity a b (At m) true

@@ -19,7 +19,7 @@ ghost use Rattle.ascii.specs.Class.{Classes};
 ghost use Rattle.cells.specs.rule.Cell.{pasted};
 ghost use Rattle.layout.specs.rule.Layout.{lineSize, mostLines};
 ghost use Rattle.values.specs.Value.{formOf, largeOf, trueOf, scaledOf, pointOf, pointsOf};
-ghost use Rattle.values.specs.Range.{limitRange, judgeRange, settled, rangedOf, rangeRest};
+ghost use Rattle.values.specs.Range.{limitRange, reversedOf, judgeRange, settled, rangedOf, rangeRest};
 ghost use Rattle.values.specs.Line.{saidOf, lineRest, numberOn, repeatedIn, lineFault, judgeLine, grownPoint, grownBy, lineCells, endOf};
 ghost use Rattle.values.specs.Line.{moreOf, stateOf, linesFrom};
 ghost use Rattle.values.specs.Line.{listedOf, Stored};
@@ -146,10 +146,10 @@ fn limit_range(quantity: bool, a: Value, b: Value) -> Judged
     })
 }
 
-// A range: 6 at each value of wrong form, and at the second where decimals differ or the range is reversed; then its limits.
-fn judge_range(classes: &[u8; 256], d: &[u8], quantity: bool, a: Value, b: Value) -> Judged
-    requires { ⌜ Classes (now classes) ⌝ }
-    ensures { λ r. ⌜ r ≡ judgeRange (now (d .entry)) quantity a b ⌝ }
+// A range, whose second value lies below the first where `below`: 6 at each value of wrong form, and at the second where decimals differ
+// or the range is reversed; then its limits.
+pub fn judge_range(below: bool, quantity: bool, a: Value, b: Value) -> Judged
+    ensures { λ r. ⌜ r ≡ judgeRange below quantity a b ⌝ }
 {
     if !formed(quantity, a) {
         return Judged::Bad(Fault {
@@ -169,7 +169,7 @@ fn judge_range(classes: &[u8; 256], d: &[u8], quantity: bool, a: Value, b: Value
             place: b.place,
         });
     }
-    if reversed(classes, d, a, b) {
+    if below {
         return Judged::Bad(Fault {
             number: 6,
             place: b.place,
@@ -198,9 +198,10 @@ fn settle(
     next: usize,
 ) -> Ranged
     requires { ⌜ Classes (now classes) ⌝ }
-    ensures { λ r. ⌜ r ≡ settled (judgeRange (now (d .entry)) quantity a b) with next ⌝ }
+    ensures { λ r. ⌜ r ≡ settled (judgeRange (reversedOf (now (d .entry)) a b) quantity a b) with next ⌝ }
 {
-    match judge_range(classes, d, quantity, a, b) {
+    let below = reversed(classes, d, a, b);
+    match judge_range(below, quantity, a, b) {
         Judged::Good(block) => Ranged::Is { block, with, next },
         Judged::Bad(f) => Ranged::Not(f),
     }
@@ -359,7 +360,7 @@ pub enum Verdict {
 }
 
 // A line: a value too large repeats none, so that it may be judged first.
-fn judge_line(
+pub fn judge_line(
     lines: &[i64],
     marks: &[u16],
     stamp: u16,
@@ -467,7 +468,36 @@ fn store(lines: &mut [i64], last: usize, z: i64, s: Said)
     cells::paste(lines, Line::SIZE * last, &numbers);
 }
 
-// A line that was read: judged, and if it stands stored, and what follows it.
+// A line, wherever it was read: judged, and if it stands stored, with its mark.
+pub fn stand_line(
+    quantity: bool,
+    first: usize,
+    s: Said,
+    b: Block,
+    last: usize,
+    lines: &mut [i64],
+    marks: &mut [u16],
+    stamp: u16,
+) -> Verdict
+    requires { ⌜ (length (now lines) ≡ lineSize * mostLines) × (first ≤ last) × (last ≤ mostLines) × (length (now marks) ≡ 16384) ⌝ }
+    requires { ⌜ Marked (roomAt (now lines) first) (last - first) stamp (now marks) ⌝ }
+    requires { ⌜ storable s ⌝ }
+    ensures { λ r. ⌜ r ≡ judgeLine (roomAt (now (lines .entry)) first) (last - first) first quantity b (s .value) ⌝ }
+    ensures { λ r. ⌜ now (lines .exit) ≡ judgedRoom (now (lines .entry)) last s (judgeLine (roomAt (now (lines .entry)) first) (last - first) first quantity b (s .value)) ⌝ }
+    ensures { λ r. ⌜ now (marks .exit) ≡ judgedMarks (now (marks .entry)) stamp (judgeLine (roomAt (now (lines .entry)) first) (last - first) first quantity b (s .value)) ⌝ }
+{
+    let v = s.value;
+    match judge_line(lines, marks, stamp, first, last, quantity, b, v) {
+        Verdict::Good(z) => {
+            store(lines, last, z, s);
+            leave_mark(marks, stamp, z);
+            Verdict::Good(z)
+        }
+        Verdict::Bad(f) => Verdict::Bad(f),
+    }
+}
+
+// A line that was read in a 1.1 definition: whether it stands, and what follows it.
 fn place_line(
     classes: &[u8; 256],
     d: &[u8],
@@ -488,12 +518,9 @@ fn place_line(
     ensures { λ r. ⌜ now (lines .exit) ≡ judgedRoom (now (lines .entry)) last s (judgeLine (roomAt (now (lines .entry)) first) (last - first) first quantity b (s .value)) ⌝ }
     ensures { λ r. ⌜ now (marks .exit) ≡ judgedMarks (now (marks .entry)) stamp (judgeLine (roomAt (now (lines .entry)) first) (last - first) first quantity b (s .value)) ⌝ }
 {
-    let v = s.value;
-    match judge_line(lines, marks, stamp, first, last, quantity, b, v) {
-        Verdict::Good(z) => {
-            store(lines, last, z, s);
-            leave_mark(marks, stamp, z);
-            let g = grown(b, v);
+    match stand_line(quantity, first, s, b, last, lines, marks, stamp) {
+        Verdict::Good(_) => {
+            let g = grown(b, s.value);
             more(classes, d, g, s.next)
         }
         Verdict::Bad(f) => Turn::Not(f),

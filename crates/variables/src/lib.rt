@@ -40,7 +40,7 @@ fn wrong_ident(seen: &[u8], x: Figures) -> bool
 }
 
 // 5 comes before 8 at a 513th variable.
-fn judge_ident(seen: &[u8], count: usize, n: Number) -> Number
+pub fn judge_ident(seen: &[u8], count: usize, n: Number) -> Number
     requires { ⌜ length (now seen) ≡ 10000 ⌝ }
     ensures { λ r. ⌜ r ≡ judgeIdent (marked (now (seen .entry))) count n ⌝ }
 {

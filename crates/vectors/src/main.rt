@@ -153,7 +153,7 @@ fn put_no_text(out: &mut [u8], at: usize, list: &[i64], number: u64) -> usize {
 // A text of the definition decoded, by its place and length.
 fn run_text(out: &mut [u8], at: usize, d: &[u8], h: Head, list: &mut [i64]) -> usize {
     fill(list);
-    match texts::decode_text(d, h.place, h.long, list) {
+    match decoding::decode_text(d, h.place, h.long, list) {
         Decoded::Signs(count) => put_signs(out, at, list, count),
         Decoded::NotText => put_no_text(out, at, list, 3),
         Decoded::ShortList => put_no_text(out, at, list, 25),
@@ -165,7 +165,7 @@ fn run_case(out: &mut [u8], at: usize, d: &[u8], h: Head, table: &mut [i64]) -> 
         return run_text(out, at, d, h, table);
     }
     fill(table);
-    match definition::read_definition(d, table) {
+    match kinds::read_definition(d, table) {
         Answer::Read { rows, lines } => put_read(out, at, table, rows, lines),
         Answer::Refused { number, place } => put_refused(out, at, table, number, place),
     }

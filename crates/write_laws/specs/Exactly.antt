@@ -15,11 +15,12 @@ use Rattle.survey.specs.rule.Survey.{Variable, Survey}
 use Rattle.survey.specs.rule.Table.{tableOf}
 use Rattle.reading.specs.rule.Whole.{surveyOf}
 use Rattle.bridge.specs.Lowest.{never}
+use Rattle.laying.specs.rule.Begins.{begins}
+use Rattle.laying.specs.Begins.{begins-is, begins-these}
 use Rattle.definition.specs.declared.Against.{Against}
 use Rattle.definition.specs.declared.Against.the-variants.{Same, Other}
 use Rattle.definition.specs.rule.Definition.{Outcome, Built, Refusal, outcomeOf}
-use Rattle.definition.specs.rule.Against.{begins, held, againstOf}
-use Rattle.definition.specs.Against.{begins-is, begins-these}
+use Rattle.definition.specs.rule.Against.{held, againstOf}
 use Rattle.clean_text.specs.rule.Clean.{cleanOf}
 use Rattle.clean_laws.specs.rule.Reads.{Reads}
 use Rattle.clean_laws.specs.Reads.{ReadAs, read-as, built-reads}

@@ -8,7 +8,7 @@ use Rattle.zarfolin.specs.rule.Version.{versionNumber}
 
 -- the numbers of a row under each version; of a header and a line there is one size so far
 pub rowIn : ℕ → ℕ
-rowIn v = cond (eqb v 1) 18 (cond (eqb v 2) 18 0)
+rowIn v = cond (eqb v 1) 18 (cond (eqb v 2) 18 (cond (eqb v 3) 20 0))
 
 pub version-row : rowIn versionNumber ≡ rowSize
 unfolding rowIn

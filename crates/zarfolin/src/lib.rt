@@ -2,6 +2,7 @@
 // not enough. It holds no rule of its own but that of a truth given as a number. Nothing checks the declarations on the other side:
 // include/zarfolin.h has them.
 ghost use mathlib.Core.Path.{_≡_};
+ghost use mathlib.Core.Bool.{false};
 ghost use lib.IntN.{pos};
 ghost use Rattle.fields.specs.rule.Field as field;
 ghost use Rattle.fields.specs.rule.Field.{missing, members};
@@ -419,7 +420,7 @@ pub extern "C" fn zarfolin_export(
     tell_five(answer, export_cells(e), export_length(e))
 }
 
-// Reads a definition into a table.
+// Reads a definition, 1.1 or XML, into a table.
 #[no_mangle]
 pub extern "C" fn zarfolin_read_definition(
     d: &[u8],
@@ -428,10 +429,7 @@ pub extern "C" fn zarfolin_read_definition(
 ) -> u64
     ensures { λ r. ⌜ DefinitionTold (now (d .entry)) (now (table .entry)) (now (table .exit)) (now (answer .exit)) r ⌝ }
 {
-    tell(
-        answer,
-        definition_cells(definition::read_definition(d, table)),
-    )
+    tell(answer, definition_cells(kinds::read_definition(d, table)))
 }
 
 // Writes a clean text of a definition, whose table is lent too.
@@ -460,7 +458,7 @@ pub extern "C" fn zarfolin_decode_text(
 {
     tell(
         answer,
-        text_cells(texts::decode_text(d, place as usize, long as usize, list)),
+        text_cells(decoding::decode_text(d, place as usize, long as usize, list)),
     )
 }
 

@@ -8,5 +8,5 @@ ghost use Rattle.zarfolin.specs.rule.Version.{versionNumber};
 pub extern "C" fn zarfolin_version() -> u64
     ensures { λ r. ⌜ r ≡ versionNumber ⌝ }
 {
-    2
+    3
 }

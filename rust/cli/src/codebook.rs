@@ -7,7 +7,7 @@ use zarfolin::{Definition, Kind, Variable};
 
 pub struct Codebook<'a> {
     pub definition: &'a Definition<'a>,
-    names: Vec<Vec<u8>>,
+    names: Vec<String>,
 }
 
 impl<'a> Codebook<'a> {
@@ -17,7 +17,7 @@ impl<'a> Codebook<'a> {
     }
 
     /// A variable's decoded name, a LF for each break.
-    pub fn name(&self, row: usize) -> &[u8] {
+    pub fn name(&self, row: usize) -> &str {
         &self.names[row]
     }
 
@@ -39,8 +39,7 @@ impl<'a> Codebook<'a> {
             let found = word.parse().ok().and_then(|ident: u16| variables().find(|variable| variable.ident() == ident));
             return found.ok_or_else(|| format!("no variable has the ident {word}"));
         }
-        let name = texts::bytes_of(word);
-        let found: Vec<_> = variables().filter(|v| name.as_deref() == Some(self.name(v.row()))).collect();
+        let found: Vec<_> = variables().filter(|v| word == self.name(v.row())).collect();
         match found[..] {
             [one] => Ok(one),
             [] => Err(format!("no variable has the name \"{word}\"")),

@@ -1,68 +1,87 @@
-//! Bytes as people see them. Data and definitions are bytes; those from 160 on are shown as Latin-1, in UTF-8, and what no terminal
-//! should get (controls, 127 to 159) is escaped. `--raw` gives the bytes.
+//! Bytes as people see them. Data and 1.1 definitions are bytes; those from 160 on are shown as Latin-1, in UTF-8. What a definition in
+//! XML says is UTF-8. What no terminal should get (controls, 127 to 159) is escaped. `--raw` gives the bytes.
 
-use zarfolin::{RawText, Sign};
+use zarfolin::{RawText, Text};
 
-/// One byte, shown.
-fn push_shown(byte: u8, out: &mut String) {
-    match byte {
-        32..=126 | 160..=255 => out.push(byte as char),
-        _ => out.push_str(&format!("\\x{byte:02X}")),
+/// One sign, shown.
+fn push_shown(sign: char, out: &mut String) {
+    match sign {
+        ' '..='~' | '\u{a0}'.. => out.push(sign),
+        _ => out.push_str(&format!("\\x{:02X}", u32::from(sign))),
     }
+}
+
+/// Bytes as signs: each the sign of its number.
+fn latin(bytes: &[u8]) -> String {
+    bytes.iter().map(|&byte| byte as char).collect()
 }
 
 /// Bytes of the data, shown.
 pub fn shown(bytes: &[u8]) -> String {
-    let mut out = String::with_capacity(bytes.len());
-    bytes.iter().for_each(|&byte| push_shown(byte, &mut out));
+    shown_text(&latin(bytes))
+}
+
+/// Signs, shown.
+pub fn shown_text(text: &str) -> String {
+    let mut out = String::with_capacity(text.len());
+    text.chars().for_each(|sign| push_shown(sign, &mut out));
     out
 }
 
-/// Each byte as just one sign, for a caret below it.
-pub fn one_sign_each(bytes: &[u8]) -> String {
-    let sign = |byte| match byte {
-        9 => ' ',
-        32..=126 | 160..=255 => byte as char,
+/// Each sign as just one that can be shown, for a caret below it.
+pub fn one_sign_each(text: &str) -> String {
+    let sign = |sign| match sign {
+        '\t' => ' ',
+        ' '..='~' | '\u{a0}'.. => sign,
         _ => '\u{b7}',
     };
-    bytes.iter().map(|&byte| sign(byte)).collect()
+    text.chars().map(sign).collect()
 }
 
 /// For a field of TSV: no tab, no line end, nothing that is not said by an escape.
 pub fn tsv(bytes: &[u8]) -> String {
-    let mut out = String::with_capacity(bytes.len());
-    for &byte in bytes {
-        match byte {
-            b'\t' => out.push_str("\\t"),
-            b'\n' => out.push_str("\\n"),
-            b'\r' => out.push_str("\\r"),
-            b'\\' => out.push_str("\\\\"),
-            _ => push_shown(byte, &mut out),
+    tsv_text(&latin(bytes))
+}
+
+/// The same of signs.
+pub fn tsv_text(text: &str) -> String {
+    let mut out = String::with_capacity(text.len());
+    for sign in text.chars() {
+        match sign {
+            '\t' => out.push_str("\\t"),
+            '\n' => out.push_str("\\n"),
+            '\r' => out.push_str("\\r"),
+            '\\' => out.push_str("\\\\"),
+            _ => push_shown(sign, &mut out),
         }
     }
     out
 }
 
-/// A text of a definition, decoded by the library: its bytes, with a LF for each break. A text of a table that was read is never
+/// The bytes of a text that was decoded, a LF for each break, as signs.
+fn signs(text: Text, utf8: bool) -> String {
+    let bytes: Vec<u8> = text.bytes(b'\n').collect();
+    if utf8 { String::from_utf8_lossy(&bytes).into_owned() } else { latin(&bytes) }
+}
+
+/// A text of a definition, decoded by the library: its signs, with a LF for each break. A text of a table that was read is never
 /// refused, so what would be is shown empty.
-pub fn decoded(text: RawText) -> Vec<u8> {
-    let mut list = vec![0; text.as_bytes().len()];
-    text.decode(&mut list).map(|text| text.bytes(b'\n').collect()).unwrap_or_default()
+pub fn decoded(text: RawText) -> String {
+    let mut list = vec![0; text.most()];
+    let utf8 = text.is_utf8();
+    text.decode(&mut list).map(|text| signs(text, utf8)).unwrap_or_default()
 }
 
-/// The same on one line for people: ` / ` for each break.
+/// The same on one line for people: ` / ` for each break, and in XML a space for the end of a line of the file.
 pub fn decoded_line(text: RawText) -> String {
-    let mut list = vec![0; text.as_bytes().len()];
-    let mut out = String::new();
-    if let Ok(text) = text.decode(&mut list) {
-        for sign in text.signs() {
-            match sign {
-                Sign::Byte(byte) => push_shown(byte, &mut out),
-                Sign::Break => out.push_str(" / "),
-            }
-        }
-    }
-    out
+    let mut list = vec![0; text.most()];
+    let utf8 = text.is_utf8();
+    let Ok(text) = text.decode(&mut list) else { return String::new() };
+    let line = |part: Text| {
+        let part = signs(part, utf8);
+        shown_text(&if utf8 { part.split_whitespace().collect::<Vec<_>>().join(" ") } else { part })
+    };
+    text.lines().map(line).collect::<Vec<_>>().join(" / ")
 }
 
 /// A word of the command line as bytes of the data: each of its signs up to 255 is one byte, the inverse of what is shown.
@@ -95,7 +114,7 @@ mod tests {
     #[test]
     fn bytes_are_latin_1_and_controls_are_escaped() {
         assert_eq!(shown(b"a\t\xfc\x7f\x9f\xa0~"), "a\\x09\u{fc}\\x7F\\x9F\u{a0}~");
-        assert_eq!(one_sign_each(b"a\t\xfc\x00"), "a \u{fc}\u{b7}");
+        assert_eq!(one_sign_each("a\t\u{fc}\0\u{20ac}"), "a \u{fc}\u{b7}\u{20ac}");
         assert_eq!(tsv(b"a\tb\\\n\r\x1b"), "a\\tb\\\\\\n\\r\\x1B");
         assert_eq!(bytes_of("M\u{fc}"), Some(b"M\xfc".to_vec()));
         assert_eq!(bytes_of("\u{20ac}"), None);

@@ -149,7 +149,7 @@ pub fn run(face: &dyn Face, case: &Case) -> Outcome {
         Call::Matrix => face.matrix(t, b, x, a),
         Call::Export => {
             let mut five = [ANSWER; 5];
-            let (def, data) = b.split_at(case.row as usize);
+            let (def, data) = b.split_at(b.len().min(case.row as usize));
             let number = face.export(def, t, data, x, &mut five);
             a.copy_from_slice(&five[..4]);
             l[0] = five[4];

@@ -2,13 +2,14 @@
 //! sets in place of scans, bits and arithmetic. Nothing is measured against it.
 
 use crate::face::{Correction, Face};
+use crate::naive_xml;
 use std::collections::{BTreeSet, HashSet};
 
 pub struct Naive;
 
 /// Numbers of the header, of a row, of a line: document 01's, said here once more and on purpose.
 const HEADER: usize = 6;
-const ROW: usize = 18;
+const ROW: usize = 20;
 const LINE: usize = 4;
 
 /// A refusal: number and place.
@@ -257,8 +258,13 @@ const BREAK: i64 = 256;
 
 /// A text's bytes, a break as one byte 10, as an export writes it.
 pub(crate) fn decoded(def: &[u8], place: usize, length: usize) -> Vec<u8> {
-    let signs = signs(&def[place..place + length]).unwrap();
+    let signs = signs_at(def, place, length).unwrap();
     signs.iter().map(|&sign| if sign == BREAK { 10 } else { sign as u8 }).collect()
+}
+
+/// The signs of a text of a definition of either kind, if it is one.
+fn signs_at(def: &[u8], place: usize, length: usize) -> Option<Vec<i64>> {
+    if naive_xml::is_xml(def) { naive_xml::decoded(def, place, length) } else { signs(&def[place..place + length]) }
 }
 
 /// The signs of a text's inside, if it is one.
@@ -288,7 +294,19 @@ fn signs(inside: &[u8]) -> Option<Vec<i64>> {
     Some(out)
 }
 
+/// The table of a definition of either kind, where it has room.
 pub(crate) fn read(def: &[u8], room: usize) -> Result<Vec<i64>, Fault> {
+    if !naive_xml::is_xml(def) {
+        return read_sss(def, room);
+    }
+    let mut table = vec![0; room.min(HEADER + ROW * 512 + LINE * 4096)];
+    let [number, place, v, e] = naive_xml::read_xml(def, &mut table);
+    table.truncate(HEADER + ROW * v as usize + LINE * e as usize);
+    if number == 0 { Ok(table) } else { Err((number, place as usize)) }
+}
+
+/// The same of a 1.1 definition.
+pub(crate) fn read_sss(def: &[u8], room: usize) -> Result<Vec<i64>, Fault> {
     if def.len() > 1_048_576 {
         return Err((1, 0));
     }
@@ -584,7 +602,7 @@ pub(crate) fn understood(t: &[i64]) -> Option<Table> {
     }
     let (v, e) = (t[1] as usize, t[2] as usize);
     let lines_at = HEADER + ROW * v;
-    if t[0] != 11 || t[4] != HEADER as i64 || t[5] != lines_at as i64 || t.len() < lines_at + LINE * e {
+    if (t[0] != 11 && t[0] != 12) || t[4] != HEADER as i64 || t[5] != lines_at as i64 || t.len() < lines_at + LINE * e {
         return None;
     }
     let mut rows = vec![];
@@ -601,8 +619,26 @@ pub(crate) fn understood(t: &[i64]) -> Option<Table> {
     }
     let least = rows.iter().map(|row| row.cells[3]).max().unwrap();
     let idents: HashSet<i64> = rows.iter().map(|row| row.cells[0]).collect();
-    let sound = before == e as i64 && t[3] == least && idents.len() == v && rows.iter().all(row_sound);
+    let kind_sound = if t[0] == 12 { xml_sound(&rows) } else { rows.iter().all(|row| row.cells[18..] == [0, 0]) };
+    let sound = before == e as i64 && t[3] == least && idents.len() == v && rows.iter().all(row_sound) && kind_sound;
     sound.then_some(Table { rows, least: least as usize })
+}
+
+/// Document 02, C-15, sentence by sentence.
+fn xml_sound(rows: &[Row]) -> bool {
+    let with_use = |k: i64| rows.iter().filter(move |row| row.cells[18] == k).collect::<Vec<_>>();
+    let (serials, weights) = (with_use(1), with_use(2));
+    let known = rows.iter().all(|row| (0..=2).contains(&row.cells[18]));
+    let few = serials.len() <= 1 && weights.len() <= 1;
+    let typed = serials.iter().all(|row| [3, 4].contains(&row.cells[1])) && weights.iter().all(|row| row.cells[1] == 3);
+    let unfiltered = serials.iter().chain(&weights).all(|row| row.cells[19] == 0);
+    // The numbers a filter may have: 0, and for each earlier logical its row's plus one.
+    let filters = (0..rows.len()).all(|i| {
+        let logicals = (0..i).filter(|&j| rows[j].cells[1] == 5).map(|j| j as i64 + 1);
+        logicals.chain([0]).any(|filter| filter == rows[i].cells[19])
+    });
+    let special = rows.iter().any(|row| row.lines.iter().any(|line| line[1] != 0));
+    known && few && typed && unfiltered && filters && !special
 }
 
 fn row_sound(row: &Row) -> bool {
@@ -620,7 +656,7 @@ fn row_sound(row: &Row) -> bool {
         return false;
     }
     if row.lines.iter().any(|line| line[1] > 1 || line[2] > 1_048_576 || line[3] > 1_048_576)
-        || c[14..].iter().any(|&x| x > 1_048_576)
+        || c[14..18].iter().any(|&x| x > 1_048_576)
     {
         return false;
     }
@@ -972,7 +1008,7 @@ impl Face for Naive {
         if end > def.len() as u128 {
             return give(answer, [3, 0, 0, 0]);
         }
-        let Some(signs) = signs(&def[place as usize..end as usize]) else { return give(answer, [3, 0, 0, 0]) };
+        let Some(signs) = signs_at(def, place as usize, length as usize) else { return give(answer, [3, 0, 0, 0]) };
         if list.len() < signs.len() {
             return give(answer, [25, 0, 0, 0]);
         }

@@ -3,7 +3,7 @@
 
 use crate::coming::Correction;
 use crate::face::Face;
-use crate::naive::{Naive, Row, decoded, read, understood};
+use crate::naive::{Naive, Row, decoded, read, read_sss, understood};
 use std::collections::{BTreeMap, BTreeSet};
 
 /// "Table not well formed": the test is that of every call on records.
@@ -644,7 +644,7 @@ fn statements(tokens: Vec<Vec<u8>>) -> Vec<Vec<Vec<u8>>> {
 }
 
 pub fn write_definition(def: &[u8], table: &[i64], out: &mut [u8]) -> [i64; 4] {
-    let own = match read(def, usize::MAX) {
+    let own = match read_sss(def, usize::MAX) {
         Err((number, place)) => return [number, place as i64, 0, 0],
         Ok(own) => own,
     };

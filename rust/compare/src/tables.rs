@@ -2,7 +2,7 @@
 
 use crate::definitions::{Size, Style, model, sound};
 use crate::rng::Rng;
-use crate::shape::{HEADER, ROW, line_at, row_at};
+use crate::shape::{HEADER, MARK, MARK_XML, ROW, column, header, kind, length, line, line_at, row_at, usage};
 
 const ODD: &[i64] = &[
     0,
@@ -55,16 +55,52 @@ const ODD: &[i64] = &[
     i64::MIN + 1,
 ];
 
-/// A sound table, now and then with numbers beyond it.
+/// A table of one row with these columns, 0 in all others, and no lines.
+pub fn one_row(columns: &[(usize, i64)]) -> Vec<i64> {
+    let mut table = vec![0; length(1, 0)];
+    columns.iter().for_each(|&(column, number)| table[row_at(0) + column] = number);
+    let least = table[row_at(0) + column::FINISH];
+    table[..HEADER].copy_from_slice(&[MARK, 1, 0, least, HEADER as i64, row_at(1) as i64]);
+    table
+}
+
+/// A sound table of either kind, now and then with numbers beyond it.
 pub fn sound_table(r: &mut Rng, size: Size) -> Vec<i64> {
     let m = model(r, size);
     let (_, mut table) = sound(r, Style::PLAIN, &m);
+    if r.once_in(3) {
+        of_xml(r, &mut table);
+    }
     if r.once_in(3) {
         for _ in 0..r.below(5) {
             table.push(r.pick(ODD));
         }
     }
     table
+}
+
+/// A sound table as one of XML would be: no SPECIAL; now and then a serial, a weight, and filters among the others.
+fn of_xml(r: &mut Rng, table: &mut [i64]) {
+    let (rows, lines) = (table[header::VARIABLES] as usize, table[header::LINES] as usize);
+    table[header::MARK] = MARK_XML;
+    (0..lines).for_each(|j| table[line_at(rows, j) + line::SPECIAL] = 0);
+    let (mut uses, mut logicals) = (vec![usage::SERIAL, usage::WEIGHT], vec![0]);
+    for i in 0..rows {
+        let row = row_at(i);
+        let typed = table[row + column::TYPE];
+        let may = |k: i64| typed == kind::QUANTITY || (typed == kind::CHARACTER && k == usage::SERIAL);
+        if !uses.is_empty() && r.once_in(2) && may(uses[uses.len() - 1]) {
+            table[row + column::USE] = uses.pop().unwrap();
+        } else if r.once_in(2) {
+            table[row + column::FILTER] = r.pick(&logicals);
+        }
+        if typed == kind::LOGICAL {
+            logicals.push(i as i64 + 1);
+        }
+        if r.once_in(4) {
+            uses.reverse();
+        }
+    }
 }
 
 /// One cell or a few changed; then, half of the time, w and L mended, so that more of them stay well formed.
@@ -80,7 +116,8 @@ pub fn changed(r: &mut Rng, table: &mut Vec<i64>) {
         }
         let at = match r.below(10) {
             0 => r.below(HEADER),
-            1..7 => row_at(r.below(rows)) + r.below(ROW),
+            1..6 => row_at(r.below(rows)) + r.below(ROW),
+            6 => row_at(r.below(rows)) + r.pick(&[column::USE, column::FILTER]),
             _ => r.below(used),
         };
         let old = table[at];

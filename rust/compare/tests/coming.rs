@@ -8,7 +8,7 @@ use zarfolin_compare::definitions::{self, Size, Style};
 use zarfolin_compare::naive_02::value_places;
 use zarfolin_compare::records;
 use zarfolin_compare::rng::Rng;
-use zarfolin_compare::shape::{line_at, row_at};
+use zarfolin_compare::shape::{column, kind, line_at, row_at};
 use zarfolin_compare::tables;
 
 /// How often each number was met, or the first difference.
@@ -297,7 +297,13 @@ fn mends(a: &dyn Coming, b: &dyn Coming, count: u64) -> Met {
         }
         // Sound exactly when output is input exactly when the list is empty. Judged with a text of one byte and the same L, a file is
         // refused for nothing but 30, 31, 22 and 23.
-        let loose = one_row([1, 4, 1, table[3], 1, 0, 0, 0, 0, 0, 0, 0, 0, 0, 0, 0, 0, 0]);
+        let loose = tables::one_row(&[
+            (column::IDENT, 1),
+            (column::TYPE, kind::CHARACTER),
+            (column::START, 1),
+            (column::FINISH, table[3]),
+            (column::WIDTH, 1),
+        ]);
         let faulty = zarfolin_plain::judge_file(&loose, &data).number != 0;
         hold(faulty == (entries != 0) && faulty == (mended != data), || format!("{}: sound or not", what(&data)))?;
         let number = zarfolin_plain::judge_file(&loose, mended).number;
@@ -336,7 +342,18 @@ fn matrices(a: &dyn Coming, b: &dyn Coming, count: u64) -> Met {
         };
         if seed % 200 == 7 {
             // A spread over all categories: 183 records fit, 184 don't.
-            table = one_row([1, 2, 1, 4, 4, 0, 0, 1, 4, 1, 1, 9_999, 0, 0, 0, 0, 0, 0]);
+            table = tables::one_row(&[
+                (column::IDENT, 1),
+                (column::TYPE, kind::MULTIPLE),
+                (column::START, 1),
+                (column::FINISH, 4),
+                (column::WIDTH, 4),
+                (column::SUBFIELDS, 1),
+                (column::SUBFIELD_WIDTH, 4),
+                (column::RANGE, 1),
+                (column::FROM, 1),
+                (column::TO, 9_999),
+            ]);
             data = b"   7\n".repeat(if seed % 400 == 7 { 183 } else { 184 });
         }
         let what = format!("seed {seed}: matrix({table:?}, b\"{}\")", data.escape_ascii());
@@ -370,14 +387,6 @@ fn matrices(a: &dyn Coming, b: &dyn Coming, count: u64) -> Met {
         hold(less.0 == [82, 0, 0, 0], || format!("{what}: {:?} one short of {total}", less.0))?;
     }
     Ok(pair.met)
-}
-
-/// A table of one row.
-fn one_row(row: [i64; 18]) -> Vec<i64> {
-    let mut table = vec![11, 1, 0, row[3], 6, row_at(1) as i64];
-    table.extend(&row[..]);
-    table.splice(row_at(0) + 18..row_at(0) + 18, vec![0; row_at(1) - row_at(0) - 18]);
-    table
 }
 
 // --------------------------------------------------------------------------------------------------- C-16 and C-23
@@ -616,7 +625,7 @@ fn cleans(a: &dyn Coming, b: &dyn Coming, count: u64) -> Met {
         let apart = |table: &[i64]| {
             let mut table = table[..used].to_vec();
             let rows = table[1] as usize;
-            (0..rows).for_each(|i| table[row_at(i) + 14..row_at(i) + 18].fill(0));
+            (0..rows).for_each(|i| table[row_at(i) + column::NAME..=row_at(i) + column::LABEL_LENGTH].fill(0));
             (0..table[2] as usize).for_each(|i| table[line_at(rows, i) + 2..line_at(rows, i) + 4].fill(0));
             table
         };

@@ -12,7 +12,8 @@ use zarfolin_compare::face::{Correction, Face, Plain, other};
 use zarfolin_compare::naive::Naive;
 use zarfolin_compare::records;
 use zarfolin_compare::rng::Rng;
-use zarfolin_compare::shape::{LINE, ROW, length, line_at, row_at};
+use zarfolin_compare::shape::{HEADER, LINE, ROW, column, kind, length, line, line_at, row_at};
+use zarfolin_compare::sheets;
 use zarfolin_compare::tables;
 
 /// The other implementation, and how often each number was met in a test.
@@ -716,7 +717,14 @@ fn next_records() {
             check(&mut tally, seed, &Case { bytes: data.clone(), row: from, ..Case::new(Call::NextRecord) });
         }
         // Judged with a table whose records may have any length from 1.
-        let table = vec![11, 1, 0, 1, 6, 24, 1, 4, 1, 1, 1, 0, 0, 0, 0, 0, 0, 0, 0, 0, 0, 0, 0, 0];
+        let table = tables::one_row(&[
+            (column::IDENT, 1),
+            (column::TYPE, kind::CHARACTER),
+            (column::START, 1),
+            (column::FINISH, 1),
+            (column::WIDTH, 1),
+        ]);
+        assert!(zarfolin_plain::well_formed(&table));
         check(&mut tally, seed, &Case { bytes: data, table, ..Case::new(Call::JudgeFile) });
     }
     tally.end("next records", 30_000, &[0, 1, 2]);
@@ -791,8 +799,8 @@ fn texts_of_tables_decoded() {
         let (bytes, table) = definitions::sound(&mut r, style, &model);
         let (rows, lines) = (table[1] as usize, table[2] as usize);
         let texts = (0..rows)
-            .flat_map(|i| [6 + 18 * i + 14, 6 + 18 * i + 16])
-            .chain((0..lines).map(|i| 6 + 18 * rows + 4 * i + 2));
+            .flat_map(|i| [row_at(i) + column::NAME, row_at(i) + column::LABEL])
+            .chain((0..lines).map(|i| line_at(rows, i) + line::TEXT));
         for at in texts {
             let (place, length) = (table[at] as u64, table[at + 1]);
             let list = vec![-0x2222; length as usize];
@@ -968,7 +976,18 @@ fn matrices_of_files() {
         assert_eq!(check(&mut tally, seed, &room(total - 1)).number, 82, "seed {seed}");
     }
     // A spread over all categories: 183 records fit, 184 don't.
-    let wide = vec![11, 1, 0, 4, 6, 24, 1, 2, 1, 4, 4, 0, 0, 1, 4, 1, 1, 9_999, 0, 0, 0, 0, 0, 0];
+    let wide = tables::one_row(&[
+        (column::IDENT, 1),
+        (column::TYPE, kind::MULTIPLE),
+        (column::START, 1),
+        (column::FINISH, 4),
+        (column::WIDTH, 4),
+        (column::SUBFIELDS, 1),
+        (column::SUBFIELD_WIDTH, 4),
+        (column::RANGE, 1),
+        (column::FROM, 1),
+        (column::TO, 9_999),
+    ]);
     for (count, room, number) in [(183, 16_777_216, 0), (184, 16_777_216, 81), (184, 0, 81), (183, 0, 82)] {
         let bytes = b"0007\n".repeat(count);
         let case = Case { table: wide.clone(), bytes, text: vec![0x55; room], ..Case::new(Call::Matrix) };
@@ -977,13 +996,87 @@ fn matrices_of_files() {
     tally.end("matrices of files", 2_000, &[0, 20, 22, 23, 241, 242, 30, 31, 80, 81, 82]);
 }
 
-/// A definition with names of every sort, its table, and data, mostly sound: to be exported with so much room. Now and then the table is
-/// another's, or the definition damaged.
-fn export_case(r: &mut Rng, room: usize) -> Case {
+/// A sound definition of either kind with names of every sort, and its table.
+fn either_kind(r: &mut Rng) -> (Vec<u8>, Vec<i64>) {
+    if r.once_in(3) {
+        return sound_sheet(r);
+    }
     let variables = 1 + r.below(4);
     let model = definitions::model(r, Size { variables, lines: 4, text: 6 });
     let style = Style::any(r);
-    let (mut def, mut table) = definitions::sound(r, style, &model);
+    definitions::sound(r, style, &model)
+}
+
+/// A sound definition in XML, and its table.
+fn sound_sheet(r: &mut Rng) -> (Vec<u8>, Vec<i64>) {
+    loop {
+        let def = sheets::survey(r);
+        if let Some(table) = yielded(&def) {
+            return (def, table);
+        }
+    }
+}
+
+/// Definitions in XML, as they are and damaged, through the call that reads both kinds: with room, with just enough, with one number
+/// too few.
+#[test]
+fn definitions_in_xml() {
+    let mut tally = Tally::default();
+    for seed in seeds(6_000) {
+        let mut r = Rng::new(seed ^ 0x1515);
+        let mut bytes = sheets::survey(&mut r);
+        if !r.once_in(3) {
+            bytes = sheets::damaged(&mut r, &bytes);
+        }
+        let done = check(&mut tally, seed, &definition(bytes.clone(), length(40, 400)));
+        if done.number == 0 {
+            let total = length(done.answer[2] as usize, done.answer[3] as usize);
+            assert_eq!(inner(&done)[0], if zarfolin_plain::is_xml(&bytes) { 12 } else { 11 }, "seed {seed}");
+            check(&mut tally, seed, &definition(bytes.clone(), total));
+            assert_eq!(check(&mut tally, seed, &definition(bytes, total - 1)).number, 10, "seed {seed}");
+        }
+    }
+    // At the limit of a definition's bytes, and above it.
+    let (sheet, _) = sound_sheet(&mut Rng::new(15));
+    for (size, number) in [(1 << 20, 0), ((1 << 20) + 1, 1)] {
+        let bytes = [&sheet[..], &vec![b' '; size - sheet.len()]].concat();
+        assert_eq!(check(&mut tally, 15, &definition(bytes, length(40, 400))).number, number);
+    }
+    tally.end("definitions in XML", 6_000, &[0, 1, 2, 4, 5, 6, 7, 8, 9, 10, 50, 51, 52]);
+}
+
+/// Every text of a definition in XML, and stretches of any kind of it, decoded; with room, with just enough, with one number too few.
+#[test]
+fn texts_in_xml_decoded() {
+    let mut tally = Tally::default();
+    for seed in seeds(1_500) {
+        let mut r = Rng::new(seed ^ 0x1517);
+        let (def, table) = sound_sheet(&mut r);
+        let rows = (0..table[1] as usize).flat_map(|k| [row_at(k) + column::NAME, row_at(k) + column::LABEL]);
+        let lines = (0..table[2] as usize).map(|k| line_at(table[1] as usize, k) + line::TEXT);
+        let texts = rows.chain(lines).map(|at| (table[at] as u64, table[at + 1], true));
+        let stretches: Vec<_> = (0..6).map(|_| (r.below(def.len() + 2) as u64, r.below(60) as i64, false)).collect();
+        for (row, number, sound) in texts.chain(stretches) {
+            let case = Case { bytes: def.clone(), row, number, list: vec![-7; 400], ..Case::new(Call::DecodeText) };
+            let done = check(&mut tally, seed, &case);
+            assert!(done.number == 0 || !sound, "seed {seed}");
+            let count = done.answer[1] as usize;
+            // A byte of ISO-8859-1 is two at most.
+            assert!(count as i64 <= 2 * number, "seed {seed}");
+            if done.number == 0 && count > 0 {
+                check(&mut tally, seed, &Case { list: vec![-7; count], ..case.clone() });
+                let short = check(&mut tally, seed, &Case { list: vec![-7; count - 1], ..case });
+                assert_eq!(short.number, 25, "seed {seed}");
+            }
+        }
+    }
+    tally.end("texts in XML decoded", 20_000, &[0, 3, 25]);
+}
+
+/// A definition with names of every sort, its table, and data, mostly sound: to be exported with so much room. Now and then the table is
+/// another's, or the definition damaged.
+fn export_case(r: &mut Rng, room: usize) -> Case {
+    let (mut def, mut table) = either_kind(r);
     let data = if r.once_in(4) { records::file(r, &table) } else { records::sound_file(r, &table, 4) };
     match r.below(30) {
         0 => tables::changed(r, &mut table),
@@ -1039,6 +1132,9 @@ fn clean_case(r: &mut Rng, room: usize) -> Case {
         table = yielded(&bytes).unwrap_or(table);
     }
     match r.below(24) {
+        // One in XML is read as 1.1, so refused; and its table is none of a 1.1 definition's.
+        7 => (bytes, table) = sound_sheet(r),
+        8 => table = sound_sheet(r).1,
         0 => drop(table.pop()),
         1 => table.truncate(r.below(table.len())),
         2 => table.push(r.next() as i64),
@@ -1279,9 +1375,20 @@ mod planted {
                     let used = length(answer[2] as usize, answer[3] as usize);
                     table.iter_mut().skip(used).for_each(|x| *x = 0);
                 }
+                // 51 as any other token; 52 at the definition's start; a use not told; a filter told from 0.
+                42 if number == 51 => {
+                    answer[0] = 2;
+                    return 2;
+                }
+                43 if number == 52 => answer[1] = 0,
+                44 | 45 if number == 0 && table[0] == 12 => {
+                    let rows = table[HEADER..].chunks_exact_mut(ROW).take(answer[2] as usize);
+                    let (at, off) = if self.0 == 44 { (column::USE, 2) } else { (column::FILTER, 1) };
+                    rows.for_each(|row| row[at] = (row[at] - off).max(0));
+                }
                 // Code 1 for a block whose numbers are all written with no digit before the point.
                 13 if number == 0 => {
-                    let rows = table[6..].chunks_exact_mut(18).take(answer[2] as usize);
+                    let rows = table[HEADER..].chunks_exact_mut(ROW).take(answer[2] as usize);
                     rows.filter(|row| row[6] == 2).for_each(|row| row[6] = 1);
                 }
                 _ => {}
@@ -1296,7 +1403,7 @@ mod planted {
             }
             // A field that begins with its point says another number.
             if self.0 == 14 && number == 0 && answer[1] == 1 {
-                let cells = &t[6 + 18 * row as usize..];
+                let cells = &t[row_at(row as usize)..];
                 answer[2] += (cells[6] == 2 && record[(cells[3] - cells[4]) as usize] == b'.') as i64;
             }
             number
@@ -1534,7 +1641,7 @@ mod planted {
 
     #[test]
     fn faults_are_found() {
-        for fault in 0..42 {
+        for fault in 0..46 {
             let found = (0..2_000).any(|seed| {
                 let mut r = Rng::new(seed);
                 let model = definitions::model(&mut r, SMALL);
@@ -1587,6 +1694,11 @@ mod planted {
                     24..=28 => export_case(&mut r, 60_000),
                     31 => clean_case(&mut r, 100),
                     29..=41 => clean_case(&mut r, 30_000),
+                    42..=45 => {
+                        let sheet = sheets::survey(&mut r);
+                        let bytes = if fault < 44 { sheets::damaged(&mut r, &sheet) } else { sheet };
+                        definition(bytes, length(40, 400))
+                    }
                     _ => Case { bytes: records::file(&mut r, &table), table, ..Case::new(Call::JudgeFile) },
                 };
                 run(&Plain, &case) != run(&Wrong(fault), &case)

@@ -1,14 +1,14 @@
 //! Writing a clean definition: fixed order, one statement a line, no comments and notes.
 
-use crate::definition::read_definition;
+use crate::definition::read_sss;
 use crate::scan::{Outcome, Scan};
 use crate::*;
 
-/// Writes the definition anew. Answers 0, 0, the length; 1 to 9 with their place as `read_definition` does; 40 the table is not the one
-/// that this definition yields, 41 the clean text passes 1,048,576 bytes, 42 output room too short.
+/// Writes the definition anew. Answers 0, 0, the length; 1 to 9 with their place as reading a 1.1 definition does; 40 the table is not
+/// the one that this definition yields, 41 the clean text passes 1,048,576 bytes, 42 output room too short.
 pub fn write_definition(def: &[u8], table: &[i64], out: &mut [u8]) -> [i64; 4] {
     let mut own = vec![0; HEADER + ROW * MAX_VARIABLES + LINE * MAX_LINES];
-    let read = read_definition(def, &mut own);
+    let read = read_sss(def, &mut own);
     if read.number != 0 {
         return [read.number as i64, read.place as i64, 0, 0];
     }

@@ -12,8 +12,13 @@ pub struct Definition {
     pub lines: usize,
 }
 
-/// Reads a definition. The start of the table then holds header, rows and lines, and the rest is kept; a refusal keeps all.
+/// Reads a definition of either kind. The start of the table then holds header, rows and lines, and the rest is kept; a refusal keeps all.
 pub fn read_definition(def: &[u8], table: &mut [i64]) -> Definition {
+    if is_xml(def) { read_xml(def, table) } else { read_sss(def, table) }
+}
+
+/// The same of a 1.1 definition; one in XML is refused as any other text.
+pub(crate) fn read_sss(def: &[u8], table: &mut [i64]) -> Definition {
     match read(def, table) {
         Ok((variables, lines)) => Definition { number: 0, place: 0, variables, lines },
         Err(Fault { number, place }) => Definition { number: number.get() as u32, place, variables: 0, lines: 0 },
@@ -43,7 +48,7 @@ fn read(def: &[u8], table: &mut [i64]) -> Outcome<(usize, usize)> {
     if table.len() < total {
         return fault(10, 0);
     }
-    table[..HEADER].copy_from_slice(&[11, v as i64, e as i64, r.highest, HEADER as i64, lines_at as i64]);
+    table[..HEADER].copy_from_slice(&[MARK, v as i64, e as i64, r.highest, HEADER as i64, lines_at as i64]);
     table[HEADER..lines_at].copy_from_slice(r.rows.as_flattened());
     table[lines_at..total].copy_from_slice(r.lines.as_flattened());
     Ok((v, e))

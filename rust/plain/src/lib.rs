@@ -1,5 +1,5 @@
-//! Reading, judging and writing Triple-S 1.1 in plain Rust, written from the project's papers only (documents 01, 02 and 003 and
-//! the readings) and from none of the verified code, so that the two can be held against each other.
+//! Reading, judging and writing Triple-S 1.1, and definitions in XML 1.2, in plain Rust, written from the project's papers only (documents
+//! 000, 01, 02 and 003 and the readings) and from none of the verified code, so that the two can be held against each other.
 //!
 //! Every call is total: any bytes, any numbers, any lengths. Every refusal leaves all lent memory as it was.
 
@@ -18,6 +18,7 @@ mod scan;
 mod table;
 mod text;
 mod write;
+mod xml;
 
 pub use clean::write_definition;
 pub use correct::{Correction, correct};
@@ -31,6 +32,7 @@ pub use normal::normal;
 pub use table::well_formed;
 pub use text::{BREAK, decode_text};
 pub use write::{write_missing, write_number, write_set, write_text, write_truth};
+pub use xml::{decode_xml, is_xml, read_xml};
 
 /// The most bytes a definition may have; also the bound of text places and lengths in a table.
 pub const MAX_DEFINITION: usize = 1_048_576;
@@ -53,7 +55,7 @@ pub const MAX_LEVEL: usize = 32;
 
 /// Numbers in the table's header, in a row, in a line.
 pub const HEADER: usize = 6;
-pub const ROW: usize = 18;
+pub const ROW: usize = 20;
 pub const LINE: usize = 4;
 
 /// The columns of a row.
@@ -76,7 +78,13 @@ pub mod column {
     pub const NAME_LENGTH: usize = 15;
     pub const LABEL: usize = 16;
     pub const LABEL_LENGTH: usize = 17;
+    pub const USE: usize = 18;
+    pub const FILTER: usize = 19;
 }
+
+/// The first number of a table: of a 1.1 definition, of one in XML.
+pub const MARK: i64 = 11;
+pub const MARK_XML: i64 = 12;
 
 /// The types of a row.
 pub const SINGLE: i64 = 1;

@@ -52,7 +52,7 @@ fn texts_within(all: u64, each: impl FnOnce() -> bool) -> bool {
 pub(crate) fn view(table: &[i64]) -> Option<Table<'_>> {
     let (header, rest) = table.split_first_chunk::<HEADER>()?;
     let &[version, v, e, least, rows_at, lines_at] = header;
-    if version != 11
+    if !(MARK..=MARK_XML).contains(&version)
         || !(1..=MAX_VARIABLES as i64).contains(&v)
         || !within(e, MAX_LINES as i64)
         || rows_at != HEADER as i64
@@ -91,7 +91,34 @@ pub(crate) fn view(table: &[i64]) -> Option<Table<'_>> {
         }
         highest = highest.max(row[column::FINISH]);
     }
-    (before == e && least == highest).then_some(Table { rows, lines, least: least as usize })
+    let kind_sound = if version == MARK_XML { xml_sound(rows, lines) } else { unused(rows) };
+    (before == e && least == highest && kind_sound).then_some(Table { rows, lines, least: least as usize })
+}
+
+/// "The rows of 1.1 files carry 0 in both."
+fn unused(rows: &[Row]) -> bool {
+    rows.iter().all(|row| row[column::USE] | row[column::FILTER] == 0)
+}
+
+/// "At most one serial, a character or quantity, and one weight, a quantity; neither may have a filter"; a filter is an earlier
+/// logical; SPECIAL is always 0.
+fn xml_sound(rows: &[Row], lines: &[Line]) -> bool {
+    let (mut serials, mut weights) = (0, 0);
+    for (i, row) in rows.iter().enumerate() {
+        let (kind, filter) = (row[column::TYPE], row[column::FILTER]);
+        match row[column::USE] {
+            0 if filter == 0 => {}
+            0 => {
+                if !(1..=i as i64).contains(&filter) || rows[filter as usize - 1][column::TYPE] != LOGICAL {
+                    return false;
+                }
+            }
+            1 if filter == 0 && (kind == QUANTITY || kind == CHARACTER) => serials += 1,
+            2 if filter == 0 && kind == QUANTITY => weights += 1,
+            _ => return false,
+        }
+    }
+    serials <= 1 && weights <= 1 && lines.iter().all(|line| line[1] == 0)
 }
 
 fn row_sound(row: &Row, lines: &[Line]) -> bool {
@@ -114,6 +141,8 @@ fn row_sound(row: &Row, lines: &[Line]) -> bool {
         name_length,
         label,
         label_length,
+        _,
+        _,
     ] = row;
     let text = MAX_DEFINITION as i64;
     let texts = [name, name_length, label, label_length];

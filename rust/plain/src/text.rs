@@ -68,9 +68,12 @@ fn signs(text: &[u8], mut give: impl FnMut(i64)) -> Option<()> {
     Some(())
 }
 
-/// Decodes the text of that length from that place of a definition into the start of the list: how many signs it has; or 3
-/// where those bytes are not the inside of a text, 25 where the list is too short for it.
+/// Decodes the text of that length from that place of a definition of either kind into the start of the list: how many signs it has;
+/// or 3 where those bytes are not the inside of a text, 25 where the list is too short for it.
 pub fn decode_text(def: &[u8], place: u64, length: u64, list: &mut [i64]) -> Result<usize, u32> {
+    if crate::is_xml(def) {
+        return crate::decode_xml(def, place, length, list);
+    }
     let inside =
         usize::try_from(place).ok().and_then(|p| def.get(p..)).and_then(|d| d.get(..usize::try_from(length).ok()?));
     let text = inside.ok_or(3u32)?;

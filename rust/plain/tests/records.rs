@@ -404,13 +404,70 @@ fn well_formed_clauses() {
     assert!(with(&[(3, 16384), (row(3, 3), 16384)]));
     assert!(!with(&[(1, 0)]));
     assert!(!with(&[(2, 5)]));
-    assert!(!with(&[(0, 12)]));
+    assert!(with(&[(0, MARK_XML)]));
+    assert!(!with(&[(0, 10)]));
+    assert!(!with(&[(0, 13)]));
+    // 1.1 has no use and no filter: a weight and a filter that XML would allow.
+    assert!(!with(&[(row(2, column::USE), 2)]));
+    assert!(!with(&[(row(5, column::FILTER), 5)]));
     for n in 0..t.len() {
         assert!(!well_formed(&t[..n]));
     }
     let mut longer = t.clone();
     longer.push(i64::MIN);
     assert!(well_formed(&longer));
+}
+
+/// The readings of C-15, point 1, a clause at a time.
+#[test]
+fn uses_and_filters() {
+    let mut t = table(
+        "VARIABLE 1 NAME \"\" LABEL \"\" TYPE LOGICAL POSITION 1 END VARIABLE
+         VARIABLE 2 NAME \"\" LABEL \"\" TYPE LOGICAL POSITION 2 END VARIABLE
+         VARIABLE 3 NAME \"\" LABEL \"\" TYPE SINGLE POSITION 3 VALUES 1 \"\" SPECIAL 2 \"\" END VALUES END VARIABLE
+         VARIABLE 4 NAME \"\" LABEL \"\" TYPE CHARACTER POSITION 4 TO 5 SIZE 2 END VARIABLE
+         VARIABLE 5 NAME \"\" LABEL \"\" TYPE QUANTITY POSITION 6 VALUES 0 TO 9 END VALUES END VARIABLE
+         VARIABLE 6 NAME \"\" LABEL \"\" TYPE QUANTITY POSITION 7 VALUES 0 TO 9 END VALUES END VARIABLE",
+    );
+    let uses = |r: usize| HEADER + ROW * r + column::USE;
+    let filter = |r: usize| HEADER + ROW * r + column::FILTER;
+    let special = HEADER + ROW * 6 + 1;
+    t[0] = MARK_XML;
+    assert!(!well_formed(&t), "SPECIAL");
+    t[special] = 0;
+    assert!(well_formed(&t));
+    let with = |changes: &[(usize, i64)]| {
+        let mut t = t.clone();
+        changes.iter().for_each(|&(i, x)| t[i] = x);
+        well_formed(&t)
+    };
+    // A serial, a weight and a chain of filters.
+    assert!(with(&[(uses(3), 1), (uses(4), 2), (filter(1), 1), (filter(2), 2), (filter(5), 1)]));
+    // Of uses: 0 to 2; the types; one of each.
+    assert!(!with(&[(uses(4), 3)]));
+    assert!(!with(&[(uses(4), -1)]));
+    assert!(with(&[(uses(5), 1)]));
+    for r in [0, 1, 2] {
+        assert!(!with(&[(uses(r), 1)]), "serial row {r}");
+        assert!(!with(&[(uses(r), 2)]), "weight row {r}");
+    }
+    assert!(!with(&[(uses(3), 2)]));
+    assert!(!with(&[(uses(3), 1), (uses(4), 1)]));
+    assert!(!with(&[(uses(4), 2), (uses(5), 2)]));
+    assert!(with(&[(uses(4), 1), (uses(5), 2)]));
+    // Neither with a filter.
+    assert!(!with(&[(uses(3), 1), (filter(3), 1)]));
+    assert!(!with(&[(uses(4), 2), (filter(4), 2)]));
+    // Of filters: an earlier logical.
+    for r in 0..6 {
+        for f in -1..8 {
+            assert_eq!(
+                with(&[(filter(r), f)]),
+                f == 0 || (f == 1 && r > 0) || (f == 2 && r > 1),
+                "row {r}, filter {f}"
+            );
+        }
+    }
 }
 
 #[test]

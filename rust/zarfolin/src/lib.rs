@@ -1,5 +1,5 @@
-//! Zarfolin reads, judges and corrects Triple-S 1.1 survey files. The work is done by a library that is proved in full
-//! (`libzarfolin.a`, for Linux on x86-64); this crate is its face for Rust. What the library promises of each call stands in
+//! Zarfolin reads, judges and corrects Triple-S survey files, with definitions of version 1.1 or in XML 1.2. The work is done by a library
+//! that is proved in full (`libzarfolin.a`, for Linux on x86-64); this crate is its face for Rust. What the library promises of each call stands in
 //! `include/zarfolin.h` and `docs/CONTRACTS.md` of its repository.
 //!
 //! ```
@@ -63,7 +63,7 @@ pub use refusal::{DefinitionError, FileFault, Number, ReadError, RecordFault, Re
 pub use text::{Sign, Text};
 
 /// The version of the face that this crate is written for.
-pub const VERSION: u64 = 2;
+pub const VERSION: u64 = 3;
 
 /// A row's value: what was read from a record, or what is to be written.
 #[derive(Clone, Copy, Debug, PartialEq, Eq)]
@@ -92,7 +92,7 @@ mod survey;
 #[cfg(feature = "ffi")]
 pub use parts::{Blocks, Parts, Shape, Terminator};
 #[cfg(feature = "ffi")]
-pub use survey::{Definition, Kind, Line, Lines, RawText, Record, Records, Values, Variable, Variables};
+pub use survey::{Definition, Kind, Line, Lines, RawText, Record, Records, Use, Values, Variable, Variables};
 
 #[cfg(all(zarfolin_other_machine, not(doc)))]
 compile_error!(

@@ -67,8 +67,8 @@ refusals! {
     Token = 2, "another word, number or text was due here";
     /// 3: string or comment unclosed, bad brace form, level 33; bytes to be decoded that are not the inside of a text.
     Mark = 3, "a string or comment is not closed, has a bad brace form, or is a comment of level 33, or these bytes are no text";
-    /// 4: version not 1.1.
-    Version = 4, "the version is not 1.1";
+    /// 4: version not 1.1; in XML neither 1.1 nor 1.2.
+    Version = 4, "the version is not 1.1 (or, in XML, 1.2)";
     /// 5: ident 0, over four digits, or repeated.
     Ident = 5, "the ident is 0, has over four digits, or is repeated";
     /// 6: value form wrong for its type, range reversed, decimals differ, value repeated.
@@ -109,6 +109,12 @@ refusals! {
     CleanSize = 41, "the clean definition is longer than 1,048,576 bytes";
     /// 42: output too short for the clean text.
     CleanRoom = 42, "the lent output is too short for the clean definition";
+    /// 50: XML not well formed.
+    Xml = 50, "the XML is not well formed here";
+    /// 51: element or attribute unknown or misplaced.
+    Element = 51, "this element or attribute is unknown, or may not stand here";
+    /// 52: use or filter rule broken.
+    Use = 52, "the use or the filter breaks its rule";
     /// 60: output too short for the exported text.
     ExportRoom = 60, "the lent output is too short for the exported text";
     /// 70: output or list too short for the mended file.

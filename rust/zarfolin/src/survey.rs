@@ -1,11 +1,13 @@
 //! A definition and the records of its data, in Rust's own types.
 
 use crate::calls::{self, Exported, Matrix};
-use crate::table::{self, column, header, kind, limit, line};
+use crate::table::{self, column, header, kind, limit, line, usage};
 use crate::{Correction, DefinitionError, FileFault, ReadError, RecordFault, Refusal, Text, Value};
 use alloc::vec;
 use alloc::vec::Vec;
+use core::cmp::Ordering;
 use core::fmt;
+use core::hash::{Hash, Hasher};
 use core::iter::FusedIterator;
 use core::ops::{Range, RangeInclusive};
 
@@ -19,7 +21,7 @@ use core::ops::{Range, RangeInclusive};
 ///
 /// let error = Definition::read(b"SSS VERSION 1.2").unwrap_err();
 /// assert_eq!((error.refusal, error.place), (Refusal::Version, 12));
-/// assert_eq!(error.to_string(), "byte 12: the version is not 1.1 [4]");
+/// assert_eq!(error.to_string(), "byte 12: the version is not 1.1 (or, in XML, 1.2) [4]");
 /// # Ok::<(), zarfolin::DefinitionError>(())
 /// ```
 #[derive(Clone)]
@@ -29,7 +31,7 @@ pub struct Definition<'t> {
 }
 
 impl<'t> Definition<'t> {
-    /// Reads a definition. It takes up to 261,000 bytes of stack.
+    /// Reads a definition, of version 1.1 or in XML. It takes up to 270,000 bytes of stack.
     pub fn read(text: &'t [u8]) -> Result<Definition<'t>, DefinitionError> {
         let mut table = vec![0; limit::MAX_TABLE];
         let counts = calls::read_definition(text, &mut table)?;
@@ -41,6 +43,11 @@ impl<'t> Definition<'t> {
     /// The definition's text.
     pub fn text(&self) -> &'t [u8] {
         self.text
+    }
+
+    /// Whether it is one in XML: its texts then decode to UTF-8, and variables may have a use and a filter.
+    pub fn is_xml(&self) -> bool {
+        self.table[header::MARK] == table::MARK_XML
     }
 
     /// Its table, for [`calls`] and [`ffi`](crate::ffi).
@@ -159,7 +166,7 @@ impl<'t> Definition<'t> {
     }
 
     /// The definition written anew, clean: [`calls::write_definition`]. It is refused only where the clean text would be longer than a
-    /// definition may be ([`Refusal::CleanSize`]).
+    /// definition may be ([`Refusal::CleanSize`]), and where the definition is one in XML ([`Refusal::Token`]: it is no 1.1 text).
     ///
     /// ```
     /// # let text = std::fs::read("../../examples/counter/survey.sss").unwrap();
@@ -174,7 +181,7 @@ impl<'t> Definition<'t> {
     /// ```
     pub fn clean(&self) -> Result<Vec<u8>, Refusal> {
         let mut out = vec![0; limit::MAX_DEFINITION];
-        // The text was read into this table, so that none of 1 to 9 and 40 can come: no place is lost.
+        // A 1.1 text was read into this table, so that none of 1 to 9 and 40 can come, and one in XML is 2 at its start: no place is lost.
         let length = calls::write_definition(self.text, &self.table, &mut out).map_err(|error| error.refusal)?;
         out.truncate(length);
         out.shrink_to_fit();
@@ -186,7 +193,7 @@ impl<'t> Definition<'t> {
     }
 
     fn text_at(&self, place: i64, length: i64) -> RawText<'t> {
-        RawText(&self.text[place as usize..][..length as usize])
+        RawText { whole: self.text, place: place as usize, length: length as usize, xml: self.is_xml() }
     }
 }
 
@@ -196,18 +203,34 @@ impl fmt::Debug for Definition<'_> {
     }
 }
 
-/// A text of a definition as it stands there: undecoded. Bytes below 32 are to be dropped, `{"}`, `{{}` and `{hex}` stand for other
-/// bytes, and `{NL}` for a new line. [`decode`](RawText::decode) does so.
-#[derive(Clone, Copy, PartialEq, Eq, Hash, PartialOrd, Ord)]
-pub struct RawText<'t>(&'t [u8]);
+/// A text of a definition as it stands there: undecoded. Of a 1.1 definition bytes below 32 are to be dropped, `{"}`, `{{}` and `{hex}`
+/// stand for other bytes, and `{NL}` for a new line; of one in XML references, comments, `<br/>` and the texts of other languages stand
+/// in it. [`decode`](RawText::decode) does so. Two are equal where their undecoded bytes are.
+#[derive(Clone, Copy)]
+pub struct RawText<'t> {
+    whole: &'t [u8],
+    place: usize,
+    length: usize,
+    xml: bool,
+}
 
 impl<'t> RawText<'t> {
     /// The undecoded bytes.
     pub fn as_bytes(self) -> &'t [u8] {
-        self.0
+        &self.whole[self.place..][..self.length]
     }
 
-    /// Decodes it: its signs go to the start of the lent list, which is long enough where it has as many numbers as there are undecoded bytes.
+    /// Whether it decodes to UTF-8: it stands in a definition in XML.
+    pub fn is_utf8(self) -> bool {
+        self.xml
+    }
+
+    /// As many signs as it can have.
+    pub fn most(self) -> usize {
+        self.length * (1 + usize::from(self.xml))
+    }
+
+    /// Decodes it: its signs go to the start of the lent list, which is long enough where it has [`most`](RawText::most) numbers.
     ///
     /// ```
     /// # use zarfolin::{Definition, Refusal, Sign};
@@ -215,18 +238,44 @@ impl<'t> RawText<'t> {
     ///     END RECORD END SURVEY END SSS";
     /// let definition = Definition::read(text).unwrap();
     /// let label = definition.variable(0).unwrap().label();
-    /// let mut list = vec![0; label.as_bytes().len()];
+    /// let mut list = vec![0; label.most()];
     /// assert!(label.decode(&mut list)?.signs().eq([Sign::Byte(b'a'), Sign::Break, Sign::Byte(10)]));
     /// # Ok::<(), Refusal>(())
     /// ```
     pub fn decode(self, list: &mut [i64]) -> Result<Text<'_>, Refusal> {
-        calls::decode_text(self.0, 0, self.0.len() as u64, list)
+        calls::decode_text(self.whole, self.place as u64, self.length as u64, list)
     }
 }
 
 impl AsRef<[u8]> for RawText<'_> {
     fn as_ref(&self) -> &[u8] {
-        self.0
+        self.as_bytes()
+    }
+}
+
+impl PartialEq for RawText<'_> {
+    fn eq(&self, other: &Self) -> bool {
+        self.as_bytes() == other.as_bytes()
+    }
+}
+
+impl Eq for RawText<'_> {}
+
+impl PartialOrd for RawText<'_> {
+    fn partial_cmp(&self, other: &Self) -> Option<Ordering> {
+        Some(self.cmp(other))
+    }
+}
+
+impl Ord for RawText<'_> {
+    fn cmp(&self, other: &Self) -> Ordering {
+        self.as_bytes().cmp(other.as_bytes())
+    }
+}
+
+impl Hash for RawText<'_> {
+    fn hash<H: Hasher>(&self, state: &mut H) {
+        self.as_bytes().hash(state);
     }
 }
 
@@ -234,13 +283,15 @@ impl AsRef<[u8]> for RawText<'_> {
 impl fmt::Display for RawText<'_> {
     fn fmt(&self, f: &mut fmt::Formatter) -> fmt::Result {
         let plain = |b: u8| (32..127).contains(&b);
-        self.0.iter().try_for_each(|&b| if plain(b) { write!(f, "{}", b as char) } else { write!(f, "\\x{b:02x}") })
+        self.as_bytes()
+            .iter()
+            .try_for_each(|&b| if plain(b) { write!(f, "{}", b as char) } else { write!(f, "\\x{b:02x}") })
     }
 }
 
 impl fmt::Debug for RawText<'_> {
     fn fmt(&self, f: &mut fmt::Formatter) -> fmt::Result {
-        write!(f, "\"{}\"", self.0.escape_ascii())
+        write!(f, "\"{}\"", self.as_bytes().escape_ascii())
     }
 }
 
@@ -285,6 +336,18 @@ impl Kind {
             Kind::Logical => "LOGICAL",
         }
     }
+}
+
+/// The use of a variable, which changes no reading or judgement.
+#[derive(Clone, Copy, Debug, PartialEq, Eq, Hash)]
+#[non_exhaustive]
+pub enum Use {
+    /// None.
+    No,
+    /// The serial number of a record.
+    Serial,
+    /// The weight of a record.
+    Weight,
 }
 
 /// One variable of a definition: a row of its table.
@@ -364,6 +427,31 @@ impl<'a> Variable<'a> {
     /// Its label, undecoded.
     pub fn label(&self) -> RawText<'a> {
         self.definition.text_at(self.cell(column::LABEL), self.cell(column::LABEL_LENGTH))
+    }
+
+    /// Its use, which only a definition in XML can state.
+    ///
+    /// ```
+    /// use zarfolin::{Definition, Use};
+    /// let text = std::fs::read("../../examples/counter/survey.xml").unwrap();
+    /// let definition = Definition::read(&text)?;
+    /// let copies = definition.variables().find(|variable| variable.ident() == 3).unwrap();
+    /// assert_eq!((copies.usage(), copies.filter().unwrap().name().as_bytes()), (Use::No, &b"SERVED"[..]));
+    /// # Ok::<(), zarfolin::DefinitionError>(())
+    /// ```
+    pub fn usage(&self) -> Use {
+        match self.cell(column::USE) {
+            usage::SERIAL => Use::Serial,
+            usage::WEIGHT => Use::Weight,
+            // The library builds tables with these three alone.
+            _ => Use::No,
+        }
+    }
+
+    /// The LOGICAL before it that filters it, which only a definition in XML can state. It changes no reading or judgement.
+    pub fn filter(&self) -> Option<Variable<'a>> {
+        let row = self.count(column::FILTER).checked_sub(1)?;
+        self.definition.variable(row)
     }
 
     /// The range of its VALUES, scaled by its decimals.

@@ -12,13 +12,16 @@
 pub const HEADER: usize = 6;
 
 /// The numbers of a row.
-pub const ROW: usize = 18;
+pub const ROW: usize = 20;
 
 /// The numbers of a line.
 pub const LINE: usize = 4;
 
 /// The first number of every table of a 1.1 definition.
 pub const MARK: i64 = 11;
+
+/// The first number of every table of a definition in XML.
+pub const MARK_XML: i64 = 12;
 
 /// Where a row starts.
 pub const fn row_at(row: usize) -> usize {
@@ -37,7 +40,7 @@ pub const fn length(rows: usize, lines: usize) -> usize {
 
 /// The numbers of the header, by name.
 pub mod header {
-    /// [`MARK`](super::MARK).
+    /// [`MARK`](super::MARK) or [`MARK_XML`](super::MARK_XML).
     pub const MARK: usize = 0;
     /// Rows, V.
     pub const VARIABLES: usize = 1;
@@ -89,6 +92,10 @@ pub mod column {
     pub const LABEL: usize = 16;
     /// Its bytes.
     pub const LABEL_LENGTH: usize = 17;
+    /// [`NO_USE`](super::usage::NO_USE) to [`WEIGHT`](super::usage::WEIGHT).
+    pub const USE: usize = 18;
+    /// The number plus one of the row that filters this one, 0 where none does.
+    pub const FILTER: usize = 19;
 }
 
 /// The columns of a line.
@@ -101,6 +108,16 @@ pub mod line {
     pub const TEXT: usize = 2;
     /// Its bytes.
     pub const TEXT_LENGTH: usize = 3;
+}
+
+/// The uses of a row.
+pub mod usage {
+    /// None.
+    pub const NO_USE: i64 = 0;
+    /// The serial number.
+    pub const SERIAL: i64 = 1;
+    /// The weight.
+    pub const WEIGHT: i64 = 2;
 }
 
 /// The types of a row.

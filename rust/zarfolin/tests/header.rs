@@ -1,7 +1,7 @@
 //! The crate's names and messages are those of include/zarfolin.h.
 
 use std::collections::BTreeMap;
-use zarfolin::table::{self, column, header, kind, limit, line, mended, next, terminator, value};
+use zarfolin::table::{self, column, header, kind, limit, line, mended, next, terminator, usage, value};
 use zarfolin::{Refusal, VERSION};
 
 fn text() -> String {
@@ -31,10 +31,11 @@ fn numbers() {
     macro_rules! same {
         ($prefix:literal, $module:ident: $($name:ident)*) => { $(take(concat!($prefix, stringify!($name)), $module::$name as u64);)* };
     }
-    same!("", table: HEADER ROW LINE MARK);
+    same!("", table: HEADER ROW LINE MARK MARK_XML);
     same!("H_", header: MARK VARIABLES LINES RECORD ROWS_AT LINES_AT);
     same!("", column: IDENT TYPE START FINISH WIDTH DECIMALS POINT SUBFIELDS SUBFIELD_WIDTH RANGE FROM TO LINES_BEFORE LINES);
-    same!("", column: NAME NAME_LENGTH LABEL LABEL_LENGTH);
+    same!("", column: NAME NAME_LENGTH LABEL LABEL_LENGTH USE FILTER);
+    same!("", usage: NO_USE SERIAL WEIGHT);
     same!("LINE_", line: VALUE SPECIAL TEXT TEXT_LENGTH);
     same!("", kind: SINGLE MULTIPLE QUANTITY CHARACTER LOGICAL);
     same!("", value: MISSING);

@@ -473,10 +473,58 @@ fn threads() {
     });
 }
 
+/// A definition in XML: texts decode to UTF-8 whatever the file's encoding, a break is one, other languages say nothing; use and filter.
+#[test]
+fn xml() {
+    let text = "<?xml version='1.0' encoding='ISO-8859-1'?><sss version='1.2' languages='en fr'><survey><record ident='A'>\
+        <variable ident='9' type='quantity' use='serial'><name>No</name><label/><position start='1' finish='2'/>\
+        <values><range from='1' to='99'/></values></variable>\
+        <variable ident='2' type='logical'><name>\u{e9}t\u{e9}</name><label>a<br/>&#8364;<text xml:lang='fr'>b</text></label>\
+        <position start='3'/></variable>\
+        <variable ident='3' type='quantity' use='weight'><name>W</name><label/><position start='4' finish='6'/>\
+        <values><range from='0.0' to='9.9'/></values></variable>\
+        <variable ident='4' type='single'><name>S</name><label/><position start='7'/><filter>\u{e9}t\u{e9}</filter>\
+        <values><value code='1'>yes</value></values></variable>\
+        </record></survey></sss>";
+    let latin: Vec<u8> = text.chars().map(|sign| sign as u8).collect();
+    let definition = Definition::read(&latin).unwrap();
+    assert!(definition.is_xml() && !Definition::read(SAMPLE).unwrap().is_xml());
+    let uses: Vec<Use> = definition.variables().map(|variable| variable.usage()).collect();
+    assert_eq!(uses, [Use::Serial, Use::No, Use::Weight, Use::No]);
+    let filters: Vec<_> = definition.variables().map(|variable| variable.filter().map(|filter| filter.row())).collect();
+    assert_eq!(filters, [None, None, None, Some(1)]);
+    let summer = definition.variable(1).unwrap();
+    let mut list = vec![0; summer.label().most().max(summer.name().most())];
+    assert!(summer.name().is_utf8() && summer.name().as_bytes() == b"\xe9t\xe9");
+    let name: Vec<u8> = summer.name().decode(&mut list).unwrap().bytes(b' ').collect();
+    assert_eq!(name, "\u{e9}t\u{e9}".as_bytes());
+    let label = summer.label().decode(&mut list).unwrap();
+    assert!(
+        label.lines().map(|line| line.bytes(0).collect::<Vec<_>>()).eq([b"a".to_vec(), "\u{20ac}".as_bytes().to_vec()])
+    );
+    // The names of an export are UTF-8.
+    let data = b" 712.51\r\n";
+    let mut csv = vec![0; 100];
+    let exported = definition.export(data, &mut csv).unwrap();
+    assert_eq!(&csv[..exported.length], "No,\u{e9}t\u{e9},W,S\r\n7,1,2.5,1\r\n".as_bytes());
+    assert_eq!(definition.clean(), Err(Refusal::Token));
+    // What only XML is refused with.
+    let refused = |from: &str, to: &str| {
+        let text = text.replace(from, to);
+        let latin: Vec<u8> = text.chars().map(|sign| sign as u8).collect();
+        let error = Definition::read(&latin).unwrap_err();
+        (error.refusal, text.chars().skip(error.place).take(4).collect::<String>())
+    };
+    assert_eq!(refused("<label/>", "<label>"), (Refusal::Element, "<pos".into()));
+    assert_eq!(refused("</survey>", "</Survey>"), (Refusal::Xml, "</Su".into()));
+    assert_eq!(refused("use='weight'", "use='serial'"), (Refusal::Use, "seri".into()));
+    assert_eq!(refused("'1.2'", "'2.0'"), (Refusal::Version, "2.0'".into()));
+}
+
 /// A refusal that this version doesn't know is a refusal, with its number, and no panic.
 #[test]
 fn unknown_refusals() {
-    for number in [11, 24, 39, 50, u64::MAX] {
+    for number in [11, 24, 39, 53, u64::MAX] {
         let refusal = Refusal::of(number).unwrap();
         assert_eq!((refusal, refusal.number()), (Refusal::Unknown(number), number));
         assert!(refusal.to_string().ends_with(&format!("[{number}]")));

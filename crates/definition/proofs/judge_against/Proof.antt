@@ -1,5 +1,6 @@
 use mathlib.Core.Path.{_≡_, refl, sym, ap, _∙_}
 use mathlib.Core.Bool.{true, false}
+use native.Mathlib.Omega.{arith}
 use lib.Dec.{ltb}
 use lib.ListN.{length}
 use borrow.Author.Needs.{needs}
@@ -8,7 +9,7 @@ use Rattle.layout.specs.rule.Layout.{lineBase, mostRows, mostLines}
 use Rattle.definition.specs.rule.Definition.{outcomeOf}
 use Rattle.definition.specs.rule.Against.{againstOf}
 use Rattle.definition.specs.Books.{Outcome, judged, surveyOf, outcomeIn}
-use Rattle.definition.specs.Code.{zeros}
+use Rattle.laying.specs.Code.{zeros}
 use Rattle.definition.proofs.Bridge.{heldIn, against-same}
 use Rattle.definition.proofs.Wholes.{held-says}
 use Rattle.definition.proofs.judge_against.Statement.{statement}
@@ -27,7 +28,7 @@ read-in-requires c κs = (c .before .before .before .before .before .before .bef
 compare-requires : tie.Need-compare-requires
 compare-requires c κs =
     let k = c .before .before .before .before .before .before .before .before .before .read-in .kept in
-    (c .before .before .before .before .before .before .before .before .before .read-in .ensures .stands (c .before .before .before .y .given .1) .few, (k .1 .1 .1 .0, k .1 .1 .1 .1 .0))
+    (omega arith, (c .before .before .before .before .before .before .before .before .before .read-in .ensures .stands (c .before .before .before .y .given .1) .few, (k .1 .1 .1 .0, k .1 .1 .1 .1 .0)))
 
 returns-2 : tie.Need-returns-2
 unfolding againstOf outcomeIn

@@ -1,5 +1,6 @@
 use mathlib.Core.Path.{_≡_, refl, sym, ap, _∙_}
 use mathlib.Core.Bool.{true, false}
+use native.Mathlib.Omega.{arith}
 use lib.Dec.{ltb}
 use lib.ListN.{length}
 use borrow.Author.Needs.{needs}
@@ -7,7 +8,7 @@ use borrow.Author.Tests.{lt-ltb, le-ltb}
 use Rattle.definition.specs.rule.Definition.{outcomeOf, answerOf, tableAfter}
 use Rattle.definition.specs.Books.{Outcome, judged, surveyOf, outcomeIn, answerIn, tableIn}
 use Rattle.definition.proofs.Bridge.{answer-same, table-same}
-use Rattle.definition.specs.Code.{zeros}
+use Rattle.laying.specs.Code.{zeros}
 use Rattle.definition.proofs.Wholes.{filled-says, filled-leaves}
 use Rattle.definition.proofs.read_definition.Statement.{statement}
 use Rattle.definition.proofs.read_definition.Tie as tie
@@ -25,7 +26,7 @@ read-in-requires c κs = (c .before .before .before .before .before .before .bef
 fill-requires : tie.Need-fill-requires
 fill-requires c κs =
     let k = c .before .before .before .before .before .before .before .before .before .before .read-in .kept in
-    (c .before .before .before .before .before .before .before .before .before .before .read-in .ensures .stands (c .before .before .before .before .y .given .1) .few, (k .1 .1 .1 .0, k .1 .1 .1 .1 .0))
+    (omega arith, (c .before .before .before .before .before .before .before .before .before .before .read-in .ensures .stands (c .before .before .before .before .y .given .1) .few, (k .1 .1 .1 .0, k .1 .1 .1 .1 .0)))
 
 returns-2 : tie.Need-returns-2
 unfolding outcomeIn

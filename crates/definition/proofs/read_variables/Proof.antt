@@ -1,18 +1,20 @@
 -- `definition::read_variables` meets its contract, by the invariant `Ran`.
 use mathlib.Core.Path.{_≡_, refl, sym, _∙_}
-use Prim.Native.Nat.{_-_}
+use Prim.Native.Nat.{_*_, _-_}
 use lib.ListN.{length}
 use native.Mathlib.Omega.{arith}
 use borrow.Author.Needs.{needs}
+use Rattle.layout.specs.rule.Layout.{rowSize, lineSize, mostRows, mostLines}
 use Rattle.measures.specs.Survey.{linesAll, highestIn}
 use Rattle.definition.specs.Code.{tallyOf}
-use Rattle.definition.proofs.Rans.{Ran, zeros-long, ran-none, ran-few, Onward, ran-more, run-over, laid-over, run-not, laid-not}
+use Rattle.laying.proofs.Zeros.{zeros-long}
+use Rattle.definition.proofs.Rans.{Ran, ran-none, ran-few, Onward, ran-more, run-over, laid-over, run-not, laid-not}
 use Rattle.definition.proofs.read_variables.Statement.{statement}
 use Rattle.definition.proofs.read_variables.Tie as tie
 
 abbrev Inv-loop : tie.InvT-loop
 Inv-loop classes powers d rows₀ lines₀ marks₀ seen₀ at₀ y₀ rows lines marks seen at y =
-    Ran d at₀ rows₀ lines₀ at y seen rows lines × (length rows ≡ 9216) × (length lines ≡ 16384) × (length marks ≡ 16384)
+    Ran d at₀ rows₀ lines₀ at y seen rows lines × (length rows ≡ rowSize * mostRows) × (length lines ≡ lineSize * mostLines) × (length marks ≡ 16384)
 
 abbrev μ-loop : tie.MeasureT-loop
 μ-loop classes powers d rows₀ lines₀ marks₀ seen₀ at₀ y₀ rows lines marks seen at y = 512 - y .rows

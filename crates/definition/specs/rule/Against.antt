@@ -1,22 +1,16 @@
 -- "40 the table is not the one this definition yields": its first numbers "are not just those the definition yields (text places and
 -- lengths included); more numbers are not looked at; a shorter table is 40"; 1 to 9 come first. 10 is never met: the room for the table
 -- is that of any table.
-use mathlib.Core.Bool.{Bool, true, false, cond, _&&_}
-use mathlib.Core.List.{List, [], _∷_}
+use mathlib.Core.Bool.{Bool, true, false, cond}
+use mathlib.Core.List.{List}
 use Prim.Native.Nat.{ℕ}
 use lib.IntN.{ℤ}
-use Rattle.cells.specs.rule.Cell.{eqZ}
 use Rattle.layout.specs.rule.Layout.{lineBase, mostRows, mostLines}
 use Rattle.survey.specs.rule.Table.{tableOf}
+use Rattle.laying.specs.rule.Begins.{begins}
 use Rattle.definition.specs.declared.Against.{Against}
 use Rattle.definition.specs.declared.Against.the-variants.{Same, Other, Refused}
 use Rattle.definition.specs.rule.Definition.{Outcome, Built, Refusal, outcomeOf}
-
--- the numbers t begin with these
-unfoldable pub begins : List ℤ → List ℤ → Bool
-begins [] t = true
-begins (x ∷ l) [] = false
-begins (x ∷ l) (y ∷ t) = eqZ x y && begins l t
 
 abbrev pub held : Outcome → List ℤ → Against
 held (Built l) t = cond (begins (tableOf l) t) Same Other

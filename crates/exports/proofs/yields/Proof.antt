@@ -1,7 +1,8 @@
 -- `exports::yields` meets its contract.
 use mathlib.Core.Path.{_≡_, refl, sym, ap, _∙_}
 use borrow.Author.Needs.{needs}
-use Rattle.definition.specs.rule.Against.{isSame, yields}
+use Rattle.definition.specs.rule.Against.{isSame}
+use Rattle.kinds.specs.rule.Against.{yields}
 use Rattle.exports.proofs.yields.Statement.{statement}
 use Rattle.exports.proofs.yields.Tie as tie
 

@@ -1,5 +1,5 @@
--- The layout of a table, "64-bit signed numbers; rows and byte places count from 0": a header of six numbers, eighteen for each
--- row, four for each line.
+-- The layout of a table, "64-bit signed numbers; rows and byte places count from 0": a header of six numbers, twenty for each row,
+-- four for each line.
 use mathlib.Core.List.{List}
 use Prim.Native.Nat.{ℕ, _+_, _*_}
 use lib.IntN.{ℤ}
@@ -13,14 +13,17 @@ abbrev pub headerSize : ℕ
 headerSize = 6
 
 abbrev pub rowSize : ℕ
-rowSize = 18
+rowSize = 20
 
 abbrev pub lineSize : ℕ
 lineSize = 4
 
--- ---- the first number of the table of a 1.1 definition, and limits
+-- ---- the first number of the table of a 1.1 definition, and of one in XML; and limits
 abbrev pub mark : ℕ
 mark = 11
+
+abbrev pub markXml : ℕ
+markXml = 12
 
 abbrev pub mostRows : ℕ
 mostRows = 512
@@ -69,6 +72,8 @@ columnsAt t at = record {
   «name_len» = countOf (cell t (at + 15));
   label = countOf (cell t (at + 16));
   «label_len» = countOf (cell t (at + 17));
+  usage = countOf (cell t (at + 18));
+  filter = countOf (cell t (at + 19));
 }
 
 unfoldable pub lineAt : List ℤ → ℕ → Line

@@ -1,10 +1,8 @@
--- `lister::list_files` is safe: what it lends has the lengths that are asked, and a refusal's number and place are small.
-use mathlib.Core.Path.{sym, _∙_}
-use native.Mathlib.Omega.{arith}
+-- `lister::list_files` is safe: what it lends has the lengths that are asked, and what it prints of a refusal is small.
+use mathlib.Core.Path.{sym}
 use borrow.Author.Needs.{needs}
 use lib.Dec.{lit≤}
 use lib.Seq.{length-take-le}
-use Rattle.refusals.specs.Refusals.{refusal-named, refusal-placed, answered}
 use Rattle.lister.proofs.list_files.Statement.{statement}
 use Rattle.lister.proofs.list_files.Tie as tie
 
@@ -13,15 +11,29 @@ list-by-requires c κs = (c .before .before .before .before .before .before .bef
 
 append-definition-requires : tie.Need-append-definition-requires
 append-definition-requires c κs =
-    let d = c .before .before .before .before .before .before .before .before .before .before .before .args .definition .now in
-    let refused = answered d _ _ _ (sym (c .before .before .before .before .before .before .read-definition .ensures .says) ∙ c .before .before .before .number .given .1) in
-    let small = refusal-named d _ _ _ refused in
-    let inside = refusal-placed d _ _ _ refused in
-    (c .before .before .before .before .before .before .before .before .powers .ensures, (omega arith, omega (arith, c .before .before .before .before .before .before .before .before .before .before .before .pre), lit≤ tt))
+    (c .before .before .before .before .before .before .before .before .before .before .powers .ensures, (c .before .before .before .printed .ensures, c .before .before .printed2 .ensures, lit≤ tt))
 
 slice-aggregate-write : tie.Need-slice-aggregate-write
 slice-aggregate-write c = sym (length-take-le _ _ (c .before .before .append-definition .ensures .inside))
 
 pub list-files-spec : {M : Type 1} → statement M
 list-files-spec =
-    tie.close (tie.spec (λ c κs. search needs) (λ c. search needs) (λ c κs. search needs) (λ c. search needs) (λ c. search needs) (λ c. search needs) list-by-requires (λ c. search needs) (λ c. search needs) append-definition-requires (λ c. search needs) slice-aggregate-write (λ c κs. search needs) (λ c. search needs) (λ c. search needs))
+    tie.close
+    (tie.spec
+    (λ c κs. search needs)
+    (λ c. search needs)
+    (λ c κs. search needs)
+    (λ c. search needs)
+    (λ c. search needs)
+    (λ c. search needs)
+    list-by-requires
+    (λ c. search needs)
+    (λ c κs. search needs)
+    (λ c κs. search needs)
+    (λ c. search needs)
+    append-definition-requires
+    (λ c. search needs)
+    slice-aggregate-write
+    (λ c κs. search needs)
+    (λ c. search needs)
+    (λ c. search needs))

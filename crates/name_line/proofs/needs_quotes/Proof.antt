@@ -9,19 +9,19 @@ use Rattle.marks.specs.rule.Spelling.{decodeOf}
 use Rattle.marks.specs.Spelling.{idle}
 use Rattle.marks.proofs.Parts.{part-said, part-over}
 use Rattle.commas.specs.rule.Csv.{holdsSpecial}
-use Rattle.name_line.specs.rule.Names.{nameText}
+use Rattle.name_line.specs.rule.Names.{plainText}
 use Rattle.name_line.specs.Names.{bytesOf, special-next, special-none, shorter}
 use Rattle.name_line.proofs.needs_quotes.Statement.{statement}
 use Rattle.name_line.proofs.needs_quotes.Tie as tie
 
 abbrev Inv-loop : tie.InvT-loop
-Inv-loop classes d name n₀ s₀ n s = (holdsSpecial (nameText d name) ≡ holdsSpecial (bytesOf (decodeOf s 0 (text d n)))) × (idle s ≡ true)
+Inv-loop classes d name n₀ s₀ n s = (holdsSpecial (plainText d name) ≡ holdsSpecial (bytesOf (decodeOf s 0 (text d n)))) × (idle s ≡ true)
 
 abbrev μ-loop : tie.MeasureT-loop
 μ-loop classes d name n₀ s₀ n s = length (decodeOf s 0 (text d n))
 
 loop-holds : tie.Need-loop-holds Inv-loop μ-loop
-unfolding nameText idle
+unfolding plainText idle
 loop-holds c = (refl, refl)
 
 next-part-requires : tie.Need-next-part-requires Inv-loop μ-loop

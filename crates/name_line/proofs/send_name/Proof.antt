@@ -1,32 +1,37 @@
 -- `name_line::send_name` meets its contract.
 use mathlib.Core.Path.{_≡_, refl, sym, ap, _∙_}
 use borrow.Author.Needs.{needs}
-use borrow.Author.Tests.{not-true, not-false}
-use Rattle.commas.specs.Csv.{field-quoted, field-plain, doubled-plain}
-use Rattle.sink.specs.Sent.{sent-as, then}
+use Rattle.commas.specs.rule.Csv.{fieldBytes}
+use Rattle.sink.specs.Sent.{sent-as}
+use Rattle.scripts.specs.declared.Script.{Script}
+use Rattle.name_line.specs.rule.Names.{xmlText}
+use Rattle.name_line.specs.Names.{name-xml, name-plain}
 use Rattle.name_line.proofs.send_name.Statement.{statement}
 use Rattle.name_line.proofs.send_name.Tie as tie
 
 returns : tie.Need-returns
 returns c =
-    let q = sym (c .before .before .before .before .before .needs-quotes .ensures) ∙ not-true _ (c .before .before .before .before .if1 .taken) in
-    sent-as (c .before .before .send-signs .ensures) (doubled-plain _ q ∙ field-plain _ q)
+    let a = c .before .before .before .before .before .before .before .args in
+    let e = c .before .before .before .before .before .before .before .pre .1 in
+    sent-as (c .before .before .send-xml .ensures)
+    (ap fieldBytes
+    (ap (λ (s : Script). xmlText (s .latin) (a .d .now) (a .place) (a .long)) e
+    ∙ sym (name-xml (a .d .now) (a .place) (a .long) (sym (ap (λ (s : Script). s .xml) e) ∙ c .before .before .before .before .if1 .taken))))
 
 returns-2 : tie.Need-returns-2
 returns-2 c =
-    sent-as (then (c .before .before .before .before .before .before .before .before .before .before .send-byte .ensures) (then (c .before .before .before .before .before .before .send-signs2 .ensures) (c .before .before .send-byte2 .ensures)))
-    (field-quoted _ (sym (c .before .before .before .before .before .before .before .before .before .before .before .before .before .needs-quotes .ensures) ∙ not-false _ (c .before .before .before .before .before .before .before .before .before .before .before .before .if1 .left)))
+    let a = c .before .before .before .before .before .before .before .args in
+    let e = c .before .before .before .before .before .before .before .pre .1 in
+    sent-as (c .before .before .send-plain .ensures)
+    (ap fieldBytes (sym (name-plain (a .d .now) (a .place) (a .long) (sym (ap (λ (s : Script). s .xml) e) ∙ c .before .before .before .before .if1 .left))))
 
 pub send-name-spec : {M : Type 1} → statement M
 send-name-spec =
     tie.close
     (tie.spec
     (λ c κs. search needs)
-    (λ c κs. search needs)
     (λ c. search needs)
     returns
-    (λ c κs. search needs)
-    (λ c κs. search needs)
     (λ c κs. search needs)
     (λ c. search needs)
     returns-2)

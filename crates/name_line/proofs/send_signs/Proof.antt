@@ -10,20 +10,20 @@ use Rattle.marks.specs.Spelling.{idle}
 use Rattle.marks.proofs.Parts.{part-said, part-over}
 use Rattle.commas.specs.rule.Csv.{doubled}
 use Rattle.sink.specs.Sent.{Owed, all-owed, less-owed, none-owed}
-use Rattle.name_line.specs.rule.Names.{nameText}
+use Rattle.name_line.specs.rule.Names.{plainText}
 use Rattle.name_line.specs.Names.{bytesOf, doubled-next, doubled-none, shorter}
 use Rattle.name_line.proofs.send_signs.Statement.{statement}
 use Rattle.name_line.proofs.send_signs.Tie as tie
 
 abbrev Inv-loop : tie.InvT-loop
 Inv-loop classes d name bound out₀ at n₀ s₀ end₀ out n s end =
-    Owed bound out₀ at (doubled (nameText d name)) out end (doubled (bytesOf (decodeOf s 0 (text d n)))) × (idle s ≡ true)
+    Owed bound out₀ at (doubled (plainText d name)) out end (doubled (bytesOf (decodeOf s 0 (text d n)))) × (idle s ≡ true)
 
 abbrev μ-loop : tie.MeasureT-loop
 μ-loop classes d name bound out₀ at n₀ s₀ end₀ out n s end = length (decodeOf s 0 (text d n))
 
 loop-holds : tie.Need-loop-holds Inv-loop μ-loop
-unfolding nameText idle
+unfolding plainText idle
 loop-holds c = (all-owed _ _ _ refl, refl)
 
 next-part-requires : tie.Need-next-part-requires Inv-loop μ-loop

@@ -1,13 +1,14 @@
 -- `sound::well_formed` meets its contract: clause after clause, each on what those before it showed.
 use mathlib.Core.Path.{_≡_, sym, ap, _∙_}
 use mathlib.Core.Bool.{true}
+use native.Mathlib.Omega.{arith}
 use lib.ListN.{length}
 use borrow.Author.Needs.{needs}
 use borrow.Author.Tests.{not-true, not-false}
 use Rattle.layout.specs.rule.Layout.{headerOf}
 use Rattle.sound.specs.rule.Sound.{headCounts, headSums}
 use Rattle.sound.specs.Block.{Standing}
-use Rattle.sound.specs.Given.{head-few, head-standing, standing-rows, form-counts, form-sums, form-rows, form-idents}
+use Rattle.sound.specs.Given.{head-few, head-standing, standing-rows, form-counts, form-sums, form-rows, form-idents, form-kind}
 use Rattle.sound.proofs.well_formed.Statement.{statement}
 use Rattle.sound.proofs.well_formed.Tie as tie
 
@@ -40,16 +41,27 @@ idents-differ-requires : tie.Need-idents-differ-requires
 idents-differ-requires c κs = standing-rows (standing (c .before .before .before .before))
 
 returns-4 : tie.Need-returns-4
-returns-4 c = record {
-  says =
-      c .idents-differ .ensures
-      ∙ rw (c .before .before .before .before .before .before .before .before .before .read .ensures)
-      (sym (form-idents (c .before .before .before .before .before .before .before .before .before .before .args .t .now)
-      (rw (c .before .before .before .before .before .before .before .before .before .read .ensures) at (counts (c .before .before .before .before .before .before .before)))
-      (rw (c .before .before .before .before .before .before .before .before .before .read .ensures) at (sums (c .before .before .before .before .before)))
-      (rw (← c .before .before .before .before .before .before .before .before .before .read .ensures) (sym (c .before .before .rows-good .ensures) ∙ not-false _ (c .before .if3 .left)))));
-}
+returns-4 c = record { says = sym (form-idents _ (rw (← c .before .before .before .before .before .before .before .before .before .before .read .ensures) (sym (c .before .idents-differ .ensures) ∙ not-true _ (c .if4 .taken)))) }
+
+kind-good-requires : tie.Need-kind-good-requires
+kind-good-requires c κs =
+    let s = standing (c .before .before .before .before .before .before) in
+    (s .few-rows, omega (arith, s .few-lines), omega (arith, s .stand))
+
+returns-5 : tie.Need-returns-5
+returns-5 c =
+    let e = c .before .before .before .before .before .before .before .before .before .before .before .read .ensures in
+    record {
+      says =
+          c .kind-good .ensures
+          ∙ rw e
+          (sym (form-kind (c .before .before .before .before .before .before .before .before .before .before .before .before .args .t .now)
+          (rw e at (counts (c .before .before .before .before .before .before .before .before .before)))
+          (rw e at (sums (c .before .before .before .before .before .before .before)))
+          (rw (← e) (sym (c .before .before .before .before .rows-good .ensures) ∙ not-false _ (c .before .before .before .if3 .left)))
+          (rw (← e) (sym (c .before .before .idents-differ .ensures) ∙ not-false _ (c .before .if4 .left)))));
+    }
 
 pub well-formed-spec : {M : Type 1} → statement M
 well-formed-spec =
-    tie.close (tie.spec (λ c κs. search needs) (λ c κs. search needs) returns head-sums-requires returns-2 (λ c κs. search needs) rows-good-requires returns-3 idents-differ-requires returns-4)
+    tie.close (tie.spec (λ c κs. search needs) (λ c κs. search needs) returns head-sums-requires returns-2 (λ c κs. search needs) rows-good-requires returns-3 idents-differ-requires returns-4 kind-good-requires returns-5)

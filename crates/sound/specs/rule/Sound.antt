@@ -12,7 +12,7 @@ use Rattle.ascii.specs.rule.Class.{within}
 use Rattle.below.specs.rule.Below.{_and_, allBelow, sumBelow, maxBelow}
 use Rattle.cells.specs.rule.Cell.{eqZ}
 use Rattle.strides.specs.rule.Stride.{strideAt, allDiffer}
-use Rattle.layout.specs.rule.Layout.{mark, mostRows, mostLines, headerSize, rowSize}
+use Rattle.layout.specs.rule.Layout.{mark, markXml, mostRows, mostLines, headerSize, rowSize}
 use Rattle.layout.specs.rule.Layout.{lineSize, rowBase, linesBase, lineBase, headerOf, columnsAt, lineAt}
 use Rattle.layout.specs.rule.Row.{rowOf}
 use Rattle.layout.specs.declared.Header.{Header}
@@ -23,6 +23,7 @@ use Rattle.layout.specs.declared.Spread.the-variants.{Bits, Fields}
 use Rattle.layout.specs.declared.Kind.{Kind}
 use Rattle.layout.specs.declared.Kind.the-variants.{Single, Multiple, Quantity, Character, Logical}
 use Rattle.widths.specs.rule.Width.{need, fitsKind}
+use Rattle.uses.specs.rule.Uses.{kindGood}
 
 -- ---- a row's columns, one by one
 -- "types are 1 to 5"
@@ -184,8 +185,12 @@ unfoldable pub identsDiffer : List ℤ → ℕ → Bool
 identsDiffer t v = allDiffer (strideAt t headerSize rowSize) v
 
 -- ---- the header
+-- the first number is 11 for a 1.1 definition, 12 for one in XML
+abbrev pub markKnown : Header → Bool
+markKnown h = eqb (h .mark) mark || eqb (h .mark) markXml
+
 abbrev pub headCounts : Header → Bool
-headCounts h = eqb (h .mark) mark && leb 1 (h .rows) && leb (h .rows) mostRows && leb (h .lines) mostLines
+headCounts h = markKnown h && leb 1 (h .rows) && leb (h .rows) mostRows && leb (h .lines) mostLines
 
 abbrev pub headSums : Header → ℕ → Bool
 headSums h n =
@@ -202,7 +207,7 @@ rowsGood t h =
 unfoldable pub wellFormed : List ℤ → Bool
 wellFormed t =
     headCounts (headerOf t) and headSums (headerOf t) (length t) and rowsGood t (headerOf t)
-    and identsDiffer t (headerOf t .rows)
+    and identsDiffer t (headerOf t .rows) and kindGood t (headerOf t)
 
 -- THE PROMISE of the call that tests a table
 pub record TableTested (t : List ℤ) (good : Bool) : Type 0 where

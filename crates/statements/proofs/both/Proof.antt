@@ -1,4 +1,4 @@
-use mathlib.Core.Path.{_∙_, sym}
+use mathlib.Core.Path.{_∙_}
 use Rattle.statements.specs.Position.{bothOf}
 use borrow.Author.Needs.{needs}
 use Rattle.statements.proofs.both.Statement.{statement}
@@ -7,11 +7,12 @@ use Rattle.statements.proofs.both.Tie as tie
 returns : tie.Need-returns
 unfolding bothOf
 returns c =
-    rw (
-      c .before .before .before .before .before .before .before .before .a .given .1,
-      c .before .before .before .before .before .b .given .1,
-      c .before .before .end .given .1,
-      sym (c .judge-position .ensures),
+    c .judge-position .ensures
+    ∙ rw (
+      c .before .less .ensures,
+      c .before .before .before .before .before .before .before .before .before .a .given .1,
+      c .before .before .before .before .before .before .b .given .1,
+      c .before .before .before .end .given .1,
     )
 
 returns-2 : tie.Need-returns-2
@@ -38,4 +39,4 @@ returns-4 c =
 
 pub both-spec : {M : Type 1} → statement M
 both-spec =
-    tie.close (tie.spec (λ c. search needs) (λ c. search needs) (λ c. search needs) (λ c κs. search needs) (λ c. search needs) (λ c. search needs) (λ c. search needs) returns returns-2 returns-3 returns-4)
+    tie.close (tie.spec (λ c. search needs) (λ c. search needs) (λ c. search needs) (λ c κs. search needs) (λ c κs. search needs) (λ c. search needs) (λ c. search needs) (λ c. search needs) returns returns-2 returns-3 returns-4)

@@ -1,5 +1,5 @@
--- "The table": a header of six numbers, eighteen a variable, four a value line; and whether a POSITION holds its w. "Columns a type lacks
--- are 0, and from and to with no range; lines before is counted in every row."
+-- "The table": a header of six numbers, twenty a variable, four a value line; and whether a POSITION holds its w. "Columns a type lacks
+-- are 0, and from and to with no range; lines before is counted in every row." Use and filter: "the rows of 1.1 files carry 0 in both".
 use mathlib.Core.Bool.{Bool}
 use mathlib.Core.List.{List, [], _∷_, _++_}
 use mathlib.Core.Option.{Option, none, some}
@@ -68,6 +68,8 @@ columnsOf before v =
       «name_len» = v .name .length;
       label = v .label .place;
       «label_len» = v .label .length;
+      usage = 0;
+      filter = 0;
     }
 
 -- "POSITION must hold w (for a spread, n times the declared subfield width, itself at least w)"

@@ -23,7 +23,7 @@ pub record HeaderSigns (t : List ℤ) : Type 0 where
   pub rows-at : NotNegative (cell t 4)
   pub lines-at : NotNegative (cell t 5)
 
--- a row's eighteen numbers, of which from and to may be negative in a quantity (type 3) alone
+-- a row's twenty numbers, of which from and to may be negative in a quantity (type 3) alone
 pub record RowSigns (t : List ℤ) (at : ℕ) : Type 0 where
   pub ident : NotNegative (cell t (at + 0))
   pub kind : NotNegative (cell t (at + 1))
@@ -43,6 +43,8 @@ pub record RowSigns (t : List ℤ) (at : ℕ) : Type 0 where
   pub name-length : NotNegative (cell t (at + 15))
   pub label : NotNegative (cell t (at + 16))
   pub label-length : NotNegative (cell t (at + 17))
+  pub use-code : NotNegative (cell t (at + 18))
+  pub filter : NotNegative (cell t (at + 19))
 
 -- line j is one of row i's
 pub record LineOf (t : List ℤ) (j i : ℕ) : Type 0 where

@@ -14,7 +14,7 @@ use Rattle.files.specs.rule.File.{FileVerdict, soundWith, badTable, faultIn, Fi
 use Rattle.cuts.specs.rule.Cut.{NextFound}
 use Rattle.cuts.specs.declared.Next.{Next}
 use Rattle.cuts.specs.declared.Next.the-variants.{Ended, Unended, Nothing}
-use Rattle.definition.specs.rule.Definition.{DefinitionRead}
+use Rattle.kinds.specs.rule.Definition.{DefinitionRead}
 use Rattle.definition.specs.declared.Answer.{Answer}
 use Rattle.definition.specs.declared.Answer.the-variants as definition
 use Rattle.zarfolin.specs.declared.Told.{Told}

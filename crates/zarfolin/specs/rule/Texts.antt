@@ -4,7 +4,8 @@ use mathlib.Core.List.{List}
 use Prim.Native.Nat.{ℕ}
 use lib.IntN.{ℤ, pos}
 use Rattle.texts.specs.declared.Decoded.{Decoded}
-use Rattle.texts.specs.rule.Decode.{Outcome, signs, refused, said, TextDecoded}
+use Rattle.texts.specs.rule.Decode.{Outcome, signs, refused, said}
+use Rattle.decoding.specs.rule.Both.{BothDecoded}
 use Rattle.zarfolin.specs.declared.Told.{Told}
 use Rattle.zarfolin.specs.rule.Face.{cellOf, four, bare, Telling}
 
@@ -15,5 +16,5 @@ textCells (refused k) = bare k
 -- THE PROMISE of decoding a text: that of the call, and its outcome told in four numbers
 pub record TextTold (d : List ℕ) (place long : ℕ) (list list′ answer : List ℤ) (r : ℕ) : Type 0 where
   pub outcome : Decoded
-  pub promise : TextDecoded d place long list list′ outcome
+  pub promise : BothDecoded d place long list list′ outcome
   pub tells : Telling (textCells (said outcome)) answer r

@@ -7,6 +7,7 @@ use crate::output::Output;
 use crate::status::{Failure, Outcome, Status};
 use crate::texts;
 use std::ffi::OsStr;
+use std::io::Write;
 use zarfolin::Refusal;
 
 const OUTPUT: Opt = Opt {
@@ -30,10 +31,19 @@ fn run(given: &Given) -> Outcome {
     let text = Text::open(path)?;
     let Some(definition) = text.definition() else { return Ok(Status::Definition) };
     let name = &text.input.name;
-    let clean = definition.clean().map_err(|refusal| match refusal {
-        Refusal::CleanSize => Failure::Output(format!("{name}: {refusal}")),
-        _ => ruled_out(refusal),
-    })?;
+    let clean = match definition.clean() {
+        Ok(clean) => clean,
+        Err(Refusal::CleanSize) => return Err(Failure::Output(format!("{name}: {}", Refusal::CleanSize))),
+        // One in XML is no 1.1 text to the library.
+        Err(Refusal::Token) if definition.is_xml() => {
+            let _ = writeln!(
+                std::io::stderr(),
+                "{name}: a definition in XML has no clean form, which is of version 1.1 [2]"
+            );
+            return Ok(Status::Definition);
+        }
+        Err(refusal) => return Err(ruled_out(refusal)),
+    };
     let mut out = Output::create(to, &[&text.input])?;
     out.write(&clean)?;
     out.commit()?;

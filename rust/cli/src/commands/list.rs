@@ -181,7 +181,7 @@ impl Listing<'_> {
         let Some(values) = values else { return Ok(()) };
         for variable in &self.variables {
             let (row, ident) = (variable.row(), variable.ident());
-            let name = texts::tsv(self.book.name(row));
+            let name = texts::tsv_text(self.book.name(row));
             self.printer.bytes(format!("{}\t{row}\t{ident}\t{name}\t", record.number).as_bytes())?;
             let line = match value(values, variable)? {
                 Ok(Value::Text(text)) if self.raw => [b"text\t", text].concat(),
@@ -219,7 +219,7 @@ impl Listing<'_> {
 
     fn jsonl_value(&self, variable: &Variable, value: &Result<Value, ReadError>) -> String {
         let object = Object::new().number("row", variable.row() as u64).number("ident", variable.ident());
-        let object = object.bytes("name", self.book.name(variable.row()));
+        let object = object.text("name", self.book.name(variable.row()));
         let object = match value {
             Ok(value) => object.text("kind", kind(value)),
             Err(error) => return fault_object(object, error).end(),

@@ -9,7 +9,7 @@ use crate::status::{Failure, Outcome, Status};
 use crate::texts;
 use crate::values::scaled;
 use crate::words::columns;
-use zarfolin::{Kind, Variable};
+use zarfolin::{Kind, Use, Variable};
 
 pub const VARIABLES: Opt =
     Opt { long: "--variables", short: Some(b'v'), value: Some("VAR,.."), help: "these variables alone" };
@@ -61,8 +61,12 @@ fn people(variable: &Variable) -> String {
     let label = texts::decoded_line(variable.label());
     let mut lines = vec![
         format!("\n{ident}  {name}  {label}"),
-        format!("    {}, {}, row @{row}", kind(variable), columns(variable)),
+        format!("    {}, {}, row @{row}{}", kind(variable), columns(variable), used(variable)),
     ];
+    if let Some(filter) = variable.filter() {
+        let name = texts::decoded_line(filter.name());
+        lines.push(format!("    only where {} {name} is 1 (filter, row @{})", filter.ident(), filter.row()));
+    }
     let numbers: Vec<_> = variable.values().map(|line| scaled(line.number, decimals(variable))).collect();
     let width = numbers.iter().map(String::len).max().unwrap_or(0);
     if variable.range().is_some() || matches!(variable.kind(), Kind::Logical) {
@@ -73,6 +77,14 @@ fn people(variable: &Variable) -> String {
         lines.push(format!("    {number:>width$}  {}{special}", texts::decoded_line(line.text)));
     }
     lines.join("\n")
+}
+
+fn used(variable: &Variable) -> &'static str {
+    match variable.usage() {
+        Use::Serial => ", the serial number",
+        Use::Weight => ", the weight",
+        _ => "",
+    }
 }
 
 fn kind(variable: &Variable) -> String {
@@ -88,7 +100,7 @@ fn kind(variable: &Variable) -> String {
     }
 }
 
-/// A line for the variable, and one for each of its values.
+/// A line for the variable, and one for each of its values. The last two fields are the use, 0 to 2, and the row that filters it.
 fn tsv(book: &Codebook, variable: &Variable) -> String {
     let (row, ident) = (variable.row(), variable.ident());
     let columns = variable.columns();
@@ -97,17 +109,19 @@ fn tsv(book: &Codebook, variable: &Variable) -> String {
         None => Default::default(),
     };
     let (subfields, width) = spread(variable);
-    let (name, label) = (texts::tsv(book.name(row)), texts::tsv(&texts::decoded(variable.label())));
+    let (name, label) = (texts::tsv_text(book.name(row)), texts::tsv_text(&texts::decoded(variable.label())));
+    let filter = variable.filter().map_or(String::new(), |filter| filter.row().to_string());
     let mut lines = vec![format!(
-        "variable\t{row}\t{ident}\t{name}\t{label}\t{}\t{}\t{}\t{}\t{}\t{subfields}\t{width}\t{from}\t{to}",
+        "variable\t{row}\t{ident}\t{name}\t{label}\t{}\t{}\t{}\t{}\t{}\t{subfields}\t{width}\t{from}\t{to}\t{}\t{filter}",
         variable.kind().word(),
         columns.start(),
         columns.end(),
         variable.width(),
         decimals(variable),
+        variable.usage() as u8,
     )];
     for line in variable.values() {
-        let text = texts::tsv(&texts::decoded(line.text));
+        let text = texts::tsv_text(&texts::decoded(line.text));
         lines.push(format!("value\t{row}\t{ident}\t{}\t{}\t{text}", line.number, u8::from(line.special)));
     }
     lines.join("\n")
@@ -125,13 +139,13 @@ fn jsonl(book: &Codebook, variable: &Variable) -> String {
     let (subfields, width) = spread(variable);
     let values = variable.values().map(|line| {
         let text = texts::decoded(line.text);
-        Object::new().number("value", line.number).truth("special", line.special).bytes("text", &text).end()
+        Object::new().number("value", line.number).truth("special", line.special).text("text", &text).end()
     });
     Object::new()
         .number("row", variable.row() as u64)
         .number("ident", variable.ident())
-        .bytes("name", book.name(variable.row()))
-        .bytes("label", &texts::decoded(variable.label()))
+        .text("name", book.name(variable.row()))
+        .text("label", &texts::decoded(variable.label()))
         .text("type", variable.kind().word())
         .number("start", *columns.start() as u64)
         .number("finish", *columns.end() as u64)
@@ -141,6 +155,8 @@ fn jsonl(book: &Codebook, variable: &Variable) -> String {
         .number("subfield_width", width as u64)
         .maybe("from", variable.range().map(|range| *range.start()))
         .maybe("to", variable.range().map(|range| *range.end()))
+        .maybe("use", Some(variable.usage() as u8).filter(|&usage| usage > 0))
+        .maybe("filter", variable.filter().map(|filter| filter.row() as u64))
         .json("values", &json::list(values))
         .end()
 }

@@ -1,3 +1,5 @@
+use Prim.Native.Nat.{_+_, _<_, _^_}
+use native.Mathlib.Omega.{arith}
 use Rattle.layout.specs.rule.Layout.{columnsAt}
 use mir.Facts.{toZ-ofZ}
 use borrow.Author.Needs.{needs, sfits-of}
@@ -8,30 +10,41 @@ returns : tie.Need-returns
 unfolding columnsAt
 returns c =
     rw (
-      toZ-ofZ (sfits-of (c .before .before .before .before .before .before .before .before .before .before .before .before .before .before .before .before .before .from .given)),
-      toZ-ofZ (sfits-of (c .before .before .before .before .before .before .before .before .before .before .before .before .before .before .before .before .to .given)),
-      c .before .before .before .before .before .before .before .before .before .before .before .before .before .before .before .count-at .ensures,
-      c .before .before .before .before .before .before .before .before .before .before .before .before .before .before .count-at2 .ensures,
-      c .before .before .before .before .before .before .before .before .before .before .before .before .before .count-at3 .ensures,
-      c .before .before .before .before .before .before .before .before .before .before .before .before .count-at4 .ensures,
+      toZ-ofZ (sfits-of (c .before .before .before .before .before .before .before .before .before .before .before .before .before .before .before .before .before .before .before .from .given)),
+      toZ-ofZ (sfits-of (c .before .before .before .before .before .before .before .before .before .before .before .before .before .before .before .before .before .before .to .given)),
+      c .before .before .before .before .before .before .before .before .before .before .before .before .before .before .before .before .before .count-at .ensures,
+      c .before .before .before .before .before .before .before .before .before .before .before .before .before .before .before .before .count-at2 .ensures,
+      c .before .before .before .before .before .before .before .before .before .before .before .before .before .before .before .count-at3 .ensures,
+      c .before .before .before .before .before .before .before .before .before .before .before .before .before .before .count-at4 .ensures,
     )
     (rw (
-      c .before .before .before .before .before .before .before .before .before .before .before .count-at5 .ensures,
-      c .before .before .before .before .before .before .before .before .before .before .count-at6 .ensures,
-      c .before .before .before .before .before .before .before .before .before .count-at7 .ensures,
-      c .before .before .before .before .before .before .before .before .count-at8 .ensures,
-      c .before .before .before .before .before .before .before .count-at9 .ensures,
-      c .before .before .before .before .before .before .count-at10 .ensures,
+      c .before .before .before .before .before .before .before .before .before .before .before .before .before .count-at5 .ensures,
+      c .before .before .before .before .before .before .before .before .before .before .before .before .count-at6 .ensures,
+      c .before .before .before .before .before .before .before .before .before .before .before .count-at7 .ensures,
+      c .before .before .before .before .before .before .before .before .before .before .count-at8 .ensures,
+      c .before .before .before .before .before .before .before .before .before .count-at9 .ensures,
+      c .before .before .before .before .before .before .before .before .count-at10 .ensures,
     )
     (rw (
-      c .before .before .before .before .before .count-at11 .ensures,
-      c .before .before .before .before .count-at12 .ensures,
-      c .before .before .before .count-at13 .ensures,
-      c .before .before .count-at14 .ensures,
-      c .before .count-at15 .ensures,
-      c .count-at16 .ensures,
-    )))
+      c .before .before .before .before .before .before .before .count-at11 .ensures,
+      c .before .before .before .before .before .before .count-at12 .ensures,
+      c .before .before .before .before .before .count-at13 .ensures,
+      c .before .before .before .before .count-at14 .ensures,
+      c .before .before .before .count-at15 .ensures,
+      c .before .before .count-at16 .ensures,
+    )
+    (rw (
+      c .before .count-at17 .ensures,
+      c .count-at18 .ensures,
+    ))))
+
+-- the row stands in the table, whose numbers can be counted: told where it is near, since further on `search` does not reach it
+near : (c : tie.After-to) → c .before .before .args .at + 20 < 2 ^ 64
+near c = omega arith
+
+add-last : tie.Need-add-count-at-18
+add-last c = omega (arith, near (c .before .before .before .before .before .before .before .before .before .before .before .before .before .before .before .before .before))
 
 pub read-spec : {M : Type 1} → statement M
 read-spec =
-    tie.close (tie.spec (λ c. search needs) (λ c. search needs) (λ c. search needs) (λ c. search needs) (λ c. search needs) (λ c. search needs) (λ c. search needs) (λ c κs. search needs) (λ c. search needs) (λ c κs. search needs) (λ c. search needs) (λ c κs. search needs) (λ c. search needs) (λ c κs. search needs) (λ c. search needs) (λ c κs. search needs) (λ c. search needs) (λ c κs. search needs) (λ c. search needs) (λ c κs. search needs) (λ c. search needs) (λ c κs. search needs) (λ c. search needs) (λ c κs. search needs) (λ c. search needs) (λ c κs. search needs) (λ c. search needs) (λ c κs. search needs) (λ c. search needs) (λ c κs. search needs) (λ c. search needs) (λ c κs. search needs) (λ c. search needs) (λ c κs. search needs) (λ c. search needs) (λ c κs. search needs) (λ c. search needs) (λ c κs. search needs) returns)
+    tie.close (tie.spec (λ c. search needs) (λ c. search needs) (λ c. search needs) (λ c. search needs) (λ c. search needs) (λ c. search needs) (λ c. search needs) (λ c κs. search needs) (λ c. search needs) (λ c κs. search needs) (λ c. search needs) (λ c κs. search needs) (λ c. search needs) (λ c κs. search needs) (λ c. search needs) (λ c κs. search needs) (λ c. search needs) (λ c κs. search needs) (λ c. search needs) (λ c κs. search needs) (λ c. search needs) (λ c κs. search needs) (λ c. search needs) (λ c κs. search needs) (λ c. search needs) (λ c κs. search needs) (λ c. search needs) (λ c κs. search needs) (λ c. search needs) (λ c κs. search needs) (λ c. search needs) (λ c κs. search needs) (λ c. search needs) (λ c κs. search needs) (λ c. search needs) (λ c κs. search needs) (λ c. search needs) (λ c κs. search needs) (λ c. search needs) (λ c κs. search needs) add-last (λ c κs. search needs) returns)

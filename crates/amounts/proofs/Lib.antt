@@ -1,0 +1,3 @@
+pub mod Hears
+pub mod Orders
+pub mod Exactly

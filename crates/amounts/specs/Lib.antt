@@ -1,0 +1,3 @@
+pub mod rule
+pub mod Filled
+pub mod Parts

@@ -1,0 +1,4 @@
+pub mod rule
+pub mod Rows
+pub mod Fields
+pub mod Blind

@@ -1,0 +1,11 @@
+pub mod Numbers
+pub mod Charges
+pub mod Ranges
+pub mod Told
+pub mod Tags
+pub mod Bodies
+pub mod Steps
+pub mod Heard
+pub mod Parts
+pub mod Turns
+pub mod Goods

@@ -1,0 +1,6 @@
+mod Bounds
+pub mod Views
+pub mod Goes
+pub mod Pieces
+pub mod Exactly
+pub mod Tellings

@@ -1,0 +1,10 @@
+pub mod Ranking
+pub mod Bounds
+pub mod Dues
+pub mod Bodies
+pub mod Tags
+pub mod Numbers
+pub mod Judging
+pub mod Cuts
+pub mod Goods
+pub mod Answers

@@ -1,0 +1,13 @@
+pub mod Meets
+pub mod Rooms
+pub mod Asked
+pub mod Filtering
+pub mod Keeping
+pub mod Slots
+pub mod Figured
+pub mod Titles
+pub mod Texts
+pub mod Naming
+pub mod Joining
+pub mod Storing
+pub mod Leads

@@ -1,0 +1,264 @@
+-- Tags, texts, the declaration and the DOCTYPE, as the rule of XML reads them, are never refused with 3.
+use mathlib.Core.Path.{_≡_, refl}
+use mathlib.Core.Bool.{Bool, true, false, cond}
+use mathlib.Core.List.{List, [], _∷_}
+use Prim.Native.Nat.{ℕ, zero, suc, _+_}
+use lib.Dec.{eqb, leb, ltb}
+use lib.ListN.{length, drop, getD}
+use Rattle.scan.specs.rule.Loop.{Next, Again, Done, onNext, loopOf}
+use Rattle.markup.specs.declared.Skip.{Skip}
+use Rattle.markup.specs.declared.Skip.the-variants as skip
+use Rattle.markup.specs.declared.Char.{Char}
+use Rattle.markup.specs.declared.Char.the-variants as char
+use Rattle.markup.specs.rule.Bytes as bytes
+use Rattle.markup.specs.rule.Gap.{gapOf, commentOf}
+use Rattle.markup.specs.rule.Reference.{referenceOf}
+use Rattle.angles.specs.declared.Angle.{Angle}
+use Rattle.angles.specs.declared.Angle.the-variants as angle
+use Rattle.angles.specs.rule.Angle.{angleOf}
+use Rattle.attributes.specs.declared.Attribute.{Attribute}
+use Rattle.attributes.specs.declared.Attribute.the-variants as attribute
+use Rattle.tags.specs.declared.Held.{Held}
+use Rattle.tags.specs.declared.Tag.{Tag}
+use Rattle.tags.specs.declared.Tag.the-variants as tag
+use Rattle.tags.specs.declared.Turn.{Turn}
+use Rattle.tags.specs.declared.Turn.the-variants as turn
+use Rattle.attributes.specs.rule.Attribute.{attributeOf}
+use Rattle.tags.specs.rule.Tag.{missesOf, putOf, shutOf, turned, turnOf, onTurn, turnsOf, tagOf}
+use Rattle.pairs.specs.declared.Stand.{Stand}
+use Rattle.pairs.specs.declared.Stand.the-variants as stand
+use Rattle.pairs.specs.declared.Pair.{Pair}
+use Rattle.pairs.specs.declared.Pair.the-variants as pair
+use Rattle.pairs.specs.rule.Stand.{standOf, bareOf}
+use Rattle.pairs.specs.rule.Stand as stands
+use Rattle.pairs.specs.rule.Pair.{onBare, onShut, onStand, missedOf, closedOf, pairOf}
+use Rattle.contents.specs.declared.Going.{Going}
+use Rattle.contents.specs.declared.Content.{Content}
+use Rattle.contents.specs.declared.Content.the-variants as content
+use Rattle.contents.specs.declared.Step.{Step}
+use Rattle.contents.specs.declared.Step.the-variants as step
+use Rattle.contents.specs.rule.Grammar.{br, text, lang}
+use Rattle.contents.specs.rule.Step.{onChar, onNote, onPair, onBreak, onLanguage, onOther, onOut, onEnd, onAngle, knowing, modeIn, kindOf}
+use Rattle.contents.specs.rule.Step.{bracketAt, returnAt, referAt, noteAt, pairAt, breakAt, languageAt, otherAt, startAt, closeAt, markAt, stepOf}
+use Rattle.contents.specs.rule.Content.{onStep, contentFrom, contentOf}
+use Rattle.prologs.specs.rule.Form.{Form, done, white, room, word, value, encoding, literal, root, bracket, perhaps, which}
+use Rattle.prologs.specs.rule.Form.{XML, DOCTYPE, UTF-8, ISO-8859-1, sss, declaration, doctype}
+use Rattle.prologs.specs.rule.Told.{startOf, amongOf, alikeOf, quotedOf, missOf, blanks, onSkip, tellOf, declarationOf, gapTo, gapOn, headOf, endOf, behindRoot, tailOf}
+use Rattle.prologs.specs.declared.Prolog.{Prolog}
+use Rattle.prologs.specs.declared.Prolog.the-variants as prolog
+use Rattle.prologs.specs.declared.Tail.{Tail}
+use Rattle.prologs.specs.declared.Tail.the-variants as tail
+use Rattle.refusals.specs.Scanned.{either}
+
+-- a refusal's number is not 3
+abbrev pub Free : ℕ → Type 0
+Free k = eqb k 3 ≡ false
+
+-- ---- what holds of every answer of a step holds of the loop's
+abbrev Over : {S A : Type 0} → (A → Type 0) → Next S A → Type 0
+Over P (Again s) = Unit
+Over P (Done a) = P a
+
+loop-holds : {S A : Type 0} (P : A → Type 0) (go : S → Next S A) (out : A) → P out → ((s : S) → Over P (go s)) → (f : ℕ) (s : S)
+    → P (loopOf go out f s)
+unfolding loopOf
+loop-holds P go out o h zero s = o
+loop-holds {S} {A} P go out o h (suc f) s = by (go s) (h s) (λ r. loop-holds P go out o h f r) where
+  by : (x : Next S A) → Over P x → ((r : S) → P (loopOf go out f r)) → P (onNext x (loopOf go out f))
+  by (Again r) k w = w r
+  by (Done a) k w = k
+
+-- ---- tags
+abbrev pub TagFree : Tag → Type 0
+TagFree (tag.Read h empty p n) = Unit
+TagFree (tag.Fault k p) = Free k
+
+abbrev TurnFree : Turn → Type 0
+TurnFree (turn.More h) = Unit
+TurnFree (turn.Over t) = TagFree t
+
+put-free : (h : Held) (slot name next : ℕ) (good : Bool) (v k : ℕ) → TurnFree (putOf h slot name next good v k)
+unfolding putOf
+put-free h slot name next good v k =
+    either TurnFree (eqb slot 1) (either TurnFree (eqb (h .a) 0) (either TurnFree good tt refl) refl)
+    (either TurnFree (eqb slot 2) (either TurnFree (eqb (h .b) 0) (either TurnFree good tt refl) refl)
+    (either TurnFree (eqb slot 3) (either TurnFree (eqb (h .c) 0) (either TurnFree good tt refl) refl) tt))
+
+turned-free : (d x y z : List ℕ) (f g k required : ℕ) (h : Held) (a : Attribute) → TurnFree (turned d x y z f g k required h a)
+unfolding shutOf
+turned-free d x y z f g k required h (attribute.One n e v w next) = put-free h _ n next _ v w
+turned-free d x y z f g k required h (attribute.Shut empty place next) = either TagFree (missesOf required h) refl tt
+turned-free d x y z f g k required h (attribute.Faulty p) = refl
+
+on-turn : (t : Turn) → TurnFree t → Over TagFree (onTurn t)
+on-turn (turn.More h) k = tt
+on-turn (turn.Over t) k = k
+
+pub tag-free : (bad : Bool) (d : List ℕ) (opened at : ℕ) (x y z : List ℕ) (f g k required : ℕ)
+    → TagFree (tagOf bad d opened at x y z f g k required)
+unfolding turnsOf turnOf
+tag-free bad d opened at x y z f g k required =
+    loop-holds TagFree _ (tag.Fault 0 0) refl (λ h. on-turn (turnOf bad d opened x y z f g k required h) (turned-free d x y z f g k required h (attributeOf bad d opened (h .next)))) _ _
+
+pub bare-free : (bad : Bool) (d : List ℕ) (p e : ℕ) → TagFree (bareOf bad d p e)
+bare-free bad d p e = tag-free bad d p e [] [] [] 0 0 0 0
+
+-- ---- an element that holds nothing
+abbrev pub PairFree : Pair → Type 0
+PairFree (pair.Past n) = Unit
+PairFree (pair.Cut p) = Unit
+PairFree (pair.Fault k p) = Free k
+
+pub pair-free : (bad : Bool) (d : List ℕ) (at : ℕ) (w : List ℕ) → PairFree (pairOf bad d at w)
+unfolding pairOf missedOf closedOf
+pair-free bad d at w = by (standOf bad d at) where
+  bare : (o : ℕ) (t : Tag) → TagFree t → PairFree (onBare o t)
+  bare o (tag.Read h empty p n) k = tt
+  bare o (tag.Fault number p) k = k
+
+  shut : (s : Skip) → PairFree (onShut s)
+  shut (skip.Past n) = tt
+  shut (skip.Broken p) = refl
+
+  by : (s : Stand) → PairFree (onStand bad d w s)
+  by (stand.Start p e) = bare p (bareOf bad d p e) (bare-free bad d p e)
+  by (stand.Close p e) = shut (stands.shutOf bad d p e w)
+  by (stand.Foreign p) = tt
+  by (stand.Text p) = refl
+  by (stand.Broken p) = refl
+
+-- ---- texts
+abbrev pub ContentFree : Content → Type 0
+ContentFree (content.Read end n u) = Unit
+ContentFree (content.Cut p u) = Unit
+ContentFree (content.Fault k p) = Free k
+
+abbrev StepFree : Step → Type 0
+StepFree (step.More g s) = Unit
+StepFree (step.Over c) = ContentFree c
+
+module _ (bad : Bool) (d : List ℕ) (g : Going) where
+  refer-free : (c : Char) → StepFree (onChar g c)
+  refer-free (char.Is c n) = tt
+  refer-free char.Bad = refl
+
+  note-free : (s : Skip) → StepFree (onNote g s)
+  note-free (skip.Past n) = tt
+  note-free (skip.Broken p) = refl
+
+  broken-free : (h : Going) (x : Pair) → PairFree x → StepFree (onPair h x)
+  broken-free h (pair.Past n) k = tt
+  broken-free h (pair.Cut p) k = tt
+  broken-free h (pair.Fault number p) k = k
+
+  break-free : (t : Tag) → TagFree t → StepFree (onBreak bad d g t)
+  unfolding pairAt
+  break-free (tag.Read h empty p n) k = either StepFree empty tt (broken-free (knowing g (h .unknown)) (pairOf bad d n br) (pair-free bad d n br))
+  break-free (tag.Fault number p) k = k
+
+  language-free : (t : Tag) → TagFree t → StepFree (onLanguage g t)
+  language-free (tag.Read h empty p n) k = tt
+  language-free (tag.Fault number p) k = k
+
+  other-free : (t : Tag) → TagFree t → StepFree (onOther g t)
+  other-free (tag.Read h empty p n) k = tt
+  other-free (tag.Fault number p) k = k
+
+  out-free : (s : Skip) → StepFree (onOut g s)
+  out-free (skip.Past n) = tt
+  out-free (skip.Broken p) = refl
+
+  end-free : (s : Skip) → StepFree (onEnd g s)
+  end-free (skip.Past n) = tt
+  end-free (skip.Broken p) = refl
+
+  start-free : (m e : ℕ) → StepFree (startAt bad d m g e)
+  unfolding startAt breakAt languageAt otherAt
+  start-free m e =
+      either StepFree (eqb (kindOf d (modeIn m (g .inside)) (g .next + 1) e) 1) (break-free (bareOf bad d (g .next) e) (bare-free bad d (g .next) e))
+      (either StepFree (eqb (kindOf d (modeIn m (g .inside)) (g .next + 1) e) 2) (language-free (tagOf bad d (g .next) e lang [] [] 0 0 0 1) (tag-free bad d (g .next) e lang [] [] 0 0 0 1))
+      (other-free (bareOf bad d (g .next) e) (bare-free bad d (g .next) e)))
+
+  angle-free : (m : ℕ) (w : List ℕ) (a : Angle) → StepFree (onAngle bad d m w g a)
+  unfolding closeAt
+  angle-free m w (angle.Start e) = start-free m e
+  angle-free m w (angle.Close e) = either StepFree (g .inside) (out-free (stands.shutOf bad d (g .next) e text)) (end-free (stands.shutOf bad d (g .next) e w))
+  angle-free m w angle.Foreign = tt
+  angle-free m w (angle.Broken p) = refl
+
+  step-free : (m : ℕ) (w : List ℕ) → StepFree (stepOf bad d m w g)
+  unfolding stepOf markAt noteAt referAt bracketAt returnAt
+  step-free m w =
+      either StepFree (leb (length d) (g .next)) refl
+      (either StepFree (eqb (getD d (g .next) 0) 60)
+      (either StepFree (bytes.stands (60 ∷ 33 ∷ 45 ∷ 45 ∷ []) (drop (g .next) d)) (note-free (commentOf bad (g .next) (g .next + 4) (drop (g .next + 4) d)))
+      (angle-free m w (angleOf bad d (g .next))))
+      (either StepFree (eqb (getD d (g .next) 0) 38) (refer-free (referenceOf (g .next) (drop (g .next + 1) d)))
+      (either StepFree (eqb (getD d (g .next) 0) 93) (either StepFree (bytes.stands (93 ∷ 93 ∷ 62 ∷ []) (drop (g .next) d)) refl tt)
+      (either StepFree (eqb (getD d (g .next) 0) 13) tt tt))))
+
+on-step : (s : Step) → StepFree s → Over ContentFree (onStep s)
+on-step (step.More g s) k = tt
+on-step (step.Over c) k = k
+
+pub content-free : (bad : Bool) (d : List ℕ) (m : ℕ) (w : List ℕ) (at : ℕ) → ContentFree (contentOf bad d m w at)
+unfolding contentFrom
+content-free bad d m w at = loop-holds ContentFree _ (content.Fault 0 0) refl (λ g. on-step (stepOf bad d m w g) (step-free bad d g m w)) _ _
+
+-- ---- the declaration and the DOCTYPE
+abbrev pub PrologFree : Prolog → Type 0
+PrologFree (prolog.Read latin n) = Unit
+PrologFree (prolog.Fault k p) = Free k
+
+skip-free : (s : Skip) (k : ℕ → Prolog) → ((n : ℕ) → PrologFree (k n)) → PrologFree (onSkip s k)
+skip-free (skip.Past n) k h = h n
+skip-free (skip.Broken p) k h = refl
+
+module _ (bad : Bool) (d : List ℕ) (o : ℕ) where
+  tell-free : (f : Form) (latin : Bool) (p : ℕ) → PrologFree (tellOf bad d o f latin p)
+  unfolding tellOf missOf
+  tell-free done latin p = tt
+  tell-free (white f) latin p = either PrologFree (eqb (blanks d p) p) refl (tell-free f latin (blanks d p))
+  tell-free (room f) latin p = tell-free f latin (blanks d p)
+  tell-free (word w f) latin p = either PrologFree (bytes.stands w (drop p d)) (tell-free f latin (p + length w)) refl
+  tell-free (value ws f) latin p = skip-free (quotedOf true false bad d o p) _ (λ k. either PrologFree (amongOf d (p + 1) k ws) (tell-free f latin (k + 1)) refl)
+  tell-free (encoding marked f) latin p =
+      skip-free (quotedOf true false bad d o p) _
+      (λ k. either PrologFree (alikeOf d (p + 1) k UTF-8) (tell-free f false (k + 1))
+      (either PrologFree marked refl (either PrologFree (alikeOf d (p + 1) k ISO-8859-1) (tell-free f true (k + 1)) refl)))
+  tell-free (literal public f) latin p = skip-free (quotedOf false public bad d o p) _ (λ k. tell-free f latin (k + 1))
+  tell-free (root f) latin p =
+      either PrologFree (bytes.stands sss (drop p d)) (tell-free f latin (p + 3))
+      (either PrologFree (leb (length d) p) refl (either PrologFree (bytes.startsName (getD d p 0)) refl refl))
+  tell-free (bracket f) latin p = either PrologFree (bytes.stands (91 ∷ []) (drop p d)) refl (tell-free f latin p)
+  tell-free (perhaps w f g) latin p =
+      either PrologFree (eqb (blanks d p) p) (tell-free g latin p)
+      (either PrologFree (bytes.stands w (drop (blanks d p) d)) (tell-free f latin (blanks d p + length w)) (tell-free g latin p))
+  tell-free (which w f g) latin p = either PrologFree (bytes.stands w (drop p d)) (tell-free f latin (p + length w)) (tell-free g latin p)
+
+pub declaration-free : (d : List ℕ) → PrologFree (declarationOf d)
+unfolding declarationOf
+declaration-free d =
+    either PrologFree (bytes.stands XML (drop (startOf d) d)) (tell-free false d (startOf d) (declaration (ltb 0 (startOf d))) false (startOf d)) tt
+
+gap-free : (bad : Bool) (d : List ℕ) (x : Prolog) → PrologFree x → PrologFree (gapOn bad d x)
+unfolding gapTo
+gap-free bad d (prolog.Read latin n) k = skip-free (gapOf bad d n) _ (λ m. tt)
+gap-free bad d (prolog.Fault number p) k = k
+
+pub head-free : (bad latin : Bool) (d : List ℕ) (p : ℕ) → PrologFree (headOf bad latin d p)
+unfolding headOf
+head-free bad latin d p = skip-free (gapOf bad d p) _ (λ n. either PrologFree (bytes.stands DOCTYPE (drop n d)) (gap-free bad d (tellOf bad d n doctype latin n) (tell-free bad d n doctype latin n)) tt)
+
+-- ---- behind the root
+abbrev pub TailFree : Tail → Type 0
+TailFree tail.Clean = Unit
+TailFree (tail.Foul k p) = Free k
+
+pub tail-free : (bad : Bool) (d : List ℕ) (p : ℕ) → TailFree (tailOf bad d p)
+unfolding tailOf endOf
+tail-free bad d p = by (gapOf bad d p) where
+  by : (s : Skip) → TailFree (behindRoot bad d s)
+  by (skip.Past n) =
+      either TailFree (leb (length d) n) (either TailFree bad refl tt) (either TailFree (bytes.stands (60 ∷ 63 ∷ []) (drop n d)) refl refl)
+  by (skip.Broken q) = refl

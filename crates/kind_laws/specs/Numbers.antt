@@ -1,0 +1,40 @@
+-- "3 never occurs" for a definition in XML (READINGS-02, C-15, point 4); 50, 51 and 52 never for one of 1.1, whose "answers don't change".
+use mathlib.Core.Path.{_≡_, refl, sym, ap, _∙_}
+use mathlib.Core.Bool.{Bool, true, false}
+use mathlib.Core.List.{List}
+use Prim.Native.Nat.{ℕ, _≤_}
+use native.Mathlib.Omega.{arith}
+use lib.Dec.{eqb}
+use lib.IntN.{ℤ}
+use lib.ListN.{length}
+use Rattle.below.specs.Below.{holds-not}
+use Rattle.definition.specs.declared.Answer.the-variants as answer
+use Rattle.definition.specs.rule.Definition as sss
+use Rattle.refusals.specs.Refusals.{refusal-named, refusal-placed, answered}
+use Rattle.prologs.specs.rule.Told.{isXml}
+use Rattle.xml_reading.specs.rule.Whole as xml
+use Rattle.kinds.specs.rule.Definition.{ofXml, outcomeOf, answerOf, DefinitionRead}
+use Rattle.kinds.specs.Plain.{plain-read}
+use Rattle.kind_laws.specs.Leaves.{Free}
+use Rattle.kind_laws.specs.Three.{OutcomeFree, outcome-free}
+
+module _ {d : List ℕ} {t t′ : List ℤ} {k p : ℕ} (w : DefinitionRead d t t′ (answer.Refused k p)) where
+  -- 1 to 10 alone, in the file or at its end
+  sss-refused : isXml d ≡ false → sss.outcomeOf d (length t) ≡ sss.Refusal k p
+  sss-refused plain = answered d (length t) k p (sym (plain-read d plain t t′ (answer.Refused k p) .0 w .says))
+
+  pub fifty-never-in-sss : isXml d ≡ false → (1 ≤ k) × (k ≤ 10)
+  fifty-never-in-sss plain = refusal-named d (length t) k p (sss-refused plain)
+
+  pub placed-in-sss : isXml d ≡ false → p ≤ length d
+  placed-in-sss plain = refusal-placed d (length t) k p (sss-refused plain)
+
+  free : isXml d ≡ true → Free k
+  unfolding outcomeOf answerOf
+  free x = go (xml.outcomeOf d (length t)) (outcome-free d (length t)) (w .says ∙ rw x) where
+    go : (o : xml.Outcome) → OutcomeFree o → answer.Refused k p ≡ answerOf (ofXml o) → Free k
+    go (xml.Built l) h e = let z : _≡_ {A = ℕ} 0 1 = cc in absurd (omega arith)
+    go (xml.Refusal number place) h e = let u : number ≡ k = cc in rw u at h
+
+  pub three-never-in-xml : isXml d ≡ true → k ≡ 3 → ⊥
+  three-never-in-xml x e = holds-not {b = eqb k 3} (rw e) (free x)

@@ -1,0 +1,4 @@
+pub mod Small
+pub mod Matched
+pub mod Overs
+pub mod Zeros

@@ -1,0 +1,3 @@
+pub mod rule
+pub mod Begins
+pub mod Code

@@ -1,0 +1,4 @@
+pub mod Runs
+pub mod Stretches
+pub mod Gaps
+pub mod References

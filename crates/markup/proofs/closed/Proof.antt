@@ -1,0 +1,29 @@
+use mathlib.Core.Path.{_≡_, refl, sym, ap, _∙_}
+use Prim.Native.Nat.{_+_, _-_, _≤_, _<_}
+use borrow.Author.Needs.{needs}
+use native.Mathlib.Omega.{arith}
+use borrow.Author.Tests.{eq-eqb, ne-eqb, lt-ltb, le-ltb}
+use lib.ListN.{drop-of-length-le}
+use Rattle.markup.specs.rule.Reference.{closedOf}
+use Rattle.utf.proofs.Strides.{drop-1}
+use Rattle.markup.proofs.closed.Statement.{statement}
+use Rattle.markup.proofs.closed.Tie as tie
+
+returns : tie.Need-returns
+unfolding closedOf
+returns c = rw (drop-of-length-le (c .before .before .args .d .now) (c .if1 .taken))
+
+returns-2 : tie.Need-returns-2
+unfolding closedOf
+returns-2 c = rw (drop-1 (c .before .before .before .before .before .before .args .d .now) (c .before .before .before .before .before .before .args .n) (omega arith), eq-eqb _ 59 (c .before .before .if2 .taken), ← (c .before .is-legal .ensures), c .if3 .taken)
+
+returns-3 : tie.Need-returns-3
+unfolding closedOf
+returns-3 c = rw (drop-1 (c .before .before .before .before .before .before .args .d .now) (c .before .before .before .before .before .before .args .n) (omega arith), eq-eqb _ 59 (c .before .before .if2 .taken), ← (c .before .is-legal .ensures), c .if3 .left)
+
+returns-4 : tie.Need-returns-4
+unfolding closedOf
+returns-4 c = rw (drop-1 (c .before .before .before .before .args .d .now) (c .before .before .before .before .args .n) (omega arith), ne-eqb _ 59 (c .if2 .left))
+
+pub closed-spec : {M : Type 1} → statement M
+closed-spec = tie.close (tie.spec returns (λ c. search needs) (λ c κs. search needs) (λ c. search needs) returns-2 returns-3 returns-4)

@@ -1,0 +1,4 @@
+-- What the contracts of the public calls say, in reading order. Nothing else stands here.
+pub mod Stand
+pub mod Pair
+pub mod Grammar

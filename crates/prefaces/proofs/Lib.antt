@@ -1,0 +1,3 @@
+pub mod Places
+mod Charges
+mod Binds

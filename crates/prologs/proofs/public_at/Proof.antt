@@ -1,0 +1,29 @@
+use mathlib.Core.Path.{_≡_, refl, sym, ap, _∙_}
+use mathlib.Core.Bool.{Bool, true, false}
+use mathlib.Core.List.{[], _∷_}
+use Prim.Native.Nat.{ℕ, _+_, _-_, _≤_, _<_}
+use lib.ListN.{length, drop, getD}
+use borrow.Author.Needs.{needs}
+use native.Mathlib.Omega.{arith}
+use Rattle.prologs.specs.rule.Form.{literal, located}
+use Rattle.prologs.proofs.Steps.{quoted-past, tell-white, white-miss, tell-literal, literal-broken}
+use Rattle.prologs.proofs.public_at.Statement.{statement}
+use Rattle.prologs.proofs.public_at.Tie as tie
+
+returns : tie.Need-returns
+returns c = c .miss .ensures ∙ sym (white-miss (c .before .before .before .before .args .bad) (c .before .before .before .before .args .d .now) (c .before .before .before .before .args .opened) (literal true located) (c .before .before .before .before .args .latin) (c .before .before .before .before .args .at) (c .before .before .run .ensures .0) (c .before .if1 .taken))
+
+add-located-at : tie.Need-add-located-at
+add-located-at c = let q = quoted-past false true (c .before .before .before .before .before .before .before .args .bad) (c .before .before .before .before .before .before .before .args .d .now) (c .before .before .before .before .before .before .before .args .opened) _ _ (sym (c .before .before .before .quoted .ensures) ∙ c .before .k .given .1) in omega (arith, q .1)
+
+located-at-requires : tie.Need-located-at-requires
+located-at-requires c κs = let q = quoted-past false true (c .before .before .before .before .before .before .before .args .bad) (c .before .before .before .before .before .before .before .args .d .now) (c .before .before .before .before .before .before .before .args .opened) _ _ (sym (c .before .before .before .quoted .ensures) ∙ c .before .k .given .1) in omega (arith, q .1)
+
+returns-2 : tie.Need-returns-2
+returns-2 c = c .located-at .ensures ∙ sym (tell-white (c .before .before .before .before .before .before .before .before .args .bad) (c .before .before .before .before .before .before .before .before .args .d .now) (c .before .before .before .before .before .before .before .before .args .opened) (literal true located) (c .before .before .before .before .before .before .before .before .args .latin) (c .before .before .before .before .before .before .before .before .args .at) (c .before .before .before .before .before .before .run .ensures .0) (c .before .before .before .before .before .if1 .left) ∙ tell-literal (c .before .before .before .before .before .before .before .before .args .bad) (c .before .before .before .before .before .before .before .before .args .d .now) (c .before .before .before .before .before .before .before .before .args .opened) located (c .before .before .before .before .before .before .before .before .args .latin) (c .before .before .before .before .before .before .run .result) true (sym (c .before .before .before .before .quoted .ensures) ∙ c .before .before .k .given .1))
+
+returns-3 : tie.Need-returns-3
+returns-3 c = sym (tell-white (c .before .before .before .before .before .before .before .args .bad) (c .before .before .before .before .before .before .before .args .d .now) (c .before .before .before .before .before .before .before .args .opened) (literal true located) (c .before .before .before .before .before .before .before .args .latin) (c .before .before .before .before .before .before .before .args .at) (c .before .before .before .before .before .run .ensures .0) (c .before .before .before .before .if1 .left) ∙ literal-broken (c .before .before .before .before .before .before .before .args .bad) (c .before .before .before .before .before .before .before .args .d .now) (c .before .before .before .before .before .before .before .args .opened) located (c .before .before .before .before .before .before .before .args .latin) (c .before .before .before .before .before .run .result) true (sym (c .before .before .before .quoted .ensures) ∙ c .before .p .given .1))
+
+pub public-at-spec : {M : Type 1} → statement M
+public-at-spec = tie.close (tie.spec (λ c κs. search needs) (λ c κs. search needs) returns (λ c κs. search needs) (λ c. search needs) add-located-at located-at-requires (λ c. search needs) returns-2 returns-3)

@@ -1,0 +1,5 @@
+pub mod Book
+pub mod Settle
+pub mod Fine
+pub mod Good
+pub mod Table

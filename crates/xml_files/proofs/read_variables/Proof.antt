@@ -1,0 +1,114 @@
+-- `xml_files::read_variables` meets its contract, by the invariant `Ran`.
+use mathlib.Core.Path.{_≡_, refl, sym, _∙_}
+use Prim.Native.Nat.{_*_, _-_}
+use lib.ListN.{length}
+use native.Mathlib.Omega.{arith}
+use borrow.Author.Needs.{needs}
+use Rattle.layout.specs.rule.Layout.{rowSize, lineSize, mostRows, mostLines}
+use Rattle.survey.specs.rule.Table.{linesAll, highestIn}
+use Rattle.laying.proofs.Zeros.{zeros-long}
+use Rattle.prefaces.specs.Code.{ruleOf}
+use Rattle.sheets.specs.Code.{tallyOf}
+use Rattle.xml_files.proofs.Rans.{Ran, ran-none, ran-sofar, Onward, ran-more, run-over, laid-over, run-not, laid-not}
+use Rattle.xml_files.proofs.read_variables.Statement.{statement}
+use Rattle.xml_files.proofs.read_variables.Tie as tie
+
+abbrev Inv-loop : tie.InvT-loop
+Inv-loop powers bad d from m rows₀ lines₀ marks₀ seen₀ at₀ y₀ rows lines marks seen at y =
+    Ran bad d (ruleOf m) from at y seen rows lines × (length rows ≡ rowSize * mostRows) × (length lines ≡ lineSize * mostLines) × (length marks ≡ 16384)
+
+abbrev μ-loop : tie.MeasureT-loop
+μ-loop powers bad d from m rows₀ lines₀ marks₀ seen₀ at₀ y₀ rows lines marks seen at y = 512 - y .rows
+
+loop-holds : tie.Need-loop-holds Inv-loop μ-loop
+unfolding tallyOf linesAll highestIn
+loop-holds c =
+    let p = c .before .before .before .pre in
+    (ran-none _ _ _ _ _ _ _ _ (p .1 .1 .1) (zeros-long _ (p .1 .1 .1)) refl (p .1 .0 .1), p .1 .1 .0 .0, p .1 .1 .0 .1, p .1 .1 .0 .2)
+
+one-variable-requires : tie.Need-one-variable-requires Inv-loop μ-loop
+one-variable-requires c κs =
+    let p = c .before .before .before .before .before .before .before .before .pre in
+    let i = c .before .before .before .before .loop .inv in
+    (p .0, ((p .1 .0 .0, i .0 .next), ((i .2, i .3), ran-sofar _ _ _ (p .1 .0 .0) _ _ _ _ _ _ (i .0) (i .1) (i .2))))
+
+onward : (c : tie.After-known-told Inv-loop μ-loop) → Onward (c .before .before .before .before .before .before .before .before .before .before .before .before .before .before .before .before .args .bad) (c .before .before .before .before .before .before .before .before .before .before .before .before .before .before .before .before .args .d .now) (ruleOf (c .before .before .before .before .before .before .before .before .before .before .before .before .before .before .before .before .args .m)) (c .before .before .before .before .before .before .before .before .before .before .before .before .before .before .before .before .pre .1 .0 .0) (c .before .before .before .before .before .before .before .before .before .before .before .before .before .before .before .before .args .from) (c .before .before .before .before .before .before .before .before .before .before .before .before .loop .at) (c .before .before .before .before .before .before .before .before .before .before .before .before .loop .y) (c .before .before .before .before .before .before .before .before .before .before .before .before .loop .seen) (c .before .before .before .before .before .before .before .before .before .before .before .before .loop .rows) (c .before .before .before .before .before .before .before .before .before .before .before .before .loop .lines) (c .before .before .before .before .before .before .before .before .before .before .before .before .loop .inv .0) (c .before .before .before .before .before .before .before .before .before .before .before .before .loop .inv .1) (c .before .before .before .before .before .before .before .before .before .before .before .before .loop .inv .2) (c .before .ident .given .0 .0) (c .before .ident .given .0 .1 .0) (c .before .ident .given .0 .1 .1 .0) (c .before .before .before .before .before .before .before .one-variable .last .1 .1 .1 .1 .1 .1 .1 .0) (c .before .before .before .before .before .before .before .one-variable .last .1 .1 .1 .1 .1 .1 .1 .1 .0)
+onward c = ran-more (c .before .before .before .before .before .before .before .before .before .before .before .before .before .before .before .before .args .bad) (c .before .before .before .before .before .before .before .before .before .before .before .before .before .before .before .before .args .d .now) (ruleOf (c .before .before .before .before .before .before .before .before .before .before .before .before .before .before .before .before .args .m)) (c .before .before .before .before .before .before .before .before .before .before .before .before .before .before .before .before .pre .1 .0 .0) (c .before .before .before .before .before .before .before .before .before .before .before .before .before .before .before .before .args .from) (c .before .before .before .before .before .before .before .before .before .before .before .before .loop .at) (c .before .before .before .before .before .before .before .before .before .before .before .before .loop .y) (c .before .before .before .before .before .before .before .before .before .before .before .before .loop .seen) (c .before .before .before .before .before .before .before .before .before .before .before .before .loop .rows) (c .before .before .before .before .before .before .before .before .before .before .before .before .loop .lines) (c .before .before .before .before .before .before .before .before .before .before .before .before .loop .inv .0) (c .before .before .before .before .before .before .before .before .before .before .before .before .loop .inv .1) (c .before .before .before .before .before .before .before .before .before .before .before .before .loop .inv .2) _ _ _ (c .before .before .before .before .before .before .before .one-variable .ensures) _ _ _ (c .before .ident .given .1)
+
+slice-write-seen : tie.Need-slice-write-seen Inv-loop μ-loop
+slice-write-seen c = omega (arith, onward c .small, c .before .before .before .before .before .before .before .before .before .before .before .before .loop .inv .0 .seen-long)
+
+loop-less : tie.Need-loop-less Inv-loop μ-loop
+loop-less c = omega (arith, onward c .further, onward c .left)
+
+loop-again : tie.Need-loop-again Inv-loop μ-loop
+loop-again c =
+    let i = c .before .before .before .before .before .before .before .before .before .before .before .before .loop .inv in
+    let k = c .before .before .before .before .before .before .before .one-variable .kept in
+    (onward c .ran, k .1 .1 .1 .1 .1 .1 .1 .0 ∙ i .1, k .1 .1 .1 .1 .1 .1 .1 .1 .0 ∙ i .2, k .1 .1 .1 .1 .1 .1 .1 .1 .1 .0 ∙ i .3)
+
+enum-known-ident : tie.Need-enum-known-ident Inv-loop μ-loop
+enum-known-ident c = search needs
+
+enum-known-next : tie.Need-enum-known-next Inv-loop μ-loop
+enum-known-next c = search needs
+
+same-length : tie.Need-same-length Inv-loop μ-loop
+same-length c = search needs
+
+same-length-2 : tie.Need-same-length-2 Inv-loop μ-loop
+same-length-2 c = search needs
+
+same-length-3 : tie.Need-same-length-3 Inv-loop μ-loop
+same-length-3 c = search needs
+
+same-length-4 : tie.Need-same-length-4 Inv-loop μ-loop
+same-length-4 c = c .before .before .before .before .before .before .before .before .before .before .before .before .loop .inv .0 .seen-long ∙ sym (zeros-long _ (c .before .before .before .before .before .before .before .before .before .before .before .before .before .before .before .before .pre .1 .1 .1))
+
+returns : tie.Need-returns Inv-loop μ-loop
+returns c =
+    (run-over (c .before .before .before .before .before .before .before .before .before .before .before .before .before .before .before .before .args .bad) (c .before .before .before .before .before .before .before .before .before .before .before .before .before .before .before .before .args .d .now) (ruleOf (c .before .before .before .before .before .before .before .before .before .before .before .before .before .before .before .before .args .m)) (c .before .before .before .before .before .before .before .before .before .before .before .before .before .before .before .before .pre .1 .0 .0) (c .before .before .before .before .before .before .before .before .before .before .before .before .before .before .before .before .args .from) (c .before .before .before .before .before .before .before .before .before .before .before .before .loop .at) (c .before .before .before .before .before .before .before .before .before .before .before .before .loop .y) (c .before .before .before .before .before .before .before .before .before .before .before .before .loop .seen) (c .before .before .before .before .before .before .before .before .before .before .before .before .loop .rows) (c .before .before .before .before .before .before .before .before .before .before .before .before .loop .lines) (c .before .before .before .before .before .before .before .before .before .before .before .before .loop .inv .0) (c .before .before .before .before .before .before .before .before .before .before .before .before .loop .inv .1) (c .before .before .before .before .before .before .before .before .before .before .before .before .loop .inv .2) _ _ _ (c .before .before .before .before .before .before .before .one-variable .ensures) _ (c .before .next .given .1), laid-over (c .before .before .before .before .before .before .before .before .before .before .before .before .before .before .before .before .args .bad) (c .before .before .before .before .before .before .before .before .before .before .before .before .before .before .before .before .args .d .now) (ruleOf (c .before .before .before .before .before .before .before .before .before .before .before .before .before .before .before .before .args .m)) (c .before .before .before .before .before .before .before .before .before .before .before .before .before .before .before .before .pre .1 .0 .0) (c .before .before .before .before .before .before .before .before .before .before .before .before .before .before .before .before .args .from) (c .before .before .before .before .before .before .before .before .before .before .before .before .loop .at) (c .before .before .before .before .before .before .before .before .before .before .before .before .loop .y) (c .before .before .before .before .before .before .before .before .before .before .before .before .loop .seen) (c .before .before .before .before .before .before .before .before .before .before .before .before .loop .rows) (c .before .before .before .before .before .before .before .before .before .before .before .before .loop .lines) (c .before .before .before .before .before .before .before .before .before .before .before .before .loop .inv .0) (c .before .before .before .before .before .before .before .before .before .before .before .before .loop .inv .1) (c .before .before .before .before .before .before .before .before .before .before .before .before .loop .inv .2) _ _ _ (c .before .before .before .before .before .before .before .one-variable .ensures) _ (c .before .next .given .1))
+
+enum-known-f : tie.Need-enum-known-f Inv-loop μ-loop
+enum-known-f c = search needs
+
+same-length-5 : tie.Need-same-length-5 Inv-loop μ-loop
+same-length-5 c = search needs
+
+same-length-6 : tie.Need-same-length-6 Inv-loop μ-loop
+same-length-6 c = search needs
+
+same-length-7 : tie.Need-same-length-7 Inv-loop μ-loop
+same-length-7 c = search needs
+
+same-length-8 : tie.Need-same-length-8 Inv-loop μ-loop
+same-length-8 c = c .before .before .before .before .before .before .before .before .before .before .before .before .loop .inv .0 .seen-long ∙ sym (zeros-long _ (c .before .before .before .before .before .before .before .before .before .before .before .before .before .before .before .before .pre .1 .1 .1))
+
+returns-2 : tie.Need-returns-2 Inv-loop μ-loop
+returns-2 c =
+    (run-not (c .before .before .before .before .before .before .before .before .before .before .before .before .before .before .before .before .args .bad) (c .before .before .before .before .before .before .before .before .before .before .before .before .before .before .before .before .args .d .now) (ruleOf (c .before .before .before .before .before .before .before .before .before .before .before .before .before .before .before .before .args .m)) (c .before .before .before .before .before .before .before .before .before .before .before .before .before .before .before .before .pre .1 .0 .0) (c .before .before .before .before .before .before .before .before .before .before .before .before .before .before .before .before .args .from) (c .before .before .before .before .before .before .before .before .before .before .before .before .loop .at) (c .before .before .before .before .before .before .before .before .before .before .before .before .loop .y) (c .before .before .before .before .before .before .before .before .before .before .before .before .loop .seen) (c .before .before .before .before .before .before .before .before .before .before .before .before .loop .rows) (c .before .before .before .before .before .before .before .before .before .before .before .before .loop .lines) (c .before .before .before .before .before .before .before .before .before .before .before .before .loop .inv .0) (c .before .before .before .before .before .before .before .before .before .before .before .before .loop .inv .1) (c .before .before .before .before .before .before .before .before .before .before .before .before .loop .inv .2) _ _ _ (c .before .before .before .before .before .before .before .one-variable .ensures) _ (c .before .f .given .1), laid-not (c .before .before .before .before .before .before .before .before .before .before .before .before .before .before .before .before .args .bad) (c .before .before .before .before .before .before .before .before .before .before .before .before .before .before .before .before .args .d .now) (ruleOf (c .before .before .before .before .before .before .before .before .before .before .before .before .before .before .before .before .args .m)) (c .before .before .before .before .before .before .before .before .before .before .before .before .before .before .before .before .pre .1 .0 .0) (c .before .before .before .before .before .before .before .before .before .before .before .before .before .before .before .before .args .from) (c .before .before .before .before .before .before .before .before .before .before .before .before .loop .at) (c .before .before .before .before .before .before .before .before .before .before .before .before .loop .y) (c .before .before .before .before .before .before .before .before .before .before .before .before .loop .seen) (c .before .before .before .before .before .before .before .before .before .before .before .before .loop .rows) (c .before .before .before .before .before .before .before .before .before .before .before .before .loop .lines) (c .before .before .before .before .before .before .before .before .before .before .before .before .loop .inv .0) (c .before .before .before .before .before .before .before .before .before .before .before .before .loop .inv .1) (c .before .before .before .before .before .before .before .before .before .before .before .before .loop .inv .2) _ _ _ (c .before .before .before .before .before .before .before .one-variable .ensures) _ (c .before .f .given .1))
+
+pub read-variables-spec : {M : Type 1} → statement M
+read-variables-spec =
+    tie.close
+    (tie.spec
+    Inv-loop
+    μ-loop
+    loop-holds
+    one-variable-requires
+    enum-known-ident
+    slice-write-seen
+    loop-less
+    loop-again
+    enum-known-next
+    same-length
+    same-length-2
+    same-length-3
+    same-length-4
+    returns
+    enum-known-f
+    same-length-5
+    same-length-6
+    same-length-7
+    same-length-8
+    returns-2)

@@ -1,0 +1,4 @@
+pub mod Bytes
+pub mod Definitions
+pub mod Refused
+pub mod Small
