@@ -22,7 +22,7 @@
  *   Threads   The library has no state: no variable of its own, no allocation, no lock, no errno, no locale. Calls may run
  *             at once on any threads as long as each keeps to "Change"; a table or a record that is only read may be
  *             shared by all of them. A call may be made in a signal handler, if there is stack enough.
- *   Stack     See ZARFOLIN_STACK_EXPORT below: up to 357,000 bytes. A small thread (musl gives 128 KiB) is not enough.
+ *   Stack     See ZARFOLIN_STACK_IMPORT below: up to 464,000 bytes. A small thread (musl gives 128 KiB) is not enough.
  *   Needs     Of the C library memcpy and memset alone.
  *   Refusal   The value returned is 0 for done, otherwise a refusal, ZARFOLIN_E_TOO_LONG to ZARFOLIN_E_LENGTH below, which
  *             zarfolin_message puts into words. zarfolin_next_record alone has its own meaning for it. A later library may
@@ -30,7 +30,8 @@
  *   Kept      A refusal leaves every buffer but `answer` as it was, and so is whatever a call doesn't say that it writes.
  *   answer    Points to four numbers (ZARFOLIN_ANSWER). A call that has one fills all four each time, refused or not, and
  *             the first of them is the value returned.
- *   Counting  Rows, lines, byte places and text places count from 0; records, and the locations of POSITION, from 1.
+ *   Counting  Rows, lines, byte places and text places count from 0; records, the locations of POSITION, and the lines and
+ *             columns of comma-separated text, from 1.
  *   Encoding  Data and definitions are bytes. Outside its texts a definition means what it means in ASCII. Names, labels and
  *             texts of values are handed on undecoded, as place and length in the definition; zarfolin_decode_text drops
  *             bytes below 32 and decodes brace forms ({"} {{} {NL} {hex}), in the encoding that the sender used. Those of a
@@ -99,9 +100,9 @@ enum {
     /* of a data file */
     ZARFOLIN_E_UNENDED = 30, /* last record has no terminator */
     ZARFOLIN_E_LENGTH = 31,  /* length differs from the first record's */
-    /* of a clean definition, and 40 of an export */
-    ZARFOLIN_E_OTHER_TABLE = 40, /* the table is not the one that the definition yields; of an export also: the definition is
-                                  * refused */
+    /* of a clean definition, and 40 of an export and an import */
+    ZARFOLIN_E_OTHER_TABLE = 40, /* the table is not the one that the definition yields; of an export and an import also: the
+                                  * definition is refused */
     ZARFOLIN_E_CLEAN_SIZE = 41,  /* clean text above ZARFOLIN_MAX_DEFINITION bytes */
     ZARFOLIN_E_CLEAN_ROOM = 42,  /* output too short for the clean text */
     /* of a definition in XML, besides 1, 2 and 4 to 10 */
@@ -109,15 +110,21 @@ enum {
     ZARFOLIN_E_ELEMENT = 51, /* element or attribute unknown or misplaced */
     ZARFOLIN_E_USE = 52,     /* use or filter rule broken: a second serial or weight, one of a wrong type or with a filter, a filter
                               * that is not the name of just one variable before it, a LOGICAL */
-    /* of an export */
-    ZARFOLIN_E_EXPORT_ROOM = 60, /* output too short for the text */
+    /* of an export and an import */
+    ZARFOLIN_E_EXPORT_ROOM = 60, /* output too short for the text, or for the records */
+    /* of an import */
+    ZARFOLIN_E_MALFORMED = 61, /* text malformed: a quote inside a field that has none around it, anything but a comma or CR LF
+                                * behind a closing quote, a CR or LF alone, quotes that don't close, no CR LF at the end */
+    ZARFOLIN_E_NAME_LINE = 62, /* name line differs */
+    ZARFOLIN_E_FIELDS = 63,    /* wrong number of fields */
+    ZARFOLIN_E_FIELD = 64,     /* field not a legal value */
     /* of mending */
     ZARFOLIN_E_MEND_ROOM = 70, /* output or list too short */
     /* of a matrix */
     ZARFOLIN_E_NO_COLUMN = 80,   /* no column at all: every row is a CHARACTER */
     ZARFOLIN_E_MATRIX_SIZE = 81, /* total above ZARFOLIN_MAX_MATRIX bytes */
     ZARFOLIN_E_MATRIX_ROOM = 82, /* output too short */
-    /* of a table, where its rows are written back */
+    /* of a table, where its rows are written back, or all written */
     ZARFOLIN_E_SHARED = 90,  /* two rows share a value place */
     /* of a field, before 25 in the order of the calls: what is wrong with it (up to version 1 they were one number, 24) */
     ZARFOLIN_E_STRAY = 241,     /* stray byte: it cannot stand there after those to its left */
@@ -488,6 +495,24 @@ zarfolin_number zarfolin_matrix(const int64_t *table, size_t table_len, const ui
 zarfolin_number zarfolin_export(const uint8_t *def, size_t def_len, const int64_t *table, size_t table_len, const uint8_t *data,
                                 size_t data_len, uint8_t *out, size_t out_len, int64_t *answer);
 
+/* Reads comma-separated text as zarfolin_export writes it, and builds a record for each line behind the names: ZARFOLIN_H_RECORD
+ * bytes, spaces where nothing is written, every row's value as the write of its type puts it, CR LF. The rows of an exported sound
+ * file read as before.
+ *
+ * The names are compared byte by byte with those that zarfolin_export writes. A field is a value when it is what zarfolin_export
+ * writes for a value that the row takes; it may stand in quotes without need, and zeros may be cut from the end of a number's
+ * decimals, with the point where none is left (12.50 is 12.5 too, 12.00 is 12): spreadsheets do so. An empty field is missing.
+ * Answers 0; or the first of 20, 40 (the definition yields another table, or is refused), 90 that holds; or for the first line that
+ * is refused the lowest of 61 to 64; or 60 (the records do not fit).
+ * answer: the number; on 0 how many records there are, and how many bytes; for 61 to 64 the line, from 1, that of the names being 1
+ *         and a line end inside quotes no line's; the column, from 1: of 61 and 64 the field's, of 62 the first that differs or is
+ *         on one side only, of 63 the first that is missing or too many; otherwise zeros.
+ * out:    on 0 the records from its start on; what lies beyond is kept. On a refusal all of it is kept. With as many times
+ *         ZARFOLIN_H_RECORD + 2 bytes as the text has LF, 60 can't come.
+ * def, table, text: only read. The table is the one that zarfolin_read_definition made of def; more numbers are not looked at. */
+zarfolin_number zarfolin_import(const uint8_t *def, size_t def_len, const int64_t *table, size_t table_len, const uint8_t *text,
+                                size_t text_len, uint8_t *out, size_t out_len, int64_t *answer);
+
 /* ---- stack --------------------------------------------------------------------------------------------------------- *
  *
  * The most bytes of stack that a call took, rounded up, its own return address included, memcpy and memset too. Measured,
@@ -510,6 +535,7 @@ zarfolin_number zarfolin_export(const uint8_t *def, size_t def_len, const int64_
 #define ZARFOLIN_STACK_MEND 17600
 #define ZARFOLIN_STACK_MATRIX 129000
 #define ZARFOLIN_STACK_EXPORT 357000
+#define ZARFOLIN_STACK_IMPORT 464000
 #define ZARFOLIN_STACK_NEXT_RECORD 128
 #define ZARFOLIN_STACK_VERSION 16
 
@@ -567,7 +593,12 @@ ZARFOLIN_INLINE const char *zarfolin_message(zarfolin_number number) {
     case ZARFOLIN_E_XML: return "the XML is not well formed here";
     case ZARFOLIN_E_ELEMENT: return "this element or attribute is unknown, or may not stand here";
     case ZARFOLIN_E_USE: return "the use or the filter breaks its rule";
-    case ZARFOLIN_E_EXPORT_ROOM: return "the lent output is too short for the exported text";
+    case ZARFOLIN_E_EXPORT_ROOM: return "the lent output is too short for the exported text or the imported records";
+    case ZARFOLIN_E_MALFORMED:
+        return "the text is malformed: a quote or a line end stands where none may, or it ends within a line";
+    case ZARFOLIN_E_NAME_LINE: return "the name line is not that of this definition";
+    case ZARFOLIN_E_FIELDS: return "the line has another number of fields than there are variables";
+    case ZARFOLIN_E_FIELD: return "the field is not a legal value of its variable";
     case ZARFOLIN_E_MEND_ROOM: return "the lent output or list is too short for the mended file";
     case ZARFOLIN_E_NO_COLUMN: return "the matrix has no column, since every variable is a text";
     case ZARFOLIN_E_MATRIX_SIZE: return "the matrix is longer than 16,777,216 bytes";

@@ -4,8 +4,8 @@
  * A request: nine 64-bit numbers (call, row or from, number, the lengths of table, list, bytes, text and out, last), then
  * the table, the list, the bytes, the text and out themselves. A reply: the number returned, the four answers, 1 if
  * anything changed that the call may not change (an input, or a byte around a buffer), then the buffer that the call may
- * change (of two the list, then out, the bytes or the text, where mended data, a matrix, an export or a clean definition stands). All
- * numbers as this machine lays them out: little-endian. Ends when its input ends. */
+ * change (of two the list, then out, the bytes or the text, where mended data, a matrix, an export, a clean definition or
+ * imported records stand). All numbers as this machine lays them out: little-endian. Ends when its input ends. */
 #include "zarfolin.h"
 
 #include <stdio.h>
@@ -17,7 +17,7 @@
 
 enum { READ_DEFINITION, READ_VALUE, JUDGE_RECORD, WRITE_MISSING, WRITE_NUMBER, WRITE_TRUTH, WRITE_SET, WRITE_TEXT, JUDGE_FILE, NEXT_RECORD,
        READ_RECORD, DECODE_TEXT, JUDGE_PART, CORRECT, NORMAL, MEND, MATRIX, EXPORT,
-       WRITE_DEFINITION };
+       WRITE_DEFINITION, IMPORT };
 
 static int take(void *to, size_t length) { return length == 0 || fread(to, 1, length, stdin) == length; }
 
@@ -168,6 +168,11 @@ int main(void) {
         case WRITE_DEFINITION:
             may_too = &text;
             number = zarfolin_write_definition(b, head[5], t, head[3], inner(&text), head[6], a);
+            break;
+        case IMPORT:
+            /* The definition stands before the text. */
+            may_too = &text;
+            number = zarfolin_import(b, row, t, head[3], b + row, head[5] - row, inner(&text), head[6], a);
             break;
         default:
             return 2;

@@ -501,6 +501,66 @@ static void in_xml(void) {
                   ZARFOLIN_E_USE, "a</filter>"));
 }
 
+/* What the import of a text behind this name line is refused with; the output is kept. */
+static int not_imported(const char *names, const char *lines, int64_t number, int64_t line, int64_t column) {
+    char text[400];
+    uint8_t out[50];
+    int64_t answer[4];
+    snprintf(text, sizeof text, "%s%s", names, lines);
+    memset(out, '?', sizeof out);
+    const zarfolin_number got = zarfolin_import(bytes(definition), sizeof definition - 1, table, table_len, bytes(text), strlen(text), out,
+                                                sizeof out, answer);
+    for (size_t i = 0; i < sizeof out; i++) {
+        CHECK(out[i] == '?');
+    }
+    return got == (zarfolin_number)number && is(answer, number, line, column, 0);
+}
+
+/* Text as records, with room, with just enough, with one byte too few; every refusal keeps the output. */
+static void imports(void) {
+    static const char names[] = "desk,seen,wait,word,back,two\r\n";
+    /* As a spreadsheet gives it back: a zero cut, quotes without need. */
+    static const char text[] = "desk,\"seen\",wait,word,back,two\r\n7,1;4,-1,ab,1,1;20\r\n,,,\"\",,\r\n12,none,99.5,\" ,\"\"\",\"0\",\r\n";
+    static const char due[] = "0710 1 -1.0ab   10120\r\n                     \r\n1200 0 99.5 ,\"  0    \r\n";
+    enum { LENGTH = sizeof due - 1 };
+    const uint8_t *const def = bytes(definition);
+    const size_t def_len = sizeof definition - 1, text_len = sizeof text - 1;
+    uint8_t out[LENGTH + 4];
+    int64_t answer[ZARFOLIN_ANSWER + 1];
+    answer[ZARFOLIN_ANSWER] = 12345;
+    memset(out, '?', sizeof out);
+    CHECK(zarfolin_import(def, 3, table, table_len - 1, bytes("\""), 1, out, 0, answer) == ZARFOLIN_E_TABLE);
+    CHECK(is(answer, 20, 0, 0, 0));
+    CHECK(zarfolin_import(def, def_len - 6, table, table_len, bytes("\""), 1, out, 0, answer) == ZARFOLIN_E_OTHER_TABLE);
+    CHECK(is(answer, 40, 0, 0, 0));
+    CHECK(zarfolin_import(def, def_len, table, table_len, bytes(text), text_len, out, LENGTH - 1, answer) == ZARFOLIN_E_EXPORT_ROOM);
+    CHECK(is(answer, 60, 0, 0, 0));
+    for (size_t i = 0; i < sizeof out; i++) {
+        CHECK(out[i] == '?');
+    }
+    CHECK(zarfolin_import(def, def_len, table, table_len, bytes(text), text_len, out, LENGTH, answer) == ZARFOLIN_OK);
+    CHECK(is(answer, 0, 3, LENGTH, 0) && memcmp(out, due, LENGTH) == 0 && out[LENGTH] == '?');
+    CHECK(zarfolin_import(def, def_len, table, table_len, bytes(names), sizeof names - 1, out, 0, answer) == ZARFOLIN_OK);
+    CHECK(is(answer, 0, 0, 0, 0) && answer[ZARFOLIN_ANSWER] == 12345);
+    /* Lines of names, of another number of fields, of values; the lowest number of a line counts, and the earlier line. */
+    CHECK(not_imported("", "", ZARFOLIN_E_MALFORMED, 1, 1) && not_imported(names, ",,,,,", ZARFOLIN_E_MALFORMED, 2, 6));
+    CHECK(not_imported(names, "x,a\"b\r\n", ZARFOLIN_E_MALFORMED, 2, 2) && not_imported(names, ",,,,,\r\n,\n", ZARFOLIN_E_MALFORMED, 3, 2));
+    CHECK(not_imported("desk,Seen,wait,word,back,two\r\n", "\"", ZARFOLIN_E_NAME_LINE, 1, 2));
+    CHECK(not_imported("desk,seen\r\n", "", ZARFOLIN_E_NAME_LINE, 1, 3));
+    CHECK(not_imported(names, "x,,,,,,,\r\n", ZARFOLIN_E_FIELDS, 2, 7) && not_imported(names, ",,,,,\r\n\r\n", ZARFOLIN_E_FIELDS, 3, 2));
+    CHECK(not_imported(names, "13,,,,,\r\n", ZARFOLIN_E_FIELD, 2, 1) && not_imported(names, ",3,,,,\r\n\"", ZARFOLIN_E_FIELD, 2, 2));
+    CHECK(not_imported(names, ",,7.,x ,,\r\n", ZARFOLIN_E_FIELD, 2, 3) && not_imported(names, ",,,x ,,\r\n", ZARFOLIN_E_FIELD, 2, 4));
+    CHECK(not_imported(names, ",,,,2,\r\n", ZARFOLIN_E_FIELD, 2, 5) && not_imported(names, ",,,,,3;2\r\n", ZARFOLIN_E_FIELD, 2, 6));
+    /* Two rows over one byte: 90, whatever the text. */
+    static const char shared[] = "SSS VERSION 1.1 SURVEY RECORD R VARIABLE 1 NAME \"a\" LABEL \"\" TYPE LOGICAL POSITION 1 END VARIABLE "
+                                 "VARIABLE 2 NAME \"b\" LABEL \"\" TYPE LOGICAL POSITION 1 END VARIABLE END RECORD END SURVEY END SSS";
+    static int64_t other[ZARFOLIN_TABLE(2, 0)];
+    CHECK(zarfolin_read_definition(bytes(shared), sizeof shared - 1, other, ZARFOLIN_TABLE(2, 0), answer) == ZARFOLIN_OK);
+    CHECK(zarfolin_import(bytes(shared), sizeof shared - 1, other, ZARFOLIN_TABLE(2, 0), bytes("\""), 1, out, 0, answer) ==
+          ZARFOLIN_E_SHARED);
+    CHECK(is(answer, 90, 0, 0, 0));
+}
+
 /* A definition that is refused, with its number and the place of what is at fault, whatever the table; the output is kept. */
 static void not_clean(const char *text, int64_t number, const char *fault) {
     uint8_t out[3] = {'?', '?', '?'};
@@ -623,6 +683,8 @@ static void messages(void) {
     CHECK(zarfolin_message(ZARFOLIN_E_OTHER_TABLE) != unknown && zarfolin_message(ZARFOLIN_E_EXPORT_ROOM) != unknown);
     CHECK(zarfolin_message(ZARFOLIN_E_XML) != unknown && zarfolin_message(ZARFOLIN_E_ELEMENT) != unknown);
     CHECK(zarfolin_message(ZARFOLIN_E_USE) != unknown);
+    CHECK(zarfolin_message(ZARFOLIN_E_MALFORMED) != unknown && zarfolin_message(ZARFOLIN_E_NAME_LINE) != unknown);
+    CHECK(zarfolin_message(ZARFOLIN_E_FIELDS) != unknown && zarfolin_message(ZARFOLIN_E_FIELD) != unknown);
     for (zarfolin_number a = 0; a <= ZARFOLIN_E_LENGTH; a++) {
         const int none = (a > ZARFOLIN_E_TABLE_ROOM && a < ZARFOLIN_E_TABLE) || a == 24;
         CHECK((strcmp(zarfolin_message(a), unknown) == 0) == none);
@@ -646,6 +708,7 @@ int main(void) {
     mends();
     matrices();
     exports();
+    imports();
     cleans();
     printf("face for C: %d checks, all as they should be\n", checks);
     return 0;

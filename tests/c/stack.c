@@ -45,6 +45,8 @@ static uint8_t matrix_out[ZARFOLIN_MAX_MATRIX];
 static size_t matrix_len = ZARFOLIN_MAX_MATRIX;
 static uint8_t export_out[1 << 20];
 static size_t export_len = sizeof export_out;
+static uint8_t import_out[4 * (ZARFOLIN_MAX_LOCATION + 8)];
+static size_t import_len, text_len;
 static uint8_t clean_out[ZARFOLIN_MAX_DEFINITION];
 static size_t clean_len = sizeof clean_out;
 static volatile zarfolin_number got;
@@ -76,6 +78,9 @@ static void matrix(void) { got = zarfolin_matrix(TABLE, record, record_len, matr
 static void export_file(void) {
     got = zarfolin_export(TEXT, TABLE, record, record_len, export_out, export_len, five);
 }
+static void import_text(void) {
+    got = zarfolin_import(TEXT, TABLE, export_out, text_len, import_out, import_len, answer);
+}
 static void write_definition(void) { got = zarfolin_write_definition(TEXT, TABLE, clean_out, clean_len, answer); }
 static void next_record(void) { got = zarfolin_next_record(record, record_len, row, answer); }
 
@@ -103,6 +108,7 @@ static struct measured {
     {"zarfolin_mend", mend, ZARFOLIN_STACK_MEND, 0, 0},
     {"zarfolin_matrix", matrix, ZARFOLIN_STACK_MATRIX, 0, 0},
     {"zarfolin_export", export_file, ZARFOLIN_STACK_EXPORT, 0, 0},
+    {"zarfolin_import", import_text, ZARFOLIN_STACK_IMPORT, 0, 0},
     {"zarfolin_write_definition", write_definition, ZARFOLIN_STACK_WRITE_DEFINITION, 0, 0},
     {"zarfolin_next_record", next_record, ZARFOLIN_STACK_NEXT_RECORD, 0, 0},
     {"zarfolin_normal", normal, ZARFOLIN_STACK_NORMAL, 0, 0},
@@ -314,6 +320,28 @@ static zarfolin_number end_of_sheet(void) {
     return got;
 }
 
+/* What was exported, imported: with room, with none, cut short, and with a byte changed now and then. */
+static void import_of_it(void) {
+    text_len = (size_t)five[4];
+    for (import_len = 0; import_len <= sizeof import_out; import_len += sizeof import_out) {
+        measure(import_text);
+    }
+    import_len = sizeof import_out;
+    const zarfolin_number whole = got;
+    if (text_len > 0) {
+        text_len--;
+        measure(import_text);
+        text_len++;
+        for (size_t at = 0; at < text_len; at += text_len / 4 + 1) {
+            const uint8_t kept = export_out[at];
+            export_out[at] = at % 2 ? '"' : '7';
+            measure(import_text);
+            export_out[at] = kept;
+        }
+    }
+    got = whole;
+}
+
 /* Files with each terminator, of sound and faulty records. */
 static void files(void) {
     static const char *const ends[] = {"\r\n", "\n\r", "\r", "\n", ""};
@@ -340,6 +368,7 @@ static void files(void) {
                 }
                 measure(matrix);
                 measure(export_file);
+                import_of_it();
                 mended_len = sizeof mended;
                 measure(mend);
                 mended_len = 0;
@@ -435,6 +464,11 @@ int main(void) {
         fprintf(stderr, "the record with rows apart was not exported: %d\n", (int)got);
         return 1;
     }
+    import_of_it();
+    if (got != ZARFOLIN_OK) {
+        fprintf(stderr, "the record with rows apart was not imported: %d\n", (int)got);
+        return 1;
+    }
     /* The largest: 512 variables of 8 lines each, the names long and alike, lines falling. */
     begin("STANDARD NAMES");
     for (int v = 512; v > 0; v--) {
@@ -454,6 +488,7 @@ int main(void) {
         memset(record, ' ', record_len);
         matrix_of_one();
         export_of_one();
+        import_of_it();
     } else {
         fprintf(stderr, "the largest definition was refused: %d at %d\n", (int)got, (int)answer[1]);
         return 1;
@@ -480,6 +515,7 @@ int main(void) {
     record_len = (size_t)table[ZARFOLIN_H_RECORD];
     memset(record, ' ', record_len);
     export_of_one();
+    import_of_it();
     /* 32 levels of comments before each token of a definition, and cut short there. */
     begin("NOTE \"n\" STANDARD NAMES");
     variable(1, "MULTIPLE POSITION 1 TO 6 SPREAD 3 OF 2 NOTE \"x\" VALUES 1 TO 3 WITH NOTE \"n\" 7 \"a\" SPECIAL 5 \"b\" END VALUES");

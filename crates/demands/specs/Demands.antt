@@ -1,8 +1,8 @@
 -- THE DEMANDS, one by one: the final theorems over the promises of the public calls, restated here and each proved by name elsewhere. The
 -- promises stand in specs/rule of their crates: TableTested (sound), ValueRead and RecordJudged (records), Written (writes), NextFound
--- (cuts), FileJudged (files), PartJudged (parts), MatrixWritten (matrices), Exported (exports), DefinitionRead (kinds),
--- DefinitionWritten (clean), ListCorrected (corrections), Mends (mends), Normalised (normal); those of the exported functions (zarfolin)
--- hold them, or are they.
+-- (cuts), FileJudged (files), PartJudged (parts), MatrixWritten (matrices), Exported (exports), Imported (imports), DefinitionRead
+-- (kinds), DefinitionWritten (clean), ListCorrected (corrections), Mends (mends), Normalised (normal); those of the exported functions
+-- (zarfolin) hold them, or are they.
 use mathlib.Core.Path.{_≡_}
 use mathlib.Core.Logic.{_↔_, ⊎-elim}
 use mathlib.Core.Bool.{Bool, true, false}
@@ -63,6 +63,19 @@ use Rattle.export_laws.specs.Quoted as quoted
 use Rattle.export_laws.specs.Apart as apart
 use Rattle.value_fields.specs.rule.Values.{rowField}
 use Rattle.zarfolin.specs.rule.Export.{ExportTold}
+use Rattle.csv_fields.specs.rule.Page.{fresh, page}
+use Rattle.csv_fields.specs.rule.Page as csv
+use Rattle.import_rule.specs.rule.Text.{TextSays, accepts, textSays, fileBytes, dataOf}
+use Rattle.imports.specs.rule.Import.{ImportVerdict, importSays, importVerdict, Imported}
+use Rattle.imports.specs.rule.Import as import′
+use Rattle.import_laws.specs.rule.Exported.{IsExport, Original, Accepts}
+use Rattle.import_laws.specs.rule.Exactly.{TextOutcome, ImportOutcome}
+use Rattle.import_laws.specs.rule.Trip.{Table, Returned}
+use Rattle.import_laws.specs.Trip as trip
+use Rattle.import_laws.specs.Accepted as accepted
+use Rattle.import_laws.specs.Exactly as imports
+use Rattle.import_laws.specs.Equal as equal
+use Rattle.zarfolin.specs.rule.Import.{ImportTold}
 use Rattle.survey.specs.rule.Survey.{Survey}
 use Rattle.clean_text.specs.rule.Clean.{cleanLines, cleanOf}
 use Rattle.clean.specs.declared.Written as clean
@@ -200,6 +213,14 @@ module _ {def : List ℕ} {t : List ℤ} {d out : List ℕ} where
   pub one-export-told : {o₁ o₂ : List ℕ} {a₁ a₂ : List ℤ} {r₁ r₂ : ℕ} → ExportTold def t d out o₁ a₁ r₁ → ExportTold def t d out o₂ a₂ r₂
       → ((r₁ ≡ r₂) × (a₁ ≡ a₂)) × (o₁ ≡ o₂)
   one-export-told = face.export-told-one
+
+module _ {def : List ℕ} {t : List ℤ} {s out : List ℕ} where
+  pub one-import : {o₁ o₂ : List ℕ} {v₁ v₂ : ImportVerdict} → Imported def t s out o₁ v₁ → Imported def t s out o₂ v₂ → (v₁ ≡ v₂) × (o₁ ≡ o₂)
+  one-import = imports.import-one
+
+  pub one-import-told : {o₁ o₂ : List ℕ} {a₁ a₂ : List ℤ} {r₁ r₂ : ℕ} → ImportTold def t s out o₁ a₁ r₁ → ImportTold def t s out o₂ a₂ r₂
+      → ((r₁ ≡ r₂) × (a₁ ≡ a₂)) × (o₁ ≡ o₂)
+  one-import-told = face.import-told-one
 
 module _ {d : List ℕ} {from : ℕ} where
   pub one-next : {n₁ n₂ : Next} → NextFound d from n₁ → NextFound d from n₂ → n₁ ≡ n₂
@@ -654,6 +675,50 @@ plain-when = quoted.plain-when
 pub lines-apart : (t : List ℤ) (r s : List ℕ) → 1 ≤ rowsOf t → lineBytes (recordLine t r) ≡ lineBytes (recordLine t s)
     → (i : ℕ) → i < rowsOf t → rowField t r i ≡ rowField t s i
 lines-apart = apart.record-same
+
+-- and so of two sound records only where their rows read the same
+pub lines-read : (t : List ℤ) → wellFormed t ≡ true → (r s : List ℕ) → verdict.verdictOf t r ≡ verdict.sound → verdict.verdictOf t s ≡ verdict.sound
+    → lineBytes (recordLine t r) ≡ lineBytes (recordLine t s) → (i : ℕ) → i < rowsOf t → readingAt t i r ≡ readingAt t i s
+lines-read = equal.equal-lines
+
+-- ---- AN IMPORT (C-23): 20, 40, 90, the text's own refusal, 60, or written, exactly when what that says is so
+pub import-so : (def : List ℕ) (t : List ℤ) (s : List ℕ) (room : ℕ) → ImportOutcome def t s room (importVerdict def t s room)
+import-so = imports.import-named
+
+pub so-import : (def : List ℕ) (t : List ℤ) (s : List ℕ) (room : ℕ) {v : ImportVerdict} → ImportOutcome def t s room v → importVerdict def t s room ≡ v
+so-import def t s room o = imports.import-only def t s room o
+
+-- the text's own refusal: that of its first line that has one, of a line the lowest number
+module _ (t : List ℤ) (g : wellFormed t ≡ true) (names : List (List ℕ)) (s : List ℕ) where
+  pub text-so : TextOutcome t names (csv.linesOf (page fresh s)) (textSays t names s)
+  text-so = imports.text-named t g names s
+
+  pub so-text : {x : TextSays} → TextOutcome t names (csv.linesOf (page fresh s)) x → textSays t names s ≡ x
+  so-text o = imports.text-only t g names s o
+
+-- the output keeps all it held, or holds the data, and behind them what stood there
+pub import-kept : {def : List ℕ} {t : List ℤ} {s out out′ : List ℕ} {k n c : ℕ} → Imported def t s out out′ (import′.refused k n c) → out′ ≡ out
+import-kept a = imports.import-kept a
+
+module _ {def : List ℕ} {t : List ℤ} {s out out′ : List ℕ} {n m : ℕ} (a : Imported def t s out out′ (import′.written n m)) where
+  pub import-stands : take (length (dataOf (importSays def t s))) out′ ≡ dataOf (importSays def t s)
+  import-stands = imports.import-stands a
+
+  pub import-behind : drop (length (dataOf (importSays def t s))) out′ ≡ drop (length (dataOf (importSays def t s))) out
+  import-behind = imports.import-behind a
+
+-- "For every sound file under a table with no shared value places, importing its export gives records whose rows read as the originals."
+pub import-export : (def : List ℕ) {t : List ℤ} (d : List ℕ) {n : ℕ} → Table t → fileVerdict t d ≡ soundWith n → Returned def t d
+import-export = trip.import-export
+
+-- exporting what a text builds gives the text again, needless quotes and cut zeros aside; and a text is accepted exactly when it is, these aside,
+-- the export of some sound file of records of L bytes
+module _ {t : List ℤ} (g : Table t) (def s : List ℕ) where
+  pub import-again : (rs : List (List ℕ)) → importSays def t s ≡ accepts rs → IsExport def t (fileBytes rs) s
+  import-again rs e = accepted.import-again g def s rs e .3
+
+  pub accepted-exactly : Accepts def t s ↔ Original def t s
+  accepted-exactly = accepted.accepted-exactly g def s
 
 -- ---- A CLEAN DEFINITION (C-11): 1 to 9 as reading refuses, 40, 41, 42, or written, exactly when what that says is so
 pub clean-so : (d : List ℕ) (t : List ℤ) (room : ℕ) → WriteOutcome d t room (writtenOf (writingOf d t room))

@@ -49,6 +49,9 @@ use Rattle.kind_laws.specs.rule.Meet.{Meet}
 use Rattle.kind_laws.specs.Meet as kind-meet
 use Rattle.kind_laws.specs.Numbers as kind-numbers
 use Rattle.kinds.specs.Plain as plain
+use Rattle.csv_fields.specs.rule.Page.{page, start, linesOf}
+use Rattle.csv_laws.specs.rule.Grammar.{allOf, IsText}
+use Rattle.csv_laws.specs.Sound as csv
 
 -- ---- C-15: characters, what a stretch says, texts
 -- from p on the characters are legal up to q, and none stands there
@@ -109,3 +112,7 @@ kinds-meet = kind-meet.roads-meet
 -- a table and a definition that is not XML: as 1.1 has it
 pub yields-plain : (d : List ℕ) → isXml d ≡ false → (t : List ℤ) → yields d t ≡ sss.yields d t
 yields-plain = plain.plain-yields
+
+-- ---- C-23: comma-separated text
+pub text-lines : (s : List ℕ) (ls : List (List (List ℕ))) → (linesOf (page start s) ≡ allOf ls) ↔ IsText ls s
+text-lines = csv.text-exactly

@@ -18,6 +18,7 @@ use Rattle.zarfolin.specs.rule.Part.{partCells, PartTold}
 use Rattle.zarfolin.specs.rule.Matrix.{matrixCells, MatrixTold}
 use Rattle.exports.specs.rule.Text.{ExportVerdict}
 use Rattle.zarfolin.specs.rule.Export.{exportCells, exportLength, TellingFive, ExportTold}
+use Rattle.zarfolin.specs.rule.Import.{importCells, ImportTold}
 use Rattle.zarfolin.specs.rule.Clean.{cleanCells, CleanTold}
 use Rattle.zarfolin.specs.rule.Whole.{wholeCells, WholeTold}
 use Rattle.zarfolin.specs.rule.Texts.{textCells, TextTold}
@@ -63,6 +64,14 @@ export-told-one {a₂ = a₂} {r₂ = r₂} x y =
     let e : y .outcome ≡ x .outcome = y .promise .says ∙ sym (x .promise .says) in
     let z : TellingFive (exportCells (x .outcome)) (exportLength (x .outcome)) a₂ r₂ = rw e at (y .tells) in
     ((x .tells .gives ∙ sym (z .gives), x .tells .holds ∙ sym (z .holds)), x .promise .leaves ∙ sym (y .promise .leaves))
+
+-- zarfolin_import: the output too
+pub import-told-one : {def s out o₁ o₂ : List ℕ} {t a₁ a₂ : List ℤ} {r₁ r₂ : ℕ}
+    → ImportTold def t s out o₁ a₁ r₁ → ImportTold def t s out o₂ a₂ r₂ → ((r₁ ≡ r₂) × (a₁ ≡ a₂)) × (o₁ ≡ o₂)
+import-told-one x y = (
+  telling-one (ap importCells (x .promise .says ∙ sym (y .promise .says))) (x .tells) (y .tells),
+  x .promise .leaves ∙ sym (y .promise .leaves),
+)
 
 -- zarfolin_write_definition: the output too
 pub clean-told-one : {d : List ℕ} {t : List ℤ} {out o₁ o₂ : List ℕ} {a₁ a₂ : List ℤ} {r₁ r₂ : ℕ}

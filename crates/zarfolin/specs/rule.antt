@@ -3,6 +3,7 @@ pub mod Face
 pub mod Part
 pub mod Matrix
 pub mod Export
+pub mod Import
 pub mod Truth
 pub mod Version
 pub mod Whole

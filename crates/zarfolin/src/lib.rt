@@ -22,6 +22,8 @@ ghost use Rattle.matrices.specs.rule.Matrix.{matrixSaid};
 ghost use Rattle.zarfolin.specs.rule.Matrix.{matrixCells, MatrixTold};
 ghost use Rattle.exports.specs.rule.Text.{exportSaid};
 ghost use Rattle.zarfolin.specs.rule.Export.{exportCells, exportLength, TellingFive, ExportTold};
+ghost use Rattle.imports.specs.rule.Import.{importSaid};
+ghost use Rattle.zarfolin.specs.rule.Import.{importCells, ImportTold};
 ghost use Rattle.zarfolin.specs.rule.Clean.{cleanCells, CleanTold};
 ghost use Rattle.corrections.specs.rule.Truth.{badTruth};
 ghost use Rattle.corrections.specs.rule.Correction.{ListCorrected};
@@ -41,6 +43,7 @@ use cuts::Next;
 use exports::Export;
 use faults::Fault;
 use files::Judgement;
+use imports::Import;
 use layout::Header;
 use layout::Row;
 use matrices::Matrix;
@@ -264,6 +267,33 @@ fn export_length(e: Export) -> i64
     }
 }
 
+fn import_cells(i: Import) -> Told
+    ensures { λ r. ⌜ r ≡ importCells (importSaid i) ⌝ }
+{
+    match i {
+        Import::BadTable => bare(20),
+        Import::OtherTable => bare(40),
+        Import::SharedPlace => bare(90),
+        Import::Refused {
+            number,
+            line,
+            column,
+        } => Told {
+            number: number as u64,
+            first: cell(line),
+            second: cell(column),
+            third: 0,
+        },
+        Import::ShortRoom => bare(60),
+        Import::Written { records, length } => Told {
+            number: 0,
+            first: cell(records),
+            second: cell(length),
+            third: 0,
+        },
+    }
+}
+
 fn definition_cells(a: definition::Answer) -> Told
     ensures { λ r. ⌜ r ≡ definitionCells a ⌝ }
 {
@@ -418,6 +448,23 @@ pub extern "C" fn zarfolin_export(
 {
     let e = exports::write_export(def, table, d, out);
     tell_five(answer, export_cells(e), export_length(e))
+}
+
+// Builds a data file from comma-separated text: a record of L bytes and CR LF for each line behind the name line.
+#[no_mangle]
+pub extern "C" fn zarfolin_import(
+    def: &[u8],
+    table: &[i64],
+    text: &[u8],
+    out: &mut [u8],
+    answer: &mut [i64; 4],
+) -> u64
+    ensures { λ r. ⌜ ImportTold (now (def .entry)) (now (table .entry)) (now (text .entry)) (now (out .entry)) (now (out .exit)) (now (answer .exit)) r ⌝ }
+{
+    tell(
+        answer,
+        import_cells(imports::import_file(def, table, text, out)),
+    )
 }
 
 // Reads a definition, 1.1 or XML, into a table.

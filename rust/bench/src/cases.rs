@@ -34,6 +34,7 @@ pub fn cases() -> Vec<Maker> {
     mended_files(&mut cases);
     matrices(&mut cases);
     exports(&mut cases);
+    imports(&mut cases);
     cleans(&mut cases);
     cases
 }
@@ -364,19 +365,9 @@ enum Room {
 fn export(survey: Survey, quotes: bool, room: Room) -> Case {
     let def = survey.text();
     let table = table(&def);
-    let length = table[3] as usize;
-    let mut data = flawed(&table, length, (1 << 20) / (length + 2), Flaw::None);
-    if quotes {
-        for i in (0..table[1] as usize).map(row_at).filter(|&at| table[at + 1] == 4) {
-            let (start, finish) = (table[i + 2] as usize - 1, table[i + 3] as usize);
-            for record in data.chunks_mut(length + 2) {
-                record[start..finish].iter_mut().step_by(2).for_each(|x| *x = b'"');
-            }
-        }
-    }
+    let (data, text) = exported(&def, &table, quotes);
     let (mut out, mut answer) = (vec![0; 8 << 20], [0; 5]);
-    assert_eq!(Plain.export(&def, &table, &data, &mut out, &mut answer), 0);
-    let total = answer[4] as usize;
+    let total = text.len();
     let number = if room == Room::Short { 60 } else { 0 };
     if room != Room::Ample {
         out.truncate(total - (room == Room::Short) as usize);
@@ -386,6 +377,84 @@ fn export(survey: Survey, quotes: bool, room: Room) -> Case {
         face.export(black_box(&def), black_box(&table), black_box(&data), black_box(&mut out), &mut answer)
     });
     Case { bytes, number, step }
+}
+
+/// The export of 1 MiB of data, read back: by few rows and by many, as it is, with every field in quotes, with texts full of quotes; with
+/// just enough room and with one byte too few; and refused in its last line.
+fn imports(cases: &mut Vec<Maker>) {
+    for (name, survey) in [("5 rows", few_rows as fn() -> Survey), ("512 rows", many_rows)] {
+        for (texts, back) in [
+            ("", Back::AsItIs),
+            (", every field in quotes", Back::Quoted),
+            (", texts with quotes", Back::Quotes),
+            (", refused at its end", Back::Refused),
+        ] {
+            add(cases, &format!("import 1 MiB, {name}{texts}"), move || import(survey(), back, Room::Ample));
+        }
+        add(cases, &format!("import 1 MiB, {name}, just enough room"), move || {
+            import(survey(), Back::AsItIs, Room::Exact)
+        });
+        add(cases, &format!("import 1 MiB, {name}, no room"), move || import(survey(), Back::AsItIs, Room::Short));
+    }
+}
+
+#[derive(Clone, Copy, PartialEq)]
+enum Back {
+    AsItIs,
+    Quoted,
+    Quotes,
+    Refused,
+}
+
+fn import(survey: Survey, back: Back, room: Room) -> Case {
+    let def = survey.text();
+    let table = table(&def);
+    let (data, mut text) = exported(&def, &table, back == Back::Quotes);
+    if back == Back::Quoted {
+        // No field but a name has quotes of its own here: a comma and a line end part fields.
+        let names = text.iter().position(|&x| x == b'\n').unwrap() + 1;
+        let mut quoted = text[..names].to_vec();
+        for line in text[names..].split_inclusive(|&x| x == b'\n') {
+            let fields: Vec<Vec<u8>> =
+                line[..line.len() - 2].split(|&x| x == b',').map(|field| [b"\"", field, b"\""].concat()).collect();
+            quoted.extend(fields.join(&b','));
+            quoted.extend(b"\r\n");
+        }
+        text = quoted;
+    }
+    let mut number = if room == Room::Short { 60 } else { 0 };
+    if back == Back::Refused {
+        text.truncate(text.len() - 2);
+        number = 61;
+    }
+    let (mut out, mut answer) = (vec![0; 2 << 20], [0; 4]);
+    if room != Room::Ample {
+        assert_eq!(Plain.import(&def, &table, &text, &mut out, &mut answer), 0);
+        out.truncate(answer[2] as usize - (room == Room::Short) as usize);
+    }
+    let bytes = text.len() + data.len();
+    let step: Step = Box::new(move |face| {
+        face.import(black_box(&def), black_box(&table), black_box(&text), black_box(&mut out), &mut answer)
+    });
+    Case { bytes, number, step }
+}
+
+/// 1 MiB of sound records, and their export.
+fn exported(def: &[u8], table: &[i64], quotes: bool) -> (Vec<u8>, Vec<u8>) {
+    let length = table[3] as usize;
+    let mut data = flawed(table, length, (1 << 20) / (length + 2), Flaw::None);
+    if quotes {
+        for i in (0..table[1] as usize).map(row_at).filter(|&at| table[at + 1] == 4) {
+            let (start, finish) = (table[i + 2] as usize - 1, table[i + 3] as usize);
+            for record in data.chunks_mut(length + 2) {
+                record[start..finish].iter_mut().step_by(2).for_each(|x| *x = b'"');
+            }
+        }
+    }
+    let (mut out, mut answer) = (vec![0; 8 << 20], [0; 5]);
+    assert_eq!(Plain.export(def, table, &data, &mut out, &mut answer), 0);
+    out.truncate(answer[4] as usize);
+    (data, out)
 }
 
 /// Definitions written clean: every shape that is read above, the surveys that the speed issue measures, and 512 variables with just enough

@@ -67,6 +67,19 @@ pub fn expected(variable: &Variable) -> String {
     }
 }
 
+/// What a field of comma-separated text may hold, besides nothing.
+pub fn expected_in_text(variable: &Variable) -> String {
+    let legal = || legal_values(variable);
+    match variable.kind() {
+        Kind::Bits => format!("none, or codes of {}, rising, with ; between them", legal()),
+        Kind::Spread { subfields, .. } => {
+            format!("none, or at most {subfields} codes of {}, rising, with ; between them", legal())
+        }
+        Kind::Character => format!("at most {} bytes, from 32 on, with no space at the end", variable.width()),
+        _ => expected(variable),
+    }
+}
+
 /// `0.0 to 99.5`, `1, 2 or 10`, `-50.00 to 250.00 or 999.99`
 fn legal_values(variable: &Variable) -> String {
     const MOST: usize = 8;

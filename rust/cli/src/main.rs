@@ -10,6 +10,7 @@ mod commands;
 mod excerpt;
 mod faults;
 mod feed;
+mod fields;
 mod fixes;
 mod help;
 mod input;

@@ -228,4 +228,10 @@ impl Face for Bridge {
         let inputs = Inputs { table: t, bytes: def, text: &copy, ..Inputs::default() };
         self.call(Call::WriteDefinition, inputs, answer, copy.len(), |changed| out.copy_from_slice(changed))
     }
+
+    fn import(&self, def: &[u8], t: &[i64], text: &[u8], out: &mut [u8], answer: &mut [i64; 4]) -> u64 {
+        let (copy, both) = (out.to_vec(), [def, text].concat());
+        let inputs = Inputs { table: t, row: def.len() as u64, bytes: &both, text: &copy, ..Inputs::default() };
+        self.call(Call::Import, inputs, answer, copy.len(), |changed| out.copy_from_slice(changed))
+    }
 }

@@ -33,6 +33,8 @@ pub enum Call {
     Export,
     /// The clean text goes to `text`.
     WriteDefinition,
+    /// The definition stands before the text, its length in `row`; the records go to `text`.
+    Import,
 }
 
 /// A call and its inputs; those that the call doesn't take are empty or 0.
@@ -47,7 +49,7 @@ pub struct Case {
     pub list: Vec<i64>,
     /// Definition, record or data.
     pub bytes: Vec<u8>,
-    /// A text that is written, or the room for mended data, a matrix, an export or a clean definition.
+    /// A text that is written, or the room for mended data, a matrix, an export, a clean definition or imported records.
     pub text: Vec<u8>,
     /// A record's numbers.
     pub out: Vec<i64>,
@@ -156,6 +158,10 @@ pub fn run(face: &dyn Face, case: &Case) -> Outcome {
             number
         }
         Call::WriteDefinition => face.write_definition(b, t, x, a),
+        Call::Import => {
+            let (def, text) = b.split_at(b.len().min(case.row as usize));
+            face.import(def, t, text, x, a)
+        }
     };
     Outcome { number, answer, table: table.all, list: list.all, bytes: bytes.all, text: text.all, out: out.all }
 }
@@ -186,7 +192,8 @@ pub fn keeps(case: &Case, outcome: &Outcome) -> bool {
         | Call::NextRecord
         | Call::JudgePart
         | Call::Matrix
-        | Call::WriteDefinition => (false, false, false),
+        | Call::WriteDefinition
+        | Call::Import => (false, false, false),
         Call::Correct => (false, !refused, !refused),
         Call::Export => (false, true, false),
         _ => (false, false, !refused),
@@ -194,7 +201,8 @@ pub fn keeps(case: &Case, outcome: &Outcome) -> bool {
     let out_lent = case.call == Call::ReadRecord && !refused;
     // An export that the data's fault ends leaves the lines before it.
     let cut = case.call == Call::Export && !matches!(outcome.number, 20 | 40 | 60);
-    let text_lent = matches!(case.call, Call::Mend | Call::Matrix | Call::WriteDefinition) && !refused || cut;
+    let built = matches!(case.call, Call::Mend | Call::Matrix | Call::WriteDefinition | Call::Import);
+    let text_lent = built && !refused || cut;
     let numbers = (table || table_lent) && (list || list_lent) && (out || out_lent);
     guards && numbers && (bytes || bytes_lent) && (text || text_lent)
 }

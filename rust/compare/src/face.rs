@@ -26,6 +26,7 @@ pub trait Face {
     fn matrix(&self, t: &[i64], data: &[u8], out: &mut [u8], answer: &mut [i64; 4]) -> u64;
     fn export(&self, def: &[u8], t: &[i64], data: &[u8], out: &mut [u8], answer: &mut [i64; 5]) -> u64;
     fn write_definition(&self, def: &[u8], t: &[i64], out: &mut [u8], answer: &mut [i64; 4]) -> u64;
+    fn import(&self, def: &[u8], t: &[i64], text: &[u8], out: &mut [u8], answer: &mut [i64; 4]) -> u64;
 }
 
 /// The plain Rust implementation.
@@ -139,6 +140,10 @@ impl Face for Plain {
 
     fn write_definition(&self, def: &[u8], t: &[i64], out: &mut [u8], answer: &mut [i64; 4]) -> u64 {
         give(answer, plain::write_definition(def, t, out))
+    }
+
+    fn import(&self, def: &[u8], t: &[i64], text: &[u8], out: &mut [u8], answer: &mut [i64; 4]) -> u64 {
+        give(answer, plain::import(def, t, text, out))
     }
 }
 
@@ -392,6 +397,22 @@ impl Face for Library {
                 def.len(),
                 t.as_ptr(),
                 t.len(),
+                out.as_mut_ptr(),
+                out.len(),
+                answer.as_mut_ptr(),
+            )
+        }
+    }
+
+    fn import(&self, def: &[u8], t: &[i64], text: &[u8], out: &mut [u8], answer: &mut [i64; 4]) -> u64 {
+        unsafe {
+            zarfolin::ffi::zarfolin_import(
+                def.as_ptr(),
+                def.len(),
+                t.as_ptr(),
+                t.len(),
+                text.as_ptr(),
+                text.len(),
                 out.as_mut_ptr(),
                 out.len(),
                 answer.as_mut_ptr(),

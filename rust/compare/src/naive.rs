@@ -1191,4 +1191,8 @@ impl Face for Naive {
     fn write_definition(&self, def: &[u8], t: &[i64], out: &mut [u8], answer: &mut [i64; 4]) -> u64 {
         give(answer, crate::naive_02::write_definition(def, t, out))
     }
+
+    fn import(&self, def: &[u8], t: &[i64], text: &[u8], out: &mut [u8], answer: &mut [i64; 4]) -> u64 {
+        give(answer, crate::naive_02::import(def, t, text, out))
+    }
 }

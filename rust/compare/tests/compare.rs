@@ -1113,6 +1113,123 @@ fn exports_of_files() {
     tally.end("exports of files", 3_000, &[0, 20, 22, 23, 241, 242, 30, 31, 40, 60]);
 }
 
+/// Text that an export gives, as it is or as it comes back: from a spreadsheet (zeros cut, quotes without need), corrected, or damaged.
+fn came_back(r: &mut Rng, text: &mut Vec<u8>) {
+    for _ in 0..r.below(4) {
+        let lines: Vec<usize> =
+            (1..text.len()).filter(|&i| text[i - 1..].starts_with(b"\r\n")).map(|i| i + 1).collect();
+        let at = r.below(text.len() + 1);
+        // A field behind the names that has no quotes of its own, by its ends.
+        let plain = |x: &u8| !b",\"\r\n".contains(x);
+        let start = text[..at].iter().rposition(|x| !plain(x)).map_or(0, |i| i + 1);
+        let end = at + text[at..].iter().position(|x| !plain(x)).unwrap_or(text.len() - at);
+        let field = text[start..end].to_vec();
+        match r.below(16) {
+            0..4 => drop(text.splice(start..end, [&b"\""[..], &field, b"\""].concat())),
+            4..6 if field.contains(&b'.') => {
+                let zeros = field.iter().rev().take_while(|&&x| x == b'0').count();
+                let cut = field.len() - r.below(zeros + 1);
+                let cut = if field[cut - 1] == b'.' && r.once_in(2) { cut - 1 } else { cut };
+                text.splice(start..end, field[..cut].iter().copied());
+            }
+            6..8 => {
+                let values = [
+                    &b"1"[..],
+                    b"2",
+                    b"12.5",
+                    b"-1",
+                    b"none",
+                    b"1;2",
+                    b"2;1",
+                    b"1;1",
+                    b"0",
+                    b"007",
+                    b"+7",
+                    b"7.",
+                    b".5",
+                ];
+                let others =
+                    [&b" 7"[..], b"x ", b"-0", b"a\tb", b"", b"99999", b"1,2", b"\"a\"\"b\"", b"\"a\r\nb\"", b"12.505"];
+                let other = if r.once_in(2) { r.pick(&values) } else { r.pick(&others) };
+                text.splice(start..end, other.iter().copied());
+            }
+            // A line once more, a line gone.
+            8 if lines.len() > 1 => {
+                let k = r.below(lines.len() - 1);
+                let line = text[lines[k]..lines[k + 1]].to_vec();
+                text.splice(lines[k]..lines[k], line);
+            }
+            9 if lines.len() > 1 => {
+                let k = r.below(lines.len() - 1);
+                text.drain(lines[k]..lines[k + 1]);
+            }
+            10 => text.truncate(at),
+            11 => text.insert(at, r.pick(b",;\"\r\n0 -.5x\t")),
+            12 if at < text.len() => text[at] = r.pick(b",;\"\r\n01 -.59x\t\xff"),
+            13 if at < text.len() => drop(text.remove(at)),
+            14 => text.extend(r.pick(&[&b"\r\n"[..], b",", b"\n", b"x\r\n"])),
+            _ => {}
+        }
+    }
+}
+
+/// A definition whose rows mostly lie apart, its table, and the export of a sound file, come back: to be imported into so much room.
+fn import_case(r: &mut Rng, room: usize) -> Case {
+    let (mut def, mut table) = either_kind(r);
+    let data = records::sound_file(r, &table, 4);
+    let mut text = vec![0; 60_000];
+    let mut answer = [0; 5];
+    Plain.export(&def, &table, &data, &mut text, &mut answer);
+    text.truncate(answer[4] as usize);
+    came_back(r, &mut text);
+    match r.below(40) {
+        0 => tables::changed(r, &mut table),
+        1 => definitions::damage_bytes(r, &mut def),
+        2 => table[row_at(0) + column::NAME] += 1,
+        3 => table.push(7),
+        _ => {}
+    }
+    let row = def.len() as u64;
+    let bytes = [def, text].concat();
+    Case { table, row, bytes, text: vec![0x55; room], ..Case::new(Call::Import) }
+}
+
+/// Text as records: with room, with just enough, with one byte too few; what is built is exported again.
+#[test]
+fn imports_of_texts() {
+    let mut tally = Tally::default();
+    for seed in seeds(4_000) {
+        let mut r = Rng::new(seed ^ 0x2323);
+        let case = import_case(&mut r, 60_000);
+        let done = check(&mut tally, seed, &case);
+        let zeros = if (61..=64).contains(&done.number) { 3 } else { 1 };
+        assert!(done.number == 0 || done.answer[zeros..].iter().all(|&x| x == 0), "seed {seed}: {:?}", done.answer);
+        let length = done.answer[2] as usize;
+        if done.number != 0 || length == 0 {
+            continue;
+        }
+        assert_eq!(length as i64, done.answer[1] * (case.table[3] + 2), "seed {seed}");
+        let room = |text: usize| Case { text: vec![0x55; text], ..case.clone() };
+        let exact = check(&mut tally, seed, &room(length));
+        let same = exact.text[8..8 + length] == done.text[8..8 + length];
+        assert!(exact.answer == done.answer && same, "seed {seed}: an exact fit");
+        assert_eq!(check(&mut tally, seed, &room(length - 1)).number, 60, "seed {seed}");
+        // What was built is a sound file, whose export imports as the same records.
+        let (def, built) = (&case.bytes[..case.row as usize], &done.text[8..8 + length]);
+        let (mut text, mut five) = (vec![0; 60_000], [0; 5]);
+        assert_eq!(tally.other.export(def, &case.table, built, &mut text, &mut five), 0, "seed {seed}");
+        assert_eq!(five[1], done.answer[1], "seed {seed}");
+        let bytes = [def, &text[..five[4] as usize]].concat();
+        let again = check(&mut tally, seed, &Case { bytes, ..room(length) });
+        assert_eq!(
+            (again.answer, &again.text),
+            (exact.answer, &exact.text),
+            "seed {seed}: exported and imported again"
+        );
+    }
+    tally.end("imports of texts", 6_000, &[0, 20, 40, 60, 61, 62, 63, 64, 90]);
+}
+
 /// A definition and a table, to be written clean into so much room: sound ones, and ones that each of 1 to 9 and 40 may come of.
 fn clean_case(r: &mut Rng, room: usize) -> Case {
     let model = definitions::model(r, SMALL);
@@ -1376,14 +1493,14 @@ mod planted {
                     table.iter_mut().skip(used).for_each(|x| *x = 0);
                 }
                 // 51 as any other token; 52 at the definition's start; a use not told; a filter told from 0.
-                42 if number == 51 => {
+                49 if number == 51 => {
                     answer[0] = 2;
                     return 2;
                 }
-                43 if number == 52 => answer[1] = 0,
-                44 | 45 if number == 0 && table[0] == 12 => {
+                50 if number == 52 => answer[1] = 0,
+                51 | 52 if number == 0 && table[0] == 12 => {
                     let rows = table[HEADER..].chunks_exact_mut(ROW).take(answer[2] as usize);
-                    let (at, off) = if self.0 == 44 { (column::USE, 2) } else { (column::FILTER, 1) };
+                    let (at, off) = if self.0 == 51 { (column::USE, 2) } else { (column::FILTER, 1) };
                     rows.for_each(|row| row[at] = (row[at] - off).max(0));
                 }
                 // Code 1 for a block whose numbers are all written with no digit before the point.
@@ -1548,6 +1665,33 @@ mod planted {
             }
             number
         }
+        fn import(&self, def: &[u8], t: &[i64], text: &[u8], out: &mut [u8], answer: &mut [i64; 4]) -> u64 {
+            let number = Plain.import(def, t, text, out, answer);
+            match self.0 {
+                // The column not told; the names' line counted as none; built before 60 is known; a byte behind the records; 90 behind
+                // the lines; spaces at a text's end cut; the last line without its CR LF.
+                42 if number == 64 => answer[2] = 1,
+                43 if (61..=64).contains(&number) => answer[1] -= 1,
+                44 if number == 60 => out.iter_mut().take(1).for_each(|x| *x = b' '),
+                45 if number == 0 => out[answer[2] as usize..].iter_mut().take(1).for_each(|x| *x = b' '),
+                46 if number == 90 && !text.ends_with(b"\r\n") => {
+                    *answer = [61, 2, 1, 0];
+                    return 61;
+                }
+                47 if number == 64 => {
+                    let cut: Vec<u8> = text
+                        .iter()
+                        .enumerate()
+                        .filter(|&(i, &x)| x != b' ' || text.get(i + 1) != Some(&b','))
+                        .map(|(_, &x)| x)
+                        .collect();
+                    return Plain.import(def, t, &cut, out, answer);
+                }
+                48 if number == 61 => return Plain.import(def, t, &[text, b"\r\n"].concat(), out, answer),
+                _ => {}
+            }
+            number
+        }
         fn write_definition(&self, def: &[u8], t: &[i64], out: &mut [u8], answer: &mut [i64; 4]) -> u64 {
             let kept = out.to_vec();
             let number = Plain.write_definition(def, t, out, answer);
@@ -1641,7 +1785,7 @@ mod planted {
 
     #[test]
     fn faults_are_found() {
-        for fault in 0..46 {
+        for fault in 0..53 {
             let found = (0..2_000).any(|seed| {
                 let mut r = Rng::new(seed);
                 let model = definitions::model(&mut r, SMALL);
@@ -1694,11 +1838,13 @@ mod planted {
                     24..=28 => export_case(&mut r, 60_000),
                     31 => clean_case(&mut r, 100),
                     29..=41 => clean_case(&mut r, 30_000),
-                    42..=45 => {
+                    44 => import_case(&mut r, 20),
+                    49..=52 => {
                         let sheet = sheets::survey(&mut r);
-                        let bytes = if fault < 44 { sheets::damaged(&mut r, &sheet) } else { sheet };
+                        let bytes = if fault < 51 { sheets::damaged(&mut r, &sheet) } else { sheet };
                         definition(bytes, length(40, 400))
                     }
+                    42..=48 => import_case(&mut r, 60_000),
                     _ => Case { bytes: records::file(&mut r, &table), table, ..Case::new(Call::JudgeFile) },
                 };
                 run(&Plain, &case) != run(&Wrong(fault), &case)

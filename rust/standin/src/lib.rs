@@ -304,6 +304,25 @@ pub unsafe extern "C" fn zarfolin_write_definition(
 }
 
 #[unsafe(no_mangle)]
+pub unsafe extern "C" fn zarfolin_import(
+    def: *const u8,
+    def_len: usize,
+    table: *const i64,
+    table_len: usize,
+    text: *const u8,
+    text_len: usize,
+    out: *mut u8,
+    out_len: usize,
+    answer: *mut i64,
+) -> Number {
+    unsafe {
+        let (def, table) = (from_raw_parts(def, def_len), from_raw_parts(table, table_len));
+        let text = from_raw_parts(text, text_len);
+        give(answer, plain::import(def, table, text, from_raw_parts_mut(out, out_len)))
+    }
+}
+
+#[unsafe(no_mangle)]
 pub unsafe extern "C" fn zarfolin_correct(
     table: *const i64,
     table_len: usize,

@@ -20,7 +20,9 @@
 
 use crate::ffi::*;
 use crate::table::{self, next, value};
-use crate::{Correction, DefinitionError, FileFault, Number, ReadError, RecordFault, Refusal, Text, Value};
+use crate::{
+    Correction, DefinitionError, FileFault, ImportFault, Number, ReadError, RecordFault, Refusal, Text, Value,
+};
 
 /// How many rows and lines a definition was read into.
 #[derive(Clone, Copy, Debug, PartialEq, Eq)]
@@ -71,6 +73,15 @@ pub struct Exported {
     pub records: u64,
     /// Why it ends there, if the data has a fault.
     pub fault: Option<FileFault>,
+}
+
+/// What an import built.
+#[derive(Clone, Copy, Debug, PartialEq, Eq)]
+pub struct Imported {
+    /// Records.
+    pub records: u64,
+    /// Their bytes, with a CR LF each.
+    pub length: usize,
 }
 
 /// The version of the archive that is linked: [`VERSION`](crate::VERSION), or the two don't belong together.
@@ -471,6 +482,45 @@ pub fn export(def: &[u8], table: &[i64], data: &[u8], out: &mut [u8]) -> Result<
         (Some(refusal @ (Refusal::Table | Refusal::OtherTable | Refusal::ExportRoom)), _) => Err(refusal),
         (_, Ok(records)) => Ok(Exported { length: length as usize, records, fault: None }),
         (_, Err(fault)) => Ok(Exported { length: length as usize, records: fault.record - 1, fault: Some(fault) }),
+    }
+}
+
+/// Reads comma-separated text as [`export`] writes it, and builds a record for each line behind the names into `out`, CR LF behind each.
+/// A field may stand in quotes without need, and zeros may be cut from the end of a number's decimals. `out` keeps what stands behind
+/// the records, and on a refusal all of it: [`Refusal::Table`], [`Refusal::OtherTable`], [`Refusal::Shared`]; then for the first line
+/// that is refused the lowest of [`Refusal::Malformed`], [`Refusal::NameLine`], [`Refusal::Fields`], [`Refusal::Field`], with line and
+/// column; then [`Refusal::ExportRoom`].
+///
+/// ```
+/// use zarfolin::{Definition, Refusal};
+/// # let text = b"SSS VERSION 1.1 SURVEY RECORD R VARIABLE 1 NAME \"a,b\" LABEL \"\" TYPE QUANTITY POSITION 1 TO 4 VALUES -9.9 TO 9.9
+/// #     END VALUES END VARIABLE END RECORD END SURVEY END SSS";
+/// let definition = Definition::read(text).unwrap();
+/// let mut out = [0; 30];
+/// let imported = definition.import(b"\"a,b\"\r\n-0.5\r\n7\r\n", &mut out).unwrap();
+/// assert_eq!((imported.records, &out[..imported.length]), (2, &b"-0.5\r\n07.0\r\n"[..]));
+/// let fault = definition.import(b"\"a,b\"\r\n-0.5\r\n7.55\r\n", &mut out).unwrap_err();
+/// assert_eq!((fault.refusal, fault.line, fault.column), (Refusal::Field, 3, 1));
+/// ```
+pub fn import(def: &[u8], table: &[i64], text: &[u8], out: &mut [u8]) -> Result<Imported, ImportFault> {
+    let mut answer = [0i64; 4];
+    // SAFETY: as above.
+    let number = unsafe {
+        zarfolin_import(
+            def.as_ptr(),
+            def.len(),
+            table.as_ptr(),
+            table.len(),
+            text.as_ptr(),
+            text.len(),
+            out.as_mut_ptr(),
+            out.len(),
+            answer.as_mut_ptr(),
+        )
+    };
+    match Refusal::of(number) {
+        None => Ok(Imported { records: answer[1] as u64, length: answer[2] as usize }),
+        Some(refusal) => Err(ImportFault { refusal, line: answer[1] as u64, column: answer[2] as u64 }),
     }
 }
 

@@ -195,6 +195,19 @@ unsafe extern "C" {
         answer: *mut i64,
     ) -> Number;
 
+    /// Reads comma-separated text back into records. [`calls::import`](crate::calls::import).
+    pub fn zarfolin_import(
+        def: *const u8,
+        def_len: usize,
+        table: *const i64,
+        table_len: usize,
+        text: *const u8,
+        text_len: usize,
+        out: *mut u8,
+        out_len: usize,
+        answer: *mut i64,
+    ) -> Number;
+
     /// Writes a data file as comma-separated text. Its answer has five numbers. [`calls::export`](crate::calls::export).
     pub fn zarfolin_export(
         def: *const u8,

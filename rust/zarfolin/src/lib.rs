@@ -59,7 +59,7 @@ pub mod table;
 mod text;
 
 pub use correction::{Correction, Given};
-pub use refusal::{DefinitionError, FileFault, Number, ReadError, RecordFault, Refusal};
+pub use refusal::{DefinitionError, FileFault, ImportFault, Number, ReadError, RecordFault, Refusal};
 pub use text::{Sign, Text};
 
 /// The version of the face that this crate is written for.

@@ -103,7 +103,7 @@ refusals! {
     Unended = 30, "the last record has no terminator";
     /// 31: length differs from the first record's.
     Length = 31, "the record's length differs from the first record's";
-    /// 40: the table is not the one that the definition yields; of an export also: the definition is refused.
+    /// 40: the table is not the one that the definition yields; of an export and an import also: the definition is refused.
     OtherTable = 40, "the table is not the one that this definition yields";
     /// 41: clean text above 1,048,576 bytes.
     CleanSize = 41, "the clean definition is longer than 1,048,576 bytes";
@@ -115,8 +115,16 @@ refusals! {
     Element = 51, "this element or attribute is unknown, or may not stand here";
     /// 52: use or filter rule broken.
     Use = 52, "the use or the filter breaks its rule";
-    /// 60: output too short for the exported text.
-    ExportRoom = 60, "the lent output is too short for the exported text";
+    /// 60: output too short for the exported text, or for the imported records.
+    ExportRoom = 60, "the lent output is too short for the exported text or the imported records";
+    /// 61: text malformed.
+    Malformed = 61, "the text is malformed: a quote or a line end stands where none may, or it ends within a line";
+    /// 62: name line differs.
+    NameLine = 62, "the name line is not that of this definition";
+    /// 63: wrong number of fields.
+    Fields = 63, "the line has another number of fields than there are variables";
+    /// 64: field not a legal value.
+    Field = 64, "the field is not a legal value of its variable";
     /// 70: output or list too short for the mended file.
     MendRoom = 70, "the lent output or list is too short for the mended file";
     /// 80: no column at all.
@@ -216,6 +224,25 @@ pub struct FileFault {
     pub fault: RecordFault,
 }
 
+/// Why text was not imported, and where.
+///
+/// ```
+/// # let text = std::fs::read("../../examples/counter/survey.sss").unwrap();
+/// # let definition = zarfolin::Definition::read(&text).unwrap();
+/// let fault = definition.import(b"ACT,SHOWN\r\n", &mut []).unwrap_err();
+/// assert_eq!(fault.to_string(), "line 1, column 3: the name line is not that of this definition [62]");
+/// ```
+#[derive(Clone, Copy, Debug, PartialEq, Eq)]
+#[non_exhaustive]
+pub struct ImportFault {
+    /// Why.
+    pub refusal: Refusal,
+    /// The line, from 1, that of the names being 1; 0 where none is meant (20, 40, 60, 90).
+    pub line: u64,
+    /// The column, from 1: the field's number in its line; 0 alike.
+    pub column: u64,
+}
+
 impl fmt::Display for DefinitionError {
     fn fmt(&self, f: &mut fmt::Formatter) -> fmt::Result {
         match self.refusal {
@@ -246,6 +273,15 @@ impl fmt::Display for RecordFault {
     }
 }
 
+impl fmt::Display for ImportFault {
+    fn fmt(&self, f: &mut fmt::Formatter) -> fmt::Result {
+        match self.line {
+            0 => write!(f, "{}", self.refusal),
+            line => write!(f, "line {line}, column {}: {}", self.column, self.refusal),
+        }
+    }
+}
+
 impl fmt::Display for FileFault {
     fn fmt(&self, f: &mut fmt::Formatter) -> fmt::Result {
         match self.record {
@@ -268,6 +304,12 @@ impl Error for ReadError {
 }
 
 impl Error for RecordFault {
+    fn source(&self) -> Option<&(dyn Error + 'static)> {
+        Some(&self.refusal)
+    }
+}
+
+impl Error for ImportFault {
     fn source(&self) -> Option<&(dyn Error + 'static)> {
         Some(&self.refusal)
     }

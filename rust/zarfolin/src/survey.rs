@@ -1,8 +1,8 @@
 //! A definition and the records of its data, in Rust's own types.
 
-use crate::calls::{self, Exported, Matrix};
+use crate::calls::{self, Exported, Imported, Matrix};
 use crate::table::{self, column, header, kind, limit, line, usage};
-use crate::{Correction, DefinitionError, FileFault, ReadError, RecordFault, Refusal, Text, Value};
+use crate::{Correction, DefinitionError, FileFault, ImportFault, ReadError, RecordFault, Refusal, Text, Value};
 use alloc::vec;
 use alloc::vec::Vec;
 use core::cmp::Ordering;
@@ -163,6 +163,26 @@ impl<'t> Definition<'t> {
     /// Writes a data file into `out` as comma-separated text: [`calls::export`].
     pub fn export(&self, data: &[u8], out: &mut [u8]) -> Result<Exported, Refusal> {
         calls::export(self.text, &self.table, data, out)
+    }
+
+    /// Builds the records of comma-separated text into `out`: [`calls::import`].
+    ///
+    /// ```
+    /// # let text = std::fs::read("../../examples/counter/survey.sss").unwrap();
+    /// # let data = std::fs::read("../../examples/counter/survey.asc").unwrap();
+    /// # let definition = zarfolin::Definition::read(&text).unwrap();
+    /// let mut text = vec![0; 1000];
+    /// let exported = definition.export(&data, &mut text).unwrap();
+    /// let mut out = vec![0; 1000];
+    /// let imported = definition.import(&text[..exported.length], &mut out)?;
+    /// assert_eq!(imported.records, exported.records);
+    /// for (built, original) in definition.records(&out[..imported.length]).zip(definition.records(&data)) {
+    ///     assert!(built.values().unwrap().iter().map(|(_, value)| value).eq(original.values().unwrap().iter().map(|(_, value)| value)));
+    /// }
+    /// # Ok::<(), zarfolin::ImportFault>(())
+    /// ```
+    pub fn import(&self, text: &[u8], out: &mut [u8]) -> Result<Imported, ImportFault> {
+        calls::import(self.text, &self.table, text, out)
     }
 
     /// The definition written anew, clean: [`calls::write_definition`]. It is refused only where the clean text would be longer than a

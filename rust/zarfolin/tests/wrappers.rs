@@ -368,6 +368,40 @@ fn clean_definitions() {
     assert_eq!(Definition::read(long.as_bytes()).unwrap().clean(), Err(Refusal::CleanSize));
 }
 
+/// Text as records: what is built, where it stands; each refusal with its line and column, and the output as it was.
+#[test]
+fn imports() {
+    let definition = Definition::read(SAMPLE).unwrap();
+    let data = b" 710x1x-1.0ab   1\n                 \n";
+    let mut text = [0; 300];
+    let exported = definition.export(data, &mut text).unwrap();
+    let text = &text[..exported.length];
+    let length = 2 * (definition.record_length() + 2);
+    let mut out = [0x55; 300];
+    let imported = definition.import(text, &mut out).unwrap();
+    assert_eq!((imported.records, imported.length), (2, length));
+    assert!(out[length..].iter().all(|&x| x == 0x55));
+    let built = out[..length].to_vec();
+    assert_eq!(definition.judge(&built), Ok(2));
+    let mut again = [0; 300];
+    let exported = definition.export(&built, &mut again).unwrap();
+    assert_eq!(&again[..exported.length], text);
+    let kept = [0x55; 300];
+    let mut out = kept;
+    let mut refused = |text: &[u8], room: usize| {
+        let fault = definition.import(text, &mut out[..room]).unwrap_err();
+        assert_eq!(out, kept);
+        (fault.refusal, fault.line, fault.column)
+    };
+    assert_eq!(refused(text, length - 1), (Refusal::ExportRoom, 0, 0));
+    assert_eq!(refused(&text[..text.len() - 1], 300), (Refusal::Malformed, 3, definition.variables().len() as u64));
+    assert_eq!(refused(&text[1..], 300), (Refusal::NameLine, 1, 1));
+    assert_eq!(refused(&[text, b"\r\n"].concat(), 300), (Refusal::Fields, 4, 2));
+    assert_eq!(refused(&[text, b"x,,,,\r\n"].concat(), 300), (Refusal::Field, 4, 1));
+    let calls = |def: &[u8], table: &[i64]| calls::import(def, table, text, &mut []).unwrap_err().refusal;
+    assert_eq!((calls(b"", definition.table()), calls(SAMPLE, &[11])), (Refusal::OtherTable, Refusal::Table));
+}
+
 #[test]
 fn files() {
     let definition = Definition::read(SAMPLE).unwrap();
@@ -502,11 +536,13 @@ fn xml() {
     assert!(
         label.lines().map(|line| line.bytes(0).collect::<Vec<_>>()).eq([b"a".to_vec(), "\u{20ac}".as_bytes().to_vec()])
     );
-    // The names of an export are UTF-8.
+    // The names of an export are UTF-8, and come back.
     let data = b" 712.51\r\n";
-    let mut csv = vec![0; 100];
+    let (mut csv, mut out) = (vec![0; 100], vec![0; 100]);
     let exported = definition.export(data, &mut csv).unwrap();
     assert_eq!(&csv[..exported.length], "No,\u{e9}t\u{e9},W,S\r\n7,1,2.5,1\r\n".as_bytes());
+    let imported = definition.import(&csv[..exported.length], &mut out).unwrap();
+    assert_eq!(&out[..imported.length], b"0712.51\r\n");
     assert_eq!(definition.clean(), Err(Refusal::Token));
     // What only XML is refused with.
     let refused = |from: &str, to: &str| {

@@ -7,6 +7,7 @@ mod clean;
 mod completion;
 mod explain;
 mod export;
+mod import;
 mod list;
 mod lister;
 mod matrix;
@@ -47,6 +48,7 @@ pub const ALL: &[&Command] = &[
     &mend::COMMAND,
     &matrix::COMMAND,
     &export::COMMAND,
+    &import::COMMAND,
     &clean::COMMAND,
     &same::COMMAND,
     &explain::COMMAND,

@@ -1,0 +1,3 @@
+pub mod rule
+pub mod Complete
+pub mod Sound

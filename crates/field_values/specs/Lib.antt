@@ -1,0 +1,6 @@
+pub mod rule
+pub mod Capped
+pub mod Left
+pub mod Guess
+pub mod Exactly
+pub mod Steps

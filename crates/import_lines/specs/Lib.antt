@@ -1,0 +1,3 @@
+pub mod Undoubled
+pub mod Short
+pub mod Walk

@@ -1,0 +1,219 @@
+// A line of a text that is imported: its fields cut, each taken as a value of its row, and what the line then says. Above it stand the name
+// line and the passes of an import.
+ghost use mathlib.Core.Path.{_≡_};
+ghost use mathlib.Core.Bool.{false, cond};
+ghost use Prim.Native.Nat.{_+_, _≤_, min};
+ghost use lib.ListN.{length};
+ghost use Rattle.ascii.specs.rule.Tens.{Tens};
+ghost use Rattle.fields.specs.rule.Field.{spaces};
+ghost use Rattle.sound.specs.rule.Rows.{rowsOf, lengthOf};
+ghost use Rattle.sharing.specs.Known.{TableKnown};
+ghost use Rattle.writes.specs.Write.{Ready};
+ghost use Rattle.field_values.specs.Steps.{Took};
+ghost use Rattle.import_lines.specs.Undoubled.{undoubled, stride, Undoubled};
+ghost use Rattle.import_lines.specs.Walk.{RawOf, walk-of, step, endOf, LineTaken};
+use csv_fields::Cut;
+use layout::Row;
+
+// How a line ends: with a record in the slot, and where the next line begins; with a refusal's number and column; or with the column of a
+// field that is malformed.
+pub enum LineEnd {
+    Good(usize),
+    Refused(usize, usize),
+    Torn(usize),
+}
+
+// How far it is to the next byte: of two quotes the second is left out.
+pub fn stride_of(b: u8) -> usize
+    ensures { λ r. ⌜ (r ≡ stride b) × (1 ≤ r) × (r ≤ 2) ⌝ }
+{
+    if b == 34 { 2 } else { 1 }
+}
+
+// The bytes of a field that stood in quotes, without the doubled ones; 50,001 where there are more than any value has.
+fn undouble(raw: &[u8], room: &mut [u8]) -> usize
+    requires { ⌜ length (now room) ≡ 50000 ⌝ }
+    ensures { λ r. ⌜ Undoubled (now (raw .entry)) (now (room .exit)) r ⌝ }
+{
+    let mut n: usize = 0;
+    let mut i: usize = 0;
+    while i < raw.len() {
+        if 50000 <= n {
+            return 50001;
+        }
+        let b = raw[i];
+        room[n] = b;
+        n += 1;
+        i += stride_of(b);
+    }
+    n
+}
+
+// The field whose bytes so stand in the text, as a value of the row.
+fn take_raw(
+    powers: &[u64; 16],
+    t: &[i64],
+    rows: usize,
+    row: Row,
+    raw: &[u8],
+    bare: bool,
+    list: &mut [i64],
+    room: &mut [u8],
+    spare: &mut [u8],
+    bytes: &mut [u8],
+) -> bool
+    requires { ⌜ Tens (now powers) ⌝ }
+    requires { ⌜ Ready (row .kind) (now t) rows (length (now bytes)) row ⌝ }
+    requires { ⌜ RawOf (now raw) bare ⌝ }
+    requires { ⌜ (length (now list) ≡ 9999) × (length (now room) ≡ 50000) × (length (now spare) ≡ 50000) ⌝ }
+    ensures { λ r. ⌜ Took (now (t .entry)) rows row (undoubled false (now (raw .entry))) (now (bytes .entry)) (now (bytes .exit)) r ⌝ }
+{
+    if bare {
+        return field_values::take_field(powers, t, rows, row, raw, list, room, bytes);
+    }
+    let n = undouble(raw, spare);
+    if 50000 < n {
+        return false;
+    }
+    field_values::take_field(powers, t, rows, row, &spare[..n], list, room, bytes)
+}
+
+// Field j of a line, unless one before it was no value: the first column that is none, or 0.
+fn take_one(
+    powers: &[u64; 16],
+    t: &[i64],
+    rows: usize,
+    len: usize,
+    j: usize,
+    bad: usize,
+    raw: &[u8],
+    bare: bool,
+    list: &mut [i64],
+    room: &mut [u8],
+    spare: &mut [u8],
+    bytes: &mut [u8],
+) -> usize
+    requires { ⌜ Tens (now powers) ⌝ }
+    requires { ⌜ TableKnown (now t) rows len × (len ≤ length (now bytes)) ⌝ }
+    requires { ⌜ RawOf (now raw) bare ⌝ }
+    requires { ⌜ (length (now list) ≡ 9999) × (length (now room) ≡ 50000) × (length (now spare) ≡ 50000) ⌝ }
+    ensures { λ r. ⌜ walk-of r (now (bytes .exit)) ≡ step (now (t .entry)) rows j (undoubled false (now (raw .entry))) bad (now (bytes .entry)) ⌝ }
+{
+    if bad != 0 {
+        return bad;
+    }
+    if rows <= j {
+        return 0;
+    }
+    if take_raw(
+        powers,
+        t,
+        rows,
+        Row::read(t, j),
+        raw,
+        bare,
+        list,
+        room,
+        spare,
+        bytes,
+    ) {
+        return 0;
+    }
+    j + 1
+}
+
+fn lesser(a: usize, b: usize) -> usize
+    ensures { λ r. ⌜ r ≡ min a b ⌝ }
+{
+    if a <= b { a } else { b }
+}
+
+// What a line of so many fields says: another number of fields comes before a field that is no value.
+fn line_end(rows: usize, count: usize, bad: usize, next: usize) -> LineEnd
+    requires { ⌜ rows ≤ 512 ⌝ }
+    ensures { λ r. ⌜ r ≡ endOf rows count bad next ⌝ }
+{
+    if count != rows {
+        return LineEnd::Refused(63, lesser(count, rows) + 1);
+    }
+    if bad != 0 {
+        return LineEnd::Refused(64, bad);
+    }
+    LineEnd::Good(next)
+}
+
+// THE LINE from a place on, its record built in a slot of spaces.
+pub fn take_line(
+    powers: &[u64; 16],
+    t: &[i64],
+    rows: usize,
+    len: usize,
+    d: &[u8],
+    from: usize,
+    list: &mut [i64],
+    room: &mut [u8],
+    spare: &mut [u8],
+    bytes: &mut [u8],
+) -> LineEnd
+    requires { ⌜ Tens (now powers) ⌝ }
+    requires { ⌜ TableKnown (now t) rows len × (rows ≡ rowsOf (now t)) × (len ≡ lengthOf (now t)) ⌝ }
+    requires { ⌜ (from ≤ length (now d)) × (now bytes ≡ spaces len) ⌝ }
+    requires { ⌜ (length (now list) ≡ 9999) × (length (now room) ≡ 50000) × (length (now spare) ≡ 50000) ⌝ }
+    ensures { λ r. ⌜ LineTaken (now (t .entry)) (now (d .entry)) from (now (bytes .exit)) r ⌝ }
+{
+    let mut at = from;
+    let mut j: usize = 0;
+    let mut bad: usize = 0;
+    loop {
+        match csv_fields::next_field(d, at) {
+            Cut::Comma {
+                from: p,
+                to: q,
+                bare,
+                next,
+            } => {
+                bad = take_one(
+                    powers,
+                    t,
+                    rows,
+                    len,
+                    j,
+                    bad,
+                    &d[p..q],
+                    bare,
+                    list,
+                    room,
+                    spare,
+                    bytes,
+                );
+                j += 1;
+                at = next;
+            }
+            Cut::Last {
+                from: p,
+                to: q,
+                bare,
+                next,
+            } => {
+                bad = take_one(
+                    powers,
+                    t,
+                    rows,
+                    len,
+                    j,
+                    bad,
+                    &d[p..q],
+                    bare,
+                    list,
+                    room,
+                    spare,
+                    bytes,
+                );
+                return line_end(rows, j + 1, bad, next);
+            }
+            Cut::Torn => {
+                return LineEnd::Torn(j + 1);
+            }
+        }
+    }
+}
