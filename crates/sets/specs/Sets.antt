@@ -1,17 +1,35 @@
 -- What follows from rule/Sets.antt, and what the code keeps.
 use mathlib.Core.Path.{_≡_}
-use mathlib.Core.Bool.{cond}
 use mathlib.Core.List.{List}
 use Prim.Native.Nat.{ℕ, _+_, _*_, _≤_}
 use lib.Dec.{leb}
 use lib.IntN.{ℤ}
 use lib.ListN.{length}
-use Rattle.fields.specs.rule.Field.{missing, number, members, text, truth, Field, holds, illegal}
+use mathlib.Core.Bool.{Bool, cond}
+use Rattle.places.specs.rule.Places.{pick}
+use Rattle.fields.specs.rule.Legal.{legal}
+use Rattle.fields.specs.rule.Row.{defined, bitPlaces, spreadPlaces}
+use Rattle.fields.specs.rule.Field.{missing, number, members, text, truth, Field, holds, illegal, setBits, bitsField, spreadField}
 use Rattle.fields.specs.Facts.{LineFacts}
 use Rattle.layout.specs.declared.Row.{Row}
 use Rattle.sets.specs.declared.SetRead.{SetRead}
 use Rattle.sets.specs.declared.SetRead.the-variants.{Missing, Count, Illegal, Short}
 use Rattle.sets.specs.rule.Sets.{listAfter}
+
+-- the numbers from 1 to w that a row allows: the codes of a bitstring of w bytes
+abbrev pub codesTo : List ℤ → ℕ → Row → ℕ → List ℕ
+codesTo t rows row w = defined (legal t rows row) 1 w
+
+-- the codes whose bytes are 1 in a bitstring that begins at a place of a record, and that bitstring as a field
+abbrev pub setBitsAt : List ℕ → ℕ → List ℕ → List ℤ
+setBitsAt codes at bytes = setBits codes (pick bytes (bitPlaces at codes))
+
+abbrev pub bitsFieldAt : List ℕ → ℕ → List ℕ → Field
+bitsFieldAt codes at bytes = bitsField codes (pick bytes (bitPlaces at codes))
+
+-- a spread that begins at a place of a record, as a field: n subfields of b bytes, the last w of each
+abbrev pub spreadFieldAt : (ℤ → Bool) → (at b w n : ℕ) → List ℕ → Field
+spreadFieldAt allowed at b w n bytes = spreadField allowed w n (pick bytes (spreadPlaces at b w n))
 
 -- a set's answer, and the list after it: a set longer than the list is refused and keeps it
 unfoldable pub setAnswer : Field → List ℤ → SetRead

@@ -4,15 +4,14 @@ ghost use mathlib.Core.Bool.{cond};
 ghost use lib.Dec.{eqb};
 ghost use Prim.Native.Nat.{_+_, _≤_};
 ghost use lib.ListN.{length};
-ghost use Rattle.places.specs.rule.Places.{pick};
 ghost use Rattle.fields.specs.rule.Legal.{legal};
-ghost use Rattle.fields.specs.rule.Field.{holds, members, setBits, bitsField};
-ghost use Rattle.fields.specs.rule.Row.{defined, bitPlaces};
+ghost use Rattle.fields.specs.rule.Field.{holds, members};
+ghost use Rattle.fields.specs.rule.Row.{defined};
 ghost use Rattle.fields.specs.Facts.{LineFacts};
 ghost use Rattle.sets.specs.Full.{always, EachLegal};
 ghost use Rattle.sets.specs.Marks.{Marks};
 ghost use Rattle.sets.specs.rule.Sets.{filledOf, isIllegal};
-ghost use Rattle.sets.specs.Sets.{BitsRoom, ReadSet};
+ghost use Rattle.sets.specs.Sets.{BitsRoom, ReadSet, codesTo, setBitsAt, bitsFieldAt};
 use super::SetRead;
 use super::alike::all_are;
 use super::alike::run_is;
@@ -39,7 +38,7 @@ fn count_set(
     requires { ⌜ LineFacts (now t) rows row ⌝ }
     requires { ⌜ Marks (λ x. legal (now t) rows row x) (now marks) ⌝ }
     requires { ⌜ BitsRoom at w (length (now bytes)) ⌝ }
-    ensures { λ r. ⌜ r ≡ length (setBits (defined (legal (now (t .entry)) rows row) 1 w) (pick (now (bytes .entry)) (bitPlaces at (defined (legal (now (t .entry)) rows row) 1 w)))) ⌝ }
+    ensures { λ r. ⌜ r ≡ length (setBitsAt (codesTo (now (t .entry)) rows row w) at (now (bytes .entry))) ⌝ }
 {
     let mut n: usize = 0;
     let mut i: usize = 0;
@@ -56,7 +55,7 @@ fn count_set(
 // The same where every category from 1 to w is one.
 fn count_each(bytes: &[u8], at: usize, w: usize) -> usize
     requires { ⌜ BitsRoom at w (length (now bytes)) ⌝ }
-    ensures { λ r. ⌜ r ≡ length (setBits (defined always 1 w) (pick (now (bytes .entry)) (bitPlaces at (defined always 1 w)))) ⌝ }
+    ensures { λ r. ⌜ r ≡ length (setBitsAt (defined always 1 w) at (now (bytes .entry))) ⌝ }
 {
     let mut n: usize = 0;
     let mut i: usize = 0;
@@ -81,8 +80,8 @@ fn bits_fill(
     requires { ⌜ LineFacts (now t) rows row ⌝ }
     requires { ⌜ Marks (λ x. legal (now t) rows row x) (now marks) ⌝ }
     requires { ⌜ BitsRoom at w (length (now bytes)) ⌝ }
-    requires { ⌜ length (setBits (defined (legal (now t) rows row) 1 w) (pick (now bytes) (bitPlaces at (defined (legal (now t) rows row) 1 w)))) ≤ length (now list) ⌝ }
-    ensures { λ _. ⌜ now (list .exit) ≡ filledOf (setBits (defined (legal (now (t .entry)) rows row) 1 w) (pick (now (bytes .entry)) (bitPlaces at (defined (legal (now (t .entry)) rows row) 1 w)))) (now (list .entry)) ⌝ }
+    requires { ⌜ length (setBitsAt (codesTo (now t) rows row w) at (now bytes)) ≤ length (now list) ⌝ }
+    ensures { λ _. ⌜ now (list .exit) ≡ filledOf (setBitsAt (codesTo (now (t .entry)) rows row w) at (now (bytes .entry))) (now (list .entry)) ⌝ }
 {
     let mut n: usize = 0;
     let mut i: usize = 0;
@@ -101,8 +100,8 @@ fn bits_fill(
 // The same where every category from 1 to w is one.
 fn fill_each(bytes: &[u8], at: usize, w: usize, list: &mut [i64])
     requires { ⌜ BitsRoom at w (length (now bytes)) ⌝ }
-    requires { ⌜ length (setBits (defined always 1 w) (pick (now bytes) (bitPlaces at (defined always 1 w)))) ≤ length (now list) ⌝ }
-    ensures { λ _. ⌜ now (list .exit) ≡ filledOf (setBits (defined always 1 w) (pick (now (bytes .entry)) (bitPlaces at (defined always 1 w)))) (now (list .entry)) ⌝ }
+    requires { ⌜ length (setBitsAt (defined always 1 w) at (now bytes)) ≤ length (now list) ⌝ }
+    ensures { λ _. ⌜ now (list .exit) ≡ filledOf (setBitsAt (defined always 1 w) at (now (bytes .entry))) (now (list .entry)) ⌝ }
 {
     let mut n: usize = 0;
     let mut i: usize = 0;
@@ -120,7 +119,7 @@ fn fill_each(bytes: &[u8], at: usize, w: usize, list: &mut [i64])
 pub fn judge(t: &[i64], rows: usize, row: Row, bytes: &[u8], at: usize, w: usize) -> bool
     requires { ⌜ LineFacts (now t) rows row ⌝ }
     requires { ⌜ BitsRoom at w (length (now bytes)) ⌝ }
-    ensures { λ r. ⌜ r ≡ isIllegal (bitsField (defined (legal (now (t .entry)) rows row) 1 w) (pick (now (bytes .entry)) (bitPlaces at (defined (legal (now (t .entry)) rows row) 1 w)))) ⌝ }
+    ensures { λ r. ⌜ r ≡ isIllegal (bitsFieldAt (codesTo (now (t .entry)) rows row w) at (now (bytes .entry))) ⌝ }
 {
     if all_are(t, rows, row, bytes, at, w, 32, 32) {
         return false;
@@ -142,8 +141,8 @@ fn list_set(
     requires { ⌜ LineFacts (now t) rows row ⌝ }
     requires { ⌜ Marks (λ x. legal (now t) rows row x) (now marks) ⌝ }
     requires { ⌜ BitsRoom at w (length (now bytes)) ⌝ }
-    requires { ⌜ bitsField (defined (legal (now t) rows row) 1 w) (pick (now bytes) (bitPlaces at (defined (legal (now t) rows row) 1 w))) ≡ holds (members (setBits (defined (legal (now t) rows row) 1 w) (pick (now bytes) (bitPlaces at (defined (legal (now t) rows row) 1 w))))) ⌝ }
-    ensures { λ r. ⌜ ReadSet (bitsField (defined (legal (now (t .entry)) rows row) 1 w) (pick (now (bytes .entry)) (bitPlaces at (defined (legal (now (t .entry)) rows row) 1 w)))) (now (list .entry)) (now (list .exit)) r ⌝ }
+    requires { ⌜ bitsFieldAt (codesTo (now t) rows row w) at (now bytes) ≡ holds (members (setBitsAt (codesTo (now t) rows row w) at (now bytes))) ⌝ }
+    ensures { λ r. ⌜ ReadSet (bitsFieldAt (codesTo (now (t .entry)) rows row w) at (now (bytes .entry))) (now (list .entry)) (now (list .exit)) r ⌝ }
 {
     let n = count_set(t, rows, row, marks, bytes, at, w);
     if n <= list.len() {
@@ -165,7 +164,7 @@ pub fn read_each(
 ) -> SetRead
     requires { ⌜ EachLegal (now t) rows row w ⌝ }
     requires { ⌜ BitsRoom at w (length (now bytes)) ⌝ }
-    ensures { λ r. ⌜ ReadSet (bitsField (defined (legal (now (t .entry)) rows row) 1 w) (pick (now (bytes .entry)) (bitPlaces at (defined (legal (now (t .entry)) rows row) 1 w)))) (now (list .entry)) (now (list .exit)) r ⌝ }
+    ensures { λ r. ⌜ ReadSet (bitsFieldAt (codesTo (now (t .entry)) rows row w) at (now (bytes .entry))) (now (list .entry)) (now (list .exit)) r ⌝ }
 {
     if run_is(bytes, at, w, 32, 32) {
         return SetRead::Missing;
@@ -195,8 +194,8 @@ pub fn mark_and_list(
     requires { ⌜ LineFacts (now t) rows row ⌝ }
     requires { ⌜ length (now marks) ≤ 10000 ⌝ }
     requires { ⌜ BitsRoom at w (length (now bytes)) ⌝ }
-    requires { ⌜ bitsField (defined (legal (now t) rows row) 1 w) (pick (now bytes) (bitPlaces at (defined (legal (now t) rows row) 1 w))) ≡ holds (members (setBits (defined (legal (now t) rows row) 1 w) (pick (now bytes) (bitPlaces at (defined (legal (now t) rows row) 1 w))))) ⌝ }
-    ensures { λ r. ⌜ ReadSet (bitsField (defined (legal (now (t .entry)) rows row) 1 w) (pick (now (bytes .entry)) (bitPlaces at (defined (legal (now (t .entry)) rows row) 1 w)))) (now (list .entry)) (now (list .exit)) r ⌝ }
+    requires { ⌜ bitsFieldAt (codesTo (now t) rows row w) at (now bytes) ≡ holds (members (setBitsAt (codesTo (now t) rows row w) at (now bytes))) ⌝ }
+    ensures { λ r. ⌜ ReadSet (bitsFieldAt (codesTo (now (t .entry)) rows row w) at (now (bytes .entry))) (now (list .entry)) (now (list .exit)) r ⌝ }
 {
     mark_legal(t, rows, row, marks);
     list_set(t, rows, row, marks, bytes, at, w, list)

@@ -3,11 +3,9 @@
 ghost use mathlib.Core.Path.{_≡_};
 ghost use Prim.Native.Nat.{_-_, _^_, _≤_};
 ghost use lib.ListN.{length};
-ghost use Rattle.places.specs.rule.Places.{pick};
 ghost use Rattle.fields.specs.rule.Legal.{legal};
-ghost use Rattle.fields.specs.rule.Field.{bitsField, spreadField};
-ghost use Rattle.fields.specs.rule.Row.{categories, bitPlaces, spreadPlaces};
-ghost use Rattle.sets.specs.Sets.{ReadSet, BitsFacts, FieldsFacts};
+ghost use Rattle.fields.specs.rule.Row.{categories};
+ghost use Rattle.sets.specs.Sets.{ReadSet, BitsFacts, FieldsFacts, bitsFieldAt, spreadFieldAt};
 ghost use Rattle.sets.specs.rule.Sets.{isIllegal};
 use layout::Row;
 
@@ -47,7 +45,7 @@ fn marks_worth(lines: usize, tests: usize, size: usize, room: usize) -> usize
 // Whether the bitstring of a row is illegal.
 pub fn bits_illegal(t: &[i64], rows: usize, row: Row, bytes: &[u8]) -> bool
     requires { ⌜ BitsFacts (now t) rows row (length (now bytes)) ⌝ }
-    ensures { λ r. ⌜ r ≡ isIllegal (bitsField (categories (now (t .entry)) rows row) (pick (now (bytes .entry)) (bitPlaces (row .start - 1) (categories (now (t .entry)) rows row)))) ⌝ }
+    ensures { λ r. ⌜ r ≡ isIllegal (bitsFieldAt (categories (now (t .entry)) rows row) (row .start - 1) (now (bytes .entry))) ⌝ }
 {
     bits::judge(t, rows, row, bytes, row.start - 1, row.width)
 }
@@ -63,7 +61,7 @@ pub fn read_bits(
 ) -> SetRead
     requires { ⌜ BitsFacts (now t) rows row (length (now bytes)) ⌝ }
     requires { ⌜ length (now scratch) ≤ 10000 ⌝ }
-    ensures { λ r. ⌜ ReadSet (bitsField (categories (now (t .entry)) rows row) (pick (now (bytes .entry)) (bitPlaces (row .start - 1) (categories (now (t .entry)) rows row)))) (now (list .entry)) (now (list .exit)) r ⌝ }
+    ensures { λ r. ⌜ ReadSet (bitsFieldAt (categories (now (t .entry)) rows row) (row .start - 1) (now (bytes .entry))) (now (list .entry)) (now (list .exit)) r ⌝ }
 {
     let w = row.width;
     let at = row.start - 1;
@@ -112,7 +110,7 @@ pub fn spread_illegal(
 ) -> bool
     requires { ⌜ FieldsFacts (now t) rows row n b (length (now bytes)) ⌝ }
     requires { ⌜ length (now scratch) ≤ 10000 ⌝ }
-    ensures { λ r. ⌜ r ≡ isIllegal (spreadField (legal (now (t .entry)) rows row) (row .width) n (pick (now (bytes .entry)) (spreadPlaces (row .start - 1) b (row .width) n))) ⌝ }
+    ensures { λ r. ⌜ r ≡ isIllegal (spreadFieldAt (legal (now (t .entry)) rows row) (row .start - 1) b (row .width) n (now (bytes .entry))) ⌝ }
 {
     let w = row.width;
     let at = row.start - 1;
@@ -135,7 +133,7 @@ pub fn read_spread(
     requires { ⌜ FieldsFacts (now t) rows row n b (length (now bytes)) ⌝ }
     requires { ⌜ length (now scratch) ≤ 10000 ⌝ }
     requires { ⌜ 10 ^ row .width ≤ length (now present) ⌝ }
-    ensures { λ r. ⌜ ReadSet (spreadField (legal (now (t .entry)) rows row) (row .width) n (pick (now (bytes .entry)) (spreadPlaces (row .start - 1) b (row .width) n))) (now (list .entry)) (now (list .exit)) r ⌝ }
+    ensures { λ r. ⌜ ReadSet (spreadFieldAt (legal (now (t .entry)) rows row) (row .start - 1) b (row .width) n (now (bytes .entry))) (now (list .entry)) (now (list .exit)) r ⌝ }
 {
     let w = row.width;
     let at = row.start - 1;
@@ -172,7 +170,7 @@ pub fn read_few(
 ) -> SetRead
     requires { ⌜ FieldsFacts (now t) rows row n b (length (now bytes)) ⌝ }
     requires { ⌜ n ≤ length (now room) ⌝ }
-    ensures { λ r. ⌜ ReadSet (spreadField (legal (now (t .entry)) rows row) (row .width) n (pick (now (bytes .entry)) (spreadPlaces (row .start - 1) b (row .width) n))) (now (list .entry)) (now (list .exit)) r ⌝ }
+    ensures { λ r. ⌜ ReadSet (spreadFieldAt (legal (now (t .entry)) rows row) (row .start - 1) b (row .width) n (now (bytes .entry))) (now (list .entry)) (now (list .exit)) r ⌝ }
 {
     let w = row.width;
     let at = row.start - 1;

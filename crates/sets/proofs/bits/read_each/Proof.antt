@@ -5,12 +5,11 @@ use Prim.Native.Nat.{_-_}
 use borrow.Author.Needs.{needs}
 use borrow.Author.Tests.{not-true, not-false}
 use lib.ListN.{length}
-use Rattle.places.specs.rule.Places.{pick}
 use Rattle.fields.specs.rule.Legal.{legal}
-use Rattle.fields.specs.rule.Field.{holds, members, setBits, bitsField}
-use Rattle.fields.specs.rule.Row.{defined, bitPlaces}
+use Rattle.fields.specs.rule.Field.{holds, members}
 use Rattle.sets.specs.Alike.{allAt}
 use Rattle.sets.specs.Full.{each-defined}
+use Rattle.sets.specs.Sets.{codesTo, setBitsAt, bitsFieldAt}
 use Rattle.sets.proofs.AlikeLaws.{spaces-alike, bits-alike, each-alike}
 use Rattle.sets.proofs.SetLaws.{read-missing, read-illegal, read-room, read-short, bits-missing, bits-members, bits-wrong}
 use Rattle.sets.proofs.bits.read_each.Statement.{statement}
@@ -32,13 +31,13 @@ returns-2 c =
     (bits-wrong _ _ (spaces-alike _ ∙ sym (spaces (c .before .before .before)) ∙ c .before .before .if1 .left) (bits-alike _ ∙ sym (bits (c .before)) ∙ not-true _ (c .if2 .taken)))
 
 -- all bytes are `0` and `1`
-set : (c : tie.Else2) → let a = c .before .before .before .before .before .args in let cs = defined (legal (a .t .now) (a .rows) (a .row)) 1 (a .w) in let s = pick (a .bytes .now) (bitPlaces (a .at) cs) in
-    bitsField cs s ≡ holds (members (setBits cs s))
+set : (c : tie.Else2) → let a = c .before .before .before .before .before .args in let codes = codesTo (a .t .now) (a .rows) (a .row) (a .w) in
+    bitsFieldAt codes (a .at) (a .bytes .now) ≡ holds (members (setBitsAt codes (a .at) (a .bytes .now)))
 set c = bits-members _ _ (spaces-alike _ ∙ sym (spaces (c .before .before .before)) ∙ c .before .before .if1 .left) (bits-alike _ ∙ sym (bits (c .before)) ∙ not-false _ (c .if2 .left))
 
 -- how many members
 counted : (c : tie.After-count-each) → let a = c .before .before .before .before .before .before .args in
-    c .count-each .result ≡ length (setBits (defined (legal (a .t .now) (a .rows) (a .row)) 1 (a .w)) (pick (a .bytes .now) (bitPlaces (a .at) (defined (legal (a .t .now) (a .rows) (a .row)) 1 (a .w)))))
+    c .count-each .result ≡ length (setBitsAt (codesTo (a .t .now) (a .rows) (a .row) (a .w)) (a .at) (a .bytes .now))
 counted c = let a = c .before .before .before .before .before .before .args in rw (each-defined (a .t .now) (a .rows) (a .row) (a .w) (c .before .before .before .before .before .before .pre .0)) (c .count-each .ensures)
 
 fill-each-requires : tie.Need-fill-each-requires
