@@ -11,10 +11,12 @@ variable, in the order of the file; texts of the heading and of notes have none)
 are held against the same two files by rust/compare/tests/vectors.rs.
 
 stdin:  for each case a line `LEN ROOM` (bytes of the definition, numbers of table lent), or `LEN ROOM PLACE LENGTH` for a text of it
-        that is decoded into a list of ROOM numbers; LEN bytes, LF.
+        that is decoded into a list of ROOM numbers, or `LEN ROOM OUTPUT` where it is written clean into OUTPUT bytes, with what it
+        yields in a table of ROOM numbers; LEN bytes, LF.
 stdout: `case N: read V E kept` and a line with the numbers of the table, or `case N: NUMBER PLACE kept`. `kept` says that
         every other number of the table holds what it held before; the program would print `touched`. Of a text: `case N: text COUNT
-        kept` and a line with its signs, a break as 256, or `case N: NUMBER kept`.
+        kept` and a line with its signs, a break as 256, or `case N: NUMBER kept`. Of a clean text: `case N: clean LENGTH kept` and
+        the text, or `case N: NUMBER PLACE kept`; `kept` then says it of the output's other bytes.
 """
 import os
 import sys
@@ -873,10 +875,60 @@ refused("XML: a filter that names no logical", 52, sheet(ASKED + item("logical",
 decoded("XML: a reference, a comment, a break, another language", OPENED + "~a&lt;&#x41;<!--b--><br/>c<text xml:lang='de'>d</text>~", ["a", "<", "A", BREAK, "c"])
 decoded("XML: an end tag is no content", OPENED + "~a</name>~", number=3)
 
+# ---------------------------------------------------------------------------------------------- definitions written clean (C-11)
+
+
+def cleaned(title, text, due, rows=1, lines=0, number=0, room=0, spare=3):
+    """`due` are the lines of the clean text, `room` numbers more than needed are lent, `spare` bytes more; or the refusal, `@` at its place."""
+    clean = "".join(f"{line}\r\n" for line in due)
+    place = text.replace("~", "").find("@")
+    answer = f"{number} {max(place, 0)} kept\n" if number else f"clean {len(clean)} kept\n{clean}"
+    assert ("@" in text) == (0 < number < 40), title
+    CASES.append((title, bare(text), f"{size(rows, lines) + room} {len(clean) + spare}", answer))
+
+
+def framed(*lines, head=()):
+    return ["SSS", "VERSION 1.1", *head, *lines, "END RECORD", "END SURVEY", "END SSS"]
+
+
+CLEAN_TRUTH = ["VARIABLE 1", 'NAME "n"', 'LABEL "l"', "TYPE LOGICAL", "POSITION 1 TO 1", "END VARIABLE"]
+TRUTH_DUE = framed("SURVEY", "RECORD R", *CLEAN_TRUTH)
+SAMPLE_DUE = framed(
+    *("SURVEY", "RECORD R"),
+    *("VARIABLE 1", 'NAME "desk"', 'LABEL "Desk"', "TYPE SINGLE", "POSITION 1 TO 2", "VALUES", "1 TO 12", "END VALUES", "END VARIABLE"),
+    *("VARIABLE 2", 'NAME "seen"', 'LABEL "Seen"', "TYPE MULTIPLE", "POSITION 3 TO 6", "VALUES", '1 "a"', '2 "b"', '4 "d"', "END VALUES", "END VARIABLE"),
+    *("VARIABLE 3", 'NAME "wait"', 'LABEL "Wait"', "TYPE QUANTITY", "POSITION 7 TO 11", "VALUES", "-1.0 TO 99.5", "END VALUES", "END VARIABLE"),
+)
+ODD = (
+    'S\x01SS version 1.\n1 user"u" <c <d>> Standard\nNames NOTE "n" time "" DATE"1{NL}\x02" note "n" origin "\xe4" survey <"{"}"> title "{2\r\n2}" record z '
+    'vari\x1fable 0\n07 NAME "~a\x03b~" LABEL "~~" TYPE MULTIPLE POSITION 0\x045 TO 8 SPREAD 2 NOTE "TO" values 1 to 09 with NOTE "" 01 "~{4a4B}{{}~" SPECIAL '
+    '<c> 9 "~}\x00<>~" end values end variable VARIABLE 1 NAME "~b~" LABEL "~{ff}~" TYPE QUANTITY POSITION 009 TO 13 VALUES -0.\n50 TO 9.99 END VALUES END VARIABLE '
+    'VARIABLE 2 NAME "~c~" LABEL "~ ~" TYPE CHARACTER POSITION 14 TO 15 SIZE 002 END VARIABLE VARIABLE 3 NAME "~d~" LABEL "~d~" TYPE MULTIPLE POSITION 16 TO 19 '
+    'SPREAD 02 OF 02 VALUES 1 "~x~" END VALUES END VARIABLE VARIABLE 4 NAME "~e~" LABEL "~e~" TYPE LOGICAL POSITION 020 END VARIABLE END RECORD END SURVEY end sss <" and more'
+)
+ODD_DUE = framed(
+    *("SURVEY", 'TITLE "{22}"', "RECORD z", "VARIABLE 007", 'NAME "ab"', 'LABEL ""', "TYPE MULTIPLE", "POSITION 05 TO 8", "SPREAD 2 OF 2"),
+    *("VALUES", "1 TO 09 WITH", '01 "{4a4B}{{}" SPECIAL', '9 "}<>"', "END VALUES", "END VARIABLE"),
+    *("VARIABLE 1", 'NAME "b"', 'LABEL "{ff}"', "TYPE QUANTITY", "POSITION 009 TO 13", "VALUES", "-0.50 TO 9.99", "END VALUES", "END VARIABLE"),
+    *("VARIABLE 2", 'NAME "c"', 'LABEL " "', "TYPE CHARACTER", "POSITION 14 TO 15", "SIZE 002", "END VARIABLE"),
+    *("VARIABLE 3", 'NAME "d"', 'LABEL "d"', "TYPE MULTIPLE", "POSITION 16 TO 19", "SPREAD 02 OF 02", "VALUES", '1 "x"', "END VALUES", "END VARIABLE"),
+    *("VARIABLE 4", 'NAME "e"', 'LABEL "e"', "TYPE LOGICAL", "POSITION 020 TO 020", "END VARIABLE"),
+    head=('DATE "1{NL}"', 'TIME ""', 'ORIGIN "\xe4"', 'USER "u"', "STANDARD NAMES"),
+)
+cleaned("clean: document 01's sample", SAMPLE, SAMPLE_DUE, 3, 3)
+cleaned("clean: once more, the clean text itself", "".join(f"{line}\r\n" for line in SAMPLE_DUE), SAMPLE_DUE, 3, 3)
+cleaned("clean: everything odd, five more numbers lent", ODD, ODD_DUE, 5, 3, room=5)
+cleaned("clean: an exact fit", whole(TRUTH), TRUTH_DUE, spare=0)
+cleaned("clean: one byte too few", whole(TRUTH), TRUTH_DUE, number=42, spare=-1)
+cleaned("clean: a table of one number too few: 40 before 42", whole(TRUTH), TRUTH_DUE, number=40, room=-1, spare=-1)
+cleaned("clean: the definition is refused, WITH is missing: 2 before 40", values('1 TO 5 @6 "x"'), TRUTH_DUE, number=2, room=-1)
+cleaned("clean: the definition is refused, its last name repeated: 9", names('"a"', '@"A"'), TRUTH_DUE, number=9)
+cleaned("clean: a definition in XML is read as 1.1", "@" + sheet(ASKED), TRUTH_DUE, number=2)
+
 
 def made():
     asked = b"".join(b"%d %s\n%s\n" % (len(text), str(room).encode(), text) for _, text, room, _ in CASES)
-    told = "".join(f"case {n}: {answer}" for n, (_, _, _, answer) in enumerate(CASES, 1)).encode()
+    told = "".join(f"case {n}: {answer}" for n, (_, _, _, answer) in enumerate(CASES, 1)).encode("latin-1")
     return {"stdin": asked, "stdout": told}
 
 

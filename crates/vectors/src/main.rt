@@ -1,7 +1,8 @@
 // The vectors of the definition reader: each case of standard input, a definition and the room of a table, is read by the public call, and
 // the answer is printed with the table, and whether every other number of the table holds what it held. Where a place and a length stand
-// with the case, the text there is decoded into the room, and its signs are printed. `cases.py` beside this makes the cases and the
-// answers.
+// with the case, the text there is decoded into the room, and its signs are printed; where one number more stands there, the definition
+// is written clean into as many bytes, and its text is printed. `cases.py` beside this makes the cases and the answers.
+use clean::Written;
 use definition::Answer;
 use layout::Header;
 use layout::Line;
@@ -12,6 +13,9 @@ ghost use lib.ListN.{length};
 
 // What every number of a table holds before the call.
 const PATTERN: i64 = -7777;
+
+// What every byte of an output holds before the call.
+const BLANK: u8 = 35;
 
 fn bounded(n: usize, most: usize) -> usize
     ensures { λ r. ⌜ r ≤ most ⌝ }
@@ -105,6 +109,18 @@ fn held(table: &[i64], from: usize) -> bool {
     true
 }
 
+// The same of the bytes that a definition is written into.
+fn held_bytes(page: &[u8], from: usize) -> bool {
+    let mut i = from;
+    while i < page.len() {
+        if page[i] != BLANK {
+            return false;
+        }
+        i += 1;
+    }
+    true
+}
+
 fn put_held(out: &mut [u8], at: usize, kept: bool) -> usize {
     if kept {
         return put_all(out, at, b" kept\n");
@@ -130,11 +146,11 @@ fn put_read(out: &mut [u8], at: usize, table: &[i64], rows: usize, lines: usize)
     put_table(out, n, &table[..used])
 }
 
-fn put_refused(out: &mut [u8], at: usize, table: &[i64], number: usize, place: usize) -> usize {
+fn put_refused(out: &mut [u8], at: usize, number: usize, place: usize, kept: bool) -> usize {
     let mut n = put_count(out, at, number as u64);
     n = put(out, n, b' ');
     n = put_count(out, n, place as u64);
-    put_held(out, n, held(table, 0))
+    put_held(out, n, kept)
 }
 
 fn put_signs(out: &mut [u8], at: usize, list: &[i64], count: usize) -> usize {
@@ -160,15 +176,47 @@ fn run_text(out: &mut [u8], at: usize, d: &[u8], h: Head, list: &mut [i64]) -> u
     }
 }
 
+fn put_clean(out: &mut [u8], at: usize, page: &[u8], count: usize) -> usize {
+    let used = bounded(count, page.len());
+    let mut n = put_all(out, at, b"clean ");
+    n = put_count(out, n, used as u64);
+    n = put_held(out, n, held_bytes(page, used));
+    put_all(out, n, &page[..used])
+}
+
+// The definition written clean, with the table that was read of it, if it has room.
+fn run_clean(out: &mut [u8], at: usize, d: &[u8], h: Head, table: &[i64]) -> usize {
+    let mut room = [BLANK; 4096];
+    let page = &mut room[..bounded(h.long, 4096)];
+    match clean::write_definition(d, table, page) {
+        Written::Done(count) => put_clean(out, at, page, count),
+        Written::Refused { number, place } => put_refused(
+            out,
+            at,
+            number,
+            place,
+            held_bytes(page, 0),
+        ),
+    }
+}
+
+fn run_read(out: &mut [u8], at: usize, d: &[u8], h: Head, table: &mut [i64]) -> usize {
+    fill(table);
+    let read = kinds::read_definition(d, table);
+    if h.clean {
+        return run_clean(out, at, d, h, table);
+    }
+    match read {
+        Answer::Read { rows, lines } => put_read(out, at, table, rows, lines),
+        Answer::Refused { number, place } => put_refused(out, at, number, place, held(table, 0)),
+    }
+}
+
 fn run_case(out: &mut [u8], at: usize, d: &[u8], h: Head, table: &mut [i64]) -> usize {
     if h.decode {
         return run_text(out, at, d, h, table);
     }
-    fill(table);
-    match kinds::read_definition(d, table) {
-        Answer::Read { rows, lines } => put_read(out, at, table, rows, lines),
-        Answer::Refused { number, place } => put_refused(out, at, table, number, place),
-    }
+    run_read(out, at, d, h, table)
 }
 
 // A number from a place on, and the place behind the byte after it.
@@ -218,10 +266,12 @@ fn behind(at: usize, end: usize, most: usize) -> usize
     if end < most { end + 1 } else { most }
 }
 
-// The first line of a case: how many bytes the definition has, the room, and the place and length of a text that is to be decoded.
+// The first line of a case: how many bytes the definition has, the room, and the place and length of a text that is to be decoded, or the
+// length of the output that the definition is to be written into.
 struct Head {
     length: usize,
     room: usize,
+    clean: bool,
     decode: bool,
     place: usize,
     long: usize,
@@ -242,29 +292,26 @@ fn goes_on(text: &[u8], next: usize) -> bool {
 fn head_at(text: &[u8], at: usize) -> Head {
     let length = figure_at(text, at);
     let room = figure_at(text, length.next);
-    if goes_on(text, room.next) {
-        let place = figure_at(text, room.next);
-        let long = figure_at(text, place.next);
-        return Head {
-            length: length.value,
-            room: room.value,
-            decode: true,
-            place: place.value,
-            long: long.value,
-            next: long.next,
-        };
-    }
+    let more = goes_on(text, room.next);
+    let third = figure_at(text, room.next);
+    let decode = more & goes_on(text, third.next);
+    let fourth = figure_at(text, third.next);
     Head {
         length: length.value,
         room: room.value,
-        decode: false,
-        place: 0,
-        long: 0,
-        next: room.next,
+        clean: more & !decode,
+        decode,
+        place: third.value,
+        long: either(decode, fourth.value, third.value),
+        next: either(decode, fourth.next, either(more, third.next, room.next)),
     }
 }
 
-// The case that starts at a place: `LEN ROOM` or `LEN ROOM PLACE LENGTH`, LF, the definition, LF.
+fn either(q: bool, a: usize, b: usize) -> usize {
+    if q { a } else { b }
+}
+
+// The case that starts at a place: `LEN ROOM`, `LEN ROOM PLACE LENGTH` or `LEN ROOM OUTPUT`, LF, the definition, LF.
 fn one_case(
     text: &[u8],
     at: usize,
