@@ -77,6 +77,7 @@ int main(int n, char **words) {
     short_len = (length + 2) * (rows > 500 ? 25 : rows > 50 ? 200 : 400);
     size_t mail_len = damage(data_len, length);
     MEASURE("read_definition", , zarfolin_read_definition(def, def_len, own, most, answer));
+    MEASURE("write_definition", , zarfolin_write_definition(def, def_len, table, most, out, ROOM, answer));
     MEASURE("judge_record", , zarfolin_judge_record(table, most, data, length, answer));
     MEASURE("judge_file", , zarfolin_judge_file(table, most, data, data_len, answer));
     for (uint64_t row = 0; row < 6; row++) MEASURE("read_value", , zarfolin_read_value(table, most, row, data, length, list, LIST, answer));
