@@ -91,6 +91,10 @@ marked-good true m = go (eqb m 1)
     go true = (omega arith, (omega arith, omega arith))
     go false = (omega arith, (omega arith, omega arith))
 
+pub marked-nought : (there : Bool) (m : ℕ) → eqb m 1 ≡ false → markedEntry there m ≡ cond there (Scaled (pos 0) 1) Absent
+unfolding markedEntry
+marked-nought there m e = rw e
+
 -- ---- category by category: n are left from c on
 module _ (there : Bool) (legal present : List ℕ) (c : ℕ) (low : c < length legal) where
   pub marked-on : getD legal c 0 ≡ 1

@@ -1,7 +1,8 @@
 -- What each writer of entries is given and what it leaves.
 -- Assumes nothing.
 use mathlib.Core.Path.{_≡_, refl, sym, ap, _∙_}
-use mathlib.Core.List.{List, [], _∷_}
+use mathlib.Core.Bool.{Bool}
+use mathlib.Core.List.{List, [], _∷_, _++_}
 use Prim.Native.Nat.{ℕ, _+_, _*_, _≤_}
 use native.Mathlib.Omega.{arith}
 use lib.IntN.{ℤ}
@@ -12,6 +13,7 @@ use Rattle.files.specs.rule.Tested.{Tested}
 use Rattle.matrix.specs.declared.Entry.{Entry}
 use Rattle.matrix.specs.Put.{putEntries}
 use Rattle.matrix.specs.Entry.{entries-none, entries-then}
+use Rattle.matrix.specs.Noughts.{noughts, length-noughts}
 
 -- room for n presence bytes from one place on and for n values from another, behind them
 pub record Room (flags values size n : ℕ) : Type 0 where
@@ -45,3 +47,11 @@ room-as e r = let b = r .behind in let i = r .inside in record { behind = omega 
 pub entry-then : (r : List ℕ) (f v : ℕ) (e : Entry) (ys : List Entry) → f + (1 + length ys) ≤ v
     → putEntries (putEntries r f v (e ∷ [])) (f + 1) (v + 8) ys ≡ putEntries r f v (e ∷ ys)
 entry-then r f v e ys h = entries-then r f v (e ∷ []) ys h
+
+-- sixteen of value zero put, and those behind them
+pub noughts-then : (r : List ℕ) (f v : ℕ) (there : Bool) (ys : List Entry) → f + (16 + length ys) ≤ v
+    → putEntries (putEntries r f v (noughts there 16)) (f + 16) (v + 128) ys ≡ putEntries r f v (noughts there 16 ++ ys)
+noughts-then r f v there ys h =
+    let xs = noughts there 16 in
+    let n : length xs ≡ 16 = length-noughts there 16 in
+    ap (λ (m : ℕ). putEntries (putEntries r f v xs) (f + m) (v + 8 * m) ys) (sym n) ∙ entries-then r f v xs ys (omega arith)

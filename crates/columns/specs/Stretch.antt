@@ -2,8 +2,8 @@
 -- Assumes nothing.
 use mathlib.Core.Path.{_≡_, refl, sym, ap, _∙_}
 use mathlib.Core.Logic.{⊎-elim}
-use mathlib.Core.Bool.{Bool, true, false, _&&_, _||_}
-use mathlib.Core.List.{List}
+use mathlib.Core.Bool.{Bool, true, false, cond, _&&_, _||_}
+use mathlib.Core.List.{List, _∷_, _++_}
 use Prim.Native.Nat.{ℕ, zero, suc, _+_, _-_, _≤_, _<_}
 use native.Mathlib.Omega.{arith}
 use native.Mathlib.Nat.{eq-or-lt-of-le}
@@ -11,16 +11,18 @@ use borrow.Author.Tests.{eqb-true, eqb-false, ltb-true, ltb-false, lt-ltb, le-lt
 use lib.Dec.{eqb, leb, ltb}
 use lib.IntN.{ℤ, pos, negsuc}
 use lib.Signed.{leZ}
-use lib.ListN.{length, length-set, getD, set}
+use lib.ListN.{length, length-set, length-append, getD, set}
 use lib.Seq.{getD-set-same, getD-set-other}
 use Rattle.below.specs.rule.Below.{anyBelow}
-use Rattle.below.specs.Below.{any-none, any-next, any-holds, lt-or-le}
+use Rattle.below.specs.Below.{any-none, any-next, any-holds, lt-or-le, holds-not}
 use Rattle.cells.specs.rule.Cell.{countOf}
 use Rattle.layout.specs.declared.Row.{Row}
 use Rattle.fields.specs.rule.Legal.{inRange}
 use Rattle.sets.specs.Marks.{flag, Marks}
 use Rattle.matrix.specs.declared.Entry.{Entry}
-use Rattle.columns.specs.Marked.{markedFrom, marked-off}
+use Rattle.matrix.specs.declared.Entry.the-variants.{Absent, Scaled}
+use Rattle.matrix.specs.Noughts.{allAre, noughts, are-at, length-noughts}
+use Rattle.columns.specs.Marked.{markedFrom, marked-on, marked-off, marked-nought}
 
 -- of the first n numbers those from r on are z or more
 pub record Starts (z : ℤ) (n r : ℕ) : Type 0 where
@@ -44,6 +46,12 @@ pub record Unmarked (m : List ℕ) (from to : ℕ) : Type 0 where
   pub on : from ≤ to
   pub within : to ≤ length m
   pub none : (j : ℕ) → from ≤ j → j < to → markAt m j ≡ false
+
+-- if so, the sixteen categories from c on are all legal, and none of them a member
+pub record Alike (legal present : List ℕ) (c : ℕ) (r : Bool) : Type 0 where
+  pub inside : r ≡ true → c + 16 ≤ length legal
+  pub marked : r ≡ true → (k : ℕ) → k < 16 → getD legal (c + k) 0 ≡ 1
+  pub absent : r ≡ true → (k : ℕ) → k < 16 → markAt present (c + k) ≡ false
 
 -- ---- a stretch of numbers marked, from lo to before hi
 pub record Run (lo hi : ℕ) (m : List ℕ) : Type 0 where
@@ -167,3 +175,43 @@ unmarked-same there m present from to u = go (to - from) from refl (u .on) (λ j
     go (suc n) at e h none =
         marked-off there m present at (omega (arith, u .within)) (eqb-false _ _ (none at (omega arith) (omega arith)))
         ∙ go n (at + 1) (omega arith) (omega arith) (λ j a b. none j (omega arith) b)
+
+-- ---- categories that are alike
+pub not-alike : (legal present : List ℕ) (c : ℕ) → Alike legal present c false
+not-alike legal present c = record { inside = λ e. holds-not e refl; marked = λ e. holds-not e refl; absent = λ e. holds-not e refl }
+
+pub are-alike : (legal present : List ℕ) (c : ℕ) (r : Bool) → c + 16 ≤ length legal → markAmong present c 16 ≡ false → r ≡ allAre legal c 16 1 → Alike legal present c r
+are-alike legal present c r h n e = record {
+  inside = λ q. h;
+  marked = λ q k l. are-at legal c 16 1 (sym e ∙ q) k l;
+  absent = λ q k l. none-at present c 16 n (c + k) (omega arith) (omega arith);
+}
+
+-- n that are alike are n entries of value zero, and what is behind them
+alike-on : (there : Bool) (legal present : List ℕ) (n c : ℕ) → c + n ≤ length legal → ((k : ℕ) → k < n → getD legal (c + k) 0 ≡ 1)
+    → ((k : ℕ) → k < n → markAt present (c + k) ≡ false)
+    → markedFrom there legal present c (length legal - c) ≡ noughts there n ++ markedFrom there legal present (c + n) (length legal - (c + n))
+unfolding noughts
+alike-on there legal present zero c h m a = let e : c + 0 ≡ c = omega arith in rw e
+alike-on there legal present (suc n) c h m a =
+    let z : c + 0 ≡ c = omega arith in
+    let w : c + 1 + n ≡ c + suc n = omega arith in
+    let one = marked-on there legal present c (omega arith) (ap (λ (x : ℕ). getD legal x 0) (sym z) ∙ m 0 (omega arith)) in
+    let none = ap (λ (x : ℕ). markAt present x) (sym z) ∙ a 0 (omega arith) in
+    let rest = alike-on there legal present n (c + 1) (omega arith) (λ k l. ap (λ (x : ℕ). getD legal x 0) (next c k) ∙ m (suc k) (omega arith)) (λ k l. ap (λ (x : ℕ). markAt present x) (next c k) ∙ a (suc k) (omega arith)) in
+    one
+    ∙ ap (λ (e : Entry). e ∷ markedFrom there legal present (c + 1) (length legal - (c + 1))) (marked-nought there (getD present c 0) none)
+    ∙ ap (λ (l : List Entry). cond there (Scaled (pos 0) 1) Absent ∷ l) (rest ∙ ap (λ (x : ℕ). noughts there n ++ markedFrom there legal present x (length legal - x)) w)
+  where
+    next : (c k : ℕ) → c + 1 + k ≡ c + suc k
+    next c k = omega arith
+
+pub alike-next : (there : Bool) {legal present : List ℕ} {c : ℕ} {r : Bool} → Alike legal present c r → r ≡ true
+    → markedFrom there legal present c (length legal - c) ≡ noughts there 16 ++ markedFrom there legal present (c + 16) (length legal - (c + 16))
+alike-next there {legal} {present} {c} a e = alike-on there legal present 16 c (a .inside e) (a .marked e) (a .absent e)
+
+pub alike-count : (there : Bool) {legal present : List ℕ} {c : ℕ} {r : Bool} → Alike legal present c r → r ≡ true
+    → length (markedFrom there legal present c (length legal - c)) ≡ 16 + length (markedFrom there legal present (c + 16) (length legal - (c + 16)))
+alike-count there {legal} {present} {c} a e =
+    let rest = markedFrom there legal present (c + 16) (length legal - (c + 16)) in
+    omega (arith, ap (λ (l : List Entry). length l) (alike-next there a e), length-append (noughts there 16) rest, length-noughts there 16)

@@ -18,7 +18,7 @@ ghost use Rattle.matrix.specs.Put.{putEntries};
 ghost use Rattle.columns.specs.rule.Columns.{rowColumns, columnsFrom, decimalsBy, numberEntry, entriesOf};
 ghost use Rattle.columns.specs.Reach.{shapeOf, digitsReach, bitsReach, reachBy, Readable, Covered};
 ghost use Rattle.columns.specs.Marked.{answerEntry, isSet, markedEntry, markedEntries, memberEntries};
-ghost use Rattle.columns.specs.Stretch.{Starts, Ends, markAmong, Unmarked};
+ghost use Rattle.columns.specs.Stretch.{Starts, Ends, markAmong, Unmarked, Alike};
 ghost use Rattle.columns.specs.Room.{Room, PutAs, Ready};
 use layout::Header;
 use layout::Kind;
@@ -177,7 +177,33 @@ fn pass_unmarked(marks: &[u8], from: usize) -> usize
     i
 }
 
-// The entries of the categories that are marked as legal, and how many they are.
+// How many categories more are written one by one before sixteen are tried again.
+fn wait_after(wait: usize) -> usize {
+    if wait == 0 {
+        return 3;
+    }
+    wait - 1
+}
+
+// Whether the sixteen categories from c on are tried, and are all legal, and none of them a member.
+fn are_alike(allowed: &[u8], present: &[u8], wait: usize, c: usize) -> bool
+    requires { ⌜ (c ≤ length (now allowed)) × (length (now allowed) ≤ length (now present)) ⌝ }
+    ensures { λ r. ⌜ Alike (now (allowed .entry)) (now (present .entry)) c r ⌝ }
+{
+    if 0 < wait {
+        return false;
+    }
+    if allowed.len() - c < 16 {
+        return false;
+    }
+    if mark_among(present, c) {
+        return false;
+    }
+    matrix::all_are(allowed, c, 16, 1)
+}
+
+// The entries of the categories that are marked as legal, and how many they are. Sixteen that are alike are written together: most sets hold
+// few of many.
 fn put_members(
     allowed: &[u8],
     present: &[u8],
@@ -192,10 +218,18 @@ fn put_members(
 {
     let mut k: usize = 0;
     let mut c: usize = 1;
+    let mut wait: usize = 0;
     while c < allowed.len() {
         let b = c;
+        let w = wait;
         c += 1;
-        if allowed[b] == 1 {
+        wait = wait_after(w);
+        if are_alike(allowed, present, w, b) {
+            matrix::put_noughts(out, flags + k, values + 8 * k, there);
+            k += 16;
+            c += 15;
+            wait = 0;
+        } else if allowed[b] == 1 {
             let e = member_entry(there, present[b]);
             matrix::put_entry(out, flags + k, values + 8 * k, e);
             k += 1;

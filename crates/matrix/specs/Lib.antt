@@ -4,3 +4,6 @@ pub mod Entry
 pub mod Bytes
 pub mod Column
 pub mod Stride
+pub mod Noughts
+pub mod Ones
+pub mod Counts

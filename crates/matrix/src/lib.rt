@@ -13,6 +13,11 @@ ghost use Rattle.matrix.specs.Put.{putEntries};
 ghost use Rattle.matrix.specs.rule.Bytes.{totalOf, headerBytes, summaryBytes};
 ghost use Rattle.matrix.specs.Entry.{EntryGood, cellOf};
 ghost use Rattle.matrix.specs.Column.{ColumnThere, columnIn};
+ghost use Rattle.matrix.specs.Noughts.{allAre, presences, noughts};
+ghost use Rattle.matrix.specs.Ones.{AllThere, AllFew, AllCounted, AllTold, toldOf};
+
+// The bits of 1.0.
+const ONE: u64 = 4_607_182_418_800_017_408;
 
 // What a column holds of a record: nothing, or a scaled number and its power of ten.
 pub enum Entry {
@@ -51,6 +56,38 @@ pub fn put_entry(out: &mut [u8], flags: usize, values: usize, e: Entry)
     let c = cell_of(e);
     out[flags] = c.present;
     little::put_f64(out, values, c.value);
+}
+
+// Whether n bytes from i on are all b. Nothing leaves the loop early: that lets the compiler look at many of them at once.
+pub fn all_are(s: &[u8], i: usize, n: usize, b: u8) -> bool
+    requires { ⌜ i + n ≤ length (now s) ⌝ }
+    ensures { λ r. ⌜ r ≡ allAre (now (s .entry)) i n b ⌝ }
+{
+    let mut all = true;
+    let mut k: usize = 0;
+    while k < n {
+        all = all & (s[i + k] == b);
+        k += 1;
+    }
+    all
+}
+
+// Eight presence bytes as one number.
+fn presence_of(there: bool) -> u64
+    ensures { λ r. ⌜ r ≡ presences there ⌝ }
+{
+    if there { 72_340_172_838_076_673 } else { 0 }
+}
+
+// Sixteen entries of value zero at once, present or not.
+pub fn put_noughts(out: &mut [u8], flags: usize, values: usize, there: bool)
+    requires { ⌜ (flags + 16 ≤ values) × (values + 128 ≤ length (now out)) ⌝ }
+    ensures { λ _. ⌜ now (out .exit) ≡ putEntries (now (out .entry)) flags values (noughts there 16) ⌝ }
+{
+    let present = presence_of(there);
+    little::put_u64(out, flags, present);
+    little::put_u64(out, flags + 8, present);
+    little::put_number(out, values, 0, 128);
 }
 
 // The six numbers of a matrix of so many records and columns.
@@ -106,4 +143,113 @@ pub fn column_summary(
         }
     }
     sum
+}
+
+// What sixteen columns side by side hold, where each record has all of them or none, and each value is 0 or 1: how many records have them,
+// and how many ones each column has. Else `full` is false.
+pub struct Block {
+    pub full: bool,
+    pub count: u64,
+    pub ones: [u64; 16],
+}
+
+// The ones among sixteen values counted, each in its column; or that one is neither 0 nor 1.
+fn count_values(s: &[u8], value: usize, ones: &mut [u64; 16]) -> bool
+    requires { ⌜ value + 128 ≤ length (now s) ⌝ }
+    requires { ⌜ AllFew (now ones) ⌝ }
+    ensures { λ r. ⌜ AllCounted (now (s .entry)) value (now (ones .entry)) (now (ones .exit)) r ⌝ }
+{
+    let mut j: usize = 0;
+    while j < 16 {
+        let i = j;
+        j += 1;
+        let bits = little::get_u64(s, value + 8 * i);
+        if bits == ONE {
+            ones[i] += 1;
+        } else if bits != 0 {
+            return false;
+        }
+    }
+    true
+}
+
+// The same, quickly where all are zero.
+fn count_record(s: &[u8], value: usize, ones: &mut [u64; 16]) -> bool
+    requires { ⌜ value + 128 ≤ length (now s) ⌝ }
+    requires { ⌜ AllFew (now ones) ⌝ }
+    ensures { λ r. ⌜ AllCounted (now (s .entry)) value (now (ones .entry)) (now (ones .exit)) r ⌝ }
+{
+    if all_are(s, value, 128, 0) {
+        return true;
+    }
+    count_values(s, value, ones)
+}
+
+// The sixteen columns whose presence bytes and values stand every so many cells from these places on.
+pub fn count_ones(s: &[u8], flags: usize, values: usize, step: usize, records: usize) -> Block
+    requires { ⌜ step ≤ 16777216 ⌝ }
+    requires { ⌜ AllThere (now s) step flags values records ⌝ }
+    ensures { λ r. ⌜ AllTold (now (s .entry)) step flags values records (r .full) (r .count) (r .ones) ⌝ }
+{
+    let mut ones = [0u64; 16];
+    let mut n: u64 = 0;
+    let mut flag = flags;
+    let mut value = values;
+    let mut left = records;
+    while 0 < left {
+        let f = flag;
+        let v = value;
+        flag += step;
+        value += 8 * step;
+        left -= 1;
+        if all_are(s, f, 16, 1) {
+            if !count_record(s, v, &mut ones) {
+                return Block {
+                    full: false,
+                    count: n,
+                    ones,
+                };
+            }
+            n += 1;
+        } else if !all_are(s, f, 16, 0) {
+            return Block {
+                full: false,
+                count: n,
+                ones,
+            };
+        }
+    }
+    Block {
+        full: true,
+        count: n,
+        ones,
+    }
+}
+
+// The summary of a column of so many values, of which so many are 1 and the others 0.
+pub fn told(n: u64, ones: u64) -> summary::Summary
+    ensures { λ r. ⌜ r ≡ toldOf n ones ⌝ }
+{
+    if n == 0 {
+        return summary::empty();
+    }
+    if ones == 0 {
+        return summary::Summary {
+            count: n,
+            least: 0.0,
+            most: 0.0,
+        };
+    }
+    if ones == n {
+        return summary::Summary {
+            count: n,
+            least: 1.0,
+            most: 1.0,
+        };
+    }
+    summary::Summary {
+        count: n,
+        least: 0.0,
+        most: 1.0,
+    }
 }

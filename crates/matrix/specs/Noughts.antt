@@ -1,0 +1,71 @@
+-- Bytes that are all alike, and entries of value zero, sixteen at once.
+-- Assumes nothing.
+use mathlib.Core.Path.{_≡_, refl, sym, ap, _∙_}
+use mathlib.Core.Bool.{Bool, true, false, cond, _&&_}
+use mathlib.Core.List.{List, [], _∷_, _++_}
+use Prim.Native.Nat.{ℕ, zero, suc, _+_, _-_, _*_, _≤_, _<_}
+use native.Mathlib.Omega.{arith}
+use borrow.Author.Tests.{eqb-true}
+use lib.Dec.{eqb}
+use lib.IntN.{pos}
+use lib.ListN.{length, getD}
+use lib.Ieee.{binary64, div, ofInt, toBits}
+use Rattle.below.specs.rule.Below.{allBelow}
+use Rattle.below.specs.Below.{all-none, all-next, all-at}
+use Rattle.quotient.specs.rule.Value.{valueOf}
+use Rattle.little.specs.rule.Bytes.{bytesOf, putAt}
+use Rattle.little.specs.Bytes.{bytes-count}
+use Rattle.little.specs.Runs.{put-next}
+use Rattle.matrix.specs.declared.Entry.{Entry}
+use Rattle.matrix.specs.declared.Entry.the-variants.{Absent, Scaled}
+use Rattle.matrix.specs.rule.Entry.{presenceOf, floatOf, flagsOf, valueBytes}
+use Rattle.matrix.specs.Put.{putEntries}
+
+-- the n bytes from i on are all b
+unfoldable pub allAre : List ℕ → ℕ → ℕ → ℕ → Bool
+allAre s i n b = allBelow n (λ k. eqb (getD s (i + k) 0) b)
+
+-- eight presence bytes
+unfoldable pub presences : Bool → ℕ
+presences there = cond there 72340172838076673 0
+
+-- n entries of value zero, present or not
+unfoldable pub noughts : Bool → ℕ → List Entry
+noughts there zero = []
+noughts there (suc n) = cond there (Scaled (pos 0) 1) Absent ∷ noughts there n
+
+-- ---- laws
+pub are-none : (s : List ℕ) (i b : ℕ) → allAre s i 0 b ≡ true
+unfolding allAre
+are-none s i b = all-none (λ k. eqb (getD s (i + k) 0) b)
+
+pub are-more : (s : List ℕ) (i n b : ℕ) (a : Bool) → a ≡ allAre s i n b → (a && eqb (getD s (i + n) 0) b) ≡ allAre s i (n + 1) b
+unfolding allAre
+are-more s i n b a e = ap (λ (x : Bool). x && eqb (getD s (i + n) 0) b) e ∙ sym (all-next (λ k. eqb (getD s (i + k) 0) b) n)
+
+pub are-at : (s : List ℕ) (i n b : ℕ) → allAre s i n b ≡ true → (k : ℕ) → k < n → getD s (i + k) 0 ≡ b
+unfolding allAre
+are-at s i n b e k h = eqb-true (getD s (i + k) 0) b (all-at (λ k. eqb (getD s (i + k) 0) b) n k h e)
+
+pub length-noughts : (there : Bool) (n : ℕ) → length (noughts there n) ≡ n
+unfolding noughts
+length-noughts there zero = refl
+length-noughts there (suc n) = ap suc (length-noughts there n)
+
+flags-are : (there : Bool) → bytesOf 8 (presences there) ++ bytesOf 8 (presences there) ≡ flagsOf (noughts there 16)
+unfolding bytesOf presences flagsOf noughts presenceOf
+flags-are true = refl
+flags-are false = refl
+
+values-are : (there : Bool) → bytesOf 128 0 ≡ valueBytes (noughts there 16)
+unfolding bytesOf valueBytes noughts floatOf valueOf div ofInt toBits
+values-are true = refl
+values-are false = refl
+
+pub noughts-put : (r : List ℕ) (f v : ℕ) (there : Bool)
+    → putAt (putAt (putAt r f (bytesOf 8 (presences there))) (f + 8) (bytesOf 8 (presences there))) v (bytesOf 128 0) ≡ putEntries r f v (noughts there 16)
+noughts-put r f v there =
+    let p = bytesOf 8 (presences there) in
+    ap (λ (x : List ℕ). putAt x v (bytesOf 128 0)) (put-next r f p (f + 8) p (ap (λ (n : ℕ). f + n) (bytes-count 8 (presences there))))
+    ∙ ap (λ (x : List ℕ). putAt (putAt r f x) v (bytesOf 128 0)) (flags-are there)
+    ∙ ap (λ (x : List ℕ). putAt (putAt r f (flagsOf (noughts there 16))) v x) (values-are there)
