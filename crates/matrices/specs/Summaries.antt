@@ -19,6 +19,7 @@ use Rattle.summary.specs.rule.Summary.{none, extendOf, extendedBy, summaryOf}
 use Rattle.summary.specs.Laws.{extend-keeps}
 use Rattle.matrix.specs.rule.Bytes.{summaryBytes}
 use Rattle.matrix.specs.Column.{ColumnThere, columnIn}
+use Rattle.matrix.specs.Ones.{AllThere, AllTold, toldOf}
 
 -- k columns side by side, from these places on
 unfoldable pub ColumnsThere : List ℕ → ℕ → ℕ → ℕ → ℕ → ℕ → Type 0
@@ -33,6 +34,14 @@ summariesIn s step f v n (suc k) = summaryBytes (summaryOf (columnIn s step f v 
 pub record Same (a : ℕ) (s s′ : List ℕ) : Type 0 where
   pub long : length s ≡ length s′
   pub from : drop a s ≡ drop a s′
+
+-- what is counted of the columns from k to before another: so many records have them, and so many ones each
+pub record Known (s : List ℕ) (step flags values records k until n : ℕ) (ones : List ℕ) : Type 0 where
+  pub near : until ≤ k + 16
+  pub at : (j : ℕ) → k ≤ j → j < until → toldOf n (getD ones (16 - (until - j)) 0) ≡ summaryOf (columnIn s step (flags + j) (values + 8 * j) records)
+
+pub same-of : {a : ℕ} {s s′ : List ℕ} → length s′ ≡ length s → drop a s′ ≡ drop a s → Same a s s′
+same-of l d = record { long = sym l; from = sym d }
 
 -- ---- laws
 module _ {a : ℕ} {s s′ : List ℕ} (q : Same a s s′) where
@@ -63,6 +72,54 @@ module _ {a : ℕ} {s s′ : List ℕ} (q : Same a s s′) where
     rw (number-same v g) at (c .2),
     there-same step n (f + step) (v + 8 * step) (omega arith) (omega arith) (c .3),
   )
+
+  pub columns-same : (step n m f v : ℕ) → a ≤ f → a ≤ v → ColumnsThere s step f v n m → ColumnsThere s′ step f v n m
+  unfolding ColumnsThere
+  columns-same step n zero f v h g c = tt
+  columns-same step n (suc m) f v h g c = (there-same step n f v h g (c .0), columns-same step n m (f + 1) (v + 8) (omega arith) (omega arith) (c .1))
+
+  pub known-same : {step flags values records k until n : ℕ} {ones : List ℕ} → a ≤ flags → a ≤ values
+      → Known s step flags values records k until n ones → Known s′ step flags values records k until n ones
+  known-same {step} {flags} {values} {records} h g b = record {
+    near = b .near;
+    at = λ j l u. b .at j l u ∙ ap summaryOf (column-same step records (flags + j) (values + 8 * j) (omega arith) (omega arith));
+  }
+
+pub known-none : (s : List ℕ) (step flags values records k n : ℕ) (ones : List ℕ) → Known s step flags values records k 0 n ones
+known-none s step flags values records k n ones = record { near = omega arith; at = λ j l u. absurd (omega arith) }
+
+pub known-next : {s : List ℕ} {step flags values records k until n : ℕ} {ones : List ℕ}
+    → Known s step flags values records k until n ones → Known s step flags values records (k + 1) until n ones
+known-next b = record { near = omega (arith, b .near); at = λ j l u. b .at j (omega arith) u }
+
+-- sixteen columns more
+pub known-more : {s : List ℕ} {step flags values records k n : ℕ} {ones : List ℕ} {full : Bool}
+    → AllTold s step (flags + k) (values + 8 * k) records full n ones → full ≡ true → Known s step flags values records k (k + 16) n ones
+known-more {s} {step} {flags} {values} {records} {k} {n} {ones} a e = record {
+  near = omega arith;
+  at = λ j l u.
+      let i : 16 - (k + 16 - j) ≡ j - k = omega arith in
+      let f : flags + k + (j - k) ≡ flags + j = omega arith in
+      let v : values + 8 * k + 8 * (j - k) ≡ values + 8 * j = omega arith in
+      ap (λ (x : ℕ). toldOf n (getD ones x 0)) i ∙ a .at e (j - k) (omega arith)
+      ∙ ap (λ (x : ℕ). summaryOf (columnIn s step x (values + 8 * k + 8 * (j - k)) records)) f
+      ∙ ap (λ (x : ℕ). summaryOf (columnIn s step (flags + j) x records)) v;
+}
+
+there-nth : (s : List ℕ) (step f v n m j : ℕ) → j < m → ColumnsThere s step f v n m → ColumnThere s step (f + j) (v + 8 * j) n
+unfolding ColumnsThere
+there-nth s step f v n zero j h c = absurd (omega arith)
+there-nth s step f v n (suc m) zero h c =
+    let x : f + 0 ≡ f = omega arith in
+    let y : v + 8 * 0 ≡ v = omega arith in
+    rw (x, y) (c .0)
+there-nth s step f v n (suc m) (suc j) h c =
+    let x : f + suc j ≡ f + 1 + j = omega arith in
+    let y : v + 8 * suc j ≡ v + 8 + 8 * j = omega arith in
+    rw (x, y) (there-nth s step (f + 1) (v + 8) n m j (omega arith) (c .1))
+
+pub all-there : (s : List ℕ) (step f v n m : ℕ) → 16 ≤ m → ColumnsThere s step f v n m → AllThere s step f v n
+all-there s step f v n m h c = record { at = λ j l. there-nth s step f v n m j (omega arith) c }
 
 drop-put : (xs r : List ℕ) (a b : ℕ) → b + length xs ≤ a → drop a (put r (run b (length xs)) xs) ≡ drop a r
 drop-put [] r a b h = refl
