@@ -172,7 +172,7 @@ unfolding codesIn cappedFrom
 codes-digits [] u n h = refl
 codes-digits (b ∷ a) u n h = rw (ne-eqb b 59 (h .0)) (codes-digits a u (capped (n * 10 + (b - 48))) (h .1))
 
-code-text : (n : ℕ) → numberText 0 (pos n) ≡ numeral n
+pub code-text : (n : ℕ) → numberText 0 (pos n) ≡ numeral n
 unfolding numberText signedOf
 code-text n = sym (amount-whole 0 n refl) ∙ ap numeral (div-one n)
 

@@ -3,4 +3,5 @@ pub mod Capped
 pub mod Left
 pub mod Guess
 pub mod Exactly
+pub mod Coded
 pub mod Steps

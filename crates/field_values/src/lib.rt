@@ -10,6 +10,7 @@ ghost use Rattle.value_fields.specs.rule.Values.{decimalsOf};
 ghost use Rattle.field_values.specs.rule.Value.{zeros};
 ghost use Rattle.field_values.specs.rule.Read.{capped, cappedFrom, pointAt, sizeGuess, numberGuess, allZeros, tailGood, leftOf};
 ghost use Rattle.field_values.specs.Steps.{small, SemiTo, Gathered, Members, TakesSets, Took, isDone};
+ghost use Rattle.field_values.specs.Coded.{Stepped, Coded};
 use layout::Kind;
 use layout::Row;
 use writes::Value;
@@ -258,8 +259,61 @@ fn guess_set(f: &[u8], list: &mut [i64]) -> usize
     gather(f, list)
 }
 
-// A set, the same way. The room is for its text.
-fn take_set(
+// One digit more of a code; 0 where the byte is none, or the code begins with a zero or has five digits.
+fn code_step(n: usize, b: u8) -> usize
+    requires { ⌜ n ≤ 9999 ⌝ }
+    ensures { λ r. ⌜ Stepped n b r ⌝ }
+{
+    if b < 48 {
+        return 0;
+    }
+    if 57 < b {
+        return 0;
+    }
+    let m = n * 10 + (b - 48) as usize;
+    if 9999 < m {
+        return 0;
+    }
+    m
+}
+
+// The codes of a field that is written as export writes them, at the start of the list, and how many; else 0.
+fn take_codes(f: &[u8], list: &mut [i64]) -> usize
+    requires { ⌜ length (now list) ≡ 9999 ⌝ }
+    ensures { λ r. ⌜ Coded (now (f .entry)) (now (list .exit)) r ⌝ }
+{
+    let mut count: usize = 0;
+    let mut n: usize = 0;
+    let mut i: usize = 0;
+    while i < f.len() {
+        let b = f[i];
+        i += 1;
+        if b == 59 {
+            if n == 0 {
+                return 0;
+            }
+            if 9998 <= count {
+                return 0;
+            }
+            list[count] = cells::cell_of(n);
+            count += 1;
+            n = 0;
+        } else {
+            n = code_step(n, b);
+            if n == 0 {
+                return 0;
+            }
+        }
+    }
+    if n == 0 {
+        return 0;
+    }
+    list[count] = cells::cell_of(n);
+    count + 1
+}
+
+// A set that is written otherwise, if it is one: the guess must be what export writes. The room is for its text.
+fn take_other(
     powers: &[u64; 16],
     t: &[i64],
     rows: usize,
@@ -288,6 +342,30 @@ fn take_set(
     }
     if !left_of(0, &room[..end], f) {
         return false;
+    }
+    is_done(writes::write_row(powers, t, rows, row, Value::Set, &list[..n], f, bytes))
+}
+
+// A set. The text of one that has codes need not be made.
+fn take_set(
+    powers: &[u64; 16],
+    t: &[i64],
+    rows: usize,
+    row: Row,
+    f: &[u8],
+    list: &mut [i64],
+    room: &mut [u8],
+    bytes: &mut [u8],
+) -> bool
+    requires { ⌜ Tens (now powers) ⌝ }
+    requires { ⌜ Ready (row .kind) (now t) rows (length (now bytes)) row ⌝ }
+    requires { ⌜ (length (now f) ≡ 0 → ⊥) × TakesSets (row .kind) ⌝ }
+    requires { ⌜ (length (now list) ≡ 9999) × (length (now room) ≡ 50000) ⌝ }
+    ensures { λ r. ⌜ Took (now (t .entry)) rows row (now (f .entry)) (now (bytes .entry)) (now (bytes .exit)) r ⌝ }
+{
+    let n = take_codes(f, list);
+    if n == 0 {
+        return take_other(powers, t, rows, row, f, list, room, bytes);
     }
     is_done(writes::write_row(powers, t, rows, row, Value::Set, &list[..n], f, bytes))
 }

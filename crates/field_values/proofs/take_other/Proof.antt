@@ -1,4 +1,4 @@
--- `field_values::take_set` meets its contract.
+-- `field_values::take_other` meets its contract.
 use mathlib.Core.Path.{_≡_, refl, sym, ap, _∙_}
 use native.Mathlib.Omega.{arith}
 use borrow.Author.Needs.{needs}
@@ -15,8 +15,8 @@ use mathlib.Core.Logic.{⊎-elim}
 use Rattle.below.specs.Below.{lt-or-le}
 use Rattle.value_fields.specs.rule.Values.{setText}
 use Rattle.field_values.specs.Steps.{none-taken, long-none, many-none, set-sendable, set-stands, set-other, set-left-is, set-is, other-length, left-none, wrote, ready-limits}
-use Rattle.field_values.proofs.take_set.Statement.{statement}
-use Rattle.field_values.proofs.take_set.Tie as tie
+use Rattle.field_values.proofs.take_other.Statement.{statement}
+use Rattle.field_values.proofs.take_other.Tie as tie
 
 returns : tie.Need-returns
 returns c = none-taken (long-none ((c .before .before .before .before .args) .row) ((c .before .before .before .before .args) .f .now) ((c .before .before .before .before .pre) .1 .1 .0 .0) ((c .before .before .before .before .pre) .1 .1 .0 .1 .is) (ready-limits ((c .before .before .before .before .pre) .1 .0)) ((c .if1) .taken))
@@ -53,8 +53,8 @@ returns-5 c =
     let s = set-stands ((c .before .before .before .before .before .before .before .before .before .before .before .before .send-set) .ensures) ((c .before .before .before .before .before .before .before .before .before .before .before .before .before .before .before .before .before .before .before .before .before .before .before .pre) .1 .1 .1 .1) (omega (arith, (c .before .before .before .before .before .before .before .before .before .before .before .before .before .before .before .before .before .before .before .if1) .left, (c .before .before .before .before .before .before .before .before .before .if3) .left)) in
     wrote (set-is ((c .before .before .before .before .before .before .before .before .before .before .before .before .before .before .before .before .before .before .before .before .before .before .before .args) .row) ((c .before .before .before .before .before .before .before .before .before .before .before .before .before .before .before .before .before .before .before .before .before .before .before .args) .f .now) ((c .before .before .before .before .before .before .before .before .before .before .before .before .before .before .before .before .before .before .before .before .before .before .before .pre) .1 .1 .0 .0) ((c .before .before .before .before .before .before .before .before .before .before .before .before .before .before .before .before .before .before .before .before .before .before .before .pre) .1 .1 .0 .1 .is) ((c .before .before .before .before .before .before .before .before .before .before .before .before .before .before .before .before .before .guess-set) .ensures .all (omega (arith, (c .before .before .before .before .before .before .before .before .before .before .before .before .before .before .before .if2) .left)))) (set-left-is ((c .before .before .before .before .before .before .before .before .before .before .before .before .before .before .before .before .before .before .before .before .before .before .before .args) .row) ((c .before .before .before .before .before .before .before .before .before .before .before .before .before .before .before .before .before .before .before .before .before .before .before .args) .f .now) ((c .before .before .before .before .before .before .before .before .before .before .before .before .before .before .before .before .before .before .before .before .before .before .before .pre) .1 .1 .0 .0) ((c .before .before .before .before .before .before .before .before .before .before .before .before .before .before .before .before .before .before .before .before .before .before .before .pre) .1 .1 .0 .1 .is) ((c .before .before .before .before .before .before .before .before .before .before .before .before .before .before .before .before .before .guess-set) .ensures .all (omega (arith, (c .before .before .before .before .before .before .before .before .before .before .before .before .before .before .before .if2) .left))) (s .1) (sym (not-false _ ((c .before .before .before .before .before .before .if4) .left)) ∙ (c .before .before .before .before .before .before .before .left-of) .ensures)) ((c .before .before .before .write-row) .ensures) ((c .is-done) .ensures)
 
-pub take-set-spec : {M : Type 1} → statement M
-take-set-spec =
+pub take-other-spec : {M : Type 1} → statement M
+take-other-spec =
     tie.close
     (tie.spec
     returns
