@@ -44,17 +44,23 @@ fn above_last(t: &[i64], at: usize, step: usize, n: usize, k: usize) -> bool
     )
 }
 
-// Does each number rise above the one before it? The usual case, in which no two are equal.
+// Does each number rise above the one before it? The usual case, in which no two are equal. Two are tested in a turn.
 fn all_rise(t: &[i64], at: usize, step: usize, n: usize) -> bool
     requires { ⌜ Strided (now t) at step n ⌝ }
     ensures { λ r. ⌜ r ≡ allRise (strideAt (now (t .entry)) at step) n ⌝ }
 {
     let mut k: usize = 1;
-    while k < n {
+    while k + 1 < n {
         if !above_last(t, at, step, n, k) {
             return false;
         }
-        k += 1;
+        if !above_last(t, at, step, n, k + 1) {
+            return false;
+        }
+        k += 2;
+    }
+    if k < n {
+        return above_last(t, at, step, n, k);
     }
     true
 }
