@@ -1,8 +1,8 @@
 -- The four outcomes of a write to a row.
-use mathlib.Core.Path.{_≡_, refl, sym, _∙_}
+use mathlib.Core.Path.{_≡_, refl, sym, ap, _∙_}
 use mathlib.Core.Bool.{Bool, true, false, cond}
 use mathlib.Core.List.{List, [], _∷_}
-use Prim.Native.Nat.{ℕ, zero, suc, _^_, _≤_, _<_}
+use Prim.Native.Nat.{ℕ, zero, suc, _+_, _-_, _^_, _≤_, _<_}
 use native.Mathlib.Omega.{arith}
 use borrow.Author.Tests.{leb-true}
 use lib.IntN.{ℤ, pos, negsuc}
@@ -25,7 +25,8 @@ use Rattle.fields.specs.rule.Field.{number, spaces, allLegal, setFits}
 use Rattle.fieldlaws.specs.BackLaws.{Limits, bits-members, quantity-few}
 use Rattle.fieldlaws.specs.RisingLaws.{Rising, legal-of, legal-here, legal-next}
 use Rattle.setbytes.specs.Sets.{Small}
-use Rattle.fields.specs.rule.Row.{fits, otherType, notLegal, tooMany, legalFit, fitsBy, bytesBy, placesBy}
+use Rattle.fields.specs.rule.Row.{fits, otherType, notLegal, tooMany, legalFit, fitsBy, bytesBy, placesBy, defined, bitPlaces}
+use Rattle.sets.specs.Full.{EachLegal, always, each-defined}
 use Rattle.writes.specs.declared.Wrote.the-variants.{Done, OtherType, NotLegal, TooMany}
 use Rattle.writes.specs.declared.Value.{Value}
 use Rattle.writes.specs.declared.Value.the-variants.{Missing, Number}
@@ -188,3 +189,14 @@ other-kind kind e = written-as kind (other e)
 -- the marks that are lent are as many as asked for
 pub prefix : (k n : ℕ) → k ≤ n → k ≡ length {A = ℕ} (take k (replicate n 0))
 prefix k n h = sym (length-take-le k (replicate n 0) (rw length-replicate h))
+
+-- ---- a bitstring each of whose categories is legal: their places are one run
+each-places : (at c n p : ℕ) → 1 ≤ c → p ≡ at + (c - 1) → bitPlaces at (defined always c n) ≡ run p n
+unfolding defined bitPlaces
+each-places at c zero p l e = refl
+each-places at c (suc n) p l e = rw (← e) (ap (λ (ps : List ℕ). p ∷ ps) (each-places at (suc c) n (suc p) (omega arith) (omega arith)))
+
+pub each-blank : (t : List ℤ) (v : ℕ) (r : Row) (w : ℕ) → EachLegal t v r w → (at : ℕ) (bytes : List ℕ)
+    → put bytes (run at w) (spaces w)
+    ≡ put bytes (bitPlaces at (defined (legal t v r) 1 w)) (spaces (length (bitPlaces at (defined (legal t v r) 1 w))))
+each-blank t v r w h at bytes = rw (each-defined t v r w h, each-places at 1 w at (omega arith) (omega arith), length-run)

@@ -9,7 +9,7 @@ use layout::Header;
 use layout::Row;
 
 mod marked;
-mod plain;
+pub mod plain;
 mod texts;
 
 // A row's value, as it is given: a set and a text stand beside it.

@@ -27,7 +27,7 @@ fn takes_numbers(kind: Kind) -> bool
 }
 
 // A legal number's bytes: digits alone for a SINGLE, with the minus and the point for a QUANTITY. Other kinds have none.
-fn put_figures(powers: &[u64; 16], t: &[i64], rows: usize, row: Row, z: i64, bytes: &mut [u8])
+pub fn put_figures(powers: &[u64; 16], t: &[i64], rows: usize, row: Row, z: i64, bytes: &mut [u8])
     requires { ⌜ Tens (now powers) ⌝ }
     requires { ⌜ Ready (row .kind) (now t) rows (length (now bytes)) row ⌝ }
     requires { ⌜ legal (now t) rows row z ≡ true ⌝ }
@@ -112,7 +112,26 @@ pub fn write_truth(t: &[i64], rows: usize, row: Row, b: bool, bytes: &mut [u8]) 
     }
 }
 
-// Spaces. The places of a CHARACTER start with its position, those of the other kinds end with it.
+// Spaces. The places of a CHARACTER start with its position, those of the other kinds end with it. No powers are asked for: whoever
+// blanks many rows need not lay them out.
+pub fn blank_row(t: &[i64], rows: usize, row: Row, bytes: &mut [u8]) -> Wrote
+    requires { ⌜ Ready (row .kind) (now t) rows (length (now bytes)) row ⌝ }
+    ensures { λ r. ⌜ WrittenBy (row .kind) (now (t .entry)) rows row given.Missing [] [] (now (bytes .entry)) (now (bytes .exit)) r ⌝ }
+{
+    let kind = row.kind;
+    let w = row.width;
+    match kind {
+        Kind::Single => runs::blank(bytes, row.finish - w, w),
+        Kind::Multiple(s) => {
+            return super::marked::blank_multiple(t, rows, row, s, bytes);
+        }
+        Kind::Quantity(_) => runs::blank(bytes, row.finish - w, w),
+        Kind::Character => runs::blank(bytes, row.start - 1, w),
+        Kind::Logical => runs::blank(bytes, row.finish - 1, 1),
+    }
+    Wrote::Done
+}
+
 pub fn write_missing(
     powers: &[u64; 16],
     t: &[i64],
@@ -124,16 +143,5 @@ pub fn write_missing(
     requires { ⌜ Ready (row .kind) (now t) rows (length (now bytes)) row ⌝ }
     ensures { λ r. ⌜ WrittenBy (row .kind) (now (t .entry)) rows row given.Missing [] [] (now (bytes .entry)) (now (bytes .exit)) r ⌝ }
 {
-    let kind = row.kind;
-    let w = row.width;
-    match kind {
-        Kind::Single => runs::blank(bytes, row.finish - w, w),
-        Kind::Multiple(s) => {
-            return super::marked::write_multiple(powers, t, rows, row, s, true, t, bytes);
-        }
-        Kind::Quantity(_) => runs::blank(bytes, row.finish - w, w),
-        Kind::Character => runs::blank(bytes, row.start - 1, w),
-        Kind::Logical => runs::blank(bytes, row.finish - 1, 1),
-    }
-    Wrote::Done
+    blank_row(t, rows, row, bytes)
 }
