@@ -2,11 +2,13 @@
 // Above it stands the face, whose loop hands the corrections of a lent list to `correct`, one by one.
 ghost use mathlib.Core.Path.{_≡_};
 ghost use mathlib.Core.Bool.{cond};
+ghost use mathlib.Core.List.{[]};
 ghost use lib.Dec.{leb};
 ghost use lib.ListN.{length};
 ghost use Rattle.sound.specs.rule.Rows.{rowsOf};
 ghost use Rattle.writes.specs.rule.Write.{valueOf};
 ghost use Rattle.writes.specs.rule.Public.{numberOf, Written};
+ghost use Rattle.writes.specs.declared.Value.the-variants as given;
 ghost use Rattle.corrections.specs.rule.Truth.{badTruth};
 ghost use Rattle.corrections.specs.rule.Correction.{truthAsked, askedOf, markBy, recordBy, corrected, writtenBy, wholeRefusal};
 ghost use Rattle.corrections.specs.Truth.{kindNumber};
@@ -177,6 +179,64 @@ fn asked_of(g: Given) -> Request
     Request::OtherKind
 }
 
+// THE SINGLE WRITES OF A LIST, a function for each kind: of the row only what that kind asks for is read, and powers are laid out only
+// for what has digits. A missing value:
+fn blank_given(table: &[i64], i: usize, bytes: &mut [u8]) -> u64
+    requires { ⌜ wholeRefusal (now table) (length (now bytes)) ≡ 0 ⌝ }
+    ensures { λ r. ⌜ Written (now (table .entry)) i (valueOf given.Missing [] []) (now (bytes .entry)) (now (bytes .exit)) r ⌝ }
+{
+    let h = Header::read(table);
+    let rows = h.rows;
+    if rows <= i {
+        return 21;
+    }
+    let row = Row::read(table, i);
+    number_of(writes::plain::blank_row(table, rows, row, bytes))
+}
+
+// A number.
+fn number_given(table: &[i64], i: usize, z: i64, bytes: &mut [u8]) -> u64
+    requires { ⌜ wholeRefusal (now table) (length (now bytes)) ≡ 0 ⌝ }
+    ensures { λ r. ⌜ Written (now (table .entry)) i (valueOf (given.Number z) [] []) (now (bytes .entry)) (now (bytes .exit)) r ⌝ }
+{
+    let h = Header::read(table);
+    let rows = h.rows;
+    if rows <= i {
+        return 21;
+    }
+    let row = Row::read(table, i);
+    let powers = ascii::powers();
+    number_of(writes::plain::write_number(&powers, table, rows, row, z, bytes))
+}
+
+// A truth.
+fn truth_given(table: &[i64], i: usize, b: bool, bytes: &mut [u8]) -> u64
+    requires { ⌜ wholeRefusal (now table) (length (now bytes)) ≡ 0 ⌝ }
+    ensures { λ r. ⌜ Written (now (table .entry)) i (valueOf (given.Truth b) [] []) (now (bytes .entry)) (now (bytes .exit)) r ⌝ }
+{
+    let h = Header::read(table);
+    let rows = h.rows;
+    if rows <= i {
+        return 21;
+    }
+    let row = Row::read(table, i);
+    number_of(writes::plain::write_truth(table, rows, row, b, bytes))
+}
+
+// The single write of a value, by its kind.
+fn write_asked(table: &[i64], row: usize, value: Value, text: &[u8], bytes: &mut [u8]) -> u64
+    requires { ⌜ wholeRefusal (now table) (length (now bytes)) ≡ 0 ⌝ }
+    ensures { λ r. ⌜ Written (now (table .entry)) row (valueOf value (now (table .entry)) (now (text .entry))) (now (bytes .entry)) (now (bytes .exit)) r ⌝ }
+{
+    match value {
+        Value::Missing => blank_given(table, row, bytes),
+        Value::Number(z) => number_given(table, row, z, bytes),
+        Value::Truth(b) => truth_given(table, row, b, bytes),
+        Value::Set => write_admitted(table, row, Value::Set, table, text, bytes),
+        Value::Text => write_admitted(table, row, Value::Text, table, text, bytes),
+    }
+}
+
 // The single write of what was given: its mark, and the record. A list or a text is not looked at.
 fn write_given(table: &[i64], row: usize, g: Given, bytes: &mut [u8]) -> u64
     requires { ⌜ wholeRefusal (now table) (length (now bytes)) ≡ 0 ⌝ }
@@ -186,7 +246,7 @@ fn write_given(table: &[i64], row: usize, g: Given, bytes: &mut [u8]) -> u64
     match asked {
         Request::Write(v) => {
             let text = [0u8; 1];
-            write_admitted(table, row, v, table, &text, bytes)
+            write_asked(table, row, v, &text, bytes)
         }
         Request::OtherTruth => other_truth(table, row, bytes.len()),
         Request::OtherKind => other_kind(table, row),
