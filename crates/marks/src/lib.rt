@@ -169,12 +169,49 @@ fn pieces(classes: &[u8; 256], d: &[u8], at: usize) -> Skip
     }
 }
 
-// A string, from just after its opening quote. Most have no brace form, and end at the first mark that is met.
+// Whether a quote or an opening brace stands in braces at a place, with no dropped byte inside: {"} or {{}.
+fn form_at(d: &[u8], n: usize) -> bool
+    ensures { λ r. ⌜ (r ≡ true → (n + 3 ≤ length (now (d .entry))) × (stringOf Inside.Plain (text (now (d .entry)) n) ≡ stringOf Inside.Plain (text (now (d .entry)) (n + 3)))) ⌝ }
+{
+    if d.len() < 3 {
+        return false;
+    }
+    if d.len() - 3 < n {
+        return false;
+    }
+    if d[n] != 123 {
+        return false;
+    }
+    if d[n + 2] != 125 {
+        return false;
+    }
+    let b = d[n + 1];
+    if b == 34 {
+        return true;
+    }
+    b == 123
+}
+
+// A place from which a string is read as from `at`, in plain text: that of the next quote or brace, forms of one sign passed whole.
+fn pass_forms(d: &[u8], at: usize) -> usize
+    ensures { λ r. ⌜ stringOf Inside.Plain (text (now (d .entry)) at) ≡ stringOf Inside.Plain (text (now (d .entry)) r) ⌝ }
+{
+    let mut n = quotes::skip_pair(d, at, 34, 123);
+    loop {
+        if form_at(d, n) {
+            n = quotes::skip_pair(d, n + 3, 34, 123);
+        } else {
+            return n;
+        }
+    }
+}
+
+// A string, from just after its opening quote. Most have no other brace form, and end at the next mark.
 pub fn string(classes: &[u8; 256], d: &[u8], at: usize) -> Skip
     requires { ⌜ Classes (now classes) ⌝ }
     ensures { λ r. ⌜ r ≡ stringOf Inside.Plain (text (now (d .entry)) at) ⌝ }
 {
-    let n = quotes::skip_pair(d, at, 34, 123);
+    let n = pass_forms(d, at);
     if n < d.len() {
         if d[n] == 34 {
             return Skip::Past(n + 1);
