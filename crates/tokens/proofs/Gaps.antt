@@ -1,13 +1,13 @@
 -- A gap is its first space or comment, and then the gap from its end on.
 use mathlib.Core.Path.{_≡_, refl, ap, _∙_, sym}
-use mathlib.Core.Bool.{Bool, true, false, cond}
+use mathlib.Core.Bool.{Bool, true, false, cond, _&&_, _||_}
 use mathlib.Core.List.{List}
 use Prim.Native.Nat.{ℕ, _+_, _-_, _≤_, _<_}
 use native.Mathlib.Omega.{arith}
 use lib.Dec.{eqb, ltb}
 use lib.ListN.{length, getD}
-use borrow.Author.Tests.{lt-ltb, ltb-true, ltb-false}
-use Rattle.ascii.specs.rule.Class.{classOf}
+use borrow.Author.Tests.{lt-ltb, le-ltb, ltb-true, ltb-false, ne-eqb, eqb-true}
+use Rattle.ascii.specs.rule.Class.{classOf, within}
 use Rattle.scan.specs.rule.Text.{Text, stop, sign, text}
 use Rattle.scan.specs.rule.Number.{isSpace}
 use Rattle.scan.specs.rule.Loop.{Next, Again, Done, loopOf}
@@ -80,3 +80,52 @@ gap-blank d n h l = by (ltb (getD d n 0) 32) refl where
   by : (q : Bool) → ltb (getD d n 0) 32 ≡ q → gapAt d n ≡ gapAt d (n + 1)
   by true q = gap-same d n (n + 1) (text-dropped d n h (low-dropped (getD d n 0) (ltb-true (getD d n 0) 32 q)))
   by false q = let g = ltb-false (getD d n 0) 32 q in gap-again d n (space-on d n h (omega arith))
+
+-- two of them, and what follows
+pub gap-two : (d : List ℕ) (n m : ℕ) → n + 1 < length d → getD d n 0 ≤ 32 → getD d (n + 1) 0 ≤ 32 → gapAt d (n + 2) ≡ gapAt d m → gapAt d n ≡ gapAt d m
+gap-two d n m h a b e =
+    let q : n + 1 + 1 ≡ n + 2 = omega arith in
+    gap-blank d n (omega arith) a ∙ gap-blank d (n + 1) h b ∙ ap (gapAt d) q ∙ e
+
+-- four spaces
+all-four : (a b c d : Bool) → (a && (b && (c && d))) ≡ true → (a ≡ true) × (b ≡ true) × (c ≡ true) × (d ≡ true)
+all-four false b c d e = let z : _≡_ {A = ℕ} 0 1 = cc in absurd (omega arith)
+all-four true false c d e = let z : _≡_ {A = ℕ} 0 1 = cc in absurd (omega arith)
+all-four true true false d e = let z : _≡_ {A = ℕ} 0 1 = cc in absurd (omega arith)
+all-four true true true false e = let z : _≡_ {A = ℕ} 0 1 = cc in absurd (omega arith)
+all-four true true true true e = (refl, refl, refl, refl)
+
+pub gap-four : (d : List ℕ) (n : ℕ) → n + 4 ≤ length d → (eqb (getD d n 0) 32 && (eqb (getD d (n + 1) 0) 32 && (eqb (getD d (n + 2) 0) 32 && eqb (getD d (n + 3) 0) 32))) ≡ true → gapAt d n ≡ gapAt d (n + 4)
+gap-four d n h e =
+    let all = all-four (eqb (getD d n 0) 32) (eqb (getD d (n + 1) 0) 32) (eqb (getD d (n + 2) 0) 32) (eqb (getD d (n + 3) 0) 32) e in
+    let a : getD d n 0 ≡ 32 = eqb-true _ _ (all .0) in
+    let b : getD d (n + 1) 0 ≡ 32 = eqb-true _ _ (all .1) in
+    let f : getD d (n + 2) 0 ≡ 32 = eqb-true _ _ (all .2) in
+    let g : getD d (n + 3) 0 ≡ 32 = eqb-true _ _ (all .3) in
+    let p : n + 1 + 1 ≡ n + 2 = omega arith in
+    let q : n + 2 + 1 ≡ n + 3 = omega arith in
+    let r : n + 3 + 1 ≡ n + 4 = omega arith in
+    gap-blank d n (omega arith) (omega arith)
+    ∙ gap-blank d (n + 1) (omega arith) (omega arith)
+    ∙ ap (gapAt d) p
+    ∙ gap-blank d (n + 2) (omega arith) (omega arith)
+    ∙ ap (gapAt d) q
+    ∙ gap-blank d (n + 3) (omega arith) (omega arith)
+    ∙ ap (gapAt d) r
+
+-- ---- a byte above 32 that opens no comment ends a gap
+above-space : (b : ℕ) → 32 < b → isSpace b ≡ false
+unfolding isSpace classOf
+above-space b h = rw (le-ltb b 32 (omega arith), ne-eqb b 32 (λ e. omega arith)) (by (within 48 57 b) (within 65 90 b || within 97 122 b) (eqb b 34) (eqb b 123 || eqb b 125) (eqb b 60 || eqb b 62)) where
+  by : (q r s t u : Bool) → eqb (cond q 2 (cond r 3 (cond s 4 (cond t 5 (cond u 6 7))))) 1 ≡ false
+  by true r s t u = refl
+  by false true s t u = refl
+  by false false true t u = refl
+  by false false false true u = refl
+  by false false false false true = refl
+  by false false false false false = refl
+
+pub gap-token : (d : List ℕ) (n : ℕ) → n < length d → 32 < getD d n 0 → (getD d n 0 ≡ 60 → ⊥) → gapAt d n ≡ At n
+unfolding gapStep
+gap-token d n h l o =
+    gap-done d n (rw (text-kept d n h (kept-byte (getD d n 0) (omega arith)), above-space (getD d n 0) l, ne-eqb (getD d n 0) 60 o))

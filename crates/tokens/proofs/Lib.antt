@@ -1,3 +1,4 @@
 pub mod Gaps
+pub mod Leads
 pub mod Values
 pub mod Aheads

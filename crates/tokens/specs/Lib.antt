@@ -1,3 +1,4 @@
 pub mod rule
 pub mod Gap
 pub mod Token
+pub mod Over

@@ -4,12 +4,16 @@ use marks::Skip;
 use scan::Step;
 use scan::Word;
 ghost use mathlib.Core.Path.{_≡_};
-ghost use Prim.Native.Nat.{_≤_};
+ghost use mathlib.Core.Bool.{true};
+ghost use Prim.Native.Nat.{_+_, _-_, _≤_};
+ghost use lib.ListN.{length};
 ghost use Rattle.ascii.specs.Class.{Classes};
 ghost use Rattle.scan.specs.rule.Text.{text};
+ghost use Rattle.scan.specs.Number.{digitsFrom};
 ghost use Rattle.tokens.specs.rule.Gap.{gapStep, gapAt};
 ghost use Rattle.tokens.specs.Gap.{gapOn, spacesOn};
 ghost use Rattle.tokens.specs.Gap.{paceOf};
+ghost use Rattle.tokens.specs.Over.{overOf};
 ghost use Rattle.tokens.specs.Token.{wordHere, wordOn, choiceOf, numberHere, numberOn, pastNumber, markOf, valueAt, valueHere};
 ghost use Rattle.tokens.specs.Token.{valueOn, pastValue, stringIn, stringOn, pastString, letterIn, letterOn};
 
@@ -56,11 +60,57 @@ fn step_gap(classes: &[u8; 256], d: &[u8], at: usize) -> Pace
     }
 }
 
+// Whether the four bytes from a place on are spaces: the compiler compares them as one number.
+fn four_spaces(d: &[u8], i: usize) -> bool
+    requires { ⌜ i + 4 ≤ length (now d) ⌝ }
+    ensures { λ r. ⌜ (r ≡ true → gapAt (now (d .entry)) i ≡ gapAt (now (d .entry)) (i + 4)) ⌝ }
+{
+    (d[i] == 32) & ((d[i + 1] == 32) & ((d[i + 2] == 32) & (d[i + 3] == 32)))
+}
+
+// The spaces before a line's first token, by fours.
+fn pass_fours(d: &[u8], at: usize) -> usize
+    ensures { λ r. ⌜ (gapAt (now (d .entry)) at ≡ gapAt (now (d .entry)) r) × (at ≤ r) ⌝ }
+{
+    if d.len() < 4 {
+        return at;
+    }
+    let last = d.len() - 4;
+    let mut i = at;
+    while i <= last {
+        if four_spaces(d, i) {
+            i += 4;
+        } else {
+            return i;
+        }
+    }
+    i
+}
+
+// Most of a gap with few tests: nothing, one space, or a line's end with the spaces behind it.
+fn pass_few(d: &[u8], at: usize) -> usize
+    ensures { λ r. ⌜ (gapAt (now (d .entry)) at ≡ gapAt (now (d .entry)) r) × (at ≤ r) ⌝ }
+{
+    if d.len() <= at {
+        return at;
+    }
+    if 32 < d[at] {
+        return at;
+    }
+    if d.len() <= at + 1 {
+        return at + 1;
+    }
+    if 32 < d[at + 1] {
+        return at + 1;
+    }
+    pass_fours(d, at + 2)
+}
+
 // Most of a gap: the dropped bytes and spaces from a place on, which are those of 32 and below, in a loop of their own.
 fn pass_blanks(d: &[u8], at: usize) -> usize
     ensures { λ r. ⌜ (gapAt (now (d .entry)) at ≡ gapAt (now (d .entry)) r) × (at ≤ r) ⌝ }
 {
-    let mut i = at;
+    let mut i = pass_few(d, at);
     while i < d.len() {
         if 32 < d[i] {
             return i;
@@ -68,6 +118,20 @@ fn pass_blanks(d: &[u8], at: usize) -> usize
         i += 1;
     }
     i
+}
+
+// Whether a token stands just here.
+fn token_at(d: &[u8], n: usize) -> bool
+    ensures { λ r. ⌜ (r ≡ true → gapAt (now (d .entry)) n ≡ Reading.At n) ⌝ }
+{
+    if d.len() <= n {
+        return false;
+    }
+    let b = d[n];
+    if b <= 32 {
+        return false;
+    }
+    b != 60
 }
 
 // The spaces and comments from a place on: the place of the token behind them.
@@ -78,6 +142,9 @@ pub fn skip_gap(classes: &[u8; 256], d: &[u8], at: usize) -> Reading
     let mut n = at;
     loop {
         let place = pass_blanks(d, n);
+        if token_at(d, place) {
+            return Reading::At(place);
+        }
         match step_gap(classes, d, place) {
             Pace::On(m) => {
                 n = m;
@@ -89,12 +156,29 @@ pub fn skip_gap(classes: &[u8; 256], d: &[u8], at: usize) -> Reading
     }
 }
 
+// The place behind a space, if one stands here.
+fn past_space(d: &[u8], n: usize) -> usize
+    ensures { λ r. ⌜ gapAt (now (d .entry)) n ≡ gapAt (now (d .entry)) r ⌝ }
+{
+    if d.len() <= n {
+        return n;
+    }
+    if d[n] == 32 { n + 1 } else { n }
+}
+
+// A gap of one space or none ends here; what is longer is a call.
 pub fn gap_on(classes: &[u8; 256], d: &[u8], t: Reading) -> Reading
     requires { ⌜ Classes (now classes) ⌝ }
     ensures { λ r. ⌜ r ≡ gapOn (now (d .entry)) t ⌝ }
 {
     match t {
-        Reading::At(n) => skip_gap(classes, d, n),
+        Reading::At(n) => {
+            let m = past_space(d, n);
+            if token_at(d, m) {
+                return Reading::At(m);
+            }
+            skip_gap(classes, d, m)
+        }
         Reading::Refused(f) => Reading::Refused(f),
     }
 }
@@ -157,6 +241,51 @@ pub fn perhaps(classes: &[u8; 256], d: &[u8], t: Reading, w: &[u8]) -> Choice
     }
 }
 
+// Digits that stand side by side: what they say, and the place after them.
+pub struct Lead {
+    pub size: u64,
+    pub end: usize,
+}
+
+// The digits from a place on, up to another byte, a dropped one too, or to the fifteenth.
+fn lead_at(d: &[u8], at: usize) -> Lead
+    ensures { λ r. ⌜ digitsFrom 0 0 at (text (now (d .entry)) at) ≡ digitsFrom (r .size) (r .end - at) (r .end) (text (now (d .entry)) (r .end)) ⌝ }
+    ensures { λ r. ⌜ (at ≤ r .end) × (r .size ≤ 1000000000000000) ⌝ }
+{
+    let mut i = at;
+    let mut v: u64 = 0;
+    while i < d.len() {
+        let b = d[i];
+        if b < 48 {
+            return Lead { size: v, end: i };
+        }
+        if 57 < b {
+            return Lead { size: v, end: i };
+        }
+        if 99_999_999_999_999 < v {
+            return Lead { size: v, end: i };
+        }
+        v = v * 10 + ((b as u64) - 48);
+        i += 1;
+    }
+    Lead { size: v, end: i }
+}
+
+// Whether a number or a value that reaches to a place ends there.
+fn over_at(classes: &[u8; 256], d: &[u8], at: usize) -> bool
+    requires { ⌜ Classes (now classes) ⌝ }
+    ensures { λ r. ⌜ r ≡ overOf (text (now (d .entry)) at) ⌝ }
+{
+    match scan::next_byte(classes, d, at) {
+        Step::Byte {
+            byte,
+            place: _,
+            next: _,
+        } => !scan::of_value(classes, byte),
+        Step::End { place: _ } => true,
+    }
+}
+
 // A number that was read: what it says, at most 10 ^ 15, how many digits it has, its place and the place after it.
 pub struct Figures {
     pub size: u64,
@@ -176,6 +305,17 @@ pub fn number_here(classes: &[u8; 256], d: &[u8], t: Reading) -> Number
 {
     match t {
         Reading::At(n) => {
+            let q = lead_at(d, n);
+            if n < q.end {
+                if over_at(classes, d, q.end) {
+                    return Number::Is(Figures {
+                        size: q.size,
+                        count: q.end - n,
+                        place: n,
+                        next: q.end,
+                    });
+                }
+            }
             let r = scan::read_digits(classes, d, n, 0);
             if r.count == 0 {
                 return Number::Not(Fault {
@@ -292,6 +432,23 @@ pub fn value_here(classes: &[u8; 256], d: &[u8], t: Reading) -> Amount
 {
     match t {
         Reading::At(n) => {
+            let q = lead_at(d, n);
+            if n < q.end {
+                if over_at(classes, d, q.end) {
+                    return Amount::Is(Value {
+                        minus: false,
+                        size: q.size,
+                        whole: q.end - n,
+                        decimals: 0,
+                        point: false,
+                        formed: true,
+                        place: n,
+                        first: n,
+                        last: q.end,
+                        next: q.end,
+                    });
+                }
+            }
             let v = read_value(classes, d, n);
             if v.next == n {
                 return Amount::Not(Fault {

@@ -1,5 +1,5 @@
 -- `tokens::pass_blanks` meets its contract. The invariant: the gap from here on ends as the whole gap does.
-use mathlib.Core.Path.{_≡_, refl, _∙_}
+use mathlib.Core.Path.{_≡_, _∙_}
 use Prim.Native.Nat.{_-_, _≤_}
 use native.Mathlib.Omega.{arith}
 use lib.ListN.{length}
@@ -22,4 +22,4 @@ loop-again c =
 
 pub pass-blanks-spec : {M : Type 1} → statement M
 pass-blanks-spec =
-    tie.close (tie.spec Inv-loop μ-loop (λ c. (refl, omega arith)) (λ c. omega arith) (λ c. c .before .before .before .loop .inv) (λ c. omega arith) (λ c. omega arith) loop-again (λ c. c .before .loop .inv))
+    tie.close (tie.spec Inv-loop μ-loop (λ c κs. search needs) (λ c. c .pass-few .ensures) (λ c. omega arith) (λ c. c .before .before .before .loop .inv) (λ c. omega arith) (λ c. omega arith) loop-again (λ c. c .before .loop .inv))

@@ -1,23 +1,42 @@
 use mathlib.Core.Path.{_≡_, _∙_, sym}
 use borrow.Author.Tests.{eq-eqb, ne-eqb}
 use borrow.Author.Needs.{needs}
+use native.Mathlib.Omega.{arith}
 use Rattle.tokens.specs.Token.{ofValue, valueHere}
+use Rattle.tokens.proofs.Leads.{lead-here}
 use Rattle.tokens.proofs.value_here.Statement.{statement}
 use Rattle.tokens.proofs.value_here.Tie as tie
 
+-- digits side by side, and the value is over
 returns : tie.Need-returns
-unfolding valueHere ofValue
-returns c = rw (c .before .before .before .before .t .given .1, sym (c .before .before .read-value .ensures), eq-eqb _ _ (c .if1 .taken))
+returns c =
+    let q = c .before .before .before .before .before .lead-at .ensures in
+    rw (c .before .before .before .before .before .before .before .t .given .1)
+    (sym (lead-here _ _ _ _ (c .before .before .before .if1 .taken) (q .1 .1) (q .0) (sym (c .before .before .over-at .ensures) ∙ c .before .if2 .taken)))
 
 returns-2 : tie.Need-returns-2
 unfolding valueHere ofValue
-returns-2 c = rw (c .before .before .before .before .t .given .1, sym (c .before .before .read-value .ensures), ne-eqb _ _ (c .if1 .left))
+returns-2 c = rw (c .before .before .before .before .before .before .before .t .given .1, sym (c .before .before .read-value .ensures), eq-eqb _ _ (c .if3 .taken))
 
 returns-3 : tie.Need-returns-3
+unfolding valueHere ofValue
+returns-3 c = rw (c .before .before .before .before .before .before .before .t .given .1, sym (c .before .before .read-value .ensures), ne-eqb _ _ (c .if3 .left))
+
+returns-4 : tie.Need-returns-4
 unfolding valueHere
-returns-3 c = rw (c .before .t2 .given .1)
+returns-4 c = rw (c .before .t2 .given .1)
 
 pub value-here-spec : {M : Type 1} → statement M
 value-here-spec =
     tie.close
-    (tie.spec (λ c. search needs) (λ c κs. search needs) returns (λ c. search needs) returns-2 returns-3)
+    (tie.spec
+    (λ c. search needs)
+    (λ c κs. search needs)
+    (λ c κs. c .before .before .before .before .before .before .before .pre)
+    (λ c. omega arith)
+    returns
+    (λ c κs. c .before .before .before .before .before .before .before .pre)
+    returns-2
+    (λ c. search needs)
+    returns-3
+    returns-4)
