@@ -2,3 +2,4 @@ pub mod Keys
 pub mod Clashes
 pub mod Capitals
 pub mod Standards
+pub mod Plains

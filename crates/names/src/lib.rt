@@ -5,7 +5,7 @@ use marks::Inside;
 use marks::Part;
 use signs::Sign;
 ghost use mathlib.Core.Path.{_≡_};
-ghost use mathlib.Core.Bool.{cond};
+ghost use mathlib.Core.Bool.{cond, true};
 ghost use Prim.Native.Nat.{_≤_};
 ghost use lib.Dec.{eqb};
 ghost use Rattle.ascii.specs.Class.{Classes};
@@ -23,8 +23,39 @@ fn may_stand(classes: &[u8; 256], count: usize, b: u8) -> bool
     (class == ascii::LETTER) | ((0 < count) & (class == ascii::DIGIT))
 }
 
-// The number of the name from just after its opening quote.
-pub fn name_key(classes: &[u8; 256], d: &[u8], at: usize) -> u64
+// The number of a name that is nothing but letters and digits up to its closing quote; of another it is not sure.
+pub struct Key {
+    pub key: u64,
+    pub sure: bool,
+}
+
+fn plain_key(classes: &[u8; 256], d: &[u8], at: usize) -> Key
+    requires { ⌜ Classes (now classes) ⌝ }
+    ensures { λ r. ⌜ (r .sure ≡ true → r .key ≡ keyOf 0 0 (decodeOf Inside.Plain 0 (text (now (d .entry)) at))) ⌝ }
+{
+    let mut n = at;
+    let mut count: usize = 0;
+    let mut key: u64 = 0;
+    while n < d.len() {
+        let b = d[n];
+        if b == 34 {
+            return Key { key, sure: true };
+        }
+        if count == 8 {
+            return Key { key, sure: false };
+        }
+        if !may_stand(classes, count, b) {
+            return Key { key, sure: false };
+        }
+        key = key * 256 + wide(ascii::upper(b));
+        count += 1;
+        n += 1;
+    }
+    Key { key, sure: false }
+}
+
+// The same as name_key, sign by sign.
+fn spelled_key(classes: &[u8; 256], d: &[u8], at: usize) -> u64
     requires { ⌜ Classes (now classes) ⌝ }
     ensures { λ r. ⌜ r ≡ keyOf 0 0 (decodeOf Inside.Plain 0 (text (now (d .entry)) at)) ⌝ }
 {
@@ -57,6 +88,18 @@ pub fn name_key(classes: &[u8; 256], d: &[u8], at: usize) -> u64
         }
     }
     0
+}
+
+// The number of the name from just after its opening quote. Most are plain.
+pub fn name_key(classes: &[u8; 256], d: &[u8], at: usize) -> u64
+    requires { ⌜ Classes (now classes) ⌝ }
+    ensures { λ r. ⌜ r ≡ keyOf 0 0 (decodeOf Inside.Plain 0 (text (now (d .entry)) at)) ⌝ }
+{
+    let q = plain_key(classes, d, at);
+    if q.sure {
+        return q.key;
+    }
+    spelled_key(classes, d, at)
 }
 
 fn wide(b: u8) -> u64

@@ -4,3 +4,4 @@ pub mod Lists
 pub mod Shares
 pub mod Goods
 pub mod Orders
+pub mod Nexts

@@ -10,12 +10,15 @@ use tokens::Quoted;
 use tokens::Reading;
 use tokens::Value;
 ghost use mathlib.Core.Path.{_≡_};
-ghost use mathlib.Core.Bool.{false};
+ghost use mathlib.Core.Bool.{false, true};
 ghost use mathlib.Core.List.{[]};
 ghost use Prim.Native.Nat.{_+_, _*_, _-_, _≤_, _<_};
 ghost use lib.ListN.{length, set};
 ghost use lib.Signed.{ltZ};
 ghost use Rattle.ascii.specs.Class.{Classes};
+ghost use Rattle.tokens.specs.Token.{choiceOf};
+ghost use Rattle.statements.specs.rule.Words.{END};
+ghost use Rattle.statements.specs.Note.{notesOn};
 ghost use Rattle.cells.specs.rule.Cell.{pasted};
 ghost use Rattle.layout.specs.rule.Layout.{lineSize, mostLines};
 ghost use Rattle.values.specs.Value.{formOf, largeOf, trueOf, scaledOf, pointOf, pointsOf};
@@ -431,7 +434,22 @@ fn end_values(b: Block, t: Reading) -> Turn
     }
 }
 
-fn more(classes: &[u8; 256], d: &[u8], b: Block, next: usize) -> Turn
+// Whether a digit stands just here: then no gap, no note and no END does.
+fn digit_at(d: &[u8], at: usize) -> bool
+    ensures { λ r. ⌜ (r ≡ true → (notesOn (now (d .entry)) (Reading.At at) ≡ Reading.At at) × (choiceOf (now (d .entry)) (Reading.At at) END ≡ Choice.Left)) ⌝ }
+{
+    if d.len() <= at {
+        return false;
+    }
+    let b = d[at];
+    if b < 48 {
+        return false;
+    }
+    b <= 57
+}
+
+// The same as more, wherever the value or END stands.
+fn more_apart(classes: &[u8; 256], d: &[u8], b: Block, next: usize) -> Turn
     requires { ⌜ Classes (now classes) ⌝ }
     ensures { λ r. ⌜ r ≡ moreOf (now (d .entry)) b next ⌝ }
 {
@@ -449,6 +467,21 @@ fn more(classes: &[u8; 256], d: &[u8], b: Block, next: usize) -> Turn
             }
         }
     }
+}
+
+// What follows a line. Most often it is a value, and the gap before it was passed with the line.
+fn more(classes: &[u8; 256], d: &[u8], b: Block, next: usize) -> Turn
+    requires { ⌜ Classes (now classes) ⌝ }
+    ensures { λ r. ⌜ r ≡ moreOf (now (d .entry)) b next ⌝ }
+{
+    if digit_at(d, next) {
+        let a = tokens::value_here(classes, d, Reading::At(next));
+        return Turn::More {
+            amount: a,
+            block: b,
+        };
+    }
+    more_apart(classes, d, b, next)
 }
 
 // The four numbers of a line, which says z, at the place of the line with this number.

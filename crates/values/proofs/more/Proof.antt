@@ -1,28 +1,15 @@
-use mathlib.Core.Path.{_∙_, sym}
-use Rattle.values.specs.Line.{moreOf}
+use mathlib.Core.Path.{sym}
 use borrow.Author.Needs.{needs}
+use Rattle.values.specs.Line.{moreOf}
 use Rattle.values.proofs.more.Statement.{statement}
 use Rattle.values.proofs.more.Tie as tie
 
 returns : tie.Need-returns
 unfolding moreOf
 returns c =
-    rw (
-      sym (c .before .before .before .before .before .before .before .before .notes-on .ensures),
-      sym (c .before .before .before .before .before .before .perhaps .ensures) ∙ c .before .before .before .before .m .given .1,
-      sym (c .before .word-on .ensures),
-      sym (c .end-values .ensures),
-    )
-
-returns-2 : tie.Need-returns-2
-unfolding moreOf
-returns-2 c =
-    rw (
-      sym (c .before .before .before .before .before .notes-on .ensures),
-      sym (c .before .before .before .perhaps .ensures) ∙ c .before .enum-told .given .1,
-      sym (c .value-here .ensures),
-    )
+    let n = c .before .before .digit-at .ensures (c .before .if1 .taken) in
+    rw (n .0, n .1, sym (c .value-here .ensures))
 
 pub more-spec : {M : Type 1} → statement M
 more-spec =
-    tie.close (tie.spec (λ c κs. search needs) (λ c. search needs) (λ c κs. search needs) (λ c. search needs) (λ c. search needs) (λ c κs. search needs) (λ c κs. search needs) (λ c. search needs) (λ c κs. search needs) returns returns-2)
+    tie.close (tie.spec (λ c κs. search needs) (λ c κs. search needs) returns (λ c κs. search needs) (λ c. search needs))
