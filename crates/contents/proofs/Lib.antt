@@ -2,5 +2,6 @@ mod Bounds
 pub mod Views
 pub mod Goes
 pub mod Pieces
+mod Passing
 pub mod Exactly
 pub mod Tellings

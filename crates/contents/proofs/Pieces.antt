@@ -79,7 +79,7 @@ module _ (l bad : Bool) (d : List ℕ) (m : ℕ) (w : List ℕ) where
   unfolding stepOf bracketAt
   step-93 g h f e = rw (lt-leb (length d) (g .next) h, f, e)
 
-  step-byte : (g : Going) (b : ℕ) → g .next < length d → getD d (g .next) 0 ≡ b → (b ≡ 38 → ⊥) → (b ≡ 60 → ⊥) → (b ≡ 13 → ⊥) → eqb b 93 ≡ false → stepOf bad d m w g ≡ goOn g (g .next + 1) (said.Byte b)
+  pub step-byte : (g : Going) (b : ℕ) → g .next < length d → getD d (g .next) 0 ≡ b → (b ≡ 38 → ⊥) → (b ≡ 60 → ⊥) → (b ≡ 13 → ⊥) → eqb b 93 ≡ false → stepOf bad d m w g ≡ goOn g (g .next + 1) (said.Byte b)
   unfolding stepOf
   step-byte g b h f x y z e = rw (lt-leb (length d) (g .next) h, f, ne-eqb b 60 y, ne-eqb b 38 x, e, ne-eqb b 13 z)
 

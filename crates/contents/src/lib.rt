@@ -14,6 +14,7 @@ ghost use lib.ListN.{length, drop};
 ghost use Rattle.contents.specs.rule.Step.{heardOf, goOn, brokenAt, bracketAt, returnAt, referAt, noteAt, pairAt, breakAt};
 ghost use Rattle.contents.specs.rule.Step.{languageAt, otherAt, modeIn, kindOf, startAt, closeAt, markAt, stepOf};
 ghost use Rattle.contents.specs.rule.Content.{contentOf, begun, startOf, textFrom, textOf};
+ghost use Rattle.contents.specs.Pass.{plainOf, Passes, Strides};
 ghost use Rattle.contents.specs.Told.{Hears, Tells, wholePart, firstPart, nextPart, bytePart, partCode};
 ghost use Rattle.utf.specs.rule.Chars.{encode};
 
@@ -326,6 +327,43 @@ fn take_step(bad: bool, d: &[u8], mode: usize, w: &[u8], g: Going) -> Step
     go_on(g, at + 1, Said::Byte(b))
 }
 
+// A byte that opens nothing, refers to nothing and ends no line.
+fn is_plain(b: u8) -> bool
+    ensures { λ r. ⌜ r ≡ plainOf b ⌝ }
+{
+    (b != 60) & ((b != 38) & ((b != 93) & (b != 13)))
+}
+
+// The place after the bytes from a place on that say themselves: most of a text is such bytes, and a step each would cost ten times as much.
+fn pass_plain(d: &[u8], at: usize) -> usize
+    requires { ⌜ at ≤ length (now d) ⌝ }
+    ensures { λ r. ⌜ Passes (now (d .entry)) at r ⌝ }
+{
+    let mut i = at;
+    while i < d.len() {
+        if is_plain(d[i]) {
+            i += 1;
+        } else {
+            return i;
+        }
+    }
+    i
+}
+
+// A step behind the bytes that say themselves.
+fn pass_step(bad: bool, d: &[u8], mode: usize, w: &[u8], g: Going) -> Step
+    requires { ⌜ g .next ≤ length (now d) ⌝ }
+    ensures { λ r. ⌜ Strides bad (now (d .entry)) mode (now (w .entry)) g r ⌝ }
+{
+    let next = pass_plain(d, g.next);
+    let k = Going {
+        inside: g.inside,
+        unknown: g.unknown,
+        next,
+    };
+    take_step(bad, d, mode, w, k)
+}
+
 // The text of an element w from behind its start tag on, with its end tag. Mode 0: characters, references and comments; 1: breaks too;
 // 2: texts in other languages too.
 pub fn read_content(bad: bool, d: &[u8], mode: usize, w: &[u8], at: usize) -> Content
@@ -338,7 +376,7 @@ pub fn read_content(bad: bool, d: &[u8], mode: usize, w: &[u8], at: usize) -> Co
         next: at,
     };
     loop {
-        match take_step(bad, d, mode, w, g) {
+        match pass_step(bad, d, mode, w, g) {
             Step::More { going, said: _ } => {
                 g = going;
             }

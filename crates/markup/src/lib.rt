@@ -35,6 +35,10 @@ pub fn starts_name(b: u8) -> bool
 pub fn is_name(b: u8) -> bool
     ensures { λ r. ⌜ r ≡ isName b ⌝ }
 {
+    // most are such letters
+    if (97 <= b) & (b <= 122) {
+        return true;
+    }
     starts_name(b) | (is_digit(b) | ((b == 45) | (b == 46)))
 }
 

@@ -74,8 +74,8 @@ fn part_in(s: &[u8], at: usize) -> Part
     Part::Stop(First::One { code, next: at + 1 })
 }
 
-// The next character, behind comments.
-pub fn next_char(s: &[u8], at: usize) -> First
+// The next character where a mark may stand first: behind comments, by a reference.
+fn marked_char(s: &[u8], at: usize) -> First
     requires { ⌜ at ≤ length (now s) ⌝ }
     ensures { λ r. ⌜ r ≡ firstOf (now (s .entry)) at ⌝ }
 {
@@ -90,6 +90,25 @@ pub fn next_char(s: &[u8], at: usize) -> First
             }
         }
     }
+}
+
+// The next character, behind comments. Most say themselves: they are told here, without the loop.
+pub fn next_char(s: &[u8], at: usize) -> First
+    requires { ⌜ at ≤ length (now s) ⌝ }
+    ensures { λ r. ⌜ r ≡ firstOf (now (s .entry)) at ⌝ }
+{
+    if s.len() <= at {
+        return First::End;
+    }
+    let b = s[at];
+    if b == 38 {
+        return marked_char(s, at);
+    }
+    if b == 60 {
+        return marked_char(s, at);
+    }
+    let code = wide(b);
+    First::One { code, next: at + 1 }
 }
 
 // The number that digits say, at most 10 ^ 15, and how many they are; or that there is another character, or none.

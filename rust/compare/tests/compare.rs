@@ -1045,6 +1045,26 @@ fn definitions_in_xml() {
     tally.end("definitions in XML", 6_000, &[0, 1, 2, 4, 5, 6, 7, 8, 9, 10, 50, 51, 52]);
 }
 
+/// Document 000's example, read by both sides: as printed 50 at the declaration's `>`, with that mended 9 at the name that is printed 03, with both
+/// slips mended V 8, E 20, L 54, and Q7 filtered by Q6.
+#[test]
+fn the_example_of_document_000() {
+    let mut tally = Tally::default();
+    let mended = include_str!("../../plain/tests/example_000.xml");
+    let named = mended.replace("<name>Q3<", "<name>03<");
+    let printed = named.replace("ISO-8859-1\"?>", "ISO-8859-1\">");
+    let room = length(8, 20);
+    let mut answer = |text: &str, room| check(&mut tally, 0, &definition(text.as_bytes().to_vec(), room));
+    assert_eq!(answer(&printed, room).answer, [50, printed.find("\">").unwrap() as i64 + 1, 0, 0]);
+    assert_eq!(answer(&named, room).answer, [9, named.find("03<").unwrap() as i64, 0, 0]);
+    assert_eq!(answer(mended, room - 1).answer, [10, 0, 0, 0]);
+    let done = answer(mended, room);
+    assert_eq!(done.answer, [0, 0, 8, 20]);
+    assert_eq!(inner(&done)[..HEADER], [12, 8, 20, 54, 6, row_at(8) as i64]);
+    assert_eq!(inner(&done)[row_at(6) + column::FILTER], 6);
+    tally.end("the example of document 000", 4, &[0, 9, 10, 50]);
+}
+
 /// Every text of a definition in XML, and stretches of any kind of it, decoded; with room, with just enough, with one number too few.
 #[test]
 fn texts_in_xml_decoded() {

@@ -459,7 +459,7 @@ impl Reader<'_> {
 /// Tells a value that a line of the block already has. Values in rising or falling order cost nothing; a long block out
 /// of order goes into a table of slots.
 #[derive(Default)]
-struct Repeats {
+pub(crate) struct Repeats {
     first: usize,
     least: i64,
     most: i64,
@@ -472,14 +472,14 @@ const FEW: usize = 32;
 const SLOTS: usize = 2 * MAX_LINES;
 
 impl Repeats {
-    fn start(&mut self, first: usize) {
+    pub(crate) fn start(&mut self, first: usize) {
         self.first = first;
         self.hashed = false;
     }
 
     /// Whether the value is on a line of the block. If not, it counts as met from now on.
     #[inline]
-    fn met(&mut self, lines: &[Line], value: i64) -> bool {
+    pub(crate) fn met(&mut self, lines: &[Line], value: i64) -> bool {
         let block = &lines[self.first..];
         if block.is_empty() {
             self.least = value;

@@ -4,10 +4,12 @@
 //! of marks are below 128. A statement is judged once it is read: the first 2 or 50 met ends it at once (`?`), what else is wrong
 //! with it is collected in a `Verdict`, of which the lowest number counts, and of equal numbers the earlier place.
 
+use crate::definition::Repeats;
 use crate::scan::{Fault, Outcome, fault};
 use crate::*;
 use std::borrow::Cow;
 use std::collections::{HashMap, HashSet};
+use std::hash::{BuildHasherDefault, Hasher};
 
 const ORDER_MARK: &[u8] = &[0xEF, 0xBB, 0xBF];
 
@@ -41,8 +43,9 @@ fn read(def: &[u8], table: &mut [i64]) -> Outcome<(usize, usize)> {
         standard: false,
         rows: Vec::with_capacity(32),
         lines: Vec::with_capacity(128),
-        names: HashMap::new(),
-        served: HashSet::new(),
+        names: HashMap::default(),
+        served: HashSet::default(),
+        repeats: Repeats::default(),
         idents: [0; 157],
         used: [false; 3],
         highest: 0,
@@ -72,7 +75,12 @@ fn legal(c: u32) -> bool {
 /// The first place from `at` on where no legal character stands, or the length.
 fn first_bad(latin: bool, d: &[u8], mut at: usize) -> usize {
     while at < d.len() {
-        let x = d[at];
+        // By sixteen, as long as each is a character of its own.
+        let plain = |x: u8| (x >= 32 && (x < 128 || latin)) | (x == 9) | (x == 10) | (x == 13);
+        while d[at..].first_chunk::<16>().is_some_and(|c| c.iter().fold(true, |all, &x| all & plain(x))) {
+            at += 16;
+        }
+        let Some(&x) = d.get(at) else { break };
         if x < 128 || latin {
             if !legal(x as u32) {
                 return at;
@@ -93,16 +101,33 @@ fn first_bad(latin: bool, d: &[u8], mut at: usize) -> usize {
     at
 }
 
+/// What each byte may be: 1 white space, 2 in a name, 4 at its start.
+const CLASSES: [u8; 256] = {
+    let mut classes = [0; 256];
+    let mut i = 0;
+    while i < 256 {
+        let x = i as u8;
+        let start = x.is_ascii_alphabetic() || x == b'_' || x == b':' || x >= 128;
+        let name = start || x.is_ascii_digit() || x == b'-' || x == b'.';
+        classes[i] = matches!(x, 9 | 10 | 13 | 32) as u8 + 2 * name as u8 + 4 * start as u8;
+        i += 1;
+    }
+    classes
+};
+
+#[inline(always)]
 fn white(x: u8) -> bool {
-    matches!(x, 9 | 10 | 13 | 32)
+    CLASSES[x as usize] & 1 != 0
 }
 
+#[inline(always)]
 fn starts_name(x: u8) -> bool {
-    x.is_ascii_alphabetic() || x == b'_' || x == b':' || x >= 128
+    CLASSES[x as usize] & 4 != 0
 }
 
+#[inline(always)]
 fn in_name(x: u8) -> bool {
-    starts_name(x) || x.is_ascii_digit() || x == b'-' || x == b'.'
+    CLASSES[x as usize] & 2 != 0
 }
 
 /// The reference whose `&` stands first: its character and its length.
@@ -143,7 +168,7 @@ fn comment(d: &[u8]) -> Result<usize, Option<usize>> {
 /// What a stretch says, comments left out: its bytes as they stand where it has neither references nor comments. None where
 /// something else stands in it.
 fn said(s: &[u8]) -> Option<Cow<'_, [u8]>> {
-    if !s.contains(&b'&') && !s.contains(&b'<') {
+    if !s.iter().any(|&x| x == b'&' || x == b'<') {
         return Some(Cow::Borrowed(s));
     }
     let mut out = Vec::with_capacity(s.len());
@@ -425,10 +450,12 @@ fn less(a: &[u8], b: &[u8]) -> bool {
 }
 
 /// A value as written.
-struct Amount {
+struct Amount<'a> {
     place: usize,
+    said: Cow<'a, [u8]>,
     minus: bool,
-    digits: Vec<u8>,
+    /// What all its digits say; the largest number where they are more than 18.
+    size: u64,
     decimals: usize,
     point: bool,
     /// A point with no digit before it.
@@ -436,53 +463,95 @@ struct Amount {
     formed: bool,
 }
 
-impl Amount {
-    fn of(place: usize, s: &[u8]) -> Amount {
-        let w = said(s).unwrap_or_default();
-        let minus = w.first() == Some(&b'-');
-        let rest = &w[minus as usize..];
+impl<'a> Amount<'a> {
+    fn of(place: usize, s: &'a [u8]) -> Amount<'a> {
+        let said = said(s).unwrap_or_default();
+        let minus = said.first() == Some(&b'-');
+        let rest = &said[minus as usize..];
         let whole = rest.iter().take_while(|x| x.is_ascii_digit()).count();
         let point = rest.get(whole) == Some(&b'.');
         let after = &rest[whole + point as usize..];
         let decimals = after.iter().take_while(|x| x.is_ascii_digit()).count();
-        let mut digits = rest[..whole].to_vec();
-        digits.extend_from_slice(&after[..decimals]);
+        let (mut size, mut count) = (0u64, 0);
+        for &x in rest[..whole].iter().chain(&after[..decimals]) {
+            count += (count > 0 || x != b'0') as usize;
+            size = size.wrapping_mul(10).wrapping_add((x - b'0') as u64);
+        }
+        let size = if count > 18 { u64::MAX } else { size };
         let formed = decimals == after.len() && whole + decimals > 0;
-        Amount { place, minus, digits, decimals, point, bare: point && whole == 0, formed }
-    }
-
-    fn size(&self) -> u64 {
-        capped(&self.digits)
+        Amount { place, minus, size, decimals, point, bare: point && whole == 0, formed, said }
     }
 
     fn scaled(&self) -> i64 {
-        let n = self.size() as i64;
+        let n = self.size as i64;
         if self.minus { -n } else { n }
     }
 
     fn ill(&self, quantity: bool) -> bool {
-        !self.formed || !quantity && (self.minus || self.point || self.size() == 0)
+        !self.formed || !quantity && (self.minus || self.point || self.size == 0)
     }
 
     fn beyond(&self, quantity: bool) -> bool {
         if quantity {
-            self.decimals > MAX_DECIMALS || self.size() > MAX_QUANTITY as u64
+            self.decimals > MAX_DECIMALS || self.size > MAX_QUANTITY as u64
         } else {
-            self.size() > MAX_CATEGORY as u64
+            self.size > MAX_CATEGORY as u64
         }
     }
 
-    /// Whether its true value is below another's.
+    /// Whether its magnitude is below another's of the same decimals, however long both are.
+    fn smaller(&self, other: &Amount) -> bool {
+        if self.size != u64::MAX || other.size != u64::MAX {
+            return self.size < other.size;
+        }
+        let digits = |a: &Amount| a.said.iter().copied().filter(u8::is_ascii_digit).collect::<Vec<u8>>();
+        less(&digits(self), &digits(other))
+    }
+
+    /// Whether its true value is below another's; both have form and the same decimals.
     fn below(&self, other: &Amount) -> bool {
-        let minus = |a: &Amount| a.minus && !significant(&a.digits).is_empty();
-        match (minus(self), minus(other)) {
+        match (self.minus && self.size > 0, other.minus && other.size > 0) {
             (true, false) => true,
             (false, true) => false,
-            (false, false) => less(&self.digits, &other.digits),
-            (true, true) => less(&other.digits, &self.digits),
+            (false, false) => self.smaller(other),
+            (true, true) => other.smaller(self),
         }
     }
 }
+
+/// A quick hash of names: no one chooses them to collide here.
+#[derive(Default)]
+struct Mix(u64);
+
+impl Hasher for Mix {
+    fn write(&mut self, bytes: &[u8]) {
+        let (words, last) = bytes.as_chunks::<8>();
+        for word in words {
+            self.write_u64(u64::from_le_bytes(*word));
+        }
+        let mut word = [0; 8];
+        word[..last.len()].copy_from_slice(last);
+        self.write_u64(u64::from_le_bytes(word));
+    }
+
+    fn write_u64(&mut self, x: u64) {
+        self.0 = (self.0.rotate_left(5) ^ x).wrapping_mul(0x9e37_79b9_7f4a_7c15);
+    }
+
+    fn write_usize(&mut self, x: usize) {
+        self.write_u64(x as u64);
+    }
+
+    fn write_u8(&mut self, x: u8) {
+        self.write_u64(x as u64);
+    }
+
+    fn finish(&self) -> u64 {
+        self.0.rotate_left(26)
+    }
+}
+
+type Quick = BuildHasherDefault<Mix>;
 
 struct Reader<'a> {
     /// The file up to its first bad character.
@@ -497,9 +566,10 @@ struct Reader<'a> {
     rows: Vec<Row>,
     lines: Vec<Line>,
     /// Each name met: how many variables have it, and the last of them.
-    names: HashMap<Vec<i64>, (usize, usize)>,
+    names: HashMap<Vec<u8>, (usize, usize), Quick>,
     /// The names that have served as filters.
-    served: HashSet<Vec<i64>>,
+    served: HashSet<Vec<u8>, Quick>,
+    repeats: Repeats,
     idents: [u64; 157],
     /// Whether a serial, a weight was met.
     used: [bool; 3],
@@ -677,6 +747,10 @@ impl<'a> Reader<'a> {
     /// The start tag of one of these elements is due here, inside `within`: which one it is.
     fn due(&mut self, names: &[&[u8]], within: &[u8]) -> Outcome<usize> {
         let stand = self.stand()?;
+        self.due_at(stand, names, within)
+    }
+
+    fn due_at(&mut self, stand: Stand, names: &[&[u8]], within: &[u8]) -> Outcome<usize> {
         let at = self.at;
         match stand {
             Stand::Start(name) => match names.iter().position(|n| *n == name) {
@@ -694,11 +768,10 @@ impl<'a> Reader<'a> {
 
     /// One of these elements, or the end tag of `within`, which is then read: none.
     fn perhaps(&mut self, names: &[&[u8]], within: &[u8]) -> Outcome<Option<usize>> {
-        if let Stand::Close = self.stand()? {
-            self.end_tag(within)?;
-            return Ok(None);
+        match self.stand()? {
+            Stand::Close => self.end_tag(within).map(|()| None),
+            other => self.due_at(other, names, within).map(Some),
         }
-        self.due(names, within).map(Some)
     }
 
     /// The end of an element that holds nothing. A start tag that cuts it is answered.
@@ -724,6 +797,9 @@ impl<'a> Reader<'a> {
             return Ok(c);
         }
         loop {
+            while self.d.get(self.at).is_some_and(|x| !matches!(x, b'<' | b'&' | b']')) {
+                self.at += 1;
+            }
             match self.d.get(self.at) {
                 None => return fault(50, self.at),
                 Some(b'&') => match reference(&self.d[self.at..]) {
@@ -784,7 +860,7 @@ impl<'a> Reader<'a> {
         Digits { place: s.value, digits: self.said(s) }
     }
 
-    fn amount(&self, s: Slot) -> Amount {
+    fn amount(&self, s: Slot) -> Amount<'a> {
         Amount::of(s.value, &self.d[s.value..s.end])
     }
 
@@ -1006,15 +1082,11 @@ impl<'a> Reader<'a> {
     }
 
     /// A name's signs, by which names are compared.
-    fn key(&self, c: &Content) -> Vec<i64> {
+    fn key(&self, c: &Content) -> Vec<u8> {
         let mut key = Vec::new();
-        signs(self.latin, &self.d[c.place..c.end], &mut |x| key.push(x));
+        signs(self.latin, &self.d[c.place..c.end], &mut |x| key.push(x as u8));
         if self.standard {
-            for x in &mut key {
-                if (65..=90).contains(x) {
-                    *x += 32;
-                }
-            }
+            key.make_ascii_lowercase();
         }
         key
     }
@@ -1182,8 +1254,9 @@ impl<'a> Reader<'a> {
         if tag.empty {
             return fault(2, tag.end);
         }
+        self.repeats.start(self.lines.len());
         let mut block =
-            Block { decimals: None, point: false, bare: true, least: i64::MAX, most: i64::MIN, met: HashSet::new() };
+            Block { decimals: None, point: false, bare: true, least: i64::MAX, most: i64::MIN };
         let first = self.due(&[b"range", b"value"], b"values")?;
         if first == 0 {
             self.range(row, &mut block, quantity)?;
@@ -1250,7 +1323,7 @@ impl<'a> Reader<'a> {
             v.add(6, a.place);
         } else if a.beyond(quantity) {
             v.add(8, a.place);
-        } else if block.met.contains(&a.scaled()) {
+        } else if self.repeats.met(&self.lines, a.scaled()) {
             v.add(6, a.place);
         } else if self.lines.len() == MAX_LINES {
             v.add(8, a.place);
@@ -1260,22 +1333,21 @@ impl<'a> Reader<'a> {
         block.point |= a.point;
         block.bare &= a.bare;
         block.take(a.scaled());
-        block.met.insert(a.scaled());
         self.lines.push([a.scaled(), 0, c.place as i64, (c.end - c.place) as i64]);
         Ok(())
     }
 
     /// With standardnames: the first name that is ill-formed or agrees with one before it.
     fn standard_names(&mut self) -> Outcome<()> {
-        let mut met = HashSet::new();
+        let mut met: HashSet<Vec<u8>, Quick> = HashSet::default();
         for row in &self.rows {
             let place = row[column::NAME] as usize;
             let c = Content { place, end: place + row[column::NAME_LENGTH] as usize, cut: None, unknown: None };
             let key = self.key(&c);
-            let letter = |x: &i64| (97..=122).contains(x);
+            let letter = u8::is_ascii_lowercase;
             let formed = (1..=8).contains(&key.len())
                 && letter(&key[0])
-                && key.iter().all(|x| letter(x) || (48..=57).contains(x));
+                && key.iter().all(|x| letter(x) || x.is_ascii_digit());
             if !formed || !met.insert(key) {
                 return fault(9, place);
             }
@@ -1291,7 +1363,6 @@ struct Block {
     bare: bool,
     least: i64,
     most: i64,
-    met: HashSet<i64>,
 }
 
 impl Block {
@@ -1407,8 +1478,9 @@ fn is_content(text: &[u8]) -> bool {
         standard: false,
         rows: Vec::new(),
         lines: Vec::new(),
-        names: HashMap::new(),
-        served: HashSet::new(),
+        names: HashMap::default(),
+        served: HashSet::default(),
+        repeats: Repeats::default(),
         idents: [0; 157],
         used: [false; 3],
         highest: 0,

@@ -4,7 +4,7 @@ use lib.ListN.{length}
 use borrow.Author.Needs.{needs}
 use native.Mathlib.Omega.{arith}
 use Rattle.contents.specs.rule.Content.{begun, contentFrom}
-use Rattle.contents.proofs.Goes.{step-on, content-next, content-over}
+use Rattle.contents.proofs.Passing.{more-same, more-on, more-within, over-is}
 use Rattle.contents.proofs.read_content.Statement.{statement}
 use Rattle.contents.proofs.read_content.Tie as tie
 
@@ -19,22 +19,22 @@ loop-holds c = (refl, c .before .before .pre)
 
 loop-less : tie.Need-loop-less Inv-loop μ-loop
 loop-less c =
-    let a = c .before .before .before .before .before .before .before .args in
-    let l = step-on (a .bad) (a .d .now) (a .mode) (a .w .now) (c .before .before .before .before .loop .g) _ _ (sym (c .before .before .before .take-step .ensures) ∙ c .before .going .given .1) in
+    let e = c .before .going .given .1 in
+    let s = c .before .before .before .pass-step .ensures in
+    let a = more-on e s in
+    let b = more-within e s in
     omega arith
 
 loop-again : tie.Need-loop-again Inv-loop μ-loop
 loop-again c =
-    let a = c .before .before .before .before .before .before .before .args in
-    let e = sym (c .before .before .before .take-step .ensures) ∙ c .before .going .given .1 in (
-      c .before .before .before .before .loop .inv .0 ∙ content-next (a .bad) (a .d .now) (a .mode) (a .w .now) (c .before .before .before .before .loop .g) _ _ e,
-      step-on (a .bad) (a .d .now) (a .mode) (a .w .now) (c .before .before .before .before .loop .g) _ _ e .1,
-    )
+    let e = c .before .going .given .1 in
+    let s = c .before .before .before .pass-step .ensures in
+    (c .before .before .before .before .loop .inv .0 ∙ more-same e s, more-within e s)
 
 returns : tie.Need-returns Inv-loop μ-loop
 returns c =
-    let a = c .before .before .before .before .before .before .before .args in
-    sym (c .before .before .before .before .loop .inv .0 ∙ content-over (a .bad) (a .d .now) (a .mode) (a .w .now) (c .before .before .before .before .loop .g) _ (sym (c .before .before .before .take-step .ensures) ∙ c .before .c .given .1))
+    let s = c .before .before .before .pass-step .ensures in
+    sym (c .before .before .before .before .loop .inv .0 ∙ over-is (c .before .c .given .1) s)
 
 pub read-content-spec : {M : Type 1} → statement M
 read-content-spec = tie.close (tie.spec Inv-loop μ-loop loop-holds (λ c κs. search needs) (λ c. search needs) loop-less loop-again (λ c. search needs) returns)

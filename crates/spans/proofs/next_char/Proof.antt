@@ -1,41 +1,29 @@
-use mathlib.Core.Path.{_≡_, refl, sym, ap, _∙_}
-use Prim.Native.Nat.{ℕ, _+_, _-_, _≤_, _<_}
-use lib.ListN.{length, drop, getD, length-drop}
+use mathlib.Core.Path.{_≡_, refl, sym, _∙_}
+use Prim.Native.Nat.{_+_, _≤_, _<_}
+use lib.ListN.{length}
 use borrow.Author.Needs.{needs}
 use native.Mathlib.Omega.{arith}
-use Rattle.spans.specs.rule.Heard.{firstOf}
-use Rattle.spans.proofs.Hearing.{part-passed, first-next, first-stop}
+use borrow.Author.Tests.{ne-eqb, le-leb, lt-leb}
+use Rattle.spans.specs.rule.Heard.{partOf}
+use Rattle.spans.proofs.Hearing.{first-stop}
 use Rattle.spans.proofs.next_char.Statement.{statement}
 use Rattle.spans.proofs.next_char.Tie as tie
 
-abbrev Inv-loop : tie.InvT-loop
-Inv-loop s at n₀ n = (firstOf s at ≡ firstOf s n) × (n ≤ length s)
+returns : tie.Need-returns
+unfolding partOf
+returns c = let a = c .before .before .args in sym (first-stop (a .s .now) (a .at) _ (rw (le-leb (length (a .s .now)) (a .at) (omega arith))))
 
-abbrev μ-loop : tie.MeasureT-loop
-μ-loop s at n₀ n = length s - n
+returns-2 : tie.Need-returns-2
+returns-2 c = c .marked-char .ensures
 
-loop-holds : tie.Need-loop-holds Inv-loop μ-loop
-loop-holds c = (refl, omega arith)
+returns-3 : tie.Need-returns-3
+returns-3 c = c .marked-char2 .ensures
 
-loop-less : tie.Need-loop-less Inv-loop μ-loop
-loop-less c =
+returns-4 : tie.Need-returns-4
+unfolding partOf
+returns-4 c =
     let a = c .before .before .before .before .before .before .args in
-    let g = part-passed (a .s .now) (c .before .before .before .before .loop .n) _ (sym (c .before .before .before .part-in .ensures) ∙ c .before .m .given .1) in
-    let x = g .place in
-    let y = g .some in
-    let z = g .within in
-    omega arith
-
-loop-again : tie.Need-loop-again Inv-loop μ-loop
-loop-again c =
-    let a = c .before .before .before .before .before .before .args in
-    let e = sym (c .before .before .before .part-in .ensures) ∙ c .before .m .given .1 in
-    (c .before .before .before .before .loop .inv .0 ∙ first-next (a .s .now) (c .before .before .before .before .loop .n) _ e, part-passed (a .s .now) (c .before .before .before .before .loop .n) _ e .within)
-
-returns : tie.Need-returns Inv-loop μ-loop
-returns c =
-    let a = c .before .before .before .before .before .before .args in
-    sym (c .before .before .before .before .loop .inv .0 ∙ first-stop (a .s .now) (c .before .before .before .before .loop .n) _ (sym (c .before .before .before .part-in .ensures) ∙ c .before .r .given .1))
+    sym (first-stop (a .s .now) (a .at) _ (rw (lt-leb (length (a .s .now)) (a .at) (omega arith), ne-eqb _ 38 (c .before .before .if2 .left), ne-eqb _ 60 (c .before .if3 .left), c .wide .ensures .0)))
 
 pub next-char-spec : {M : Type 1} → statement M
-next-char-spec = tie.close (tie.spec Inv-loop μ-loop loop-holds (λ c κs. search needs) (λ c. search needs) loop-less loop-again (λ c. search needs) returns)
+next-char-spec = tie.close (tie.spec returns (λ c. search needs) (λ c κs. search needs) returns-2 (λ c κs. search needs) returns-3 (λ c κs. search needs) (λ c. search needs) returns-4)

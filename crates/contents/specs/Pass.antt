@@ -1,0 +1,29 @@
+-- What the code keeps while it passes bytes that say themselves.
+use mathlib.Core.Path.{_≡_}
+use mathlib.Core.Bool.{Bool, not, _&&_}
+use mathlib.Core.List.{List}
+use Prim.Native.Nat.{ℕ, _≤_, _<_}
+use lib.Dec.{eqb}
+use lib.ListN.{length}
+use Rattle.contents.specs.rule.Content.{contentFrom}
+use Rattle.contents.specs.declared.Going.{Going}
+use Rattle.contents.specs.declared.Said.{Said}
+use Rattle.contents.specs.declared.Content.{Content}
+use Rattle.contents.specs.declared.Step.{Step}
+use Rattle.contents.specs.declared.Step.the-variants.{More, Over}
+
+-- no <, &, ] or carriage return
+unfoldable pub plainOf : ℕ → Bool
+plainOf b = not (eqb b 60) && (not (eqb b 38) && (not (eqb b 93) && not (eqb b 13)))
+
+-- from p on r may be gone on from, whatever the text and wherever in it
+pub record Passes (d : List ℕ) (p r : ℕ) : Type 0 where
+  pub again : (bad : Bool) (m : ℕ) (w : List ℕ) (inside : Bool) (unknown : ℕ)
+      → contentFrom bad d m w (record { inside = inside; unknown = unknown; next = p }) ≡ contentFrom bad d m w (record { inside = inside; unknown = unknown; next = r })
+  pub on : p ≤ r
+  pub within : r ≤ length d
+
+-- what such bytes and the step behind them come to
+pub data Strides (bad : Bool) (d : List ℕ) (m : ℕ) (w : List ℕ) (g : Going) : Step → Type 0 where
+  more : {h : Going} {s : Said} → contentFrom bad d m w g ≡ contentFrom bad d m w h → g .next < h .next → h .next ≤ length d → Strides bad d m w g (More h s)
+  over : {c : Content} → contentFrom bad d m w g ≡ c → Strides bad d m w g (Over c)
