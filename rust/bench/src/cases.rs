@@ -22,6 +22,7 @@ pub fn cases() -> Vec<Maker> {
     let mut cases = vec![];
     definitions(&mut cases);
     odd_definitions(&mut cases);
+    sheets(&mut cases);
     texts(&mut cases);
     tables(&mut cases);
     readings(&mut cases);
@@ -96,6 +97,46 @@ fn odd_definitions(cases: &mut Vec<Maker>) {
         def.truncate(end + 12);
         def.push(b'<');
         definition(def, 3)
+    });
+}
+
+/// Definitions in XML: issue 30's surveys, some of every size, and some that are mostly one thing.
+fn sheets(cases: &mut Vec<Maker>) {
+    for (variables, lines) in [(6, 6), (60, 12), (504, 22)] {
+        add(cases, &format!("XML, issue 30's survey of {variables} variables"), move || {
+            definition(sheet(variables, lines, 0), 0)
+        });
+    }
+    for (size, bytes) in
+        [("1 KiB", 1 << 10), ("16 KiB", 1 << 14), ("64 KiB", 1 << 16), ("256 KiB", 1 << 18), ("1 MiB", 1 << 20)]
+    {
+        add(cases, &format!("XML {size}"), move || definition(sized_sheet(bytes), 0));
+    }
+    let wide: [(&str, &str, &str); 9] = [
+        ("one text", "", "a few words "),
+        ("one text, CR LF", "", "a few words here\r\n"),
+        ("one text, two bytes a character", "", "\u{e4}"),
+        ("references", "", "&amp;"),
+        ("references by number", "", "&#x41;"),
+        ("breaks", "", "<br/>"),
+        ("texts in another language", "", "<text xml:lang=\"fr\">abcdefgh</text>"),
+        ("comments in a text", "", "<!--a-->"),
+        ("comments between tags", "<!--a-->", "x"),
+    ];
+    for (name, between, label) in wide {
+        add(cases, &format!("XML 1 MB, {name}"), move || {
+            let many = |what: &str| what.repeat(1_000_000 / what.len().max(1));
+            let label = if between.is_empty() { many(label) } else { label.to_string() };
+            definition(one_sheet(&many(between), &label), 0)
+        });
+    }
+    for variables in [128, 256, 512] {
+        add(cases, &format!("XML, {variables} variables, half of them filtered"), move || {
+            definition(filtered_sheet(variables, |i| format!("Question{i:04}")), 0)
+        });
+    }
+    add(cases, "XML 1 MB, 512 variables with names of 1,274 bytes, half filtered", || {
+        definition(filtered_sheet(512, |i| format!("{}{i:04}", "x".repeat(1_270))), 0)
     });
 }
 

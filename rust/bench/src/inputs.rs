@@ -407,3 +407,82 @@ pub fn spread() -> Vec<i64> {
 pub fn evens() -> Vec<i64> {
     (1..=4000).map(|i| 2 * i).collect()
 }
+
+/// Issue 30's survey as XML: this many variables of all types in turn, this many lines, every label filled up to `text` bytes.
+pub fn sheet(variables: usize, lines: usize, text: usize) -> Vec<u8> {
+    let mut t = "<?xml version=\"1.0\" encoding=\"UTF-8\"?>\r\n<sss version=\"1.2\" options=\"standardnames\">\r\n  \
+                 <date>1 May 1998</date>\r\n  <survey>\r\n    <title>A survey</title>\r\n    <record ident=\"A\">\r\n"
+        .to_string();
+    let value = |code: &str, text: &str| format!("            <value code=\"{code}\">{text}</value>\r\n");
+    let values = |inside: &str| format!("          <values>\r\n{inside}          </values>\r\n");
+    let coded =
+        |word: &dyn Fn(usize) -> String| -> String { (1..=lines).map(|i| value(&i.to_string(), &word(i))).collect() };
+    let mut at = 1;
+    for i in 1..=variables {
+        let (kind, width, rest) = match i % 6 {
+            1 => ("single", 4, values(&coded(&|c| format!("Answer number {c}")))),
+            2 => ("multiple", lines, values(&coded(&|c| format!("Place {c}, also known as &quot;P{c}&quot;")))),
+            3 => {
+                let inside = format!(
+                    "            <range from=\"1\" to=\"500\"/>\r\n{}{}",
+                    value("997", "None"),
+                    value("998", "Don't know")
+                );
+                ("multiple", 15, format!("          <spread subfields=\"5\" width=\"3\"/>\r\n{}", values(&inside)))
+            }
+            4 => {
+                let last = value("9999.99", "Not stated");
+                ("quantity", 7, values(&format!("            <range from=\"-99.50\" to=\"999.75\"/>\r\n{last}")))
+            }
+            5 => ("character", 30, "          <size>30</size>\r\n".to_string()),
+            _ => ("logical", 1, String::new()),
+        };
+        let label = format!("{:.<text$}", format!("The text of question number {i} of the survey"));
+        t += &format!(
+            "      <variable ident=\"{i}\" type=\"{kind}\">\r\n          <name>Q{i}</name>\r\n          <label>{label}</label>\r\n          \
+             <position start=\"{at}\" finish=\"{}\"/>\r\n{rest}      </variable>\r\n",
+            at + width - 1
+        );
+        at += width;
+    }
+    t += "    </record>\r\n  </survey>\r\n</sss>\r\n";
+    t.into_bytes()
+}
+
+/// Such a survey of at most so many bytes, and not many fewer: its labels are as long as that takes.
+pub fn sized_sheet(bytes: usize) -> Vec<u8> {
+    let (variables, lines) = match bytes {
+        0..=1024 => (2, 2),
+        1025..=16_384 => (30, 10),
+        16_385..=65_536 => (120, 10),
+        _ => (480, 10),
+    };
+    let least = sheet(variables, lines, 0).len();
+    let label = "The text of question number 1 of the survey".len();
+    sheet(variables, lines, label + bytes.saturating_sub(least) / variables - 3)
+}
+
+/// One logical variable in XML, with something behind the declaration and this label.
+pub fn one_sheet(between: &str, label: &str) -> Vec<u8> {
+    format!(
+        "<?xml version=\"1.0\"?>\n{between}<sss version=\"1.2\" languages=\"en fr\">\n<survey>\n<record ident=\"A\">\n\
+         <variable ident=\"1\" type=\"logical\">\n<name>Q1</name>\n<label>{label}</label>\n<position start=\"1\"/>\n</variable>\n\
+         </record>\n</survey>\n</sss>\n"
+    )
+    .into_bytes()
+}
+
+/// So many logical variables in XML, every second one filtered by an earlier one.
+pub fn filtered_sheet(variables: usize, name: impl Fn(usize) -> String) -> Vec<u8> {
+    let mut t = "<?xml version=\"1.0\"?>\n<sss version=\"1.2\">\n<survey>\n<record ident=\"A\">\n".to_string();
+    for i in 0..variables {
+        let filter = if i % 2 == 1 { format!("<filter>{}</filter>\n", name(i / 2)) } else { String::new() };
+        t += &format!(
+            "<variable ident=\"{0}\" type=\"logical\">\n<name>{1}</name>\n<label>x</label>\n<position start=\"{0}\"/>\n{filter}</variable>\n",
+            i + 1,
+            name(i)
+        );
+    }
+    t += "</record>\n</survey>\n</sss>\n";
+    t.into_bytes()
+}

@@ -1255,8 +1255,7 @@ impl<'a> Reader<'a> {
             return fault(2, tag.end);
         }
         self.repeats.start(self.lines.len());
-        let mut block =
-            Block { decimals: None, point: false, bare: true, least: i64::MAX, most: i64::MIN };
+        let mut block = Block { decimals: None, point: false, bare: true, least: i64::MAX, most: i64::MIN };
         let first = self.due(&[b"range", b"value"], b"values")?;
         if first == 0 {
             self.range(row, &mut block, quantity)?;
@@ -1345,9 +1344,8 @@ impl<'a> Reader<'a> {
             let c = Content { place, end: place + row[column::NAME_LENGTH] as usize, cut: None, unknown: None };
             let key = self.key(&c);
             let letter = u8::is_ascii_lowercase;
-            let formed = (1..=8).contains(&key.len())
-                && letter(&key[0])
-                && key.iter().all(|x| letter(x) || x.is_ascii_digit());
+            let formed =
+                (1..=8).contains(&key.len()) && letter(&key[0]) && key.iter().all(|x| letter(x) || x.is_ascii_digit());
             if !formed || !met.insert(key) {
                 return fault(9, place);
             }
