@@ -121,13 +121,15 @@ rest-stops : {p : Bool} {ds t : List ℕ} → Behind p ds t → Stops t
 rest-stops nothing = ends
 rest-stops (point d) = other dot-not
 
-no-minus : {w t : List ℕ} {p : Bool} {ds : List ℕ} → Each isDigit w → Behind p ds t → (begins 45 (w ++ t) ≡ false) × (without 45 (w ++ t) ≡ w ++ t)
+no-minus : {w t : List ℕ} {p : Bool} {ds : List ℕ} → Each isDigit w → Behind p ds t → (begins 45 (w ++ t) ≡ false)
+    × (without 45 (w ++ t) ≡ w ++ t)
 unfolding begins without
 no-minus no-more nothing = (refl, refl)
 no-minus no-more (point d) = (refl, refl)
 no-minus (each {b} {s} e d) f = rw (ne-eqb b 45 (λ q. holds-not e (rw q minus-not))) (refl, refl)
 
-unsigned : (m : Bool) {w t : List ℕ} {p : Bool} {ds : List ℕ} → Each isDigit w → Behind p ds t → (begins 45 (perhaps m ++ (w ++ t)) ≡ m) × (without 45 (perhaps m ++ (w ++ t)) ≡ w ++ t)
+unsigned : (m : Bool) {w t : List ℕ} {p : Bool} {ds : List ℕ} → Each isDigit w → Behind p ds t → (begins 45 (perhaps m ++ (w ++ t)) ≡ m)
+    × (without 45 (perhaps m ++ (w ++ t)) ≡ w ++ t)
 unfolding begins without
 unsigned true d f = (refl, refl)
 unsigned false d f = no-minus d f
@@ -159,7 +161,8 @@ unfolding leading
 lead-none = refl
 
 module _ (place next : ℕ) (cs : List ℕ) where
-  fraction-of : behind (without 46 (behind (without 45 cs))) ≡ [] → Behind (begins 46 (behind (without 45 cs))) (leading (without 46 (behind (without 45 cs)))) (behind (without 45 cs))
+  fraction-of : behind (without 46 (behind (without 45 cs))) ≡ []
+      → Behind (begins 46 (behind (without 45 cs))) (leading (without 46 (behind (without 45 cs)))) (behind (without 45 cs))
   fraction-of e = by (begins 46 f) refl where
     f : List ℕ
     f = behind (without 45 cs)
@@ -180,8 +183,10 @@ module _ (place next : ℕ) (cs : List ℕ) where
       let w = leading (without 45 cs) in
       let f = behind (without 45 cs) in
       let tail = without 46 (behind (without 45 cs)) in
-      let stop = empty (behind tail) (eqb-true (length (behind tail)) 0 (and-left (eqb (length (behind tail)) 0) (ltb 0 (length (w ++ leading tail))) e)) in
-      let count = ltb-true 0 (length (w ++ leading tail)) (and-right (eqb (length (behind tail)) 0) (ltb 0 (length (w ++ leading tail))) e) in
+      let stop = empty (behind tail) (eqb-true (length (behind tail)) 0
+      (and-left (eqb (length (behind tail)) 0) (ltb 0 (length (w ++ leading tail))) e)) in
+      let count = ltb-true 0 (length (w ++ leading tail))
+      (and-right (eqb (length (behind tail)) 0) (ltb 0 (length (w ++ leading tail))) e) in
       record {
         minus = begins 45 cs;
         whole = w;
@@ -196,7 +201,8 @@ module _ (place next : ℕ) (cs : List ℕ) where
       }
 
 -- VALUE: characters are a value in form, saying a, exactly when they are spelt so
-pub value-exactly : (place next : ℕ) (cs : List ℕ) (a : Amount) → ((amountOf place next cs ≡ a) × (a .formed ≡ true)) ↔ Spelt place next cs a
+pub value-exactly : (place next : ℕ) (cs : List ℕ) (a : Amount)
+    → ((amountOf place next cs ≡ a) × (a .formed ≡ true)) ↔ Spelt place next cs a
 value-exactly place next cs a = (
   λ h. let e = h .0 in rw (← e) (is-spelt place next cs (ap (λ (x : Amount). x .formed) e ∙ h .1)),
   λ s. (spelt-is place next s, ap (λ (x : Amount). x .formed) (s .says)),
@@ -226,9 +232,11 @@ pub true-size : (place next : ℕ) {cs : List ℕ} {a : Amount} → Spelt place 
 unfolding trueIn
 true-size place next s =
     ap (λ (l : List ℕ). decimalOf 0 (digitsIn l)) (s .run)
-    ∙ ap (decimalOf 0) (digits-signed (s .minus) (s .whole ++ s .rest) ∙ digits-all (s .wholes) (s .rest) ∙ ap (λ (l : List ℕ). s .whole ++ l) (digits-behind (s .fraction)))
+    ∙ ap (decimalOf 0) (digits-signed (s .minus) (s .whole ++ s .rest) ∙ digits-all (s .wholes) (s .rest)
+    ∙ ap (λ (l : List ℕ). s .whole ++ l) (digits-behind (s .fraction)))
     ∙ sym (ap (λ (x : Amount). x .size) (s .says))
 
 -- LESS: two values in form compare by what they say, however many digits they have
-pub less-true : (p q m n : ℕ) {x y : List ℕ} {a b : Amount} → Spelt p q x a → Spelt m n y b → ltb (trueIn x) (trueIn y) ≡ ltb (a .size) (b .size)
+pub less-true : (p q m n : ℕ) {x y : List ℕ} {a b : Amount} → Spelt p q x a → Spelt m n y b → ltb (trueIn x) (trueIn y)
+    ≡ ltb (a .size) (b .size)
 less-true p q m n s t = rw (true-size p q s, true-size m n t)

@@ -49,7 +49,8 @@ pub record First-is (s : List ℕ) (n c : ℕ) (cs : List ℕ) : Type 0 where
 pub heard-first : (s : List ℕ) (at : ℕ) {c n : ℕ} {cs : List ℕ} → firstOf s at ≡ One c n → heard s at ≡ All cs → First-is s n c cs
 heard-first s at {c} {n} {cs} f e = by (heard s n) refl (sym (heard-one s at c n f) ∙ e) where
   by : (h : Heard) → heard s n ≡ h → after c (heard s n) ≡ All cs → First-is s n c cs
-  by (All r) g k = let z : after c (All r) ≡ All cs = ap (after c) (sym g) ∙ k in let y : c ∷ r ≡ cs = cc in record { rest = r; left = g; split = sym y }
+  by (All r) g k = let z : after c (All r) ≡ All cs = ap (after c) (sym g) ∙ k in let y : c ∷ r ≡ cs = cc in
+      record { rest = r; left = g; split = sym y }
   by Ill g k = let w : after c Ill ≡ All cs = ap (after c) (sym g) ∙ k in let z : _≡_ {A = ℕ} 0 1 = cc in absurd (omega arith)
 
 pub heard-none : (s : List ℕ) (at : ℕ) {cs : List ℕ} → firstOf s at ≡ End → heard s at ≡ All cs → cs ≡ []
@@ -96,7 +97,8 @@ pushed : (size c : ℕ) (l : List ℕ) → capped (decimalOf size (c ∷ l)) ≡
 unfolding decimalOf pushOf
 pushed size c l = sym (held (size * 10 + (c - 48)) l)
 
-pub going-next : (s : List ℕ) (v : ℕ) (cs : List ℕ) (size count : ℕ) {n c m : ℕ} → Going s v cs size count n → firstOf s n ≡ One c m → isDigit c ≡ true → Going s v cs (pushOf size c) (count + 1) m
+pub going-next : (s : List ℕ) (v : ℕ) (cs : List ℕ) (size count : ℕ) {n c m : ℕ} → Going s v cs size count n → firstOf s n ≡ One c m
+    → isDigit c ≡ true → Going s v cs (pushOf size c) (count + 1) m
 going-next s v cs size count {n} {c} {m} g f e =
     let h = heard-first s n f (g .left) in
     let k = lead-more c (h .rest) e in
@@ -113,16 +115,21 @@ going-next s v cs size count {n} {c} {m} g f e =
     }
 
 -- where no digit stands first, the run is over
-over : (s : List ℕ) (v : ℕ) (cs : List ℕ) (size count : ℕ) {n : ℕ} → size ≤ 1000000000000000 → (g : Going s v cs size count n) → leading (g .rest) ≡ [] → behind (g .rest) ≡ g .rest
+over : (s : List ℕ) (v : ℕ) (cs : List ℕ) (size count : ℕ) {n : ℕ} → size ≤ 1000000000000000 → (g : Going s v cs size count n)
+    → leading (g .rest) ≡ [] → behind (g .rest) ≡ g .rest
     → (size ≡ capped (decimalOf v (leading cs))) × (count ≡ length (leading cs)) × (heard s n ≡ All (behind cs))
 unfolding decimalOf
 over s v cs size count {n} h g a b =
     let q = g .count-is in
-    let l = ap length a in
-    (sym (small size h) ∙ sym (g .size-is ∙ ap (λ (t : List ℕ). capped (decimalOf size t)) a), omega arith, g .left ∙ ap All (sym (g .behind-is ∙ b)))
+    let l = ap length a in (
+      sym (small size h) ∙ sym (g .size-is ∙ ap (λ (t : List ℕ). capped (decimalOf size t)) a),
+      omega arith,
+      g .left ∙ ap All (sym (g .behind-is ∙ b)),
+    )
 
 module _ (s : List ℕ) (v : ℕ) (cs : List ℕ) (size count : ℕ) {n : ℕ} (h : size ≤ 1000000000000000) (g : Going s v cs size count n) where
-  pub going-other : {c m : ℕ} → firstOf s n ≡ One c m → isDigit c ≡ false → (size ≡ capped (decimalOf v (leading cs))) × (count ≡ length (leading cs)) × (heard s n ≡ All (behind cs))
+  pub going-other : {c m : ℕ} → firstOf s n ≡ One c m → isDigit c ≡ false → (size ≡ capped (decimalOf v (leading cs)))
+      × (count ≡ length (leading cs)) × (heard s n ≡ All (behind cs))
   going-other {c} {m} f e =
       let k = heard-first s n f (g .left) in
       let l = lead-none c (k .rest) e in
@@ -132,7 +139,8 @@ module _ (s : List ℕ) (v : ℕ) (cs : List ℕ) (size count : ℕ) {n : ℕ} (
   unfolding leading behind
   none-both l e = rw e (refl, refl)
 
-  pub going-end : firstOf s n ≡ End → (size ≡ capped (decimalOf v (leading cs))) × (count ≡ length (leading cs)) × (heard s n ≡ All (behind cs))
+  pub going-end : firstOf s n ≡ End → (size ≡ capped (decimalOf v (leading cs))) × (count ≡ length (leading cs))
+      × (heard s n ≡ All (behind cs))
   going-end f = let k = none-both (g .rest) (heard-none s n f (g .left)) in over s v cs size count h g (k .0) (k .1)
 
 -- ---- both parts of a value

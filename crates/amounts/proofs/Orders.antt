@@ -15,7 +15,8 @@ use Rattle.scan.specs.rule.Number as scan
 use Rattle.scan.specs.Order.{digitsTo, valueOf, stripped, orderThen, isLess, lessOf}
 use Rattle.scan.specs.declared.Order.{Order}
 use Rattle.scan.specs.declared.Order.the-variants.{Less, Same, More}
-use Rattle.scan.proofs.Orders.{All, none, one, digit-bounds, less-exactly, strip-zero, strip-first, strip-none, less-both, less-longer, less-shorter, less-even}
+use Rattle.scan.proofs.Orders.{All, none, one, digit-bounds, less-exactly, strip-zero, strip-first, strip-none, less-both, less-longer}
+use Rattle.scan.proofs.Orders.{less-shorter, less-even}
 use Rattle.markup.specs.rule.Bytes.{isDigit}
 use Rattle.spans.specs.rule.Heard.{firstOf, heard}
 use Rattle.spans.specs.rule.Heard as heard
@@ -72,7 +73,8 @@ less-true x y = less-digits (all-in x) (all-in y)
 
 -- ---- the next digit
 module _ (s : List ℕ) (digits : List ℕ) {n : ℕ} where
-  pub left-digit : {c m : ℕ} → Left s n digits → firstOf s n ≡ first.One c m → isDigit c ≡ true → (cs : List ℕ) → digits ≡ digitsIn cs → Found s cs (One c m)
+  pub left-digit : {c m : ℕ} → Left s n digits → firstOf s n ≡ first.One c m → isDigit c ≡ true → (cs : List ℕ) → digits ≡ digitsIn cs
+      → Found s cs (One c m)
   unfolding digitsIn
   left-digit {c} {m} l f e cs d =
       let h = heard-first s n f (l .left) in
@@ -90,8 +92,10 @@ module _ (s : List ℕ) (digits : List ℕ) {n : ℕ} where
   unfolding digitsIn
   left-end l f cs d = parts.nothing (sym d ∙ sym (l .same) ∙ ap digitsIn (heard-none s n f (l .left)))
 
-pub found-one : {s cs : List ℕ} {c n : ℕ} {d : Digit} → Found s cs d → d ≡ One c n → (rest : List ℕ) × (heard s n ≡ heard.All rest) × (digitsIn cs ≡ c ∷ digitsIn rest)
-found-one {c = c} {n = n} (parts.one {c = x} {n = m} {rest = r} h e) q = let a : x ≡ c = cc in let b : m ≡ n = cc in (r, rw (← b) h, rw (← a) e)
+pub found-one : {s cs : List ℕ} {c n : ℕ} {d : Digit} → Found s cs d → d ≡ One c n → (rest : List ℕ) × (heard s n ≡ heard.All rest)
+    × (digitsIn cs ≡ c ∷ digitsIn rest)
+found-one {c = c} {n = n} (parts.one {c = x} {n = m} {rest = r} h e) q = let a : x ≡ c = cc in
+    let b : m ≡ n = cc in (r, rw (← b) h, rw (← a) e)
 found-one (parts.nothing e) q = let z : _≡_ {A = ℕ} 0 1 = cc in absurd (omega arith)
 
 pub found-none : {s cs : List ℕ} {d : Digit} → Found s cs d → d ≡ Nothing → digitsIn cs ≡ []
@@ -133,7 +137,8 @@ pub record Pairing (a b : List ℕ) (x y : List ℕ) (i j : ℕ) (o : Order) : T
   pub left-b : heard b j ≡ heard.All ys
   pub same : ltb (trueIn x) (trueIn y) ≡ lessOf o (digitsIn xs) (digitsIn ys)
 
-pub pairing-start : (a b x y : List ℕ) {i j : ℕ} → Left a i (stripped (digitsIn x)) → Left b j (stripped (digitsIn y)) → Pairing a b x y i j Same
+pub pairing-start : (a b x y : List ℕ) {i j : ℕ} → Left a i (stripped (digitsIn x)) → Left b j (stripped (digitsIn y))
+    → Pairing a b x y i j Same
 pairing-start a b x y l k = record {
   xs = l .rest;
   ys = k .rest;

@@ -68,7 +68,8 @@ name-no-white b e = by (isWhite b) refl where
   by true f = absurd (or-left (startsName b) (isDigit b || (eqb b 45 || eqb b 46)) e (white-no-name b f))
 
 -- behind a name white space or = stands, neither of them a name's
-pub gap-first : (d : List ℕ) (e m : ℕ) → Stretch (ofKind 0) d e m → m < length d → getD d m 0 ≡ 61 → (ofKind 1 (getD d e 0) ≡ false) × (e < length d)
+pub gap-first : (d : List ℕ) (e m : ℕ) → Stretch (ofKind 0) d e m → m < length d → getD d m 0 ≡ 61 → (ofKind 1 (getD d e 0) ≡ false)
+    × (e < length d)
 unfolding ofKind isName startsName isDigit
 gap-first d e m s l g = by (s .passes) (s .split) (s .place) where
   by : {u : List ℕ} → Each (ofKind 0) u → drop e d ≡ u ++ drop m d → m ≡ e + length u → (ofKind 1 (getD d e 0) ≡ false) × (e < length d)
@@ -97,7 +98,8 @@ module _ (bad : Bool) (d : List ℕ) (opened : ℕ) where
           cc,
           record {
             inside = h;
-            quotes = ⊎-elim (λ y. inl (eqb-true (getD d w 0) 34 y)) (λ y. inr (eqb-true (getD d w 0) 39 y)) (either-true (eqb (getD d w 0) 34) (eqb (getD d w 0) 39) q);
+            quotes = ⊎-elim (λ y. inl (eqb-true (getD d w 0) 34 y)) (λ y. inr (eqb-true (getD d w 0) 39 y))
+                (either-true (eqb (getD d w 0) 34) (eqb (getD d w 0) 39) q);
             quoted = rw (i, ← l) x;
             place = i;
             behind = cc;
@@ -106,23 +108,27 @@ module _ (bad : Bool) (d : List ℕ) (opened : ℕ) where
     on (Broken p) g h q f = let z : _≡_ {A = ℕ} 0 1 = cc in absurd (omega arith)
 
     by : (x y : Bool) → leb (length d) w ≡ x → (eqb (getD d w 0) 34 || eqb (getD d w 0) 39) ≡ y
-        → cond x (Faulty (endFault bad w opened)) (cond y (onQuoted n e (w + 1) (quotedOf bad opened (getD d w 0) d (w + 1))) (Faulty w)) ≡ One n′ e′ v k next
+        → cond x (Faulty (endFault bad w opened)) (cond y (onQuoted n e (w + 1) (quotedOf bad opened (getD d w 0) d (w + 1))) (Faulty w))
+        ≡ One n′ e′ v k next
         → (n′ ≡ n) × (e′ ≡ e) × ValueIs w v k next
     by true y g h f = let z : _≡_ {A = ℕ} 0 1 = cc in absurd (omega arith)
     by false true g h f = on (quotedOf bad opened (getD d w 0) d (w + 1)) refl (leb-false (length d) w g) h f
     by false false g h f = let z : _≡_ {A = ℕ} 0 1 = cc in absurd (omega arith)
 
-  equals-is : (n e m : ℕ) {n′ e′ v k next : ℕ} → equalsOf bad d opened n e m ≡ One n′ e′ v k next → (n′ ≡ n) × (e′ ≡ e) × (m < length d) × (getD d m 0 ≡ 61) × ValueIs (runAt 0 d (m + 1)) v k next
+  equals-is : (n e m : ℕ) {n′ e′ v k next : ℕ} → equalsOf bad d opened n e m ≡ One n′ e′ v k next → (n′ ≡ n) × (e′ ≡ e) × (m < length d)
+      × (getD d m 0 ≡ 61) × ValueIs (runAt 0 d (m + 1)) v k next
   unfolding equalsOf
   equals-is n e m {n′} {e′} {v} {k} {next} f = by (leb (length d) m) (eqb (getD d m 0) 61) refl refl f where
     by : (x y : Bool) → leb (length d) m ≡ x → eqb (getD d m 0) 61 ≡ y
         → cond x (Faulty (endFault bad m opened)) (cond y (valuedOf bad d opened n e (runAt 0 d (m + 1))) (Faulty m)) ≡ One n′ e′ v k next
         → (n′ ≡ n) × (e′ ≡ e) × (m < length d) × (getD d m 0 ≡ 61) × ValueIs (runAt 0 d (m + 1)) v k next
     by true y g h f = let z : _≡_ {A = ℕ} 0 1 = cc in absurd (omega arith)
-    by false true g h f = let r = value-is n e (runAt 0 d (m + 1)) f in (r .0, r .1, leb-false (length d) m g, eqb-true (getD d m 0) 61 h, r .2)
+    by false true g h f = let r = value-is n e (runAt 0 d (m + 1))
+        f in (r .0, r .1, leb-false (length d) m g, eqb-true (getD d m 0) 61 h, r .2)
     by false false g h f = let z : _≡_ {A = ℕ} 0 1 = cc in absurd (omega arith)
 
-  named-is : (at n : ℕ) {n′ e v k next : ℕ} → at < n → n ≡ runAt 0 d at → startsName (getD d n 0) ≡ true → namedOf bad d opened n ≡ One n′ e v k next → Attributed d at n′ e v k next
+  named-is : (at n : ℕ) {n′ e v k next : ℕ} → at < n → n ≡ runAt 0 d at → startsName (getD d n 0) ≡ true → namedOf bad d opened n
+      ≡ One n′ e v k next → Attributed d at n′ e v k next
   unfolding namedOf
   named-is at n {n′} {e} {v} {k} {next} h i s f =
       let r = equals-is n (runAt 1 d n) (runAt 0 d (runAt 1 d n)) f in
@@ -150,12 +156,16 @@ module _ (bad : Bool) (d : List ℕ) (opened : ℕ) where
   attribute-sound : (at : ℕ) {n e v k next : ℕ} → attributeOf bad d opened at ≡ One n e v k next → Attributed d at n e v k next
   unfolding attributeOf behindOf
   attribute-sound at {n} {e} {v} {k} {next} f =
-      by (leb (length d) (runAt 0 d at)) (eqb (getD d (runAt 0 d at) 0) 62) (eqb (getD d (runAt 0 d at) 0) 47) (eqb (runAt 0 d at) at) (startsName (getD d (runAt 0 d at) 0)) refl refl f where
+      by (leb (length d) (runAt 0 d at)) (eqb (getD d (runAt 0 d at) 0) 62) (eqb (getD d (runAt 0 d at) 0) 47) (eqb (runAt 0 d at) at)
+      (startsName (getD d (runAt 0 d at) 0)) refl refl f where
         spaced : eqb (runAt 0 d at) at ≡ false → at < runAt 0 d at
         spaced g = apart at (runAt 0 d at) (omega (arith, run-long (ofKind 0) at (drop at d))) (eqb-false (runAt 0 d at) at g)
 
         by : (p q r s t : Bool) → eqb (runAt 0 d at) at ≡ s → startsName (getD d (runAt 0 d at) 0) ≡ t
-            → cond p (Faulty (endFault bad (runAt 0 d at) opened)) (cond q (Shut false (runAt 0 d at) (runAt 0 d at + 1)) (cond r (slashOf bad d opened (runAt 0 d at)) (cond s (Faulty (runAt 0 d at)) (cond t (namedOf bad d opened (runAt 0 d at)) (Faulty (runAt 0 d at)))))) ≡ One n e v k next
+            → cond p (Faulty (endFault bad (runAt 0 d at) opened))
+            (cond q (Shut false (runAt 0 d at) (runAt 0 d at + 1))
+            (cond r (slashOf bad d opened (runAt 0 d at))
+            (cond s (Faulty (runAt 0 d at)) (cond t (namedOf bad d opened (runAt 0 d at)) (Faulty (runAt 0 d at)))))) ≡ One n e v k next
             → Attributed d at n e v k next
         by true q r s t g h f = let z : _≡_ {A = ℕ} 0 1 = cc in absurd (omega arith)
         by false true r s t g h f = let z : _≡_ {A = ℕ} 0 1 = cc in absurd (omega arith)
@@ -196,18 +206,27 @@ module _ (bad : Bool) (d : List ℕ) (opened : ℕ) where
       let r0 : runAt 0 d at ≡ n = stretch-run (ofKind 0) d at n (a .before) (name-no-white (getD d n 0) (a .starts)) h in
       let r1 : runAt 1 d n ≡ e = stretch-run (ofKind 1) d n e (a .name) (g .0) (g .1) in
       let r2 : runAt 0 d e ≡ m = stretch-run (ofKind 0) d e m (a .gap) (equals-no-white (getD d m 0) (a .sign)) (a .there) in
-      let r3 : runAt 0 d (m + 1) ≡ w = stretch-run (ofKind 0) d (m + 1) w (a .gap-2) (quote-no-white (getD d w 0) (a .quotes)) (a .inside) in
+      let r3 : runAt 0 d (m + 1) ≡ w = stretch-run (ofKind 0) d (m + 1) w (a .gap-2) (quote-no-white (getD d w 0) (a .quotes))
+      (a .inside) in
       let p = a .place in
       let q : quotedOf bad opened (getD d w 0) d (w + 1) ≡ Past k =
       value-exactly bad opened (getD d w 0) d (w + 1) k (quote-no-and (getD d w 0) (a .quotes)) .1 (rw (← p) (a .value)) in
       let s = a .spaced in
       let o = no-end (getD d n 0) (a .starts) in
-      rw (r0, lt-leb (length d) n h, ne-eqb (getD d n 0) 62 (o .0), ne-eqb (getD d n 0) 47 (o .1), ne-eqb n at (λ x. omega arith), a .starts)
+      rw (
+        r0,
+        lt-leb (length d) n h,
+        ne-eqb (getD d n 0) 62 (o .0),
+        ne-eqb (getD d n 0) 47 (o .1),
+        ne-eqb n at (λ x. omega arith),
+        a .starts,
+      )
       (rw (r1, r2, lt-leb (length d) m t, eq-eqb (getD d m 0) 61 (a .sign))
       (rw (r3, lt-leb (length d) w (a .inside), quote-yes (getD d w 0) (a .quotes), q, p, a .behind)))
 
 -- ATTRIBUTE: one is read with these places exactly when it stands there in XML's form
-pub attribute-exactly : (bad : Bool) (d : List ℕ) (opened at : ℕ) {n e v k next : ℕ} → (attributeOf bad d opened at ≡ One n e v k next) ↔ Attributed d at n e v k next
+pub attribute-exactly : (bad : Bool) (d : List ℕ) (opened at : ℕ) {n e v k next : ℕ}
+    → (attributeOf bad d opened at ≡ One n e v k next) ↔ Attributed d at n e v k next
 attribute-exactly bad d opened at = (attribute-sound bad d opened at, attribute-complete bad d opened at)
 
 -- ---- the tag's end
@@ -225,7 +244,8 @@ module _ (bad : Bool) (d : List ℕ) (opened : ℕ) where
     on (Past k) f = let z : _≡_ {A = ℕ} 0 1 = cc in omega arith
     on (Broken q) f = let z : _≡_ {A = ℕ} 0 1 = cc in omega arith
 
-    by : (x y : Bool) → cond x (Faulty (endFault bad w opened)) (cond y (onQuoted n e (w + 1) (quotedOf bad opened (getD d w 0) d (w + 1))) (Faulty w)) ≡ Shut em p next → ⊥
+    by : (x y : Bool) → cond x (Faulty (endFault bad w opened))
+        (cond y (onQuoted n e (w + 1) (quotedOf bad opened (getD d w 0) d (w + 1))) (Faulty w)) ≡ Shut em p next → ⊥
     by true y f = let z : _≡_ {A = ℕ} 0 1 = cc in omega arith
     by false true f = on (quotedOf bad opened (getD d w 0) d (w + 1)) f
     by false false f = let z : _≡_ {A = ℕ} 0 1 = cc in omega arith
@@ -236,12 +256,14 @@ module _ (bad : Bool) (d : List ℕ) (opened : ℕ) where
     m : ℕ
     m = runAt 0 d (runAt 1 d n)
 
-    by : (x y : Bool) → cond x (Faulty (endFault bad m opened)) (cond y (valuedOf bad d opened n (runAt 1 d n) (runAt 0 d (m + 1))) (Faulty m)) ≡ Shut em p next → ⊥
+    by : (x y : Bool) → cond x (Faulty (endFault bad m opened))
+        (cond y (valuedOf bad d opened n (runAt 1 d n) (runAt 0 d (m + 1))) (Faulty m)) ≡ Shut em p next → ⊥
     by true y f = let z : _≡_ {A = ℕ} 0 1 = cc in omega arith
     by false true f = valued-no n (runAt 1 d n) (runAt 0 d (m + 1)) f
     by false false f = let z : _≡_ {A = ℕ} 0 1 = cc in omega arith
 
-  slash-is : (at n : ℕ) {em : Bool} {p next : ℕ} → Stretch (ofKind 0) d at n → getD d n 0 ≡ 47 → slashOf bad d opened n ≡ Shut em p next → Ended d at em p next
+  slash-is : (at n : ℕ) {em : Bool} {p next : ℕ} → Stretch (ofKind 0) d at n → getD d n 0 ≡ 47 → slashOf bad d opened n ≡ Shut em p next
+      → Ended d at em p next
   unfolding slashOf
   slash-is at n {em} {p} {next} s g f = by (leb (length d) (n + 1)) (eqb (getD d (n + 1) 0) 62) refl refl f where
     by : (x y : Bool) → leb (length d) (n + 1) ≡ x → eqb (getD d (n + 1) 0) 62 ≡ y
@@ -262,7 +284,9 @@ module _ (bad : Bool) (d : List ℕ) (opened : ℕ) where
         n = runAt 0 d at
 
         by : (a b c e t : Bool) → leb (length d) n ≡ a → eqb (getD d n 0) 62 ≡ b → eqb (getD d n 0) 47 ≡ c
-            → cond a (Faulty (endFault bad n opened)) (cond b (Shut false n (n + 1)) (cond c (slashOf bad d opened n) (cond e (Faulty n) (cond t (namedOf bad d opened n) (Faulty n))))) ≡ Shut em p next
+            → cond a (Faulty (endFault bad n opened))
+            (cond b (Shut false n (n + 1)) (cond c (slashOf bad d opened n)
+            (cond e (Faulty n) (cond t (namedOf bad d opened n) (Faulty n))))) ≡ Shut em p next
             → Ended d at em p next
         by true b c e t h i j f = let z : _≡_ {A = ℕ} 0 1 = cc in absurd (omega arith)
         by false true c e t h i j f =
@@ -290,5 +314,6 @@ module _ (bad : Bool) (d : List ℕ) (opened : ℕ) where
       rw (r, lt-leb (length d) p l, g, lt-leb (length d) (p + 1) h, eq-eqb (getD d (p + 1) 0) 62 k)
 
 -- SHUT: a tag is read as ending exactly where white space or none and > or /> stand
-pub shut-exactly : (bad : Bool) (d : List ℕ) (opened at : ℕ) {em : Bool} {p next : ℕ} → (attributeOf bad d opened at ≡ Shut em p next) ↔ Ended d at em p next
+pub shut-exactly : (bad : Bool) (d : List ℕ) (opened at : ℕ) {em : Bool} {p next : ℕ}
+    → (attributeOf bad d opened at ≡ Shut em p next) ↔ Ended d at em p next
 shut-exactly bad d opened at = (shut-sound bad d opened at, shut-complete bad d opened at)

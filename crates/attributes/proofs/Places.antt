@@ -30,10 +30,12 @@ run-on : (kind : ℕ) (d : List ℕ) (p : ℕ) → p ≤ runAt kind d p
 run-on kind d p = omega (arith, run-long (ofKind kind) p (drop p d))
 
 module _ (bad : Bool) (d : List ℕ) (opened : ℕ) where
-  valued-one : (n e w : ℕ) {n′ e′ v k next : ℕ} → valuedOf bad d opened n e w ≡ One n′ e′ v k next → (n′ ≡ n) × (e′ ≡ e) × (w < v) × (v ≤ k) × (k < length d) × (next ≡ k + 1)
+  valued-one : (n e w : ℕ) {n′ e′ v k next : ℕ} → valuedOf bad d opened n e w ≡ One n′ e′ v k next → (n′ ≡ n) × (e′ ≡ e) × (w < v) × (v ≤ k)
+      × (k < length d) × (next ≡ k + 1)
   unfolding valuedOf
   valued-one n e w {n′} {e′} {v} {k} {next} f = by (leb (length d) w) (eqb (getD d w 0) 34 || eqb (getD d w 0) 39) f where
-    on : (r : Skip) → quotedOf bad opened (getD d w 0) d (w + 1) ≡ r → onQuoted n e (w + 1) r ≡ One n′ e′ v k next → (n′ ≡ n) × (e′ ≡ e) × (w < v) × (v ≤ k) × (k < length d) × (next ≡ k + 1)
+    on : (r : Skip) → quotedOf bad opened (getD d w 0) d (w + 1) ≡ r → onQuoted n e (w + 1) r ≡ One n′ e′ v k next → (n′ ≡ n) × (e′ ≡ e)
+        × (w < v) × (v ≤ k) × (k < length d) × (next ≡ k + 1)
     on (Past j) g f =
         let i : v ≡ w + 1 = cc in
         let l : k ≡ j = cc in
@@ -44,15 +46,19 @@ module _ (bad : Bool) (d : List ℕ) (opened : ℕ) where
         (cc, cc, omega arith, omega arith, omega arith, omega arith)
     on (Broken p) g f = let z : _≡_ {A = ℕ} 0 1 = cc in absurd (omega arith)
 
-    by : (x y : Bool) → cond x (Faulty (endFault bad w opened)) (cond y (onQuoted n e (w + 1) (quotedOf bad opened (getD d w 0) d (w + 1))) (Faulty w)) ≡ One n′ e′ v k next → (n′ ≡ n) × (e′ ≡ e) × (w < v) × (v ≤ k) × (k < length d) × (next ≡ k + 1)
+    by : (x y : Bool) → cond x (Faulty (endFault bad w opened))
+        (cond y (onQuoted n e (w + 1) (quotedOf bad opened (getD d w 0) d (w + 1))) (Faulty w)) ≡ One n′ e′ v k next → (n′ ≡ n) × (e′ ≡ e)
+        × (w < v) × (v ≤ k) × (k < length d) × (next ≡ k + 1)
     by true y f = let z : _≡_ {A = ℕ} 0 1 = cc in absurd (omega arith)
     by false true f = on (quotedOf bad opened (getD d w 0) d (w + 1)) refl f
     by false false f = let z : _≡_ {A = ℕ} 0 1 = cc in absurd (omega arith)
 
-  equals-one : (n e m : ℕ) {n′ e′ v k next : ℕ} → equalsOf bad d opened n e m ≡ One n′ e′ v k next → (n′ ≡ n) × (e′ ≡ e) × (m < v) × (v ≤ k) × (k < length d) × (next ≡ k + 1)
+  equals-one : (n e m : ℕ) {n′ e′ v k next : ℕ} → equalsOf bad d opened n e m ≡ One n′ e′ v k next → (n′ ≡ n) × (e′ ≡ e) × (m < v) × (v ≤ k)
+      × (k < length d) × (next ≡ k + 1)
   unfolding equalsOf
   equals-one n e m {n′} {e′} {v} {k} {next} f = by (leb (length d) m) (eqb (getD d m 0) 61) f where
-    by : (x y : Bool) → cond x (Faulty (endFault bad m opened)) (cond y (valuedOf bad d opened n e (runAt 0 d (m + 1))) (Faulty m)) ≡ One n′ e′ v k next → (n′ ≡ n) × (e′ ≡ e) × (m < v) × (v ≤ k) × (k < length d) × (next ≡ k + 1)
+    by : (x y : Bool) → cond x (Faulty (endFault bad m opened)) (cond y (valuedOf bad d opened n e (runAt 0 d (m + 1))) (Faulty m))
+        ≡ One n′ e′ v k next → (n′ ≡ n) × (e′ ≡ e) × (m < v) × (v ≤ k) × (k < length d) × (next ≡ k + 1)
     by true y f = let z : _≡_ {A = ℕ} 0 1 = cc in absurd (omega arith)
     by false true f =
         let r = valued-one n e (runAt 0 d (m + 1)) f in
@@ -82,16 +88,19 @@ module _ (bad : Bool) (d : List ℕ) (opened : ℕ) where
 
   behind-one : (at n : ℕ) {n′ e v k next : ℕ} → at ≤ n → behindOf bad d opened at n ≡ One n′ e v k next → Found d at n′ e v k next
   unfolding behindOf
-  behind-one at n {n′} {e} {v} {k} {next} h f = by (leb (length d) n) (eqb (getD d n 0) 62) (eqb (getD d n 0) 47) (eqb n at) (startsName (getD d n 0)) refl f where
-    by : (p q r s t : Bool) → eqb n at ≡ s
-        → cond p (Faulty (endFault bad n opened)) (cond q (Shut false n (n + 1)) (cond r (slashOf bad d opened n) (cond s (Faulty n) (cond t (namedOf bad d opened n) (Faulty n))))) ≡ One n′ e v k next
-        → Found d at n′ e v k next
-    by true q r s t g f = let z : _≡_ {A = ℕ} 0 1 = cc in absurd (omega arith)
-    by false true r s t g f = let z : _≡_ {A = ℕ} 0 1 = cc in absurd (omega arith)
-    by false false true s t g f = absurd (slash-one n f)
-    by false false false true t g f = let z : _≡_ {A = ℕ} 0 1 = cc in absurd (omega arith)
-    by false false false false true g f = named-one at n (apart at n h (eqb-false n at g)) f
-    by false false false false false g f = let z : _≡_ {A = ℕ} 0 1 = cc in absurd (omega arith)
+  behind-one at n {n′} {e} {v} {k} {next} h f = by (leb (length d) n) (eqb (getD d n 0) 62) (eqb (getD d n 0) 47) (eqb n at)
+      (startsName (getD d n 0)) refl f where
+        by : (p q r s t : Bool) → eqb n at ≡ s
+            → cond p (Faulty (endFault bad n opened))
+            (cond q (Shut false n (n + 1)) (cond r (slashOf bad d opened n)
+            (cond s (Faulty n) (cond t (namedOf bad d opened n) (Faulty n))))) ≡ One n′ e v k next
+            → Found d at n′ e v k next
+        by true q r s t g f = let z : _≡_ {A = ℕ} 0 1 = cc in absurd (omega arith)
+        by false true r s t g f = let z : _≡_ {A = ℕ} 0 1 = cc in absurd (omega arith)
+        by false false true s t g f = absurd (slash-one n f)
+        by false false false true t g f = let z : _≡_ {A = ℕ} 0 1 = cc in absurd (omega arith)
+        by false false false false true g f = named-one at n (apart at n h (eqb-false n at g)) f
+        by false false false false false g f = let z : _≡_ {A = ℕ} 0 1 = cc in absurd (omega arith)
 
   pub attribute-one : (at : ℕ) {n e v k next : ℕ} → attributeOf bad d opened at ≡ One n e v k next → Found d at n e v k next
   unfolding attributeOf

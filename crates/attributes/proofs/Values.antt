@@ -44,19 +44,29 @@ module _ (bad : Bool) (opened quote : ℕ) (d : List ℕ) where
       let l = ap length s in
       let a = length-append (r .bytes) (r .rest) in
       let q = length-drop p d in
-      record { bytes = 38 ∷ r .bytes; split = rw o s; some = omega arith; place = omega arith; within = omega arith; values = λ s v. refer (r .ref) v }
+      record {
+        bytes = 38 ∷ r .bytes;
+        split = rw o s;
+        some = omega arith;
+        place = omega arith;
+        within = omega arith;
+        values = λ s v. refer
+            (r .ref) v;
+      }
 
   pub value-go : (p m : ℕ) → valueMove bad opened quote d p ≡ Go m → Step quote d p m
   unfolding valueMove
   value-go p m e = by (leb (length d) p) (eqb (getD d p 0) quote) (eqb (getD d p 0) 60) (eqb (getD d p 0) 38) refl refl refl refl e where
-    char : (r : Char) → referenceOf p (drop (p + 1) d) ≡ r → leb (length d) p ≡ false → eqb (getD d p 0) 38 ≡ true → onChar p r ≡ Go m → Step quote d p m
+    char : (r : Char) → referenceOf p (drop (p + 1) d) ≡ r → leb (length d) p ≡ false → eqb (getD d p 0) 38 ≡ true → onChar p r ≡ Go m
+        → Step quote d p m
     char (Is c n) f g h e =
         let k : n ≡ m = cc in
         with-ref p c m (leb-false (length d) p g) (eqb-true (getD d p 0) 38 h) (rw (← k) (reference-sound p c n (drop (p + 1) d) f))
     char Bad f g h e = let z : _≡_ {A = ℕ} 0 1 = cc in absurd (omega arith)
 
     by : (a b c r : Bool) → leb (length d) p ≡ a → eqb (getD d p 0) quote ≡ b → eqb (getD d p 0) 60 ≡ c → eqb (getD d p 0) 38 ≡ r
-        → cond a (Stop (Broken (endFault bad p opened))) (cond b (Stop (Past p)) (cond c (Stop (Broken p)) (cond r (onChar p (referenceOf p (drop (p + 1) d))) (Go (p + 1))))) ≡ Go m
+        → cond a (Stop (Broken (endFault bad p opened)))
+        (cond b (Stop (Past p)) (cond c (Stop (Broken p)) (cond r (onChar p (referenceOf p (drop (p + 1) d))) (Go (p + 1))))) ≡ Go m
         → Step quote d p m
     by true b c r f g h i e = let z : _≡_ {A = ℕ} 0 1 = cc in absurd (omega arith)
     by false true c r f g h i e = let z : _≡_ {A = ℕ} 0 1 = cc in absurd (omega arith)
@@ -100,7 +110,9 @@ module _ (bad : Bool) (opened quote : ℕ) (d : List ℕ) where
     char Bad e = let z : _≡_ {A = ℕ} 0 1 = cc in absurd (omega arith)
 
     by : (a b c r : Bool) → leb (length d) p ≡ a → eqb (getD d p 0) quote ≡ b
-        → cond a (Stop (Broken (endFault bad p opened))) (cond b (Stop (Past p)) (cond c (Stop (Broken p)) (cond r (onChar p (referenceOf p (drop (p + 1) d))) (Go (p + 1))))) ≡ Stop (Past k)
+        → cond a (Stop (Broken (endFault bad p opened)))
+        (cond b (Stop (Past p)) (cond c (Stop (Broken p)) (cond r (onChar p (referenceOf p (drop (p + 1) d))) (Go (p + 1)))))
+        ≡ Stop (Past k)
         → (k ≡ p) × (p < length d) × (getD d p 0 ≡ quote)
     by true b c r f g e = let z : _≡_ {A = ℕ} 0 1 = cc in absurd (omega arith)
     by false true c r f g e = (cc, leb-false (length d) p f, eqb-true (getD d p 0) quote g)
@@ -141,10 +153,12 @@ module _ (bad : Bool) (opened quote : ℕ) (d : List ℕ) where
   sound : (n p k : ℕ) → length d - p ≤ n → quotedOf bad opened quote d p ≡ Past k → Quoted quote d p k
   sound zero p k h e = by (valueMove bad opened quote d p) refl where
     by : (r : Move) → valueMove bad opened quote d p ≡ r → Quoted quote d p k
-    by (Go m) f = let g = value-go bad opened quote d p m f in let a = g .place in let b = g .some in let c = g .within in absurd (omega arith)
+    by (Go m) f = let g = value-go bad opened quote d p m f in let a = g .place in let b = g .some in let c = g .within in
+        absurd (omega arith)
     by (Stop r) f = here p k r f e
   sound (suc n) p k h e = by (sound n) (valueMove bad opened quote d p) refl where
-    by : ((p k : ℕ) → length d - p ≤ n → quotedOf bad opened quote d p ≡ Past k → Quoted quote d p k) → (r : Move) → valueMove bad opened quote d p ≡ r → Quoted quote d p k
+    by : ((p k : ℕ) → length d - p ≤ n → quotedOf bad opened quote d p ≡ Past k → Quoted quote d p k) → (r : Move)
+        → valueMove bad opened quote d p ≡ r → Quoted quote d p k
     by ih (Go m) f =
         let g = value-go bad opened quote d p m f in
         let a = g .place in
@@ -156,30 +170,32 @@ module _ (bad : Bool) (opened quote : ℕ) (d : List ℕ) where
 pub quoted-sound : (bad : Bool) (opened quote : ℕ) (d : List ℕ) (p k : ℕ) → quotedOf bad opened quote d p ≡ Past k → Quoted quote d p k
 quoted-sound bad opened quote d p k e = sound bad opened quote d (length d) p k (omega arith) e
 
-module _ (bad : Bool) (opened quote : ℕ) (d : List ℕ) (apart : quote ≡ 38 → ⊥) (k : ℕ) (in-file : k < length d) (ends : getD d k 0 ≡ quote) where
-  complete : {u : List ℕ} → Value quote u → (p : ℕ) → drop p d ≡ u ++ drop k d → k ≡ p + length u → quotedOf bad opened quote d p ≡ Past k
-  unfolding valueMove
-  complete empty p e f =
-      let q : p ≡ k = omega arith in
-      value-stop bad opened quote d p (Past k) (rw (q, lt-leb (length d) k in-file, eq-eqb (getD d k 0) quote ends))
-  complete (plain {b} {s} x y z v) p e f =
-      let r = first-at d p b (s ++ drop k d) e in
-      let h = r .0 in
-      let g = r .1 in
-      value-next bad opened quote d p (p + 1) (rw (g, lt-leb (length d) p h, ne-eqb b quote x, ne-eqb b 60 y, ne-eqb b 38 z))
-      ∙ complete v (p + 1) (onward d p 1 (b ∷ []) (s ++ drop k d) e refl) (omega arith)
-  complete (refer {c} {u} {s} w v) p e f =
-      let a : drop p d ≡ 38 ∷ u ++ (s ++ drop k d) = e ∙ ap (λ (t : List ℕ). 38 ∷ t) (append-assoc u s (drop k d)) in
-      let r = first-at d p 38 (u ++ (s ++ drop k d)) a in
-      let h = r .0 in
-      let g = r .1 in
-      let o : drop (p + 1) d ≡ u ++ (s ++ drop k d) = onward d p 1 (38 ∷ []) (u ++ (s ++ drop k d)) a refl in
-      let i : referenceOf p (drop (p + 1) d) ≡ Is c (p + 1 + length u) = rw o (reference-complete p w (s ++ drop k d)) in
-      let n : k ≡ p + 1 + length u + length s = omega (arith, length-append u s) in
-      value-next bad opened quote d p (p + 1 + length u) (rw (g, lt-leb (length d) p h, ne-eqb 38 quote (λ q. apart (sym q)), i))
-      ∙ complete v (p + 1 + length u) (onward d (p + 1) (length u) u (s ++ drop k d) o refl) n
+module _ (bad : Bool) (opened quote : ℕ) (d : List ℕ) (apart : quote ≡ 38 → ⊥) (k : ℕ) (in-file : k < length d) (ends : getD d k 0 ≡ quote)
+  where
+    complete : {u : List ℕ} → Value quote u → (p : ℕ) → drop p d ≡ u ++ drop k d → k ≡ p + length u → quotedOf bad opened quote d p ≡ Past k
+    unfolding valueMove
+    complete empty p e f =
+        let q : p ≡ k = omega arith in
+        value-stop bad opened quote d p (Past k) (rw (q, lt-leb (length d) k in-file, eq-eqb (getD d k 0) quote ends))
+    complete (plain {b} {s} x y z v) p e f =
+        let r = first-at d p b (s ++ drop k d) e in
+        let h = r .0 in
+        let g = r .1 in
+        value-next bad opened quote d p (p + 1) (rw (g, lt-leb (length d) p h, ne-eqb b quote x, ne-eqb b 60 y, ne-eqb b 38 z))
+        ∙ complete v (p + 1) (onward d p 1 (b ∷ []) (s ++ drop k d) e refl) (omega arith)
+    complete (refer {c} {u} {s} w v) p e f =
+        let a : drop p d ≡ 38 ∷ u ++ (s ++ drop k d) = e ∙ ap (λ (t : List ℕ). 38 ∷ t) (append-assoc u s (drop k d)) in
+        let r = first-at d p 38 (u ++ (s ++ drop k d)) a in
+        let h = r .0 in
+        let g = r .1 in
+        let o : drop (p + 1) d ≡ u ++ (s ++ drop k d) = onward d p 1 (38 ∷ []) (u ++ (s ++ drop k d)) a refl in
+        let i : referenceOf p (drop (p + 1) d) ≡ Is c (p + 1 + length u) = rw o (reference-complete p w (s ++ drop k d)) in
+        let n : k ≡ p + 1 + length u + length s = omega (arith, length-append u s) in
+        value-next bad opened quote d p (p + 1 + length u) (rw (g, lt-leb (length d) p h, ne-eqb 38 quote (λ q. apart (sym q)), i))
+        ∙ complete v (p + 1 + length u) (onward d (p + 1) (length u) u (s ++ drop k d) o refl) n
 
 -- VALUE: it goes up to k exactly when references and bytes other than its quote, < and & stand up to k, and at k the quote
-pub value-exactly : (bad : Bool) (opened quote : ℕ) (d : List ℕ) (p k : ℕ) → (quote ≡ 38 → ⊥) → (quotedOf bad opened quote d p ≡ Past k) ↔ Quoted quote d p k
+pub value-exactly : (bad : Bool) (opened quote : ℕ) (d : List ℕ) (p k : ℕ) → (quote ≡ 38 → ⊥)
+    → (quotedOf bad opened quote d p ≡ Past k) ↔ Quoted quote d p k
 value-exactly bad opened quote d p k a =
     (quoted-sound bad opened quote d p k, λ q. complete bad opened quote d a k (q .within) (q .quoted) (q .value) p (q .split) (q .place))

@@ -43,7 +43,8 @@ first-same :
     → rowVerdict a (firstFrom f i n) ≡ rowVerdict b (firstFrom g i n)
 unfolding firstFrom rowVerdict
 first-same f g a b v i zero h p q = refl
-first-same f g a b v i (suc n) h p q = rw (p i (omega arith)) (go (g i) (q i (omega arith)) (first-same f g a b v (suc i) n (omega arith) p q))
+first-same f g a b v i (suc n) h p q = rw (p i (omega arith))
+    (go (g i) (q i (omega arith)) (first-same f g a b v (suc i) n (omega arith) p q))
   where
     go : (c : Bool) → a i ≡ b i → rowVerdict a (firstFrom f (suc i) n) ≡ rowVerdict b (firstFrom g (suc i) n)
         → rowVerdict a (cond c (At i) (firstFrom f (suc i) n)) ≡ rowVerdict b (cond c (At i) (firstFrom g (suc i) n))
@@ -94,7 +95,8 @@ module _ (t u : List ℤ) (g : wellFormed t ≡ true) (h : wellFormed u ≡ true
   unfolding listAs
   list-alike i bytes list = rw (g, h, ← rows-same t u g s, ← length-same t u g s) (go (ltb i (rowsOf t)) refl)
     where
-      go : (b : Bool) → ltb i (rowsOf t) ≡ b → cond b (cond (leb (lengthOf t) (length bytes)) (listAfter (readingOf t (rowsOf t) (rowAt t i) bytes) list) list) list
+      go : (b : Bool) → ltb i (rowsOf t) ≡ b → cond b
+          (cond (leb (lengthOf t) (length bytes)) (listAfter (readingOf t (rowsOf t) (rowAt t i) bytes) list) list) list
           ≡ cond b (cond (leb (lengthOf t) (length bytes)) (listAfter (readingOf u (rowsOf t) (rowAt u i) bytes) list) list) list
       go false e = refl
       go true e = rw (reading-here i (ltb-true i (rowsOf t) e) bytes)

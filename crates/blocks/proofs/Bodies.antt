@@ -88,7 +88,13 @@ module _ (bad : Bool) (d : List ℕ) where
     on (content.Cut p u) q f =
         let y : bodyOf n n false (unknownAt u ∷ unknownAt p ∷ []) ≡ t = cc in
         let z : p ≡ m = cc in
-        rw (← y, ← z) (record { place = refl; short = omega arith; ends = λ c. let s = cut-none (cut-rest c) in omega arith; late = (refl, (refl, tt)) })
+        rw (← y, ← z) (record {
+          place = refl;
+          short = omega arith;
+          ends = λ c. let s = cut-none (cut-rest c) in
+              omega arith;
+          late = (refl, (refl, tt));
+        })
     on (content.Fault j p) q f = never cc
 
     by : (x : Bool) → cond x (Is (bodyOf n n true []) n) (onContent n (contentOf bad d k VALUE n)) ≡ Is t m → Lies n t m

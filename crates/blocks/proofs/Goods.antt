@@ -132,7 +132,8 @@ stood-fine d quantity k {a} s f g e =
     (spelt-genuine (is-spelt (s .from) (s .to) (charsOf d (s .from) (s .to)) (rw (s .says) at (formed-of quantity a f)))) in
     record {
       real = r;
-      fit = fits (a .size) quantity (heldAs a) r (form-same [] quantity a (a .place) (a .end) (a .end) ∙ f) (large-same [] quantity a (a .place) (a .end) (a .end) ∙ g);
+      fit = fits (a .size) quantity (heldAs a) r (form-same [] quantity a (a .place) (a .end) (a .end) ∙ f)
+          (large-same [] quantity a (a .place) (a .end) (a .end) ∙ g);
       same = e;
     }
 
@@ -200,7 +201,8 @@ module _ (quantity : Bool) where
   bare-lows : {k : ℕ} (l : List Amount) → Every (Fine quantity k) l → eachOf bare l ≡ true → Every (Low k) l
   unfolding eachOf
   bare-lows [] nil e = nil
-  bare-lows (a ∷ l) (also f r) e = also (bare-low f (and-left (bare a) (eachOf bare l) e)) (bare-lows l r (and-right (bare a) (eachOf bare l) e))
+  bare-lows (a ∷ l) (also f r) e = also (bare-low f (and-left (bare a) (eachOf bare l) e))
+      (bare-lows l r (and-right (bare a) (eachOf bare l) e))
 
   shared : (l : List Amount) → Every (Fine quantity (decimalsIn l)) l → pointIn l ≡ 2 → 1 ≤ decimalsIn l
   unfolding someOf
@@ -254,8 +256,10 @@ module _ (quantity : Bool) where
     ordered = λ q. u;
     from-limited = λ q. limited f;
     to-limited = λ q. limited g;
-    from-near = λ q p. rw (said-is f) at (low-first (bare-lows (r .from ∷ r .to ∷ m) (also f (also g e)) (all-bare (r .from ∷ r .to ∷ m) p)) .0 .1);
-    to-near = λ q p. rw (said-is g) at (low-first (bare-lows (r .from ∷ r .to ∷ m) (also f (also g e)) (all-bare (r .from ∷ r .to ∷ m) p)) .1 .1);
+    from-near = λ q p. rw (said-is f) at (low-first
+        (bare-lows (r .from ∷ r .to ∷ m) (also f (also g e)) (all-bare (r .from ∷ r .to ∷ m) p)) .0 .1);
+    to-near = λ q p. rw (said-is g) at (low-first
+        (bare-lows (r .from ∷ r .to ∷ m) (also f (also g e)) (all-bare (r .from ∷ r .to ∷ m) p)) .1 .1);
   }
 
   -- ---- the numbers of the lines
@@ -277,7 +281,8 @@ module _ (quantity : Bool) where
     pub ordered : OrderedIn (c .range)
     pub room : before + length (c .lines) ≤ 4096
     pub small : Small quantity (c .lines)
-    pub differ : (i j : ℕ) → i < j → j < length (told (c .lines)) → eqZ (numberAt (told (c .lines)) i) (numberAt (told (c .lines)) j) ≡ false
+    pub differ : (i j : ℕ) → i < j → j < length (told (c .lines)) → eqZ (numberAt (told (c .lines)) i) (numberAt (told (c .lines)) j)
+        ≡ false
     pub each : EachGood (told (c .lines))
 
   abbrev pub Full : Block → Type 0
@@ -316,7 +321,8 @@ module _ (quantity : Bool) where
     each = w .each;
   }
 
-  well-near : {before : ℕ} (c : Block) → Well before c → (i : ℕ) → i < length (told (c .lines)) → Near (blockOf c) (numberAt (told (c .lines)) i)
+  well-near : {before : ℕ} (c : Block) → Well before c → (i : ℕ) → i < length (told (c .lines))
+      → Near (blockOf c) (numberAt (told (c .lines)) i)
   unfolding blockOf
   well-near c w i h p =
       let t = number-told (c .lines) (of-lines c (bare-lows (amounts c) (w .fine) (all-bare (amounts c) p))) i h in
@@ -347,13 +353,15 @@ module _ (quantity : Bool) where
   alike-is : (a b : Amount) → unlike a b ≡ false → a .decimals ≡ b .decimals
   alike-is a b e = eqb-true (a .decimals) (b .decimals) (not-false (eqb (a .decimals) (b .decimals)) e)
 
-  pub well-range : {bad : Bool} {d : List ℕ} {before n : ℕ} {r : Range} → before ≤ 4096 → RangeTold bad d quantity r n → Well before (rangeBlock r)
+  pub well-range : {bad : Bool} {d : List ℕ} {before n : ℕ} {r : Range} → before ≤ 4096 → RangeTold bad d quantity r n
+      → Well before (rangeBlock r)
   unfolding amounts told Small someOf
   well-range {d = d} {r = r} h t =
       let s = range-sound quantity (r .from) (r .to) (t .clean) in
       record {
         fine = also (stood-fine d quantity (r .from .decimals) (t .from) (s .from-form) (s .from-fits) refl)
-            (also (stood-fine d quantity (r .from .decimals) (t .to) (s .to-form) (s .to-fits) (sym (alike-is (r .from) (r .to) (s .alike)))) nil);
+            (also (stood-fine d quantity (r .from .decimals) (t .to) (s .to-form) (s .to-fits)
+            (sym (alike-is (r .from) (r .to) (s .alike)))) nil);
         ordered = not-below (scaled (r .from)) (scaled (r .to)) (s .ordered);
         room = omega arith;
         small = refl;
@@ -423,7 +431,8 @@ module _ (quantity : Bool) where
       let b = t .told .short in
       let g : GoodLine (saidOf x) = rw (t .is) (record { special = omega arith; text-place = omega arith; text-length = omega arith }) in
       record {
-        fine = rw (amounts-more c x) (fine-more (amounts c) (x .value) (w .fine) (k .alike) (λ m e. stood-fine d quantity m v (k .form) (k .fits) e));
+        fine = rw (amounts-more c x) (fine-more (amounts c) (x .value) (w .fine) (k .alike)
+            (λ m e. stood-fine d quantity m v (k .form) (k .fits) e));
         ordered = w .ordered;
         room = omega (arith, length-append (c .lines) (x ∷ []), k .few);
         small = small-more quantity (c .lines) x (w .small) (k .fits);
@@ -478,7 +487,8 @@ module _ (bad : Bool) (d : List ℕ) (languages quantity : Bool) (before : ℕ) 
   first-got : before ≤ 4096 → (n : ℕ) {k : Block} {m : ℕ} → block.first bad d languages quantity before n ≡ Is k m → Got k m
   unfolding block.first
   first-got few n {k} {m} = by (within bad d VALUES n) refl where
-    ranged : (p e : ℕ) → e ≤ length d → (r : Result Range) → range bad d quantity p e ≡ r → bind r (λ r n. Is (rangeBlock r) n) ≡ Is k m → Got k m
+    ranged : (p e : ℕ) → e ≤ length d → (r : Result Range) → range bad d quantity p e ≡ r → bind r (λ r n. Is (rangeBlock r) n) ≡ Is k m
+        → Got k m
     ranged p e l (Is r j) i f =
         let t = range-told bad d quantity p e l i in
         let y : rangeBlock r ≡ k = cc in
@@ -487,12 +497,14 @@ module _ (bad : Bool) (d : List ℕ) (languages quantity : Bool) (before : ℕ) 
     ranged p e l (Not g) i f = never cc
 
     tagged : (p e : ℕ) → e ≤ length d → (q : Bool)
-        → cond q (rangeRead bad d quantity p e) (due bad d VALUE (start p) (lined bad d languages quantity before (unlisted none)) e) ≡ Is k m → Got k m
+        → cond q (rangeRead bad d quantity p e) (due bad d VALUE (start p) (lined bad d languages quantity before (unlisted none)) e)
+        ≡ Is k m → Got k m
     tagged p e l true f = ranged p e l (range bad d quantity p e) refl f
     tagged p e l false f = due-got (unlisted none) p e (well-none quantity few) l f
 
     by : (o : Result Open) → within bad d VALUES n ≡ o
-        → bind o (λ o. either bad d RANGE o (rangeRead bad d quantity) (due bad d VALUE o (lined bad d languages quantity before (unlisted none)))) ≡ Is k m
+        → bind o (λ o. either bad d RANGE o (rangeRead bad d quantity)
+        (due bad d VALUE o (lined bad d languages quantity before (unlisted none)))) ≡ Is k m
         → Got k m
     by (Is (start p) e) i f = tagged p e (inside bad d VALUES n i) (isNamed d (p + 1) e RANGE) f
     by (Is (shut p) e) i f = never cc
@@ -516,7 +528,8 @@ module _ (bad : Bool) (d : List ℕ) (languages quantity : Bool) (before : ℕ) 
     by : (o : Result Open) → within bad d VALUES n ≡ o
         → ((c : Block) (n : ℕ) (k : Block) (m : ℕ) → Well quantity before c → Full quantity c
         → repeat f (another bad d languages quantity before) c n ≡ Is k m → Kept k)
-        → bind (bind o (onOpen bad d languages quantity before c)) (turn (repeat f (another bad d languages quantity before))) ≡ Is k m → Kept k
+        → bind (bind o (onOpen bad d languages quantity before c)) (turn (repeat f (another bad d languages quantity before))) ≡ Is k m
+        → Kept k
     by (Is (start p) e) i ih g =
         step p e (inside bad d VALUES n i) (due bad d VALUE (start p) (lined bad d languages quantity before c) e) refl ih
         (rw (due-again bad d languages quantity before c p e) at g)
@@ -528,7 +541,8 @@ module _ (bad : Bool) (d : List ℕ) (languages quantity : Bool) (before : ℕ) 
       → GoodValues quantity before (blockOf c) (told (c .lines))
   block-good few p e {c} {n} f = by (bareOf bad d p e) refl where
     on : (m : ℕ) (r : Result Block) → block.first bad d languages quantity before m ≡ r
-        → bind r (repeat (suc mostLines) (another bad d languages quantity before)) ≡ Is c n → GoodValues quantity before (blockOf c) (told (c .lines))
+        → bind r (repeat (suc mostLines) (another bad d languages quantity before)) ≡ Is c n
+        → GoodValues quantity before (blockOf c) (told (c .lines))
     on m (Is k j) i g =
         let t = first-got few m i in
         let s = turns-got (suc mostLines) k j c n (t .well) (t .full) g in

@@ -93,7 +93,8 @@ module _ (bad : Bool) (d : List ℕ) where
       by (wording bad d languages p e) refl (sym (line-is bad d languages quantity before c p e) ∙ f)
     where
       by : (r : Result Wording) → wording bad d languages p e ≡ r
-          → bind r (λ w. judged (lineCharges quantity before c (w .value) ++ w .charges) (lineFrom w)) ≡ Is x n → LineTold quantity before c x n
+          → bind r (λ w. judged (lineCharges quantity before c (w .value) ++ w .charges) (lineFrom w)) ≡ Is x n
+          → LineTold quantity before c x n
       by (Is w m) i g =
           let t = word-told languages p e l i in
           let k = judged-clear (lineCharges quantity before c (w .value) ++ w .charges) (lineFrom w) m g in
@@ -115,7 +116,8 @@ module _ (bad : Bool) (d : List ℕ) where
     pub clean : Clear (pairCharges quantity (r .from) (r .to))
     pub next : n ≤ length d
 
-  pub range-told : (quantity : Bool) (p e : ℕ) {r : Range} {n : ℕ} → e ≤ length d → range bad d quantity p e ≡ Is r n → RangeTold quantity r n
+  pub range-told : (quantity : Bool) (p e : ℕ) {r : Range} {n : ℕ} → e ≤ length d → range bad d quantity p e ≡ Is r n
+      → RangeTold quantity r n
   unfolding range
   range-told quantity p e {r} {n} l = by (tagOf bad d p e FROM TO [] 2 2 0 2) refl where
     made : Held → Range
@@ -142,6 +144,7 @@ module _ (bad : Bool) (d : List ℕ) where
     on h empty q m (Not g) i j f = never cc
 
     by : (t : Tag) → tagOf bad d p e FROM TO [] 2 2 0 2 ≡ t
-        → onTag bad d t (λ h empty q n. bind (nothing bad d RANGE empty n) (λ l. judged (all h l) (made h))) ≡ Is r n → RangeTold quantity r n
+        → onTag bad d t (λ h empty q n. bind (nothing bad d RANGE empty n) (λ l. judged (all h l) (made h))) ≡ Is r n
+        → RangeTold quantity r n
     by (tag.Read h empty q m) i f = on h empty q m (nothing bad d RANGE empty m) i refl f
     by (tag.Fault k q) i f = never cc

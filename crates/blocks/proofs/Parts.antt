@@ -1,4 +1,5 @@
--- The readers of ranges and lines, part by part: what the code makes of a tag, of what follows it and of the judgement is what the rule says.
+-- The readers of ranges and lines, part by part: what the code makes of a tag, of what follows it and of the judgement is what the rule
+-- says.
 use mathlib.Core.Path.{_≡_, refl, _∙_, sym, ap}
 use mathlib.Core.Bool.{Bool, true, false, cond, not, _&&_}
 use mathlib.Core.List.{List, [], _∷_, _++_}

@@ -97,7 +97,8 @@ module _ {quantity : Bool} {before : ℕ} {start room : List ℤ} {stamp : ℕ} 
   abbrev x : Line
   x = lineFrom w
 
-  judged-so : judgeLine (roomAt room before) (last - before) before quantity b (heldAs a) ≡ verdictOf (judged (lineCharges quantity before c a) x n)
+  judged-so : judgeLine (roomAt room before) (last - before) before quantity b (heldAs a)
+      ≡ verdictOf (judged (lineCharges quantity before c a) x n)
   judged-so =
       judged-here (h .holds) quantity b (heldAs a) ∙ line-judged quantity before b c (h .kept) (h .small) x n
 
@@ -109,7 +110,8 @@ module _ {quantity : Bool} {before : ℕ} {start room : List ℤ} {stamp : ℕ} 
 
   free : Clear (lineCharges quantity before c a) → Free
   unfolding lineCharges
-  free (clear p (clear q (clear r (clear s (clear t u))))) = record { alike = q; fits = s; few = leb-false 4096 (before + length (c .lines)) t }
+  free (clear p (clear q (clear r (clear s (clear t u))))) = record
+      { alike = q; fits = s; few = leb-false 4096 (before + length (c .lines)) t }
 
   grown-is : Free → Kept (grownBy b (heldAs a)) (withLine c x)
   grown-is f = kept-more a (w .text) false (a .place) (a .end) (a .end) (h .kept) (f .alike)
@@ -122,7 +124,8 @@ module _ {quantity : Bool} {before : ℕ} {start room : List ℤ} {stamp : ℕ} 
   unfolding scaledOf
   number-same f = rw (small quantity a (f .fits))
 
-  stands : Free → Lines quantity before start (pasted room (4 * last) (lineCells (saidFor w n))) stamp (set marks (slotOf (scaled a)) stamp) (last + 1)
+  stands : Free → Lines quantity before start (pasted room (4 * last) (lineCells (saidFor w n))) stamp (set marks (slotOf (scaled a)) stamp)
+      (last + 1)
       (blockOf (withLine c x)) (withLine c x)
   unfolding scaledOf
   stands f =
@@ -144,11 +147,13 @@ module _ {quantity : Bool} {before : ℕ} {start room : List ℤ} {stamp : ℕ} 
       (bind (judged (lineCharges quantity before c a ++ w .charges) x n) more) (placedOf b (saidFor w n) y v)
   unfolding lineCharges
   line-went top y ends late found v e =
-      rw (judged-split 51 (lineCharges quantity before c a) (w .charges) (omega arith, (omega arith, (omega arith, (omega arith, (omega arith, tt))))) late x n)
+      rw (judged-split 51 (lineCharges quantity before c a) (w .charges)
+      (omega arith, (omega arith, (omega arith, (omega arith, (omega arith, tt))))) late x n)
       (rw (e ∙ judged-so) (by (judged-view (lineCharges quantity before c a) x n)))
     where
       found-on : (q : Bool) → Free → judged (w .charges) x n ≡ cond q (Is x n) (Not (fault (y .number) (y .place)))
-          → Went top quantity before start (pasted room (4 * last) (lineCells (saidFor w n))) stamp (set marks (slotOf (scaled a)) stamp) last
+          → Went top quantity before start (pasted room (4 * last) (lineCells (saidFor w n))) stamp (set marks (slotOf (scaled a)) stamp)
+          last
           (bind (cond q (Is x n) (Not (fault (y .number) (y .place)))) more)
           (cond q (lined.Is (grownBy b (heldAs a)) n) (lined.Not (fault (y .number) (y .place))))
       found-on true f g = record {
@@ -159,7 +164,8 @@ module _ {quantity : Bool} {before : ℕ} {start room : List ℤ} {stamp : ℕ} 
       found-on false f g = record { answer = refl; lines = λ {c = c′} {n = n′} i. never cc; next = λ {c = c′} {n = n′} i. never cc }
 
       by : {r : Result Line} → Judged (lineCharges quantity before c a) x n r
-          → Went top quantity before start (judgedRoom room last (saidFor w n) (verdictOf r)) stamp (judgedMarks marks stamp (verdictOf r)) last
+          → Went top quantity before start (judgedRoom room last (saidFor w n) (verdictOf r)) stamp (judgedMarks marks stamp (verdictOf r))
+          last
           (bind (bind r (λ l m. judged (w .charges) l m)) more) (placedOf b (saidFor w n) y (verdictOf r))
       by (fine k) = rw found (found-on (eqb (y .number) 0) (free k) found)
       by faulty = record { answer = refl; lines = λ {c = c′} {n = n′} i. never cc; next = λ {c = c′} {n = n′} i. never cc }

@@ -95,7 +95,8 @@ alike-large : (quantity : Bool) (a b : Amount) → scaled b ≡ scaled a → unl
 unfolding large
 alike-large quantity a b e u =
     let d = eqb-true (a .decimals) (b .decimals) (not-false (eqb (a .decimals) (b .decimals)) u) in
-    let s : a .size ≡ b .size = sym (size-number (a .minus) (a .size)) ∙ ap (λ (z : ℤ). signedOf z .size) (sym e) ∙ size-number (b .minus) (b .size) in
+    let s : a .size ≡ b .size = sym (size-number (a .minus) (a .size)) ∙ ap (λ (z : ℤ). signedOf z .size) (sym e)
+    ∙ size-number (b .minus) (b .size) in
     rw (s, d)
 
 fresh-in : (quantity : Bool) (a : Amount) (l : List Line) → large quantity a ≡ true → Small quantity l
@@ -123,7 +124,8 @@ large-fresh quantity a c g h u =
     (sym (some-more (unlike a) (rangeEnds (c .range)) (map (λ x. x .value) (c .lines))) ∙ u))
 
 -- ---- a line, judged
-module _ (quantity : Bool) (first : ℕ) (b : books.Block) (c : Block) (kept : Kept b c) (sizes : Small quantity (c .lines)) (x : Line) (n : ℕ) where
+module _ (quantity : Bool) (first : ℕ) (b : books.Block) (c : Block) (kept : Kept b c) (sizes : Small quantity (c .lines)) (x : Line)
+    (n : ℕ) where
   abbrev a : Amount
   a = x .value
 

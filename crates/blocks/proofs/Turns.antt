@@ -82,30 +82,33 @@ module _ (quantity : Bool) (before : ℕ) (room : List ℤ) (stamp : ℕ) (marks
       → isNamed d (p + 1) e RANGE ≡ true → l ≡ linedOf (rangeRead bad d quantity p e) → r ≡ countedOf l before
       → Begun (length d) quantity before room room stamp marks (firstTag bad d languages quantity before p e) r
   unfolding listedOf
-  first-range bad d languages p e {l} {r} h q i j = rw q (by (range bad d quantity p e) refl (j ∙ ap (λ (x : Lined). countedOf x before) i)) where
-    by : (x : Result Range) → range bad d quantity p e ≡ x → r ≡ countedOf (linedOf (bind x (λ r m. Is (rangeBlock r) m))) before
-        → Begun (length d) quantity before room room stamp marks (bind x (λ r m. Is (rangeBlock r) m)) r
-    by (Is k n) f g =
-        let t = range-told bad d quantity p e h f in
-        let s = range-sound quantity (k .from) (k .to) (t .clean) in
-        let z : before ≡ before + 0 = omega arith in
-        let y = none-lines quantity before room stamp marks few long slots (range-kept (k .from) (k .to) (s .alike)) in
-        record {
-          answer = g ∙ ap (λ (m : ℕ). listing.Is (blockOf (rangeBlock k)) m n) z;
-          lines = λ {c = c′} {n = n′} u. let v : rangeBlock k ≡ c′ = cc in rw (← v, ← z) y;
-          next = λ {c = c′} {n = n′} u. let v : n ≡ n′ = cc in rw (← v) (t .next);
-        }
-    by (Not f) g k = record { answer = k; lines = λ {c = c′} {n = n′} i. never cc; next = λ {c = c′} {n = n′} i. never cc }
+  first-range bad d languages p e {l} {r} h q i j = rw q (by (range bad d quantity p e) refl (j ∙ ap (λ (x : Lined). countedOf x before) i))
+    where
+      by : (x : Result Range) → range bad d quantity p e ≡ x → r ≡ countedOf (linedOf (bind x (λ r m. Is (rangeBlock r) m))) before
+          → Begun (length d) quantity before room room stamp marks (bind x (λ r m. Is (rangeBlock r) m)) r
+      by (Is k n) f g =
+          let t = range-told bad d quantity p e h f in
+          let s = range-sound quantity (k .from) (k .to) (t .clean) in
+          let z : before ≡ before + 0 = omega arith in
+          let y = none-lines quantity before room stamp marks few long slots (range-kept (k .from) (k .to) (s .alike)) in
+          record {
+            answer = g ∙ ap (λ (m : ℕ). listing.Is (blockOf (rangeBlock k)) m n) z;
+            lines = λ {c = c′} {n = n′} u. let v : rangeBlock k ≡ c′ = cc in rw (← v, ← z) y;
+            next = λ {c = c′} {n = n′} u. let v : n ≡ n′ = cc in rw (← v) (t .next);
+          }
+      by (Not f) g k = record { answer = k; lines = λ {c = c′} {n = n′} i. never cc; next = λ {c = c′} {n = n′} i. never cc }
 
 -- ---- a line first
 module _ {top : ℕ} {quantity : Bool} {before : ℕ} {first room : List ℤ} {stamp : ℕ} {marks : List ℕ} where
   pub first-line : (bad : Bool) (d : List ℕ) (languages : Bool) (p e : ℕ) {l : Lined} {r : Listed} → isNamed d (p + 1) e RANGE ≡ false
-      → Went top quantity before first room stamp marks before (due bad d VALUE (start p) (lined bad d languages quantity before (unlisted none)) e) l
+      → Went top quantity before first room stamp marks before
+      (due bad d VALUE (start p) (lined bad d languages quantity before (unlisted none)) e) l
       → r ≡ countedOf l (before + 1)
       → Begun top quantity before first room stamp marks (firstTag bad d languages quantity before p e) r
   unfolding listedOf
   first-line bad d languages p e {l} {r} q w j = rw q (by _ w) where
-    by : (x : Result Block) → Went top quantity before first room stamp marks before x l → Begun top quantity before first room stamp marks x r
+    by : (x : Result Block) → Went top quantity before first room stamp marks before x l
+        → Begun top quantity before first room stamp marks x r
     by (Is c n) w =
         let k = w .lines refl in
         let z : before + 1 ≡ before + length (c .lines) = omega (arith, k .holds .count, told-count (c .lines)) in
@@ -148,7 +151,8 @@ module _ (bad : Bool) (d : List ℕ) (at : ℕ) where
 module _ (bad : Bool) (d : List ℕ) (languages quantity : Bool) (before : ℕ) (c : Block) (p e : ℕ) where
   pub tag-refused : {top : ℕ} {first room : List ℤ} {stamp : ℕ} {marks : List ℕ} {last : ℕ} {f : Fault} → isNamed d (p + 1) e VALUE ≡ false
       → f ≡ blamed {A = Unit} (misplaced bad d p e)
-      → Went top quantity before first room stamp marks last (due bad d VALUE (start p) (lined bad d languages quantity before c) e) (lining.Not f)
+      → Went top quantity before first room stamp marks last (due bad d VALUE (start p) (lined bad d languages quantity before c) e)
+      (lining.Not f)
   tag-refused q i =
       rw (q, missed bad d {A = Block} p e, i)
       (record { answer = refl; lines = λ {c = c′} {n = n′} i. never cc; next = λ {c = c′} {n = n′} i. never cc })
@@ -181,7 +185,8 @@ module _ (bad : Bool) (d : List ℕ) (languages quantity : Bool) (before : ℕ) 
   unfolding another
   start-turn {p} {e} i = rw (open-is bad d n i) (due-again bad d languages quantity before c p e)
 
-  pub turn-again : {p e m : ℕ} {k : Block} → openOf (within bad d VALUES n) ≡ opened.Start p e → dues p e ≡ Is k m → turns (suc f) c n ≡ turns f k m
+  pub turn-again : {p e m : ℕ} {k : Block} → openOf (within bad d VALUES n) ≡ opened.Start p e → dues p e ≡ Is k m → turns (suc f) c n
+      ≡ turns f k m
   unfolding repeat
   turn-again i j = rw (start-turn i, j)
 
@@ -198,14 +203,16 @@ module _ (bad : Bool) (d : List ℕ) (languages quantity : Bool) (before : ℕ) 
   turn-none i = rw (open-is bad d n i)
 
 -- ---- what the code gave back of a line
-pub record Stepped (top : ℕ) (quantity : Bool) (before : ℕ) (first room : List ℤ) (stamp : ℕ) (marks : List ℕ) (last : ℕ) (b : books.Block) (r : Result Block) (n : ℕ) : Type 0 where
+pub record Stepped (top : ℕ) (quantity : Bool) (before : ℕ) (first room : List ℤ) (stamp : ℕ) (marks : List ℕ) (last : ℕ) (b : books.Block)
+    (r : Result Block) (n : ℕ) : Type 0 where
   pub block : Block
   pub reads : r ≡ Is block n
   pub lines : Lines quantity before first room stamp marks (last + 1) b block
   pub next : n ≤ top
 
 module _ {top : ℕ} {quantity : Bool} {before : ℕ} {first room : List ℤ} {stamp : ℕ} {marks : List ℕ} {last : ℕ} {out : Lined} where
-  pub went-is : (r : Result Block) → Went top quantity before first room stamp marks last r out → {b : books.Block} {n : ℕ} → out ≡ lining.Is b n
+  pub went-is : (r : Result Block) → Went top quantity before first room stamp marks last r out → {b : books.Block} {n : ℕ} → out
+      ≡ lining.Is b n
       → Stepped top quantity before first room stamp marks last b r n
   went-is (Is c m) w {b} {n} e =
       let a = w .answer in
@@ -214,12 +221,14 @@ module _ {top : ℕ} {quantity : Bool} {before : ℕ} {first room : List ℤ} {s
       record { block = c; reads = ap (λ (k : ℕ). Is c k) z; lines = rw (← y) (w .lines refl); next = rw (← z) (w .next refl) }
   went-is (Not f) w e = let a = w .answer in never cc
 
-  pub went-not : (r : Result Block) → Went top quantity before first room stamp marks last r out → {f : Fault} → out ≡ lining.Not f → r ≡ Not f
+  pub went-not : (r : Result Block) → Went top quantity before first room stamp marks last r out → {f : Fault} → out ≡ lining.Not f → r
+      ≡ Not f
   went-not (Is c m) w e = let a = w .answer in never cc
   went-not (Not g) w e = let a = w .answer in cc
 
 -- ---- all lines
-pub record Reached (bad : Bool) (d : List ℕ) (languages quantity : Bool) (before : ℕ) (first room : List ℤ) (stamp : ℕ) (marks : List ℕ) (n : ℕ) (b : books.Block) (last : ℕ) (r : Result Block) : Type 0 where
+pub record Reached (bad : Bool) (d : List ℕ) (languages quantity : Bool) (before : ℕ) (first room : List ℤ) (stamp : ℕ) (marks : List ℕ)
+    (n : ℕ) (b : books.Block) (last : ℕ) (r : Result Block) : Type 0 where
   pub block : Block
   pub left : ℕ
   pub lines : Lines quantity before first room stamp marks last b block
@@ -227,13 +236,15 @@ pub record Reached (bad : Bool) (d : List ℕ) (languages quantity : Bool) (befo
   pub same : r ≡ repeat (suc left) (another bad d languages quantity before) block n
 
 -- where the loop stands: beside some block, and beside each that it may have begun with
-pub record Ran (bad : Bool) (d : List ℕ) (languages quantity : Bool) (before : ℕ) (stamp : ℕ) (began : List ℤ) (marked : List ℕ) (n₀ : ℕ) (b₀ : books.Block) (last₀ : ℕ) (room : List ℤ) (marks : List ℕ) (n : ℕ) (b : books.Block) (last : ℕ) : Type 0 where
+pub record Ran (bad : Bool) (d : List ℕ) (languages quantity : Bool) (before : ℕ) (stamp : ℕ) (began : List ℤ) (marked : List ℕ) (n₀ : ℕ)
+    (b₀ : books.Block) (last₀ : ℕ) (room : List ℤ) (marks : List ℕ) (n : ℕ) (b : books.Block) (last : ℕ) : Type 0 where
   pub standing : Standing quantity before room stamp marks last b
   pub inside : n ≤ length d
   pub follows : (c : Block) (first : List ℤ) (f : ℕ) → Lines quantity before first began stamp marked last₀ b₀ c → 4096 - last₀ < f
       → Reached bad d languages quantity before first room stamp marks n b last (repeat f (another bad d languages quantity before) c n₀)
 
-pub closed-not : {top before : ℕ} {x : Result Block} {room end : List ℤ} {f : Fault} → x ≡ Not f → Closed top before x room end (listing.Not f)
+pub closed-not : {top before : ℕ} {x : Result Block} {room end : List ℤ} {f : Fault} → x ≡ Not f
+    → Closed top before x room end (listing.Not f)
 unfolding listedOf
 closed-not e = rw e (record {
   answer = refl;
@@ -241,7 +252,8 @@ closed-not e = rw e (record {
   next = λ {c = c′} {n = n′} i. never cc;
 })
 
-pub closed-over : {top : ℕ} {quantity : Bool} {before : ℕ} {first room : List ℤ} {stamp : ℕ} {marks : List ℕ} {last : ℕ} {b : books.Block} {c : Block}
+pub closed-over : {top : ℕ} {quantity : Bool} {before : ℕ} {first room : List ℤ} {stamp : ℕ} {marks : List ℕ} {last : ℕ} {b : books.Block}
+    {c : Block}
     {m : ℕ} {x : Result Block} → x ≡ Is c m → Lines quantity before first room stamp marks last b c → m ≤ top
     → Closed top before x first room (listing.Is b last m)
 unfolding listedOf
@@ -250,15 +262,20 @@ closed-over {top} {quantity} {before} {first} {room} {last = last} {b = b} {c = 
     rw (e, kept-is (l .kept), k)
     (record {
       answer = refl;
-      stored = record { stored = λ {c = c′} {n = n′} i. let j : c ≡ c′ = cc in rw (← j) (l .holds .here ∙ rw (told-cells quantity (c .lines) (l .small))) };
+      stored = record {
+        stored = λ {c = c′} {n = n′} i. let j : c ≡ c′ = cc in
+            rw (← j) (l .holds .here ∙ rw (told-cells quantity (c .lines) (l .small)));
+      };
       next = λ {c = c′} {n = n′} i. let j : m ≡ n′ = cc in rw (← j) h;
     })
 
-module _ {bad : Bool} {d : List ℕ} {languages quantity : Bool} {before stamp : ℕ} {first room : List ℤ} {marks : List ℕ} {n : ℕ} {b : books.Block}
+module _ {bad : Bool} {d : List ℕ} {languages quantity : Bool} {before stamp : ℕ} {first room : List ℤ} {marks : List ℕ} {n : ℕ}
+    {b : books.Block}
     {last : ℕ} {r : Result Block} (t : Reached bad d languages quantity before first room stamp marks n b last r) where
   reached-more : {p e : ℕ} → openOf (within bad d VALUES n) ≡ opened.Start p e → {end : List ℤ} {after : List ℕ} {k : books.Block} {m : ℕ}
       → last < 4096
-      → Stepped (length d) quantity before first end stamp after last k (due bad d VALUE (start p) (lined bad d languages quantity before (t .block)) e) m
+      → Stepped (length d) quantity before first end stamp after last k
+      (due bad d VALUE (start p) (lined bad d languages quantity before (t .block)) e) m
       → Reached bad d languages quantity before first end stamp after m k (last + 1) r
   reached-more o {end} {after} {k} {m} less s = by (t .left) (t .enough) (t .same) where
     by : (u : ℕ) → 4096 - last < suc u → r ≡ repeat (suc u) (another bad d languages quantity before) (t .block) n
@@ -273,7 +290,8 @@ module _ {bad : Bool} {d : List ℕ} {languages quantity : Bool} {before stamp :
     }
 
 module _ {bad : Bool} {d : List ℕ} {languages quantity : Bool} {before stamp : ℕ} where
-  pub ran-first : {room : List ℤ} {marks : List ℕ} {n : ℕ} {b : books.Block} {last : ℕ} → Standing quantity before room stamp marks last b → n ≤ length d
+  pub ran-first : {room : List ℤ} {marks : List ℕ} {n : ℕ} {b : books.Block} {last : ℕ} → Standing quantity before room stamp marks last b
+      → n ≤ length d
       → Ran bad d languages quantity before stamp room marks n b last room marks n b last
   ran-first {room} {marks} {n} {b} {last} s h = record { standing = s; inside = h; follows = begin } where
     begin : (c : Block) (first : List ℤ) (f : ℕ) → Lines quantity before first room stamp marks last b c → 4096 - last < f
@@ -285,7 +303,8 @@ module _ {bad : Bool} {d : List ℕ} {languages quantity : Bool} {before stamp :
       (i : Ran bad d languages quantity before stamp began marked n₀ b₀ last₀ room marks n b last) {p e : ℕ}
       (o : openOf (within bad d VALUES n) ≡ opened.Start p e) {out : Lined} {end : List ℤ} {after : List ℕ}
       (w : (c : Block) (first : List ℤ) → Lines quantity before first room stamp marks last b c
-      → Went (length d) quantity before first end stamp after last (due bad d VALUE (start p) (lined bad d languages quantity before c) e) out) where
+      → Went (length d) quantity before first end stamp after last (due bad d VALUE (start p) (lined bad d languages quantity before c) e)
+      out) where
     pub ran-less : {k : books.Block} {m : ℕ} → out ≡ lining.Is k m → last < 4096
     ran-less f =
         let s = went-is _ (w (i .standing .block) (i .standing .start) (i .standing .lines)) f in
@@ -304,17 +323,20 @@ module _ {bad : Bool} {d : List ℕ} {languages quantity : Bool} {before stamp :
               reached-more t o (ran-less f) (went-is _ (w (t .block) first (t .lines)) f);
         }
 
-    pub ran-not : {g : Fault} → out ≡ lining.Not g → (c : Block) (first : List ℤ) (f : ℕ) → Lines quantity before first began stamp marked last₀ b₀ c
+    pub ran-not : {g : Fault} → out ≡ lining.Not g → (c : Block) (first : List ℤ) (f : ℕ)
+        → Lines quantity before first began stamp marked last₀ b₀ c
         → 4096 - last₀ < f → Closed (length d) before (repeat f (another bad d languages quantity before) c n₀) first end (listing.Not g)
     ran-not q c first f l h =
         let t = i .follows c first f l h in
-        closed-not (t .same ∙ turn-not bad d languages quantity before (t .block) n (t .left) o (went-not _ (w (t .block) first (t .lines)) q))
+        closed-not (t .same ∙ turn-not bad d languages quantity before (t .block) n (t .left) o
+        (went-not _ (w (t .block) first (t .lines)) q))
 
   module _ {began room : List ℤ} {marked marks : List ℕ} {n₀ n : ℕ} {b₀ b : books.Block} {last₀ last : ℕ}
       (i : Ran bad d languages quantity before stamp began marked n₀ b₀ last₀ room marks n b last) where
     pub ran-over : {p m : ℕ} → openOf (within bad d VALUES n) ≡ opened.Shut p m → m ≤ length d
         → (c : Block) (first : List ℤ) (f : ℕ) → Lines quantity before first began stamp marked last₀ b₀ c
-        → 4096 - last₀ < f → Closed (length d) before (repeat f (another bad d languages quantity before) c n₀) first room (listing.Is b last m)
+        → 4096 - last₀ < f → Closed (length d) before (repeat f (another bad d languages quantity before) c n₀) first room
+        (listing.Is b last m)
     ran-over o k c first f l h =
         let t = i .follows c first f l h in
         closed-over (t .same ∙ turn-over bad d languages quantity before (t .block) n (t .left) o) (t .lines) k
@@ -327,7 +349,8 @@ module _ {bad : Bool} {d : List ℕ} {languages quantity : Bool} {before stamp :
         closed-not (t .same ∙ turn-none bad d languages quantity before (t .block) n (t .left) o)
 
 -- ---- the whole block
-pub record Opened (top : ℕ) (quantity : Bool) (before : ℕ) (first room : List ℤ) (stamp : ℕ) (marks : List ℕ) (last : ℕ) (b : books.Block) (r : Result Block) (n : ℕ) : Type 0 where
+pub record Opened (top : ℕ) (quantity : Bool) (before : ℕ) (first room : List ℤ) (stamp : ℕ) (marks : List ℕ) (last : ℕ) (b : books.Block)
+    (r : Result Block) (n : ℕ) : Type 0 where
   pub block : Block
   pub reads : r ≡ Is block n
   pub lines : Lines quantity before first room stamp marks last b block
@@ -345,13 +368,16 @@ module _ {top : ℕ} {quantity : Bool} {before : ℕ} {first room : List ℤ} {s
       record { block = c; reads = ap (λ (k : ℕ). Is c k) z; lines = rw (← x, ← y) (w .lines refl); next = rw (← z) (w .next refl) }
   begun-is (Not f) w e = let a = w .answer in never cc
 
-  pub begun-refused : (r : Result Block) → Begun top quantity before first room stamp marks r out → {f : Fault} → out ≡ listing.Not f → r ≡ Not f
+  pub begun-refused : (r : Result Block) → Begun top quantity before first room stamp marks r out → {f : Fault} → out ≡ listing.Not f → r
+      ≡ Not f
   unfolding listedOf
   begun-refused (Is c m) w e = let a = w .answer in never cc
   begun-refused (Not g) w e = let a = w .answer in cc
 
-pub opened-standing : {top : ℕ} {quantity : Bool} {before : ℕ} {first room : List ℤ} {stamp : ℕ} {marks : List ℕ} {last : ℕ} {b : books.Block}
-    {r : Result Block} {n : ℕ} → Opened top quantity before first room stamp marks last b r n → Standing quantity before room stamp marks last b
+pub opened-standing : {top : ℕ} {quantity : Bool} {before : ℕ} {first room : List ℤ} {stamp : ℕ} {marks : List ℕ} {last : ℕ}
+    {b : books.Block}
+    {r : Result Block} {n : ℕ} → Opened top quantity before first room stamp marks last b r n
+    → Standing quantity before room stamp marks last b
 opened-standing {first = first} o = record { start = first; block = o .block; lines = o .lines }
 
 -- ---- its start tag

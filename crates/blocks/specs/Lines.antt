@@ -50,7 +50,8 @@ wording bad d languages p e =
     give (record { value = amountIn d (h .a) (h .ae); text = t .text; charges = unknownAt (h .unknown) ∷ t .charges })
 
 -- ---- the code's b, and the rule's c, behind `before` lines: `start` is the room as it was before the block's first line
-pub record Lines (quantity : Bool) (before : ℕ) (start room : List ℤ) (stamp : ℕ) (marks : List ℕ) (last : ℕ) (b : books.Block) (c : Block) : Type 0 where
+pub record Lines (quantity : Bool) (before : ℕ) (start room : List ℤ) (stamp : ℕ) (marks : List ℕ) (last : ℕ) (b : books.Block)
+    (c : Block) : Type 0 where
   pub holds : Holds before start room stamp marks last (told (c .lines))
   pub kept : Kept b c
   pub small : Small quantity (c .lines)
@@ -88,13 +89,15 @@ linedOf (Is c n) = lining.Is (blockOf c) n
 linedOf (Not f) = lining.Not f
 
 -- in a file of `top` bytes
-pub record Went (top : ℕ) (quantity : Bool) (before : ℕ) (start room : List ℤ) (stamp : ℕ) (marks : List ℕ) (last : ℕ) (r : Result Block) (out : Lined) : Type 0 where
+pub record Went (top : ℕ) (quantity : Bool) (before : ℕ) (start room : List ℤ) (stamp : ℕ) (marks : List ℕ) (last : ℕ) (r : Result Block)
+    (out : Lined) : Type 0 where
   pub answer : out ≡ linedOf r
   pub lines : {c : Block} {n : ℕ} → r ≡ Is c n → Lines quantity before start room stamp marks (last + 1) (blockOf c) c
   pub next : {c : Block} {n : ℕ} → r ≡ Is c n → n ≤ top
 
 -- the range, or the first line
-pub record Begun (top : ℕ) (quantity : Bool) (before : ℕ) (start room : List ℤ) (stamp : ℕ) (marks : List ℕ) (r : Result Block) (out : Listed) : Type 0 where
+pub record Begun (top : ℕ) (quantity : Bool) (before : ℕ) (start room : List ℤ) (stamp : ℕ) (marks : List ℕ) (r : Result Block)
+    (out : Listed) : Type 0 where
   pub answer : out ≡ listedOf before r
   pub lines : {c : Block} {n : ℕ} → r ≡ Is c n → Lines quantity before start room stamp marks (before + length (c .lines)) (blockOf c) c
   pub next : {c : Block} {n : ℕ} → r ≡ Is c n → n ≤ top

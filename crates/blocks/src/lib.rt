@@ -35,7 +35,8 @@ ghost use Rattle.xml_reading.specs.rule.Element.{amountIn};
 ghost use Rattle.xml_reading.specs.rule.Block as block;
 ghost use Rattle.xml_reading.specs.rule.Block.{rich, lined, another, values};
 ghost use Rattle.blocks.specs.Code.{heldAs, Slot, Below, turned, pairOf, unlessOf, placedOf, settledOf, wordOf, countedOf};
-ghost use Rattle.blocks.specs.Lines.{rangeRead, wording, wordedOf, linedOf, firstTag, blockRead, Lines, Standing, Went, Begun, Closed};
+ghost use Rattle.blocks.specs.Lines.{rangeRead, wording, wordedOf, linedOf, firstTag, blockRead, Lines, Standing, Went, Begun};
+ghost use Rattle.blocks.specs.Lines.{Closed};
 
 // The value that the stretch from v to e says, whose form was asked.
 fn amount_at(d: &[u8], v: usize, e: usize) -> Value
@@ -176,8 +177,10 @@ fn place_line(
     requires { ⌜ Marked (roomAt (now lines) first) (last - first) stamp (now marks) ⌝ }
     requires { ⌜ storable s ⌝ }
     ensures { λ r. ⌜ r ≡ placedOf b s found (judgeLine (roomAt (now (lines .entry)) first) (last - first) first quantity b (s .value)) ⌝ }
-    ensures { λ r. ⌜ now (lines .exit) ≡ judgedRoom (now (lines .entry)) last s (judgeLine (roomAt (now (lines .entry)) first) (last - first) first quantity b (s .value)) ⌝ }
-    ensures { λ r. ⌜ now (marks .exit) ≡ judgedMarks (now (marks .entry)) stamp (judgeLine (roomAt (now (lines .entry)) first) (last - first) first quantity b (s .value)) ⌝ }
+    ensures { λ r. ⌜ now (lines .exit) ≡ judgedRoom (now (lines .entry)) last s
+        (judgeLine (roomAt (now (lines .entry)) first) (last - first) first quantity b (s .value)) ⌝ }
+    ensures { λ r. ⌜ now (marks .exit) ≡ judgedMarks (now (marks .entry)) stamp
+        (judgeLine (roomAt (now (lines .entry)) first) (last - first) first quantity b (s .value)) ⌝ }
 {
     match values::stand_line(quantity, first, s, b, last, lines, marks, stamp) {
         Verdict::Good(_) => {
@@ -298,7 +301,10 @@ pub fn line_at(
 ) -> Lined
     requires { ⌜ (end ≤ length (now d)) × (length (now d) ≤ 1048576) ⌝ }
     requires { ⌜ Standing quantity first (now lines) stamp (now marks) last b ⌝ }
-    ensures { λ r. ⌜ ((c : survey.Block) (start : List ℤ) → Lines quantity first start (now (lines .entry)) stamp (now (marks .entry)) last b c → Went (length (now (d .entry))) quantity first start (now (lines .exit)) stamp (now (marks .exit)) last (lined bad (now (d .entry)) languages quantity first c place end) r) ⌝ }
+    ensures { λ r. ⌜ ((c : survey.Block) (start : List ℤ)
+        → Lines quantity first start (now (lines .entry)) stamp (now (marks .entry)) last b c
+        → Went (length (now (d .entry))) quantity first start (now (lines .exit)) stamp (now (marks .exit)) last
+        (lined bad (now (d .entry)) languages quantity first c place end) r) ⌝ }
 {
     match read_value(bad, d, place, end, languages) {
         Worded::Is { said, found } => place_line(
@@ -333,7 +339,10 @@ fn value_tag(
 ) -> Lined
     requires { ⌜ (place + 1 < end) × (end ≤ length (now d)) × (length (now d) ≤ 1048576) ⌝ }
     requires { ⌜ Standing quantity first (now lines) stamp (now marks) last b ⌝ }
-    ensures { λ r. ⌜ ((c : survey.Block) (start : List ℤ) → Lines quantity first start (now (lines .entry)) stamp (now (marks .entry)) last b c → Went (length (now (d .entry))) quantity first start (now (lines .exit)) stamp (now (marks .exit)) last (due bad (now (d .entry)) VALUE (rule.start place) (lined bad (now (d .entry)) languages quantity first c) end) r) ⌝ }
+    ensures { λ r. ⌜ ((c : survey.Block) (start : List ℤ)
+        → Lines quantity first start (now (lines .entry)) stamp (now (marks .entry)) last b c
+        → Went (length (now (d .entry))) quantity first start (now (lines .exit)) stamp (now (marks .exit)) last
+        (due bad (now (d .entry)) VALUE (rule.start place) (lined bad (now (d .entry)) languages quantity first c) end) r) ⌝ }
 {
     if !tags::is_named(d, place + 1, end, b"value") {
         return Lined::Not(elements::misplaced(bad, d, place, end));
@@ -379,7 +388,8 @@ fn first_tag(
 ) -> Listed
     requires { ⌜ (place + 1 < end) × (end ≤ length (now d)) × (length (now d) ≤ 1048576) ⌝ }
     requires { ⌜ (length (now lines) ≡ lineSize * mostLines) × (first ≤ mostLines) × (length (now marks) ≡ 16384) ⌝ }
-    ensures { λ r. ⌜ Begun (length (now (d .entry))) quantity first (now (lines .entry)) (now (lines .exit)) stamp (now (marks .exit)) (firstTag bad (now (d .entry)) languages quantity first place end) r ⌝ }
+    ensures { λ r. ⌜ Begun (length (now (d .entry))) quantity first (now (lines .entry)) (now (lines .exit)) stamp (now (marks .exit))
+        (firstTag bad (now (d .entry)) languages quantity first place end) r ⌝ }
 {
     if tags::is_named(d, place + 1, end, b"range") {
         let r = range_at(bad, d, place, end, quantity);
@@ -417,7 +427,8 @@ fn first_at(
 ) -> Listed
     requires { ⌜ (at ≤ length (now d)) × (length (now d) ≤ 1048576) ⌝ }
     requires { ⌜ (length (now lines) ≡ lineSize * mostLines) × (first ≤ mostLines) × (length (now marks) ≡ 16384) ⌝ }
-    ensures { λ r. ⌜ Begun (length (now (d .entry))) quantity first (now (lines .entry)) (now (lines .exit)) stamp (now (marks .exit)) (block.first bad (now (d .entry)) languages quantity first at) r ⌝ }
+    ensures { λ r. ⌜ Begun (length (now (d .entry))) quantity first (now (lines .entry)) (now (lines .exit)) stamp (now (marks .exit))
+        (block.first bad (now (d .entry)) languages quantity first at) r ⌝ }
 {
     match elements::find_open(bad, d, at, b"values") {
         Open::Start { place, end } => first_tag(
@@ -453,7 +464,10 @@ fn read_values(
 ) -> Listed
     requires { ⌜ (at ≤ length (now d)) × (length (now d) ≤ 1048576) ⌝ }
     requires { ⌜ Standing quantity first (now lines) stamp (now marks) count b ⌝ }
-    ensures { λ r. ⌜ ((c : survey.Block) (start : List ℤ) (f : ℕ) → Lines quantity first start (now (lines .entry)) stamp (now (marks .entry)) count b c → mostLines - count < f → Closed (length (now (d .entry))) first (repeat f (another bad (now (d .entry)) languages quantity first) c at) start (now (lines .exit)) r) ⌝ }
+    ensures { λ r. ⌜ ((c : survey.Block) (start : List ℤ) (f : ℕ)
+        → Lines quantity first start (now (lines .entry)) stamp (now (marks .entry)) count b c → mostLines - count < f
+        → Closed (length (now (d .entry))) first (repeat f (another bad (now (d .entry)) languages quantity first) c at) start
+        (now (lines .exit)) r) ⌝ }
 {
     let mut n = at;
     let mut block = b;
@@ -507,7 +521,8 @@ fn block_at(
 ) -> Listed
     requires { ⌜ (at ≤ length (now d)) × (length (now d) ≤ 1048576) ⌝ }
     requires { ⌜ (length (now lines) ≡ lineSize * mostLines) × (first ≤ mostLines) × (length (now marks) ≡ 16384) ⌝ }
-    ensures { λ r. ⌜ Closed (length (now (d .entry))) first (blockRead bad (now (d .entry)) languages quantity first at) (now (lines .entry)) (now (lines .exit)) r ⌝ }
+    ensures { λ r. ⌜ Closed (length (now (d .entry))) first (blockRead bad (now (d .entry)) languages quantity first at)
+        (now (lines .entry)) (now (lines .exit)) r ⌝ }
 {
     match first_at(bad, d, at, languages, quantity, first, lines, marks, stamp) {
         Listed::Is { block, last, next } => read_values(
@@ -543,7 +558,8 @@ pub fn values_at(
 ) -> Listed
     requires { ⌜ (end ≤ length (now d)) × (length (now d) ≤ 1048576) ⌝ }
     requires { ⌜ (length (now lines) ≡ lineSize * mostLines) × (before ≤ mostLines) × (length (now marks) ≡ 16384) ⌝ }
-    ensures { λ r. ⌜ Closed (length (now (d .entry))) before (values bad (now (d .entry)) languages quantity before place end) (now (lines .entry)) (now (lines .exit)) r ⌝ }
+    ensures { λ r. ⌜ Closed (length (now (d .entry))) before (values bad (now (d .entry)) languages quantity before place end)
+        (now (lines .entry)) (now (lines .exit)) r ⌝ }
 {
     match pairs::read_bare(bad, d, place, end) {
         Tag::Read {

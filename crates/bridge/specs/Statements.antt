@@ -72,7 +72,8 @@ module _ (d : List ℕ) where
   unfolding judgePosition chain positionCharges rising before
   position-least x b {m} {e} n k l h =
       let y = Option·getD b x in
-      let p : judgePosition (belowOf d (figures y e) (figures x m)) (figures x m) (figures y e) n ≡ chain stated.Not (toStated (Is (placed x b) n)) (positionCharges x y) =
+      let p : judgePosition (belowOf d (figures y e) (figures x m)) (figures x m) (figures y e) n
+      ≡ chain stated.Not (toStated (Is (placed x b) n)) (positionCharges x y) =
       rw (capped-zero (x .value), capped-limit 16384 (x .value) (omega arith), capped-limit 16384 (y .value) (omega arith))
       (rw (k .says, l .says)) in
       p ∙ chain-least toStated (placed x b) n (positionCharges x y) (rw (le-leb (x .place) (y .place) h))

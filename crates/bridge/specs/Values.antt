@@ -248,7 +248,8 @@ module _ (d : List ℕ) (quantity : Bool) (first : ℕ) where
         reached : (w : Bool) (n : ℕ) (c : books.Block)
             → withOr d quantity A B (gapAt d m′) (choiceOf d (gapAt d m′) WITH)
             ≡ settled (judgeRange (reversedOf d (written a x y m) (written b x′ y′ m′)) quantity (written a x y m) (written b x′ y′ m′)) w n
-            → settled (judgeRange (reversedOf d (written a x y m) (written b x′ y′ m′)) quantity (written a x y m) (written b x′ y′ m′)) w n ≡ ranging.Is c w n
+            → settled (judgeRange (reversedOf d (written a x y m) (written b x′ y′ m′)) quantity (written a x y m) (written b x′ y′ m′)) w n
+            ≡ ranging.Is c w n
             → Reached d quantity first (stateOf (valueHere d (notesOn d (At n))) c [])
         reached w n c p q = behind (At k₀) (At j) {b = c} {w = w} {n = n} (rw here-a (to-with ∙ p ∙ q))
     second j i after e₁ e₂ unvalued = rw (e₁, e₂) refuses

@@ -14,7 +14,8 @@ use Rattle.fields.specs.rule.Legal.{legal}
 use Rattle.fields.specs.rule.Field.{Field}
 use Rattle.fields.specs.rule.Row.{defined, readingOf}
 use Rattle.matrix.specs.declared.Entry.{Entry}
-use Rattle.columns.specs.rule.Columns.{Column, ofRow, ofCategory, ofCategories, columnsBy, rowColumns, columnsFrom, decimalsBy, numberEntry, memberEntry}
+use Rattle.columns.specs.rule.Columns.{Column, ofRow, ofCategory, ofCategories, columnsBy, rowColumns, columnsFrom, decimalsBy}
+use Rattle.columns.specs.rule.Columns.{numberEntry, memberEntry}
 use Rattle.columns.specs.rule.Columns.{entryOf, entriesOf}
 use Rattle.columns.specs.Reach.{shapeOf}
 use Rattle.columns.specs.Marked.{memberEntries}
@@ -86,7 +87,8 @@ module _ (t : List ℤ) (v : ℕ) (bytes : List ℕ) where
   unfolding entriesOf
   entries-nil e = rw e
 
-  pub entries-one : (i : ℕ) → entriesOf t v bytes (ofRow i ∷ []) ≡ numberEntry (10 ^ decimalsBy (rowAt t i .kind)) (readingOf t v (rowAt t i) bytes) ∷ []
+  pub entries-one : (i : ℕ) → entriesOf t v bytes (ofRow i ∷ [])
+      ≡ numberEntry (10 ^ decimalsBy (rowAt t i .kind)) (readingOf t v (rowAt t i) bytes) ∷ []
   unfolding entriesOf entryOf
   entries-one i = refl
 
@@ -114,11 +116,13 @@ module _ (t : List ℤ) (v i : ℕ) where
 module _ (t : List ℤ) (v : ℕ) (bytes : List ℕ) (i : ℕ) where
   pub left-on : i < v → entriesOf t v bytes (columnsFrom t v i (v - i))
       ≡ entriesOf t v bytes (rowColumns t v i) ++ entriesOf t v bytes (columnsFrom t v (i + 1) (v - (i + 1)))
-  left-on h = ap (entriesOf t v bytes) (columns-on t v i h) ∙ entries-append t v bytes (rowColumns t v i) (columnsFrom t v (i + 1) (v - (i + 1)))
+  left-on h = ap (entriesOf t v bytes) (columns-on t v i h)
+      ∙ entries-append t v bytes (rowColumns t v i) (columnsFrom t v (i + 1) (v - (i + 1)))
 
   pub left-none : v ≤ i → entriesOf t v bytes (columnsFrom t v i (v - i)) ≡ []
   unfolding entriesOf
   left-none h = rw (columns-none t v i h)
 
   pub left-count : i < v → length (columnsFrom t v i (v - i)) ≡ length (rowColumns t v i) + length (columnsFrom t v (i + 1) (v - (i + 1)))
-  left-count h = ap (λ (l : List Column). length l) (columns-on t v i h) ∙ length-append (rowColumns t v i) (columnsFrom t v (i + 1) (v - (i + 1)))
+  left-count h = ap (λ (l : List Column). length l) (columns-on t v i h)
+      ∙ length-append (rowColumns t v i) (columnsFrom t v (i + 1) (v - (i + 1)))

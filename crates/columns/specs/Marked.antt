@@ -98,7 +98,8 @@ marked-nought there m e = rw e
 -- ---- category by category: n are left from c on
 module _ (there : Bool) (legal present : List ℕ) (c : ℕ) (low : c < length legal) where
   pub marked-on : getD legal c 0 ≡ 1
-      → markedFrom there legal present c (length legal - c) ≡ markedEntry there (getD present c 0) ∷ markedFrom there legal present (c + 1) (length legal - (c + 1))
+      → markedFrom there legal present c (length legal - c) ≡ markedEntry there (getD present c 0)
+      ∷ markedFrom there legal present (c + 1) (length legal - (c + 1))
   unfolding markedFrom
   marked-on e = let d : length legal - c ≡ suc (length legal - (c + 1)) = omega arith in rw (d, eq-eqb (getD legal c 0) 1 e, add-one c)
 
@@ -107,7 +108,8 @@ module _ (there : Bool) (legal present : List ℕ) (c : ℕ) (low : c < length l
   unfolding markedFrom
   marked-off e = let d : length legal - c ≡ suc (length legal - (c + 1)) = omega arith in rw (d, ne-eqb (getD legal c 0) 1 e, add-one c)
 
-pub marked-none : (there : Bool) (legal present : List ℕ) (c : ℕ) → length legal ≤ c → markedFrom there legal present c (length legal - c) ≡ []
+pub marked-none : (there : Bool) (legal present : List ℕ) (c : ℕ) → length legal ≤ c → markedFrom there legal present c (length legal - c)
+    ≡ []
 unfolding markedFrom
 marked-none there legal present c h = let d : length legal - c ≡ 0 = omega arith in rw d
 
@@ -119,7 +121,8 @@ pub marked-is : (there : Bool) (legal present : List ℕ) (ok : ℤ → Bool) (f
 unfolding markedFrom memberEntries defined
 marked-is there legal present ok f c zero h l p = refl
 marked-is there legal present ok f c (suc n) h l p =
-    rw (l c (omega arith), flag-back (ok (pos c)), p c (omega arith), marked-is there legal present ok f (suc c) n (omega arith) l p) (go (ok (pos c)))
+    rw (l c (omega arith), flag-back (ok (pos c)), p c (omega arith), marked-is there legal present ok f (suc c) n (omega arith) l p)
+    (go (ok (pos c)))
   where
     go : (b : Bool) → cond b (memberEntry c f ∷ memberEntries f (defined ok (suc c) n)) (memberEntries f (defined ok (suc c) n))
         ≡ memberEntries f (cond b (c ∷ defined ok (suc c) n) (defined ok (suc c) n))
@@ -136,7 +139,8 @@ marked-count there legal present ok c (suc n) h l =
     rw (l c (omega arith), flag-back (ok (pos c))) (go (ok (pos c)) (marked-count there legal present ok (suc c) n (omega arith) l))
   where
     go : (b : Bool) → length (markedFrom there legal present (suc c) n) ≡ length (defined ok (suc c) n)
-        → length (cond b (markedEntry there (getD present c 0) ∷ markedFrom there legal present (suc c) n) (markedFrom there legal present (suc c) n))
+        → length (cond b (markedEntry there (getD present c 0) ∷ markedFrom there legal present (suc c) n)
+        (markedFrom there legal present (suc c) n))
         ≡ length (cond b (c ∷ defined ok (suc c) n) (defined ok (suc c) n))
     go true e = ap suc e
     go false e = e

@@ -56,7 +56,8 @@ any-member (m ∷ ms) rest z =
 module _ {p : ℕ} {f : Field} {list list′ : List ℤ} {a : Answer} (q : RowRead p f list list′ a) (room : length (membersOf f) ≤ length list)
     {m₀ m : List ℕ} (clear : Marks (λ x. false) m₀) (same : length m ≡ length m₀)
     (marks : Besides (λ x. anyBelow (membersIn a) (λ j. eqZ (cell list′ j) x)) m₀ m) where
-  mark-at : (c : ℕ) → c < length m → getD m c 0 ≡ flag (anyBelow (length (membersOf f)) (λ j. eqZ (cell (membersOf f ++ drop (length (membersOf f)) list) j) (pos c)))
+  mark-at : (c : ℕ) → c < length m → getD m c 0 ≡ flag
+      (anyBelow (length (membersOf f)) (λ j. eqZ (cell (membersOf f ++ drop (length (membersOf f)) list) j) (pos c)))
   unfolding filledOf
   mark-at c l =
       marks .at c (rw (← same) l)
@@ -123,4 +124,5 @@ pub multiple-made : {t : List ℤ} {v : ℕ} {r : Row} {n : ℕ} → Covered t v
 multiple-made {t} {v} {r} {n} cov {p} {f} {list} {list′} {a} q room {lm} {m₀} {m} e marks clear same long {k} ek beside {there} et =
     entries-marked cov there lm m f e marks
     (λ c l. ap (λ (b : Bool). markedEntry b (getD m c 0)) et
-    ∙ entry-marked q room clear same (subst (λ (i : ℕ). Besides (λ x. anyBelow i (λ j. eqZ (cell list′ j) x)) m₀ m) ek beside) c (omega (arith, l, e, same, long)))
+    ∙ entry-marked q room clear same (subst (λ (i : ℕ). Besides (λ x. anyBelow i (λ j. eqZ (cell list′ j) x)) m₀ m) ek beside) c
+    (omega (arith, l, e, same, long)))

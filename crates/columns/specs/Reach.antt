@@ -1,4 +1,5 @@
--- A row of a tested table: it is ready to be read, its numbers have 15 digits at most, and its categories lie below a power of ten or within
+-- A row of a tested table: it is ready to be read, its numbers have 15 digits at most, and its categories lie below a power of ten or
+-- within
 -- its width.
 -- Assumes nothing.
 use mathlib.Core.Path.{_≡_, refl, sym, ap, _∙_, subst}
@@ -113,7 +114,8 @@ module _ {t : List ℤ} {v : ℕ} {r : Row} {size : ℕ} (q : Readable t v r siz
     where
       go : (b : Bool) → ltb (r .width) 9999 ≡ b → ((c : ℕ) → legal t v r (pos c) ≡ true → c ≤ r .width) → r .width ≤ 9999
           → Covered t v r (cond b (r .width + 1) 10000)
-      go true e f k = let x = ltb-true (r .width) 9999 e in record { some = omega arith; few = omega arith; below = λ c l. omega (arith, f c l) }
+      go true e f k = let x = ltb-true (r .width) 9999 e in
+          record { some = omega arith; few = omega arith; below = λ c l. omega (arith, f c l) }
       go false e f k = record { some = omega arith; few = omega arith; below = λ c l. omega (arith, f c l) }
 
   covered-fields : {n b : ℕ} → r .kind ≡ Multiple (Fields n b) → Covered t v r (digitsReach (r .width))
@@ -197,7 +199,8 @@ module _ {t : List ℤ} {v : ℕ} {r : Row} {size : ℕ} (q : Readable t v r siz
       go illegal e = tt
 
 -- the powers that rows have
-pub power-good : {t : List ℤ} {v : ℕ} {r : Row} {size : ℕ} → Readable t v r size → (decimalsBy (r .kind) < 16) × limits.Power (10 ^ decimalsBy (r .kind))
+pub power-good : {t : List ℤ} {v : ℕ} {r : Row} {size : ℕ} → Readable t v r size → (decimalsBy (r .kind) < 16)
+    × limits.Power (10 ^ decimalsBy (r .kind))
 unfolding decimalsBy
 power-good {t} {v} {r} q = go (r .kind) (q .facts .kind)
   where

@@ -34,8 +34,13 @@ pub record Ready (powers : List ℕ) (t : List ℤ) (h : Header) (list allowed p
   pub marks-too : present ≡ 10000
 
 -- ---- laws
-pub put-as : {es es′ : List Entry} {flags values : ℕ} {out out′ : List ℕ} {r : ℕ} → es ≡ es′ → PutAs es flags values out out′ r → PutAs es′ flags values out out′ r
-put-as {flags} {values} {out} e p = record { count = p .count ∙ ap length e; leaves = p .leaves ∙ ap (λ (l : List Entry). putEntries out flags values l) e }
+pub put-as : {es es′ : List Entry} {flags values : ℕ} {out out′ : List ℕ} {r : ℕ} → es ≡ es′ → PutAs es flags values out out′ r
+    → PutAs es′ flags values out out′ r
+put-as {flags} {values} {out} e p = record {
+  count = p .count ∙ ap length e;
+  leaves = p .leaves
+      ∙ ap (λ (l : List Entry). putEntries out flags values l) e;
+}
 
 pub put-none : {es : List Entry} {flags values : ℕ} (out : List ℕ) → es ≡ [] → PutAs es flags values out out 0
 put-none {flags} {values} out e = put-as (sym e) (record { count = refl; leaves = sym (entries-none out flags values) })

@@ -87,7 +87,8 @@ run-more lo c m h l a = record { at = λ x k. go x (rw (length-set m c 1) at k) 
             above x q n = ⊎-elim (λ e. absurd (q (sym e))) (λ k. omega arith) (eq-or-lt-of-le n)
 
 -- the stretch of a row's range
-pub run-range : (r : Row) (m : List ℕ) {hi lo : ℕ} → r .range ≡ true → Ends (r .to) (length m) hi → Starts (r .from) hi lo → Run lo hi m → Marks (λ x. inRange r x) m
+pub run-range : (r : Row) (m : List ℕ) {hi lo : ℕ} → r .range ≡ true → Ends (r .to) (length m) hi → Starts (r .from) hi lo → Run lo hi m
+    → Marks (λ x. inRange r x) m
 unfolding inRange
 run-range r m {hi} {lo} e b a u = record { at = λ x l. u .at x l ∙ rw (e, b .at x l) (ap (λ (c : Bool). flag c) (go x (ltb x hi) refl)) }
   where
@@ -180,7 +181,8 @@ unmarked-same there m present from to u = go (to - from) from refl (u .on) (λ j
 pub not-alike : (legal present : List ℕ) (c : ℕ) → Alike legal present c false
 not-alike legal present c = record { inside = λ e. holds-not e refl; marked = λ e. holds-not e refl; absent = λ e. holds-not e refl }
 
-pub are-alike : (legal present : List ℕ) (c : ℕ) (r : Bool) → c + 16 ≤ length legal → markAmong present c 16 ≡ false → r ≡ allAre legal c 16 1 → Alike legal present c r
+pub are-alike : (legal present : List ℕ) (c : ℕ) (r : Bool) → c + 16 ≤ length legal → markAmong present c 16 ≡ false → r
+    ≡ allAre legal c 16 1 → Alike legal present c r
 are-alike legal present c r h n e = record {
   inside = λ q. h;
   marked = λ q k l. are-at legal c 16 1 (sym e ∙ q) k l;
@@ -190,7 +192,8 @@ are-alike legal present c r h n e = record {
 -- n that are alike are n entries of value zero, and what is behind them
 alike-on : (there : Bool) (legal present : List ℕ) (n c : ℕ) → c + n ≤ length legal → ((k : ℕ) → k < n → getD legal (c + k) 0 ≡ 1)
     → ((k : ℕ) → k < n → markAt present (c + k) ≡ false)
-    → markedFrom there legal present c (length legal - c) ≡ noughts there n ++ markedFrom there legal present (c + n) (length legal - (c + n))
+    → markedFrom there legal present c (length legal - c) ≡ noughts there n
+    ++ markedFrom there legal present (c + n) (length legal - (c + n))
 unfolding noughts
 alike-on there legal present zero c h m a = let e : c + 0 ≡ c = omega arith in rw e
 alike-on there legal present (suc n) c h m a =
@@ -198,20 +201,25 @@ alike-on there legal present (suc n) c h m a =
     let w : c + 1 + n ≡ c + suc n = omega arith in
     let one = marked-on there legal present c (omega arith) (ap (λ (x : ℕ). getD legal x 0) (sym z) ∙ m 0 (omega arith)) in
     let none = ap (λ (x : ℕ). markAt present x) (sym z) ∙ a 0 (omega arith) in
-    let rest = alike-on there legal present n (c + 1) (omega arith) (λ k l. ap (λ (x : ℕ). getD legal x 0) (next c k) ∙ m (suc k) (omega arith)) (λ k l. ap (λ (x : ℕ). markAt present x) (next c k) ∙ a (suc k) (omega arith)) in
+    let rest = alike-on there legal present n (c + 1) (omega arith)
+    (λ k l. ap (λ (x : ℕ). getD legal x 0) (next c k) ∙ m (suc k) (omega arith))
+    (λ k l. ap (λ (x : ℕ). markAt present x) (next c k) ∙ a (suc k) (omega arith)) in
     one
     ∙ ap (λ (e : Entry). e ∷ markedFrom there legal present (c + 1) (length legal - (c + 1))) (marked-nought there (getD present c 0) none)
-    ∙ ap (λ (l : List Entry). cond there (Scaled (pos 0) 1) Absent ∷ l) (rest ∙ ap (λ (x : ℕ). noughts there n ++ markedFrom there legal present x (length legal - x)) w)
+    ∙ ap (λ (l : List Entry). cond there (Scaled (pos 0) 1) Absent ∷ l)
+    (rest ∙ ap (λ (x : ℕ). noughts there n ++ markedFrom there legal present x (length legal - x)) w)
   where
     next : (c k : ℕ) → c + 1 + k ≡ c + suc k
     next c k = omega arith
 
 pub alike-next : (there : Bool) {legal present : List ℕ} {c : ℕ} {r : Bool} → Alike legal present c r → r ≡ true
-    → markedFrom there legal present c (length legal - c) ≡ noughts there 16 ++ markedFrom there legal present (c + 16) (length legal - (c + 16))
+    → markedFrom there legal present c (length legal - c) ≡ noughts there 16
+    ++ markedFrom there legal present (c + 16) (length legal - (c + 16))
 alike-next there {legal} {present} {c} a e = alike-on there legal present 16 c (a .inside e) (a .marked e) (a .absent e)
 
 pub alike-count : (there : Bool) {legal present : List ℕ} {c : ℕ} {r : Bool} → Alike legal present c r → r ≡ true
-    → length (markedFrom there legal present c (length legal - c)) ≡ 16 + length (markedFrom there legal present (c + 16) (length legal - (c + 16)))
+    → length (markedFrom there legal present c (length legal - c)) ≡ 16
+    + length (markedFrom there legal present (c + 16) (length legal - (c + 16)))
 alike-count there {legal} {present} {c} a e =
     let rest = markedFrom there legal present (c + 16) (length legal - (c + 16)) in
     omega (arith, ap (λ (l : List Entry). length l) (alike-next there a e), length-append (noughts there 16) rest, length-noughts there 16)

@@ -78,7 +78,8 @@ fn put_number(
     requires { ⌜ Tens (now powers) ⌝ }
     requires { ⌜ Readable (now t) rows row (length (now bytes)) ⌝ }
     requires { ⌜ (flags < values) × (values + 8 ≤ length (now out)) ⌝ }
-    ensures { λ _. ⌜ now (out .exit) ≡ putEntries (now (out .entry)) flags values (numberEntry (10 ^ decimalsBy (row .kind)) (readingOf (now (t .entry)) rows row (now (bytes .entry))) ∷ []) ⌝ }
+    ensures { λ _. ⌜ now (out .exit) ≡ putEntries (now (out .entry)) flags values
+        (numberEntry (10 ^ decimalsBy (row .kind)) (readingOf (now (t .entry)) rows row (now (bytes .entry))) ∷ []) ⌝ }
 {
     let kind = row.kind;
     let power = ascii::power(powers, decimals_of(kind));
@@ -202,7 +203,8 @@ fn are_alike(allowed: &[u8], present: &[u8], wait: usize, c: usize) -> bool
     matrix::all_are(allowed, c, 16, 1)
 }
 
-// The entries of the categories that are marked as legal, and how many they are. Sixteen that are alike are written together: most sets hold
+// The entries of the categories that are marked as legal, and how many they are. Sixteen that are alike are written together: most sets
+// hold
 // few of many.
 fn put_members(
     allowed: &[u8],
@@ -214,7 +216,8 @@ fn put_members(
 ) -> usize
     requires { ⌜ length (now allowed) ≤ length (now present) ⌝ }
     requires { ⌜ Room flags values (length (now out)) (length (markedEntries there (now allowed) (now present))) ⌝ }
-    ensures { λ r. ⌜ PutAs (markedEntries there (now (allowed .entry)) (now (present .entry))) flags values (now (out .entry)) (now (out .exit)) r ⌝ }
+    ensures { λ r. ⌜ PutAs (markedEntries there (now (allowed .entry)) (now (present .entry))) flags values (now (out .entry))
+        (now (out .exit)) r ⌝ }
 {
     let mut k: usize = 0;
     let mut c: usize = 1;
@@ -315,7 +318,8 @@ fn put_multiple(
     requires { ⌜ Readable (now t) rows row (length (now bytes)) × (length (now list) ≡ 9999) ⌝ }
     requires { ⌜ Covered (now t) rows row (length (now allowed)) × (length (now present) ≡ length (now allowed)) ⌝ }
     requires { ⌜ Room flags values (length (now out)) (length (defined (legal (now t) rows row) 1 9999)) ⌝ }
-    ensures { λ r. ⌜ PutAs (memberEntries (readingOf (now (t .entry)) rows row (now (bytes .entry))) (defined (legal (now (t .entry)) rows row) 1 9999)) flags values (now (out .entry)) (now (out .exit)) r ⌝ }
+    ensures { λ r. ⌜ PutAs (memberEntries (readingOf (now (t .entry)) rows row (now (bytes .entry)))
+        (defined (legal (now (t .entry)) rows row) 1 9999)) flags values (now (out .entry)) (now (out .exit)) r ⌝ }
 {
     let a = readings::read_row(t, rows, row, bytes, list);
     mark_legal(t, rows, row, allowed);
@@ -396,7 +400,8 @@ fn put_row(
     requires { ⌜ Ready (now powers) (now t) h (length (now list)) (length (now allowed)) (length (now present)) ⌝ }
     requires { ⌜ (i < h .rows) × (h .length ≤ length (now bytes)) ⌝ }
     requires { ⌜ Room flags values (length (now out)) (length (rowColumns (now t) (h .rows) i)) ⌝ }
-    ensures { λ r. ⌜ PutAs (entriesOf (now (t .entry)) (h .rows) (now (bytes .entry)) (rowColumns (now (t .entry)) (h .rows) i)) flags values (now (out .entry)) (now (out .exit)) r ⌝ }
+    ensures { λ r. ⌜ PutAs (entriesOf (now (t .entry)) (h .rows) (now (bytes .entry)) (rowColumns (now (t .entry)) (h .rows) i)) flags
+        values (now (out .entry)) (now (out .exit)) r ⌝ }
 {
     let row = Row::read(t, i);
     let kind = row.kind;
@@ -439,7 +444,8 @@ pub fn put_record(
     requires { ⌜ Ready (now powers) (now t) h (length (now list)) (length (now allowed)) (length (now present)) ⌝ }
     requires { ⌜ h .length ≤ length (now bytes) ⌝ }
     requires { ⌜ Room flags values (length (now out)) (length (columnsFrom (now t) (h .rows) 0 (h .rows))) ⌝ }
-    ensures { λ _. ⌜ now (out .exit) ≡ putEntries (now (out .entry)) flags values (entriesOf (now (t .entry)) (h .rows) (now (bytes .entry)) (columnsFrom (now (t .entry)) (h .rows) 0 (h .rows))) ⌝ }
+    ensures { λ _. ⌜ now (out .exit) ≡ putEntries (now (out .entry)) flags values
+        (entriesOf (now (t .entry)) (h .rows) (now (bytes .entry)) (columnsFrom (now (t .entry)) (h .rows) 0 (h .rows))) ⌝ }
 {
     let mut k: usize = 0;
     let mut i: usize = 0;

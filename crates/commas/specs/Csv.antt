@@ -65,7 +65,8 @@ left-line f zero = refl
 left-line f (suc n) = ap (λ (s : List ℕ). fieldBytes (f 0) ++ s) (sym (left-behind f n 0))
 
 -- the next field, and the end of a line of V fields
-pub left-next : (f : ℕ → List ℕ) (v i : ℕ) → i < v → lineLeft f i (v - i) ≡ commaBefore i ++ (fieldBytes (f i) ++ lineLeft f (i + 1) (v - (i + 1)))
+pub left-next : (f : ℕ → List ℕ) (v i : ℕ) → i < v → lineLeft f i (v - i) ≡ commaBefore i
+    ++ (fieldBytes (f i) ++ lineLeft f (i + 1) (v - (i + 1)))
 unfolding lineLeft
 left-next f v i h = let e : v - i ≡ suc (v - (i + 1)) = omega arith in rw (e, add-one i)
 

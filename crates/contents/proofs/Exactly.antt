@@ -23,7 +23,8 @@ use Rattle.pairs.proofs.Lies.{Lies, lies-none, lies-cut, lies-within}
 use Rattle.pairs.proofs.Given.{first-none, first-join}
 use Rattle.pairs.proofs.Tags.{TagRead, tag-complete}
 use Rattle.pairs.proofs.Ends.{EndAt, Closing, ends-complete}
-use Rattle.contents.specs.rule.Grammar.{br, text, lang, Piece, plain, line, return, refer, note, alone, pair, unsaid, Text, end, more, language}
+use Rattle.contents.specs.rule.Grammar.{br, text, lang, Piece, plain, line, return, refer, note, alone, pair, unsaid, Text, end, more}
+use Rattle.contents.specs.rule.Grammar.{language}
 use Rattle.contents.specs.rule.Step.{modeIn, closeAt, markAt, stepOf}
 use Rattle.contents.specs.rule.Content.{begun, contentFrom, contentOf, signsOf, signsFrom, textFrom, textOf}
 use Rattle.contents.specs.declared.Going.{Going}
@@ -34,7 +35,8 @@ use Rattle.contents.specs.declared.Content.the-variants.{Read, Cut, Faul
 use Rattle.contents.specs.declared.Step.{Step}
 use Rattle.contents.specs.declared.Step.the-variants.{More, Over}
 use Rattle.contents.proofs.Views.{Stop, nothing, mark, Ended, View, passed, entered, left, read, cut, fault, step-view}
-use Rattle.contents.proofs.Goes.{Goes, stay, on, Rest, outer, inner, Owed, goes-back, Reached, content-reached, goes-content, content-over, step-on, signs-next, signs-over, text-next, text-over, text-end}
+use Rattle.contents.proofs.Goes.{Goes, stay, on, Rest, outer, inner, Owed, goes-back, Reached, content-reached, goes-content}
+use Rattle.contents.proofs.Goes.{content-over, step-on, signs-next, signs-over, text-next, text-over, text-end}
 use Rattle.contents.proofs.Pieces.{text-name, stand, StepTo, piece-step, text-start, step-language, no-note, never}
 
 -- ---- steps joined
@@ -46,7 +48,8 @@ module _ (l bad : Bool) (d : List ℕ) (m : ℕ) (w : List ℕ) where
   goes-join stay y = y
   goes-join {ys = ys} (on {s = s} {cs = xs} e r) y = rw (append-assoc (signsOf l s) xs ys) (on e (goes-join r y))
 
-  goes-to : {g : Going} {cs cs′ : List Sign} (i : Bool) (u u′ n n′ : ℕ) → u ≡ u′ → n ≡ n′ → cs ≡ cs′ → Goes l bad d m w g (stand i u n) cs → Goes l bad d m w g (stand i u′ n′) cs′
+  goes-to : {g : Going} {cs cs′ : List Sign} (i : Bool) (u u′ n n′ : ℕ) → u ≡ u′ → n ≡ n′ → cs ≡ cs′ → Goes l bad d m w g (stand i u n) cs
+      → Goes l bad d m w g (stand i u′ n′) cs′
   goes-to i u u′ n n′ e f h x = rw (← e, ← f, ← h) x
 
   step-goes : {g h k : Going} {x ys : List Sign} → StepTo l bad d m w g h x → Goes l bad d m w h k ys → Goes l bad d m w g k (x ++ ys)
@@ -64,7 +67,8 @@ module _ (l bad : Bool) (d : List ℕ) (m : ℕ) (w : List ℕ) where
   ends-note : {v t : List ℕ} (p n : ℕ) → Ends v t → Lies d p n t → stands (60 ∷ 33 ∷ 45 ∷ 45 ∷ []) (drop p d) ≡ false
   ends-note {v} p n (ends {v = x} y) li = no-note l bad d m w p n 47 (v ++ (x ++ 62 ∷ [])) (λ z. omega arith) li
 
-  step-leave : {t : List ℕ} (u p n : ℕ) → Ends text t → Lies d p n t → stepOf bad d m w (stand true u p) ≡ More (stand false u n) said.Nothing
+  step-leave : {t : List ℕ} (u p n : ℕ) → Ends text t → Lies d p n t → stepOf bad d m w (stand true u p)
+      ≡ More (stand false u n) said.Nothing
   unfolding stepOf markAt closeAt
   step-leave u p n e li =
       let c = ends-complete bad d p n text-name e li in
@@ -77,13 +81,16 @@ module _ (l bad : Bool) (d : List ℕ) (m : ℕ) (w : List ℕ) where
       rw (lt-leb (length d) p (c .inside), c .less, ends-note p n e li, c .opens, c .shuts)
 
   -- ---- a text is passed
-  step-enter : (u p n a : ℕ) {t : List ℕ} → eqb m 2 ≡ true → Behind lang false (p + 5) t true a → Lies d p (p + 5) (60 ∷ text) → Lies d (p + 5) n t
+  step-enter : (u p n a : ℕ) {t : List ℕ} → eqb m 2 ≡ true → Behind lang false (p + 5) t true a → Lies d p (p + 5) (60 ∷ text)
+      → Lies d (p + 5) n t
       → stepOf bad d m w (stand false u p) ≡ More (stand true (firstOf u a) n) said.Nothing
   step-enter u p n a h b li lt =
       text-start l bad d m w (stand false u p) h b li lt
-      ∙ step-language l bad d m w (stand false u p) (p + 5) n a false (tag-complete bad lang d p (p + 5) 1 false (omega arith) b (λ z. refl) n lt)
+      ∙ step-language l bad d m w (stand false u p) (p + 5) n a false
+      (tag-complete bad lang d p (p + 5) 1 false (omega arith) b (λ z. refl) n lt)
 
-  pub text-goes : {k p b : ℕ} {v : List ℕ} {ds : List Sign} → Text l k p v ds b → (i : Bool) (u q : ℕ) → modeIn m i ≡ k → Lies d p q v → Stop (drop q d)
+  pub text-goes : {k p b : ℕ} {v : List ℕ} {ds : List Sign} → Text l k p v ds b → (i : Bool) (u q : ℕ) → modeIn m i ≡ k → Lies d p q v
+      → Stop (drop q d)
       → Goes l bad d m w (stand i u p) (stand i (firstOf u b) q) (cond i [] ds)
   unfolding signsOf
   text-goes {p = p} end i u q md li o = let k = li .place in goes-to i u (firstOf u 0) p q (first-none u) (omega arith) (silent-nil i) stay
@@ -104,8 +111,10 @@ module _ (l bad : Bool) (d : List ℕ) (m : ℕ) (w : List ℕ) where
       let f2 = firstOf (firstOf u a) b′ in
       let inner = text-goes x true f1 (p + 5 + length t + length v) refl (c3 .0) en-stop in
       let rest = text-goes y false f2 q md (c4 .1) o in
-      goes-to false (firstOf f2 u′) (firstOf u (firstOf a (firstOf b′ u′))) q q (first-join (firstOf u a) b′ u′ ∙ first-join u a (firstOf b′ u′)) refl refl
-      (on (step-enter u p (p + 5 + length t) a h′ b (c .0) (c2 .0)) (goes-join inner (on (step-leave f2 (p + 5 + length t + length v) (p + 5 + length t + length v + length e) en (c4 .0)) rest)))
+      goes-to false (firstOf f2 u′) (firstOf u (firstOf a (firstOf b′ u′))) q q
+      (first-join (firstOf u a) b′ u′ ∙ first-join u a (firstOf b′ u′)) refl refl
+      (on (step-enter u p (p + 5 + length t) a h′ b (c .0) (c2 .0))
+      (goes-join inner (on (step-leave f2 (p + 5 + length t + length v) (p + 5 + length t + length v + length e) en (c4 .0)) rest)))
 
 -- ---- CONTENT
 -- from `at` to e a text stands that says these signs, and from e to n the end tag of w
@@ -124,7 +133,14 @@ module _ (l bad : Bool) (d : List ℕ) (m : ℕ) (w : List ℕ) (at e n u : ℕ)
   ended-owed g x =
       let p = x .place in
       let o = x .outside in
-      record { bytes = []; first = 0; rest = none (g .inside) o; lies = lies-none d (g .next) e p; unknown = x .unknown ∙ first-none (g .unknown) } where
+      record {
+        bytes = [];
+        first = 0;
+        rest = none (g .inside) o;
+        lies = lies-none d (g .next) e p;
+        unknown = x .unknown
+            ∙ first-none (g .unknown);
+      } where
         none : (i : Bool) → i ≡ false → Rest l m i (g .next) [] [] 0
         none i o = rw o (outer end)
 
@@ -151,7 +167,8 @@ module _ (l bad : Bool) (d : List ℕ) (m : ℕ) (w : List ℕ) (at e n u : ℕ)
 
 -- CONTENT: a text of an element w is read up to e, its end tag up to n, with its first unknown attribute at u, exactly when characters,
 -- references, comments, breaks and texts in other languages, as the mode has them, stand up to e, and that end tag up to n
-pub content-exactly : (l bad : Bool) (d : List ℕ) (m : ℕ) (w : List ℕ) (at e n u : ℕ) → Name w → (contentOf bad d m w at ≡ Read e n u) ↔ ContentAt l d m w at e n u
+pub content-exactly : (l bad : Bool) (d : List ℕ) (m : ℕ) (w : List ℕ) (at e n u : ℕ) → Name w
+    → (contentOf bad d m w at ≡ Read e n u) ↔ ContentAt l d m w at e n u
 content-exactly l bad d m w at e n u na = (content-sound l bad d m w at e n u, content-complete l bad d m w at e n u na)
 
 -- ---- DECODE
@@ -159,7 +176,8 @@ content-exactly l bad d m w at e n u na = (content-sound l bad d m w at e n u, c
 goes-signs : (l : Bool) (d : List ℕ) {g k : Going} {cs : List Sign} → Goes l false d 2 [] g k cs → signsFrom l d g ≡ cs ++ signsFrom l d k
 goes-signs l d stay = refl
 goes-signs l d {g} {k} (on {h = h} {s = s} {cs = xs} e r) =
-    signs-next l d g h s e ∙ ap (λ (t : List Sign). signsOf l s ++ t) (goes-signs l d r) ∙ sym (append-assoc (signsOf l s) xs (signsFrom l d k))
+    signs-next l d g h s e ∙ ap (λ (t : List Sign). signsOf l s ++ t) (goes-signs l d r)
+    ∙ sym (append-assoc (signsOf l s) xs (signsFrom l d k))
 
 step-past : (d : List ℕ) (g : Going) → length d ≤ g .next → stepOf false d 2 [] g ≡ Over (Fault 50 (g .next))
 unfolding stepOf
@@ -184,11 +202,13 @@ wider (language h b x e t) = language refl b x e (wider t)
 stop-end : (d : List ℕ) (q : ℕ) → length d ≤ q → Stop (drop q d)
 stop-end d q h = rw (drop-of-length-le d h) nothing
 
-text-signs : (l : Bool) (d : List ℕ) {p u : ℕ} {s : List ℕ} {cs : List Sign} → Text l 2 p s cs u → Lies d p (length d) s → signsFrom l d (begun p) ≡ cs
+text-signs : (l : Bool) (d : List ℕ) {p u : ℕ} {s : List ℕ} {cs : List Sign} → Text l 2 p s cs u → Lies d p (length d) s
+    → signsFrom l d (begun p) ≡ cs
 text-signs l d {p} {u} {s} {cs} t li =
     let g = text-goes l false d 2 [] t false 0 (length d) refl li (stop-end d (length d) (omega arith)) in
     goes-signs l d g
-    ∙ ap (λ (x : List Sign). cs ++ x) (signs-over l d (stand false u (length d)) (Fault 50 (length d)) (step-past d (stand false u (length d)) (omega arith)))
+    ∙ ap (λ (x : List Sign). cs ++ x) (signs-over l d (stand false u (length d)) (Fault 50 (length d))
+    (step-past d (stand false u (length d)) (omega arith)))
     ∙ append-nil cs
 
 drop-take : (p n : ℕ) (d : List ℕ) → drop p (take (p + n) d) ≡ take n (drop p d)
@@ -201,11 +221,13 @@ cut-lies : {d : List ℕ} {p e : ℕ} {u : List ℕ} → p ≤ length d → Lies
 cut-lies {d} {p} {e} {u} h li =
     let k = li .place in
     let l : length (take e d) ≡ e = length-take-le e d (lies-within li h) in
-    let a : drop p (take e d) ≡ u = rw k (drop-take p (length u) d) ∙ ap (take (length u)) (li .split) ∙ take-at u (drop e d) (length u) refl in
+    let a : drop p (take e d) ≡ u = rw k (drop-take p (length u) d) ∙ ap (take (length u)) (li .split)
+    ∙ take-at u (drop e d) (length u) refl in
     record { split = a ∙ sym (append-nil u) ∙ ap (λ (t : List ℕ). u ++ t) (sym (drop-length (take e d))); place = l ∙ k }
 
 -- DECODE: the signs of a text that was read, from its place to its end, are those that its characters, references and breaks say
-pub decode-content : (l : Bool) (d : List ℕ) (m : ℕ) (w : List ℕ) (at e n u : ℕ) → at ≤ length d → (c : ContentAt l d m w at e n u) → signsFrom l (take e d) (begun at) ≡ c .signs
+pub decode-content : (l : Bool) (d : List ℕ) (m : ℕ) (w : List ℕ) (at e n u : ℕ) → at ≤ length d → (c : ContentAt l d m w at e n u)
+    → signsFrom l (take e d) (begun at) ≡ c .signs
 decode-content l d m w at e n u h c = text-signs l (take e d) (wider (c .text)) (cut-lies h (c .lies))
 
 -- ---- TEXT: stretches
@@ -231,48 +253,73 @@ module _ (l : Bool) (d : List ℕ) where
     by false o f = record { last = g; signs = []; goes = stay; end = omega arith; outside = o; none = eqb-true (g .unknown) 0 f }
 
   first-whole : (g h : Going) (s : Said) → stepOf false d 2 [] g ≡ More h s → Whole l d h → Whole l d g
-  first-whole g h s e x = record { last = x .last; signs = signsOf l s ++ x .signs; goes = on e (x .goes); end = x .end; outside = x .outside; none = x .none }
+  first-whole g h s e x = record {
+    last = x .last;
+    signs = signsOf l s
+        ++ x .signs;
+    goes = on e (x .goes);
+    end = x .end;
+    outside = x .outside;
+    none = x .none;
+  }
 
   whole : (f : ℕ) (g : Going) → length d - g .next ≤ f → g .next ≤ length d → textFrom d g ≡ true → Whole l d g
   whole zero g h i e = at-end g (omega arith) i e
   whole (suc f) g h i e = side (whole f) (leb (length d) (g .next)) refl where
-    by : g .next < length d → ((g : Going) → length d - g .next ≤ f → g .next ≤ length d → textFrom d g ≡ true → Whole l d g) → (r : Step) → stepOf false d 2 [] g ≡ r → Whole l d g
-    by j ih (More k s) o = let x = step-on false d 2 [] g k s o in first-whole g k s o (ih k (omega (arith, x .0, x .1)) (x .1) (sym (text-next d g k s j o) ∙ e))
+    by : g .next < length d → ((g : Going) → length d - g .next ≤ f → g .next ≤ length d → textFrom d g ≡ true → Whole l d g) → (r : Step)
+        → stepOf false d 2 [] g ≡ r → Whole l d g
+    by j ih (More k s) o = let x = step-on false d 2 [] g k s o in
+        first-whole g k s o (ih k (omega (arith, x .0, x .1)) (x .1) (sym (text-next d g k s j o) ∙ e))
     by j ih (Over c) o = never l false d 2 [] (sym (text-over d g c j o) ∙ e)
 
-    side : ((g : Going) → length d - g .next ≤ f → g .next ≤ length d → textFrom d g ≡ true → Whole l d g) → (b : Bool) → leb (length d) (g .next) ≡ b → Whole l d g
+    side : ((g : Going) → length d - g .next ≤ f → g .next ≤ length d → textFrom d g ≡ true → Whole l d g) → (b : Bool)
+        → leb (length d) (g .next) ≡ b → Whole l d g
     side ih true k = at-end g (leb-true (length d) (g .next) k) i e
     side ih false k = by (leb-false (length d) (g .next) k) ih (stepOf false d 2 [] g) refl
 
   text-sound : (at : ℕ) → at ≤ length d → textOf l d at ≡ true → TextAt l d at
   unfolding textOf
-  text-sound at h e = by (whole (length d) (begun at) (omega arith) h (and-right (eqb (firstBad l d at) (length d)) (textFrom d (begun at)) e)) where
-    good : firstBad l d at ≡ length d
-    good = eqb-true (firstBad l d at) (length d) (and-left (eqb (firstBad l d at) (length d)) (textFrom d (begun at)) e)
+  text-sound at h e = by (whole (length d) (begun at) (omega arith) h
+      (and-right (eqb (firstBad l d at) (length d)) (textFrom d (begun at)) e)) where
+        good : firstBad l d at ≡ length d
+        good = eqb-true (firstBad l d at) (length d) (and-left (eqb (firstBad l d at) (length d)) (textFrom d (begun at)) e)
 
-    owed : (g : Going) → g .next ≡ length d → g .inside ≡ false → g .unknown ≡ 0 → Owed l d 2 g (length d) [] 0
-    owed g p o n = record { bytes = []; first = 0; rest = none (g .inside) o; lies = lies-none d (g .next) (length d) (sym p); unknown = sym n ∙ first-none (g .unknown) } where
-      none : (i : Bool) → i ≡ false → Rest l 2 i (g .next) [] [] 0
-      none i o = rw o (outer end)
+        owed : (g : Going) → g .next ≡ length d → g .inside ≡ false → g .unknown ≡ 0 → Owed l d 2 g (length d) [] 0
+        owed g p o n = record {
+          bytes = [];
+          first = 0;
+          rest = none (g .inside) o;
+          lies = lies-none d (g .next) (length d) (sym p);
+          unknown = sym
+              n ∙ first-none (g .unknown);
+        } where
+          none : (i : Bool) → i ≡ false → Rest l 2 i (g .next) [] [] 0
+          none i o = rw o (outer end)
 
-    to : {cs : List Sign} {b : List ℕ} {f : ℕ} → Rest l 2 false at b cs f → Lies d at (length d) b → 0 ≡ f → TextAt l d at
-    to {cs} {b} (outer t) li k =
-        let q : drop at d ≡ b = li .split ∙ ap (λ (x : List ℕ). b ++ x) (drop-length d) ∙ append-nil b in
-        record { legal = good; signs = cs; text = rw (q, k) t }
+        to : {cs : List Sign} {b : List ℕ} {f : ℕ} → Rest l 2 false at b cs f → Lies d at (length d) b → 0 ≡ f → TextAt l d at
+        to {cs} {b} (outer t) li k =
+            let q : drop at d ≡ b = li .split ∙ ap (λ (x : List ℕ). b ++ x) (drop-length d) ∙ append-nil b in
+            record { legal = good; signs = cs; text = rw (q, k) t }
 
-    by : Whole l d (begun at) → TextAt l d at
-    by x =
-        let o = goes-back l d 2 false [] (length d) 0 (x .goes) (owed (x .last) (x .end) (x .outside) (x .none)) (stop-end d (length d) (omega arith)) in
-        to (o .rest) (o .lies) (o .unknown)
+        by : Whole l d (begun at) → TextAt l d at
+        by x =
+            let o = goes-back l d 2 false [] (length d) 0 (x .goes) (owed (x .last) (x .end) (x .outside) (x .none))
+            (stop-end d (length d) (omega arith)) in
+            to (o .rest) (o .lies) (o .unknown)
 
   goes-text : {g k : Going} {cs : List Sign} → Goes l false d 2 [] g k cs → k .next ≤ length d → textFrom d g ≡ textFrom d k
   goes-text stay h = refl
-  goes-text {g} {k} (on {h = x} {s = s} e r) h = let o = step-on false d 2 [] g x s e in text-next d g x s (omega (arith, o .0, o .1)) e ∙ goes-text r h
+  goes-text {g} {k} (on {h = x} {s = s} e r) h = let o = step-on false d 2 [] g x s e in
+      text-next d g x s (omega (arith, o .0, o .1)) e ∙ goes-text r h
 
   text-complete : (at : ℕ) → at ≤ length d → TextAt l d at → textOf l d at ≡ true
   unfolding textOf
   text-complete at h t =
-      let li : Lies d at (length d) (drop at d) = record { split = sym (append-nil (drop at d)) ∙ ap (λ (x : List ℕ). drop at d ++ x) (sym (drop-length d)); place = omega (arith, length-drop at d) } in
+      let li : Lies d at (length d) (drop at d) = record {
+        split = sym (append-nil (drop at d)) ∙ ap (λ (x : List ℕ). drop at d ++ x) (sym (drop-length d));
+        place = omega
+            (arith, length-drop at d);
+      } in
       let g = text-goes l false d 2 [] (t .text) false 0 (length d) refl li (stop-end d (length d) (omega arith)) in
       let e : textFrom d (begun at) ≡ true = goes-text g (omega arith) ∙ text-end d (stand false 0 (length d)) (omega arith) in
       rw (eq-eqb (firstBad l d at) (length d) (t .legal), e)
@@ -284,4 +331,8 @@ text-exactly l d at h = (text-sound l d at h, text-complete l d at h)
 
 pub text-says : (l : Bool) (d : List ℕ) (at : ℕ) → at ≤ length d → (t : TextAt l d at) → signsFrom l d (begun at) ≡ t .signs
 text-says l d at h t =
-    text-signs l d (t .text) (record { split = sym (append-nil (drop at d)) ∙ ap (λ (x : List ℕ). drop at d ++ x) (sym (drop-length d)); place = omega (arith, length-drop at d) })
+    text-signs l d (t .text) (record {
+      split = sym (append-nil (drop at d))
+          ∙ ap (λ (x : List ℕ). drop at d ++ x) (sym (drop-length d));
+      place = omega (arith, length-drop at d);
+    })

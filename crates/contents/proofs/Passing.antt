@@ -43,13 +43,15 @@ passes-next d p i x h e =
     record {
       again = λ bad m w a u.
           x .again bad m w a u
-          ∙ content-next bad d m w (stand a u i) (stand a u (i + 1)) _ (step-byte false bad d m w (stand a u i) b h refl (eqb-false b 38 e38) (eqb-false b 60 e60) (eqb-false b 13 e13) e93);
+          ∙ content-next bad d m w (stand a u i) (stand a u (i + 1)) _
+          (step-byte false bad d m w (stand a u i) b h refl (eqb-false b 38 e38) (eqb-false b 60 e60) (eqb-false b 13 e13) e93);
       on = omega arith;
       within = omega arith;
     }
 
 -- a step behind them
-pub strides : (bad : Bool) (d : List ℕ) (m : ℕ) (w : List ℕ) (g : Going) (p : ℕ) (r : Step) → Passes d (g .next) p → stepOf bad d m w (stand (g .inside) (g .unknown) p) ≡ r → Strides bad d m w g r
+pub strides : (bad : Bool) (d : List ℕ) (m : ℕ) (w : List ℕ) (g : Going) (p : ℕ) (r : Step) → Passes d (g .next) p
+    → stepOf bad d m w (stand (g .inside) (g .unknown) p) ≡ r → Strides bad d m w g r
 strides bad d m w g p (More h s) x e =
     let k = stand (g .inside) (g .unknown) p in
     let o = step-on bad d m w k h s e in
@@ -59,18 +61,22 @@ strides bad d m w g p (Over c) x e =
     over (x .again bad m w (g .inside) (g .unknown) ∙ content-over bad d m w (stand (g .inside) (g .unknown) p) c e)
 
 -- what the stride's answer tells
-pub more-same : {bad : Bool} {d : List ℕ} {m : ℕ} {w : List ℕ} {g h : Going} {s : Said} {r : Step} → r ≡ More h s → Strides bad d m w g r → contentFrom bad d m w g ≡ contentFrom bad d m w h
+pub more-same : {bad : Bool} {d : List ℕ} {m : ℕ} {w : List ℕ} {g h : Going} {s : Said} {r : Step} → r ≡ More h s → Strides bad d m w g r
+    → contentFrom bad d m w g ≡ contentFrom bad d m w h
 more-same {h = h} e (more {h = k} x y z) = let q : k ≡ h = cc in rw (← q) x
 more-same e (over x) = let z : _≡_ {A = ℕ} 0 1 = cc in absurd (omega arith)
 
-pub more-on : {bad : Bool} {d : List ℕ} {m : ℕ} {w : List ℕ} {g h : Going} {s : Said} {r : Step} → r ≡ More h s → Strides bad d m w g r → g .next < h .next
+pub more-on : {bad : Bool} {d : List ℕ} {m : ℕ} {w : List ℕ} {g h : Going} {s : Said} {r : Step} → r ≡ More h s → Strides bad d m w g r
+    → g .next < h .next
 more-on {h = h} e (more {h = k} x y z) = let q : k ≡ h = cc in rw (← q) y
 more-on e (over x) = let z : _≡_ {A = ℕ} 0 1 = cc in absurd (omega arith)
 
-pub more-within : {bad : Bool} {d : List ℕ} {m : ℕ} {w : List ℕ} {g h : Going} {s : Said} {r : Step} → r ≡ More h s → Strides bad d m w g r → h .next ≤ length d
+pub more-within : {bad : Bool} {d : List ℕ} {m : ℕ} {w : List ℕ} {g h : Going} {s : Said} {r : Step} → r ≡ More h s → Strides bad d m w g r
+    → h .next ≤ length d
 more-within {h = h} e (more {h = k} x y z) = let q : k ≡ h = cc in rw (← q) z
 more-within e (over x) = let z : _≡_ {A = ℕ} 0 1 = cc in absurd (omega arith)
 
-pub over-is : {bad : Bool} {d : List ℕ} {m : ℕ} {w : List ℕ} {g : Going} {c : Content} {r : Step} → r ≡ Over c → Strides bad d m w g r → contentFrom bad d m w g ≡ c
+pub over-is : {bad : Bool} {d : List ℕ} {m : ℕ} {w : List ℕ} {g : Going} {c : Content} {r : Step} → r ≡ Over c → Strides bad d m w g r
+    → contentFrom bad d m w g ≡ c
 over-is e (more x y z) = let z : _≡_ {A = ℕ} 0 1 = cc in absurd (omega arith)
 over-is {c = c} e (over {c = k} x) = let q : k ≡ c = cc in x ∙ q

@@ -13,7 +13,8 @@ use Rattle.utf.proofs.Strides.{drop-1}
 use Rattle.contents.specs.rule.Grammar.{bytesOf, byteOf}
 use Rattle.contents.specs.rule.Step.{stepOf}
 use Rattle.contents.specs.rule.Content.{signsOf, signsFrom, goingOf, signsAt}
-use Rattle.contents.specs.Told.{heardSigns, heardNext, heardCode, Hears, partSigns, partNext, partCode, Tells, wholePart, firstPart, nextPart, bytePart}
+use Rattle.contents.specs.Told.{heardSigns, heardNext, heardCode, Hears, partSigns, partNext, partCode, Tells, wholePart, firstPart}
+use Rattle.contents.specs.Told.{nextPart, bytePart}
 use Rattle.contents.specs.declared.Going.{Going}
 use Rattle.contents.specs.declared.Cursor.{Cursor}
 use Rattle.contents.specs.declared.Said.{Said}
@@ -43,7 +44,12 @@ module _ (d : List ℕ) (g h : Going) (s : Said) (e : stepOf false d 2 [] g ≡ 
 
   pub hear-code : (c : ℕ) → s ≡ said.Code c → Hears d g (heard.Code c h)
   unfolding signsOf
-  hear-code c f = record { signs = λ l. signs-next l d g h s e ∙ rw f; next = step-on false d 2 [] g h s e .1; small = omega (arith, ap codeOf f, step-small false false d 2 [] g h s e) }
+  hear-code c f = record {
+    signs = λ l. signs-next l d g h s e
+        ∙ rw f;
+    next = step-on false d 2 [] g h s e .1;
+    small = omega (arith, ap codeOf f, step-small false false d 2 [] g h s e);
+  }
 
 pub hear-over : (d : List ℕ) (g : Going) (c : Content) → stepOf false d 2 [] g ≡ Over c → Hears d g heard.Over
 hear-over d g c e = record { signs = λ l. signs-over l d g c e; next = omega arith; small = omega arith }
@@ -87,9 +93,15 @@ first-signs : (l : Bool) (d : List ℕ) (c : ℕ) (g : Going) → bytesOf (encod
 unfolding signsAt bytesOf
 first-signs l d c g = ap (λ (t : List ℕ). bytesOf t ++ signsFrom l d g) (drop-1 (encode c) 0 (encode-some c))
 
-pub tell-next : (l : Bool) (d : List ℕ) (c : Cursor) → c .said < length (encode (c .code)) → c .next ≤ length d → c .code < 2097152 → Tells l d c (nextPart c)
+pub tell-next : (l : Bool) (d : List ℕ) (c : Cursor) → c .said < length (encode (c .code)) → c .next ≤ length d → c .code < 2097152
+    → Tells l d c (nextPart c)
 unfolding signsAt bytesOf
-tell-next l d c h n k = record { signs = ap (λ (t : List ℕ). bytesOf t ++ signsFrom l d (goingOf c)) (drop-1 (encode (c .code)) (c .said) h); next = n; small = k }
+tell-next l d c h n k = record {
+  signs = ap (λ (t : List ℕ). bytesOf t ++ signsFrom l d (goingOf c))
+      (drop-1 (encode (c .code)) (c .said) h);
+  next = n;
+  small = k;
+}
 
 over-signs : (l : Bool) (d : List ℕ) (c : Cursor) → length (encode (c .code)) ≤ c .said → signsAt l d c ≡ signsFrom l d (goingOf c)
 unfolding signsAt bytesOf
@@ -97,7 +109,12 @@ over-signs l d c h = rw (drop-of-length-le (encode (c .code)) h)
 
 module _ (l : Bool) (d : List ℕ) (c : Cursor) (h : length (encode (c .code)) ≤ c .said) where
   pub tell-break : (g : Going) → Hears d (goingOf c) (heard.Break g) → Tells l d c (wholePart sign.Break g)
-  tell-break g x = record { signs = over-signs l d c h ∙ x .signs l ∙ sym (whole-signs l d sign.Break g); next = x .next; small = omega arith }
+  tell-break g x = record {
+    signs = over-signs l d c h ∙ x .signs l
+        ∙ sym (whole-signs l d sign.Break g);
+    next = x .next;
+    small = omega arith;
+  }
 
   pub tell-code : (b : ℕ) (g : Going) → Hears d (goingOf c) (heard.Code b g) → Tells l d c (firstPart b g)
   tell-code b g x = record { signs = over-signs l d c h ∙ x .signs l ∙ first-signs l d b g; next = x .next; small = x .small }
@@ -110,7 +127,8 @@ module _ (l : Bool) (d : List ℕ) (c : Cursor) (h : length (encode (c .code)) �
   byte-next true b g = refl
   byte-next false b g = refl
 
-  pub tell-byte : (b : ℕ) (g : Going) → Hears d (goingOf c) (heard.Byte b g) → partCode (bytePart l b g) ≤ 255 → Tells l d c (bytePart l b g)
+  pub tell-byte : (b : ℕ) (g : Going) → Hears d (goingOf c) (heard.Byte b g) → partCode (bytePart l b g) ≤ 255
+      → Tells l d c (bytePart l b g)
   tell-byte b g x s =
       let n = x .next in
       record { signs = over-signs l d c h ∙ x .signs l ∙ byte-signs l b g; next = omega (arith, byte-next l b g); small = omega arith }

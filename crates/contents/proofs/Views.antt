@@ -41,7 +41,8 @@ use Rattle.pairs.proofs.Given.{first-none}
 use Rattle.pairs.proofs.Tags.{TagSaid, tag-sound}
 use Rattle.pairs.proofs.Ends.{EndAt, ends-sound, PairAt, pair-sound}
 use Rattle.contents.specs.rule.Grammar.{br, text, lang, bytesOf, byteOf, Piece, plain, line, return, refer, note, alone, pair, unsaid}
-use Rattle.contents.specs.rule.Step.{heardOf, goOn, brokenAt, cutAt, bracketAt, returnAt, onChar, referAt, onNote, noteAt, knowing, onPair, pairAt, onBreak, breakAt, onLanguage, languageAt, onOther, otherAt}
+use Rattle.contents.specs.rule.Step.{heardOf, goOn, brokenAt, cutAt, bracketAt, returnAt, onChar, referAt, onNote, noteAt, knowing}
+use Rattle.contents.specs.rule.Step.{onPair, pairAt, onBreak, breakAt, onLanguage, languageAt, onOther, otherAt}
 use Rattle.contents.specs.rule.Step.{modeIn, kindOf, startAt, onOut, onEnd, closeAt, onAngle, markAt, stepOf}
 use Rattle.contents.specs.rule.Content.{signsOf}
 use Rattle.contents.specs.declared.Going.{Going}
@@ -68,7 +69,8 @@ and-no : (b : Bool) → (b && false) ≡ false
 and-no true = refl
 and-no false = refl
 
-pub bracket-same : (b : ℕ) (t : List ℕ) {r : List ℕ} → Stop r → stands (93 ∷ 93 ∷ 62 ∷ []) (b ∷ (t ++ r)) ≡ stands (93 ∷ 93 ∷ 62 ∷ []) (b ∷ t)
+pub bracket-same : (b : ℕ) (t : List ℕ) {r : List ℕ} → Stop r → stands (93 ∷ 93 ∷ 62 ∷ []) (b ∷ (t ++ r))
+    ≡ stands (93 ∷ 93 ∷ 62 ∷ []) (b ∷ t)
 unfolding stands
 bracket-same b [] nothing = refl
 bracket-same b [] mark = refl
@@ -96,7 +98,14 @@ codeOf (said.Code c) = c
 illegal : (c : ℕ) → 2097152 ≤ c → legal c ≡ false
 unfolding legal
 illegal c h =
-    rw (le-leb 32 c (omega arith), lt-leb c 55295 (omega arith), le-leb 57344 c (omega arith), lt-leb c 65533 (omega arith), le-leb 65536 c (omega arith), lt-leb c 1114111 (omega arith))
+    rw (
+      le-leb 32 c (omega arith),
+      lt-leb c 55295 (omega arith),
+      le-leb 57344 c (omega arith),
+      lt-leb c 65533 (omega arith),
+      le-leb 65536 c (omega arith),
+      lt-leb c 1114111 (omega arith),
+    )
     (rw (ne-eqb c 9 (λ e. omega arith), ne-eqb c 10 (λ e. omega arith), ne-eqb c 13 (λ e. omega arith)))
 
 legal-small : (c : ℕ) → legal c ≡ true → c < 2097152
@@ -128,7 +137,8 @@ module _ (l : Bool) (d : List ℕ) (m : ℕ) (w : List ℕ) where
     pub unknown : h .unknown ≡ firstOf (g .unknown) first
     pub says : s ≡ heardOf (g .inside) said
     pub small : codeOf said < 2097152
-    pub piece : (t r : List ℕ) → drop (h .next) d ≡ t ++ r → Stop r → Piece l (modeIn m (g .inside)) (g .next) bytes t (signsOf l said) first
+    pub piece : (t r : List ℕ) → drop (h .next) d ≡ t ++ r → Stop r
+        → Piece l (modeIn m (g .inside)) (g .next) bytes t (signsOf l said) first
 
   -- into a text in another language
   pub record Entered (g h : Going) (s : Said) : Type 0 where
@@ -172,7 +182,8 @@ module _ (l : Bool) (d : List ℕ) (m : ℕ) (w : List ℕ) where
 
 module _ (l bad : Bool) (d : List ℕ) (m : ℕ) (w : List ℕ) where
   over : (g : Going) (n : ℕ) (s : Said) (u : List ℕ) → Lies d (g .next) n u → 0 < length u → g .next ≤ length d → codeOf s < 2097152
-      → ((t r : List ℕ) → drop n d ≡ t ++ r → Stop r → Piece l (modeIn m (g .inside)) (g .next) u t (signsOf l s) 0) → View l d m w g (goOn g n s)
+      → ((t r : List ℕ) → drop n d ≡ t ++ r → Stop r → Piece l (modeIn m (g .inside)) (g .next) u t (signsOf l s) 0)
+      → View l d m w g (goOn g n s)
   over g n s u li so h sm pc = passed (record {
     bytes = u;
     first = 0;
@@ -191,26 +202,33 @@ module _ (l bad : Bool) (d : List ℕ) (m : ℕ) (w : List ℕ) where
   bracket-view : (g : Going) → g .next < length d → getD d (g .next) 0 ≡ 93 → View l d m w g (bracketAt d g)
   unfolding bracketAt signsOf
   bracket-view g h b = by (stands (93 ∷ 93 ∷ 62 ∷ []) (drop (g .next) d)) refl where
-    none : stands (93 ∷ 93 ∷ 62 ∷ []) (drop (g .next) d) ≡ false → (t r : List ℕ) → drop (g .next + 1) d ≡ t ++ r → Stop r → stands (93 ∷ 93 ∷ 62 ∷ []) (93 ∷ t) ≡ false
+    none : stands (93 ∷ 93 ∷ 62 ∷ []) (drop (g .next) d) ≡ false → (t r : List ℕ) → drop (g .next + 1) d ≡ t ++ r → Stop r
+        → stands (93 ∷ 93 ∷ 62 ∷ []) (93 ∷ t) ≡ false
     none e t r f o = sym (bracket-same 93 t o) ∙ ap (stands (93 ∷ 93 ∷ 62 ∷ [])) (sym (drop-1 d (g .next) h ∙ rw (b, f))) ∙ e
 
-    by : (q : Bool) → stands (93 ∷ 93 ∷ 62 ∷ []) (drop (g .next) d) ≡ q → View l d m w g (cond q (brokenAt (g .next)) (goOn g (g .next + 1) (said.Byte 93)))
+    by : (q : Bool) → stands (93 ∷ 93 ∷ 62 ∷ []) (drop (g .next) d) ≡ q
+        → View l d m w g (cond q (brokenAt (g .next)) (goOn g (g .next + 1) (said.Byte 93)))
     by true e = fault
     by false e =
-        over g (g .next + 1) (said.Byte 93) (93 ∷ []) (lies-byte d (g .next) (g .next + 1) 93 h b refl) (omega arith) (omega arith) (omega arith)
+        over g (g .next + 1) (said.Byte 93) (93 ∷ []) (lies-byte d (g .next) (g .next + 1) 93 h b refl) (omega arith) (omega arith)
+        (omega arith)
         (λ t r f o. plain (λ x. omega arith) (λ x. omega arith) (λ x. omega arith) (none e t r f o))
 
   return-view : (g : Going) → g .next < length d → getD d (g .next) 0 ≡ 13 → View l d m w g (returnAt d g)
   unfolding returnAt signsOf
   return-view g h b = by (stands (10 ∷ []) (drop (g .next + 1) d)) refl where
-    same : (q : Bool) → stands (10 ∷ []) (drop (g .next + 1) d) ≡ q → (t r : List ℕ) → drop (g .next + 1) d ≡ t ++ r → Stop r → stands (10 ∷ []) t ≡ q
+    same : (q : Bool) → stands (10 ∷ []) (drop (g .next + 1) d) ≡ q → (t r : List ℕ) → drop (g .next + 1) d ≡ t ++ r → Stop r
+        → stands (10 ∷ []) t ≡ q
     same q e t r f o = sym (line-same t o) ∙ ap (stands (10 ∷ [])) (sym f) ∙ e
 
-    by : (q : Bool) → stands (10 ∷ []) (drop (g .next + 1) d) ≡ q → View l d m w g (goOn g (g .next + 1) (cond q said.Nothing (said.Byte 10)))
+    by : (q : Bool) → stands (10 ∷ []) (drop (g .next + 1) d) ≡ q
+        → View l d m w g (goOn g (g .next + 1) (cond q said.Nothing (said.Byte 10)))
     by true e =
-        over g (g .next + 1) said.Nothing (13 ∷ []) (lies-byte d (g .next) (g .next + 1) 13 h b refl) (omega arith) (omega arith) (omega arith) (λ t r f o. line (same true e t r f o))
+        over g (g .next + 1) said.Nothing (13 ∷ []) (lies-byte d (g .next) (g .next + 1) 13 h b refl) (omega arith) (omega arith)
+        (omega arith) (λ t r f o. line (same true e t r f o))
     by false e =
-        over g (g .next + 1) (said.Byte 10) (13 ∷ []) (lies-byte d (g .next) (g .next + 1) 13 h b refl) (omega arith) (omega arith) (omega arith) (λ t r f o. ten (same false e t r f o)) where
+        over g (g .next + 1) (said.Byte 10) (13 ∷ []) (lies-byte d (g .next) (g .next + 1) 13 h b refl) (omega arith) (omega arith)
+        (omega arith) (λ t r f o. ten (same false e t r f o)) where
           ten : {k p : ℕ} {t : List ℕ} → stands (10 ∷ []) t ≡ false → Piece l k p (13 ∷ []) t (byteOf l 10) 0
           ten e = rw (byte-ten l) (return e)
 
@@ -223,7 +241,8 @@ module _ (l bad : Bool) (d : List ℕ) (m : ℕ) (w : List ℕ) where
         let r = reference-sound (g .next) c n (drop (g .next + 1) d) e in
         let k = r .place in
         let x = split-lies d (g .next + 1) n (r .bytes) (r .rest) (r .split) k in
-        over g n (said.Code c) (38 ∷ r .bytes) (lies-join (lies-byte d (g .next) (g .next + 1) 38 h b refl) x) (omega arith) (omega arith) (ref-small (r .ref)) (λ t s f z. refer (r .ref))
+        over g n (said.Code c) (38 ∷ r .bytes) (lies-join (lies-byte d (g .next) (g .next + 1) 38 h b refl) x) (omega arith) (omega arith)
+        (ref-small (r .ref)) (λ t s f z. refer (r .ref))
 
   -- ---- comments
   note-view : (g : Going) → g .next < length d → stands (60 ∷ 33 ∷ 45 ∷ 45 ∷ []) (drop (g .next) d) ≡ true → View l d m w g (noteAt bad d g)
@@ -237,7 +256,8 @@ module _ (l bad : Bool) (d : List ℕ) (m : ℕ) (w : List ℕ) where
         let r = comment-sound bad (g .next) (g .next + 4) n (drop (g .next + 4) d) f in
         let k = r .place in
         let z = split-lies d (g .next + 4) n (r .bytes) (r .rest) (r .split) k in
-        over g n said.Nothing (60 ∷ 33 ∷ 45 ∷ 45 ∷ r .bytes) (lies-join y z) (omega arith) (omega arith) (omega arith) (λ t s i z. note (r .note))
+        over g n said.Nothing (60 ∷ 33 ∷ 45 ∷ 45 ∷ r .bytes) (lies-join y z) (omega arith) (omega arith) (omega arith)
+        (λ t s i z. note (r .note))
 
   -- ---- breaks
   abbrev within : Going → ℕ
@@ -274,12 +294,14 @@ module _ (l bad : Bool) (d : List ℕ) (m : ℕ) (w : List ℕ) where
     by (pairs.Past x) f =
         let p = pair-sound bad d br n x f in
         let k : e ≡ g .next + 3 = li .place in
-        tagged g x (h .unknown) said.Break (60 ∷ (br ++ (t .bytes ++ p .bytes))) (lies-join li (lies-join (t .lies) (p .lies))) (omega arith) (omega arith) (omega arith)
+        tagged g x (h .unknown) said.Break (60 ∷ (br ++ (t .bytes ++ p .bytes))) (lies-join li (lies-join (t .lies) (p .lies)))
+        (omega arith) (omega arith) (omega arith)
         (λ s. pair o (at-place k (t .behind)) (p .empties))
     by (pairs.Cut p) f = cut
     by (pairs.Fault k p) f = fault
 
-  break-view : (g : Going) (e : ℕ) → g .next < length d → Lies d (g .next) e (60 ∷ br) → leb 1 (within g) ≡ true → View l d m w g (breakAt bad d g e)
+  break-view : (g : Going) (e : ℕ) → g .next < length d → Lies d (g .next) e (60 ∷ br) → leb 1 (within g) ≡ true
+      → View l d m w g (breakAt bad d g e)
   unfolding breakAt signsOf
   break-view g e i li o = by (bareOf bad d (g .next) e) refl where
     by : (t : Tag) → bareOf bad d (g .next) e ≡ t → View l d m w g (onBreak bad d g t)
@@ -287,7 +309,8 @@ module _ (l bad : Bool) (d : List ℕ) (m : ℕ) (w : List ℕ) where
     by (tag.Read h true q n) f =
         let t = tag-sound bad [] d (g .next) e 0 h true q n f in
         let k : e ≡ g .next + 3 = li .place in
-        tagged g n (h .unknown) said.Break (60 ∷ (br ++ t .bytes)) (lies-join li (t .lies)) (omega arith) (omega arith) (omega arith) (λ s. alone o (at-place k (t .behind)))
+        tagged g n (h .unknown) said.Break (60 ∷ (br ++ t .bytes)) (lies-join li (t .lies)) (omega arith) (omega arith) (omega arith)
+        (λ s. alone o (at-place k (t .behind)))
     by (tag.Read h false q n) f = pair-view g e n h q i li o f
 
   -- ---- texts in other languages
@@ -295,7 +318,8 @@ module _ (l bad : Bool) (d : List ℕ) (m : ℕ) (w : List ℕ) where
   outside x true e = let z : _≡_ {A = ℕ} 0 1 = cc in absurd (omega arith)
   outside x false e = (refl, e)
 
-  language-view : (g : Going) (e : ℕ) → g .next < length d → Lies d (g .next) e (60 ∷ text) → eqb (within g) 2 ≡ true → View l d m w g (languageAt bad d g e)
+  language-view : (g : Going) (e : ℕ) → g .next < length d → Lies d (g .next) e (60 ∷ text) → eqb (within g) 2 ≡ true
+      → View l d m w g (languageAt bad d g e)
   unfolding languageAt signsOf
   language-view g e i li o = by (tagOf bad d (g .next) e lang [] [] 0 0 0 1) refl where
     out : (g .inside ≡ false) × (eqb m 2 ≡ true)
@@ -304,7 +328,8 @@ module _ (l bad : Bool) (d : List ℕ) (m : ℕ) (w : List ℕ) where
     k : e ≡ g .next + 5
     k = li .place
 
-    given : {s : List ℕ} {em b : Bool} {p a : ℕ} → b ≡ true → p ≡ g .next + 5 → Behind lang em p s b a → Behind lang em (g .next + 5) s true a
+    given : {s : List ℕ} {em b : Bool} {p a : ℕ} → b ≡ true → p ≡ g .next + 5 → Behind lang em p s b a
+        → Behind lang em (g .next + 5) s true a
     given f h x = rw (← f, ← h) x
 
     by : (t : Tag) → tagOf bad d (g .next) e lang [] [] 0 0 0 1 ≡ t → View l d m w g (onLanguage g t)
@@ -348,27 +373,35 @@ module _ (l bad : Bool) (d : List ℕ) (m : ℕ) (w : List ℕ) where
     by (tag.Read h em q n) = cut
     by (tag.Fault k p) = fault
 
-  start-view : (g : Going) (e : ℕ) → g .next < length d → getD d (g .next) 0 ≡ 60 → angleOf bad d (g .next) ≡ angle.Start e → View l d m w g (startAt bad d m g e)
+  start-view : (g : Going) (e : ℕ) → g .next < length d → getD d (g .next) 0 ≡ 60 → angleOf bad d (g .next) ≡ angle.Start e
+      → View l d m w g (startAt bad d m g e)
   unfolding startAt kindOf
-  start-view g e i b a = by (leb 1 (within g) && isNamed d (g .next + 1) e br) (eqb (within g) 2 && isNamed d (g .next + 1) e text) refl refl where
-    long : g .next + 1 < e
-    long = name-long (angle-start bad d (g .next) e a) .0
+  start-view g e i b a = by (leb 1 (within g) && isNamed d (g .next + 1) e br) (eqb (within g) 2 && isNamed d (g .next + 1) e text) refl
+      refl where
+        long : g .next + 1 < e
+        long = name-long (angle-start bad d (g .next) e a) .0
 
-    named : (n : List ℕ) → isNamed d (g .next + 1) e n ≡ true → Lies d (g .next) e (60 ∷ n)
-    named n f = let x = long in lies-join (lies-byte d (g .next) (g .next + 1) 60 i b refl) (named-lies d (g .next + 1) e n (omega arith) f)
+        named : (n : List ℕ) → isNamed d (g .next + 1) e n ≡ true → Lies d (g .next) e (60 ∷ n)
+        named n f = let x = long in lies-join (lies-byte d (g .next) (g .next + 1) 60 i b refl)
+            (named-lies d (g .next + 1) e n (omega arith) f)
 
-    by : (x y : Bool) → (leb 1 (within g) && isNamed d (g .next + 1) e br) ≡ x → (eqb (within g) 2 && isNamed d (g .next + 1) e text) ≡ y
-        → View l d m w g (cond (eqb (cond x 1 (cond y 2 0)) 1) (breakAt bad d g e) (cond (eqb (cond x 1 (cond y 2 0)) 2) (languageAt bad d g e) (otherAt bad d g e)))
-    by true y f h =
-        break-view g e i (named br (and-right (leb 1 (within g)) (isNamed d (g .next + 1) e br) f)) (and-left (leb 1 (within g)) (isNamed d (g .next + 1) e br) f)
-    by false true f h =
-        language-view g e i (named text (and-right (eqb (within g) 2) (isNamed d (g .next + 1) e text) h)) (and-left (eqb (within g) 2) (isNamed d (g .next + 1) e text) h)
-    by false false f h = other-view g e
+        by : (x y : Bool) → (leb 1 (within g) && isNamed d (g .next + 1) e br) ≡ x → (eqb (within g) 2 && isNamed d (g .next + 1) e text)
+            ≡ y
+            → View l d m w g (cond (eqb (cond x 1 (cond y 2 0)) 1) (breakAt bad d g e)
+            (cond (eqb (cond x 1 (cond y 2 0)) 2) (languageAt bad d g e) (otherAt bad d g e)))
+        by true y f h =
+            break-view g e i (named br (and-right (leb 1 (within g)) (isNamed d (g .next + 1) e br) f))
+            (and-left (leb 1 (within g)) (isNamed d (g .next + 1) e br) f)
+        by false true f h =
+            language-view g e i (named text (and-right (eqb (within g) 2) (isNamed d (g .next + 1) e text) h))
+            (and-left (eqb (within g) 2) (isNamed d (g .next + 1) e text) h)
+        by false false f h = other-view g e
 
   ends-some : {t : List ℕ} → Ends text t → 0 < length t
   ends-some (ends x) = omega arith
 
-  close-view : (g : Going) (e : ℕ) → g .next < length d → getD d (g .next) 0 ≡ 60 → angleOf bad d (g .next) ≡ angle.Close e → View l d m w g (closeAt bad d w g e)
+  close-view : (g : Going) (e : ℕ) → g .next < length d → getD d (g .next) 0 ≡ 60 → angleOf bad d (g .next) ≡ angle.Close e
+      → View l d m w g (closeAt bad d w g e)
   unfolding closeAt
   close-view g e i b a = by (g .inside) refl where
     out : (k : Skip) → g .inside ≡ true → shutOf bad d (g .next) e text ≡ k → View l d m w g (onOut g k)
@@ -391,7 +424,8 @@ module _ (l bad : Bool) (d : List ℕ) (m : ℕ) (w : List ℕ) where
     shut (skip.Past n) h f = read (record { outside = h; place = refl; unknown = refl; ends = ends-sound bad d w (g .next) e n i b a f })
     shut (skip.Broken p) h f = fault
 
-    by : (q : Bool) → g .inside ≡ q → View l d m w g (cond q (onOut g (shutOf bad d (g .next) e text)) (onEnd g (shutOf bad d (g .next) e w)))
+    by : (q : Bool) → g .inside ≡ q → View l d m w g
+        (cond q (onOut g (shutOf bad d (g .next) e text)) (onEnd g (shutOf bad d (g .next) e w)))
     by true h = out (shutOf bad d (g .next) e text) h refl
     by false h = shut (shutOf bad d (g .next) e w) h refl
 
@@ -404,32 +438,42 @@ module _ (l bad : Bool) (d : List ℕ) (m : ℕ) (w : List ℕ) where
     opens angle.Foreign f = cut
     opens (angle.Broken p) f = fault
 
-    by : (q : Bool) → stands (60 ∷ 33 ∷ 45 ∷ 45 ∷ []) (drop (g .next) d) ≡ q → View l d m w g (cond q (noteAt bad d g) (onAngle bad d m w g (angleOf bad d (g .next))))
+    by : (q : Bool) → stands (60 ∷ 33 ∷ 45 ∷ 45 ∷ []) (drop (g .next) d) ≡ q
+        → View l d m w g (cond q (noteAt bad d g) (onAngle bad d m w g (angleOf bad d (g .next))))
     by true f = note-view g i f
     by false f = opens (angleOf bad d (g .next)) refl
 
   -- ---- the step
   pub step-view : (g : Going) → View l d m w g (stepOf bad d m w g)
   unfolding stepOf signsOf
-  step-view g = by (leb (length d) (g .next)) (eqb (getD d (g .next) 0) 60) (eqb (getD d (g .next) 0) 38) (eqb (getD d (g .next) 0) 93) (eqb (getD d (g .next) 0) 13) refl refl refl refl refl where
-    by : (v x y z q : Bool) → leb (length d) (g .next) ≡ v → eqb (getD d (g .next) 0) 60 ≡ x → eqb (getD d (g .next) 0) 38 ≡ y → eqb (getD d (g .next) 0) 93 ≡ z → eqb (getD d (g .next) 0) 13 ≡ q
-        → View l d m w g (cond v (brokenAt (g .next)) (cond x (markAt bad d m w g) (cond y (referAt d g) (cond z (bracketAt d g) (cond q (returnAt d g) (goOn g (g .next + 1) (said.Byte (getD d (g .next) 0))))))))
-    by true x y z q h1 h2 h3 h4 h5 = fault
-    by false true y z q h1 h2 h3 h4 h5 = mark-view g (leb-false (length d) (g .next) h1) (eqb-true (getD d (g .next) 0) 60 h2)
-    by false false true z q h1 h2 h3 h4 h5 = refer-view g (leb-false (length d) (g .next) h1) (eqb-true (getD d (g .next) 0) 38 h3)
-    by false false false true q h1 h2 h3 h4 h5 = bracket-view g (leb-false (length d) (g .next) h1) (eqb-true (getD d (g .next) 0) 93 h4)
-    by false false false false true h1 h2 h3 h4 h5 = return-view g (leb-false (length d) (g .next) h1) (eqb-true (getD d (g .next) 0) 13 h5)
-    by false false false false false h1 h2 h3 h4 h5 =
-        let i = leb-false (length d) (g .next) h1 in
-        over g (g .next + 1) (said.Byte (getD d (g .next) 0)) (getD d (g .next) 0 ∷ []) (lies-byte d (g .next) (g .next + 1) (getD d (g .next) 0) i refl refl) (omega arith) (omega arith) (omega arith)
-        (λ t r f o. plain (eqb-false (getD d (g .next) 0) 38 h3) (eqb-false (getD d (g .next) 0) 60 h2) (eqb-false (getD d (g .next) 0) 13 h5) (no-bracket (getD d (g .next) 0) t (eqb-false (getD d (g .next) 0) 93 h4)))
+  step-view g = by (leb (length d) (g .next)) (eqb (getD d (g .next) 0) 60) (eqb (getD d (g .next) 0) 38) (eqb (getD d (g .next) 0) 93)
+      (eqb (getD d (g .next) 0) 13) refl refl refl refl refl where
+        by : (v x y z q : Bool) → leb (length d) (g .next) ≡ v → eqb (getD d (g .next) 0) 60 ≡ x → eqb (getD d (g .next) 0) 38 ≡ y
+            → eqb (getD d (g .next) 0) 93 ≡ z → eqb (getD d (g .next) 0) 13 ≡ q
+            → View l d m w g (cond v (brokenAt (g .next))
+            (cond x (markAt bad d m w g) (cond y (referAt d g)
+            (cond z (bracketAt d g) (cond q (returnAt d g) (goOn g (g .next + 1) (said.Byte (getD d (g .next) 0))))))))
+        by true x y z q h1 h2 h3 h4 h5 = fault
+        by false true y z q h1 h2 h3 h4 h5 = mark-view g (leb-false (length d) (g .next) h1) (eqb-true (getD d (g .next) 0) 60 h2)
+        by false false true z q h1 h2 h3 h4 h5 = refer-view g (leb-false (length d) (g .next) h1) (eqb-true (getD d (g .next) 0) 38 h3)
+        by false false false true q h1 h2 h3 h4 h5 = bracket-view g (leb-false (length d) (g .next) h1)
+            (eqb-true (getD d (g .next) 0) 93 h4)
+        by false false false false true h1 h2 h3 h4 h5 = return-view g (leb-false (length d) (g .next) h1)
+            (eqb-true (getD d (g .next) 0) 13 h5)
+        by false false false false false h1 h2 h3 h4 h5 =
+            let i = leb-false (length d) (g .next) h1 in
+            over g (g .next + 1) (said.Byte (getD d (g .next) 0)) (getD d (g .next) 0 ∷ [])
+            (lies-byte d (g .next) (g .next + 1) (getD d (g .next) 0) i refl refl) (omega arith) (omega arith) (omega arith)
+            (λ t r f o. plain (eqb-false (getD d (g .next) 0) 38 h3) (eqb-false (getD d (g .next) 0) 60 h2)
+            (eqb-false (getD d (g .next) 0) 13 h5) (no-bracket (getD d (g .next) 0) t (eqb-false (getD d (g .next) 0) 93 h4)))
 
   heard-code : (i : Bool) (s : Said) → codeOf (heardOf i s) ≤ codeOf s
   heard-code true s = omega arith
   heard-code false s = omega arith
 
   view-small : (g h : Going) (s : Said) → View l d m w g (More h s) → codeOf s < 2097152
-  view-small g h s (passed p) = let e = p .says in let x = p .small in let y = heard-code (g .inside) (p .said) in omega (arith, ap codeOf e)
+  view-small g h s (passed p) = let e = p .says in let x = p .small in let y = heard-code (g .inside) (p .said) in
+      omega (arith, ap codeOf e)
   view-small g h s (entered p) = let e = p .says in omega (arith, ap codeOf e)
   view-small g h s (left p) = let e = p .says in omega (arith, ap codeOf e)
 

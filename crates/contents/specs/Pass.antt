@@ -19,11 +19,13 @@ plainOf b = not (eqb b 60) && (not (eqb b 38) && (not (eqb b 93) && not (eqb b 1
 -- from p on r may be gone on from, whatever the text and wherever in it
 pub record Passes (d : List ℕ) (p r : ℕ) : Type 0 where
   pub again : (bad : Bool) (m : ℕ) (w : List ℕ) (inside : Bool) (unknown : ℕ)
-      → contentFrom bad d m w (record { inside = inside; unknown = unknown; next = p }) ≡ contentFrom bad d m w (record { inside = inside; unknown = unknown; next = r })
+      → contentFrom bad d m w (record { inside = inside; unknown = unknown; next = p })
+      ≡ contentFrom bad d m w (record { inside = inside; unknown = unknown; next = r })
   pub on : p ≤ r
   pub within : r ≤ length d
 
 -- what such bytes and the step behind them come to
 pub data Strides (bad : Bool) (d : List ℕ) (m : ℕ) (w : List ℕ) (g : Going) : Step → Type 0 where
-  more : {h : Going} {s : Said} → contentFrom bad d m w g ≡ contentFrom bad d m w h → g .next < h .next → h .next ≤ length d → Strides bad d m w g (More h s)
+  more : {h : Going} {s : Said} → contentFrom bad d m w g ≡ contentFrom bad d m w h → g .next < h .next → h .next ≤ length d
+      → Strides bad d m w g (More h s)
   over : {c : Content} → contentFrom bad d m w g ≡ c → Strides bad d m w g (Over c)

@@ -334,7 +334,8 @@ fn is_plain(b: u8) -> bool
     (b != 60) & ((b != 38) & ((b != 93) & (b != 13)))
 }
 
-// The place after the bytes from a place on that say themselves: most of a text is such bytes, and a step each would cost ten times as much.
+// The place after the bytes from a place on that say themselves: most of a text is such bytes, and a step each would cost ten times as
+// much.
 fn pass_plain(d: &[u8], at: usize) -> usize
     requires { ⌜ at ≤ length (now d) ⌝ }
     ensures { λ r. ⌜ Passes (now (d .entry)) at r ⌝ }

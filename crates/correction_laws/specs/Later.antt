@@ -1,4 +1,5 @@
--- "The same row twice is allowed and the later accepted one counts": the last accepted correction of a row reads back, where no accepted one
+-- "The same row twice is allowed and the later accepted one counts": the last accepted correction of a row reads back, where no accepted
+-- one
 -- after it touches one of its value places.
 use mathlib.Core.Path.{_≡_, refl, sym, ap, _∙_}
 use mathlib.Core.Bool.{Bool, true, false, cond}

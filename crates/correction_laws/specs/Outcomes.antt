@@ -28,7 +28,8 @@ use Rattle.corrections.specs.rule.Correction.{markOf, wholeRefusal, ListCorrect
 use Rattle.corrections.specs.Truth.{kindNumber, kind-number}
 use Rattle.corrections.specs.Correction.{Admitted, admitted}
 use Rattle.correction_laws.specs.rule.Outcomes.{ListOutcome, not-formed, too-short, taken}
-use Rattle.correction_laws.specs.rule.Outcomes.{MarkOutcome, no-row, other-type, not-legal, done, truth-elsewhere, no-legal-truth, other-kind}
+use Rattle.correction_laws.specs.rule.Outcomes.{MarkOutcome, no-row, other-type, not-legal, done, truth-elsewhere, no-legal-truth}
+use Rattle.correction_laws.specs.rule.Outcomes.{other-kind}
 
 -- ---- the whole call
 whole-named : (t : List ℤ) (n : ℕ) → ListOutcome t n (wholeRefusal t n)

@@ -1,4 +1,5 @@
--- What the promise of the call gives: single writes in list order, marks that depend on nothing else, a list that is kept but for its marks,
+-- What the promise of the call gives: single writes in list order, marks that depend on nothing else, a list that is kept but for its
+-- marks,
 -- and a refusal that keeps all. One outcome: `list-told-one` (zarfolin/specs/Settled).
 use mathlib.Core.Path.{_≡_, refl, sym, ap, _∙_}
 use mathlib.Core.Bool.{Bool, true, false, cond}

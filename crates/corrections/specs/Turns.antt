@@ -35,13 +35,15 @@ pub record State (t : List ℤ) (xs : List Correction) (ss : List ℕ) : Type 0 
   pub bytes : writtenAll t (drop i ys) zs ≡ writtenAll t xs ss
   pub still : i ≡ 0 → (ys ≡ xs) × (zs ≡ ss)
 
-pub marks-on : (t : List ℤ) (i : ℕ) (ys : List Correction) (zs : List ℕ) (r : Correction) (ws : List ℕ) → i < length ys → r ≡ corrected t zs (getD ys i blank) → ws ≡ writtenBy t zs (getD ys i blank)
+pub marks-on : (t : List ℤ) (i : ℕ) (ys : List Correction) (zs : List ℕ) (r : Correction) (ws : List ℕ) → i < length ys → r
+    ≡ corrected t zs (getD ys i blank) → ws ≡ writtenBy t zs (getD ys i blank)
     → take (i + 1) (set ys i r) ++ correctedAll t (drop (i + 1) (set ys i r)) ws ≡ take i ys ++ correctedAll t (drop i ys) zs
 unfolding correctedAll
 marks-on t i ys zs r ws l e f =
     rw (add-one, take-suc-set ys i r l, drop-set-lt (suc i) ys i r (lt-suc-self i), append-assoc, drop-cons ys i blank l, e, f)
 
-pub bytes-on : (t : List ℤ) (i : ℕ) (ys : List Correction) (zs : List ℕ) (r : Correction) (ws : List ℕ) → i < length ys → ws ≡ writtenBy t zs (getD ys i blank)
+pub bytes-on : (t : List ℤ) (i : ℕ) (ys : List Correction) (zs : List ℕ) (r : Correction) (ws : List ℕ) → i < length ys → ws
+    ≡ writtenBy t zs (getD ys i blank)
     → writtenAll t (drop (i + 1) (set ys i r)) ws ≡ writtenAll t (drop i ys) zs
 unfolding writtenAll
 bytes-on t i ys zs r ws l f = rw (add-one, drop-set-lt (suc i) ys i r (lt-suc-self i), drop-cons ys i blank l, f)
@@ -56,9 +58,22 @@ bytes-end t i ys zs l = rw (drop-of-length-le ys l)
 
 module _ {t : List ℤ} {xs : List Correction} {ss : List ℕ} where
   abbrev pub start : State t xs ss
-  start = record { i = 0; ys = xs; zs = ss; upto = omega arith; same = refl; kept = refl; marks = refl; bytes = refl; still = λ e. (refl, refl) }
+  start = record {
+    i = 0;
+    ys = xs;
+    zs = ss;
+    upto = omega arith;
+    same = refl;
+    kept = refl;
+    marks = refl;
+    bytes = refl;
+    still = λ e.
+        (refl, refl);
+  }
 
-  abbrev pub next : (s : State t xs ss) (r : Correction) (ws : List ℕ) → s .i < turns t xs ss → s .i < length xs → (r ≡ corrected t (s .zs) (getD (s .ys) (s .i) blank)) × (ws ≡ writtenBy t (s .zs) (getD (s .ys) (s .i) blank)) → length ws ≡ length (s .zs) → State t xs ss
+  abbrev pub next : (s : State t xs ss) (r : Correction) (ws : List ℕ) → s .i < turns t xs ss → s .i < length xs
+      → (r ≡ corrected t (s .zs) (getD (s .ys) (s .i) blank)) × (ws ≡ writtenBy t (s .zs) (getD (s .ys) (s .i) blank)) → length ws
+      ≡ length (s .zs) → State t xs ss
   next s r ws m l e k = record {
     i = s .i + 1;
     ys = set (s .ys) (s .i) r;
@@ -75,10 +90,13 @@ module _ {t : List ℤ} {xs : List Correction} {ss : List ℕ} where
   unfolding turnsOf listAfter recordLeft
   ended s over = go (eqb (wholeRefusal t (length ss)) 0) refl
     where
-      go : (b : Bool) → eqb (wholeRefusal t (length ss)) 0 ≡ b → (s .ys ≡ cond b (correctedAll t xs ss) xs) × (s .zs ≡ cond b (writtenAll t xs ss) ss)
+      go : (b : Bool) → eqb (wholeRefusal t (length ss)) 0 ≡ b → (s .ys ≡ cond b (correctedAll t xs ss) xs)
+          × (s .zs ≡ cond b (writtenAll t xs ss) ss)
       go true e =
-          let l : length xs ≤ s .i = rw e at over in
-          (sym (marks-end t (s .i) (s .ys) (s .zs) (omega arith)) ∙ s .marks, sym (bytes-end t (s .i) (s .ys) (s .zs) (omega arith)) ∙ s .bytes)
+          let l : length xs ≤ s .i = rw e at over in (
+            sym (marks-end t (s .i) (s .ys) (s .zs) (omega arith)) ∙ s .marks,
+            sym (bytes-end t (s .i) (s .ys) (s .zs) (omega arith)) ∙ s .bytes,
+          )
       go false e = let u : s .i ≤ 0 = rw e at (s .upto) in s .still (omega arith)
 
   -- what a write asks is so at every turn

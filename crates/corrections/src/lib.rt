@@ -103,7 +103,8 @@ pub fn write_admitted(
     bytes: &mut [u8],
 ) -> u64
     requires { ⌜ wholeRefusal (now table) (length (now bytes)) ≡ 0 ⌝ }
-    ensures { λ r. ⌜ Written (now (table .entry)) row (valueOf value (now (list .entry)) (now (text .entry))) (now (bytes .entry)) (now (bytes .exit)) r ⌝ }
+    ensures { λ r. ⌜ Written (now (table .entry)) row (valueOf value (now (list .entry)) (now (text .entry))) (now (bytes .entry))
+        (now (bytes .exit)) r ⌝ }
 {
     let h = Header::read(table);
     let rows = h.rows;
@@ -226,7 +227,8 @@ fn truth_given(table: &[i64], i: usize, b: bool, bytes: &mut [u8]) -> u64
 // The single write of a value, by its kind.
 fn write_asked(table: &[i64], row: usize, value: Value, text: &[u8], bytes: &mut [u8]) -> u64
     requires { ⌜ wholeRefusal (now table) (length (now bytes)) ≡ 0 ⌝ }
-    ensures { λ r. ⌜ Written (now (table .entry)) row (valueOf value (now (table .entry)) (now (text .entry))) (now (bytes .entry)) (now (bytes .exit)) r ⌝ }
+    ensures { λ r. ⌜ Written (now (table .entry)) row (valueOf value (now (table .entry)) (now (text .entry))) (now (bytes .entry))
+        (now (bytes .exit)) r ⌝ }
 {
     match value {
         Value::Missing => blank_given(table, row, bytes),
@@ -240,7 +242,8 @@ fn write_asked(table: &[i64], row: usize, value: Value, text: &[u8], bytes: &mut
 // The single write of what was given: its mark, and the record. A list or a text is not looked at.
 fn write_given(table: &[i64], row: usize, g: Given, bytes: &mut [u8]) -> u64
     requires { ⌜ wholeRefusal (now table) (length (now bytes)) ≡ 0 ⌝ }
-    ensures { λ r. ⌜ (r ≡ markBy (now (table .entry)) row (length (now (bytes .entry))) (askedOf g)) × (now (bytes .exit) ≡ recordBy (now (table .entry)) row (askedOf g) (now (bytes .entry))) ⌝ }
+    ensures { λ r. ⌜ (r ≡ markBy (now (table .entry)) row (length (now (bytes .entry))) (askedOf g))
+        × (now (bytes .exit) ≡ recordBy (now (table .entry)) row (askedOf g) (now (bytes .entry))) ⌝ }
 {
     let asked = asked_of(g);
     match asked {
@@ -256,7 +259,8 @@ fn write_given(table: &[i64], row: usize, g: Given, bytes: &mut [u8]) -> u64
 // One correction: its single write, and the correction with its mark.
 pub fn correct(table: &[i64], bytes: &mut [u8], c: Correction) -> Correction
     requires { ⌜ wholeRefusal (now table) (length (now bytes)) ≡ 0 ⌝ }
-    ensures { λ r. ⌜ (r ≡ corrected (now (table .entry)) (now (bytes .entry)) c) × (now (bytes .exit) ≡ writtenBy (now (table .entry)) (now (bytes .entry)) c) ⌝ }
+    ensures { λ r. ⌜ (r ≡ corrected (now (table .entry)) (now (bytes .entry)) c)
+        × (now (bytes .exit) ≡ writtenBy (now (table .entry)) (now (bytes .entry)) c) ⌝ }
 {
     let row = c.row;
     let v = c.value;

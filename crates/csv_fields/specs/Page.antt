@@ -87,7 +87,8 @@ CutAs d read (Last from to b next) = Found d read from to b next (λ f. last f (
 CutAs d read Torn = read ≡ torn
 
 -- ---- one byte
-pub special-quote : (b : ℕ) → isSpecial b ≡ false → (eqb b 44 ≡ false) × (eqb b 13 ≡ false) × ((eqb b 34 || eqb b 10) ≡ false) × (eqb b 34 ≡ false)
+pub special-quote : (b : ℕ) → isSpecial b ≡ false → (eqb b 44 ≡ false) × (eqb b 13 ≡ false) × ((eqb b 34 || eqb b 10) ≡ false)
+    × (eqb b 34 ≡ false)
 unfolding isSpecial
 special-quote b e = go (eqb b 44) (eqb b 34) (eqb b 13) (eqb b 10) e
   where
@@ -123,7 +124,8 @@ pub closing-stops : (b : ℕ) (s : List ℕ) → eqb b 34 ≡ false → page clo
 unfolding page stepOf taken stopPage
 closing-stops b s e = rw e (go (eqb b 44) (eqb b 13))
   where
-    go : (p r : Bool) → taken (cond p comma (cond r (skip ending) wrong)) (λ m′. page m′ s) ≡ cond p (more [] (page fresh s)) (cond r (page ending s) torn)
+    go : (p r : Bool) → taken (cond p comma (cond r (skip ending) wrong)) (λ m′. page m′ s)
+        ≡ cond p (more [] (page fresh s)) (cond r (page ending s) torn)
     go true r = refl
     go false true = refl
     go false false = refl
@@ -158,13 +160,15 @@ part-more d from to h l =
     let e : to + 1 - from ≡ suc (to - from) = omega arith in
     let k : from + (to - from) ≡ to = omega arith in
     let m : to - from < length (drop from d) = rw (length-drop from d) (omega arith) in
-    rw e (take-suc (drop from d) (to - from) 0 m ∙ ap (λ (x : ℕ). take (to - from) (drop from d) ++ (x ∷ [])) (getD-drop from d (to - from) 0 ∙ ap (λ (x : ℕ). getD d x 0) k))
+    rw e (take-suc (drop from d) (to - from) 0 m ∙ ap (λ (x : ℕ). take (to - from) (drop from d) ++ (x ∷ []))
+    (getD-drop from d (to - from) 0 ∙ ap (λ (x : ℕ). getD d x 0) k))
 
 pub part-join : (d : List ℕ) (a b c : ℕ) → a ≤ b → b ≤ c → part d a c ≡ part d a b ++ part d b c
 part-join d a b c h l =
     let e : c - a ≡ (b - a) + (c - b) = omega arith in
     let k : a + (b - a) ≡ b = omega arith in
-    rw e (take-add (b - a) (c - b) (drop a d) ∙ ap (λ (x : List ℕ). take (b - a) (drop a d) ++ take (c - b) x) (drop-drop (b - a) a d ∙ ap (λ (x : ℕ). drop x d) k))
+    rw e (take-add (b - a) (c - b) (drop a d) ∙ ap (λ (x : List ℕ). take (b - a) (drop a d) ++ take (c - b) x)
+    (drop-drop (b - a) a d ∙ ap (λ (x : ℕ). drop x d) k))
 
 -- ---- quotes
 pub quote-join : (a b : List ℕ) → hasQuote (a ++ b) ≡ (hasQuote a || hasQuote b)
@@ -195,7 +199,8 @@ unfolding holdsSpecial hasQuote
 plain-bare [] e = refl
 plain-bare (b ∷ s) e = go (isSpecial b) refl e (λ h. plain-bare s h)
   where
-    go : (q : Bool) → isSpecial b ≡ q → (q || holdsSpecial s) ≡ false → (holdsSpecial s ≡ false → hasQuote s ≡ false) → (eqb b 34 || hasQuote s) ≡ false
+    go : (q : Bool) → isSpecial b ≡ q → (q || holdsSpecial s) ≡ false → (holdsSpecial s ≡ false → hasQuote s ≡ false)
+        → (eqb b 34 || hasQuote s) ≡ false
     go true w e k = holds-not refl e
     go false w e k = rw (special-quote b w .3) (k e)
 
@@ -204,16 +209,19 @@ unfolding holdsSpecial
 plain-more [] b e w = rw w
 plain-more (x ∷ s) b e w = go (isSpecial x) e (λ h. plain-more s b h w)
   where
-    go : (q : Bool) → (q || holdsSpecial s) ≡ false → (holdsSpecial s ≡ false → holdsSpecial (s ++ (b ∷ [])) ≡ false) → (q || holdsSpecial (s ++ (b ∷ []))) ≡ false
+    go : (q : Bool) → (q || holdsSpecial s) ≡ false → (holdsSpecial s ≡ false → holdsSpecial (s ++ (b ∷ [])) ≡ false)
+        → (q || holdsSpecial (s ++ (b ∷ []))) ≡ false
     go true e k = holds-not refl e
     go false e k = k e
 
 -- ---- the loops
-bare-next : (d : List ℕ) (i : ℕ) → i < length d → isSpecial (getD d i 0) ≡ false → page bare (drop i d) ≡ withBytes (getD d i 0 ∷ []) (page bare (drop (i + 1) d))
+bare-next : (d : List ℕ) (i : ℕ) → i < length d → isSpecial (getD d i 0) ≡ false → page bare (drop i d)
+    ≡ withBytes (getD d i 0 ∷ []) (page bare (drop (i + 1) d))
 unfolding withBytes
 bare-next d i h e = rw (drop-cons d i 0 h) (bare-keeps (getD d i 0) (drop (suc i) d) e ∙ rw (add-one i))
 
-inside-next : (d : List ℕ) (i : ℕ) → i < length d → (getD d i 0 ≡ 34 → ⊥) → page inside (drop i d) ≡ withBytes (getD d i 0 ∷ []) (page inside (drop (i + 1) d))
+inside-next : (d : List ℕ) (i : ℕ) → i < length d → (getD d i 0 ≡ 34 → ⊥) → page inside (drop i d)
+    ≡ withBytes (getD d i 0 ∷ []) (page inside (drop (i + 1) d))
 unfolding withBytes
 inside-next d i h e = rw (drop-cons d i 0 h) (inside-keeps (getD d i 0) (drop (suc i) d) e ∙ rw (add-one i))
 
@@ -232,7 +240,8 @@ pub bared-more : {d : List ℕ} {from to : ℕ} → Bared d from to → to < len
 bared-more {d} {from} {to} a h e = record {
   on = omega (arith, a .on);
   within = omega arith;
-  reads = rw (part-more d from to (a .on) h) (a .reads ∙ ap (withBytes (part d from to)) (bare-next d to h e) ∙ sym (with-join (part d from to) (getD d to 0 ∷ []) (page bare (drop (to + 1) d))));
+  reads = rw (part-more d from to (a .on) h) (a .reads ∙ ap (withBytes (part d from to)) (bare-next d to h e)
+      ∙ sym (with-join (part d from to) (getD d to 0 ∷ []) (page bare (drop (to + 1) d))));
   plain = rw (part-more d from to (a .on) h) (plain-more (part d from to) (getD d to 0) (a .plain) e);
 }
 
@@ -255,7 +264,8 @@ unfolding hasQuote
 quoted-more {d} {from} {to} a h e = record {
   on = omega (arith, a .on);
   within = omega arith;
-  reads = rw (part-more d from to (a .on) h) (a .reads ∙ ap (withBytes (part d from to)) (inside-next d to h e) ∙ sym (with-join (part d from to) (getD d to 0 ∷ []) (page inside (drop (to + 1) d))));
+  reads = rw (part-more d from to (a .on) h) (a .reads ∙ ap (withBytes (part d from to)) (inside-next d to h e)
+      ∙ sym (with-join (part d from to) (getD d to 0 ∷ []) (page inside (drop (to + 1) d))));
   plain = rw (part-more d from to (a .on) h) (quote-join (part d from to) (getD d to 0 ∷ []) ∙ rw (a .plain, ne-eqb (getD d to 0) 34 e));
 }
 
@@ -287,7 +297,8 @@ module _ (d : List ℕ) (i : ℕ) where
   unfolding page atEnd
   stop-cut h e l = stop-cr h e ∙ rw (drop-of-length-le d l)
 
-  pub stop-last : i < length d → getD d i 0 ≡ 13 → i + 1 < length d → getD d (i + 1) 0 ≡ 10 → stopPage (drop i d) ≡ last [] (page start (drop (i + 2) d))
+  pub stop-last : i < length d → getD d i 0 ≡ 13 → i + 1 < length d → getD d (i + 1) 0 ≡ 10 → stopPage (drop i d)
+      ≡ last [] (page start (drop (i + 2) d))
   unfolding page stepOf taken
   stop-last h e l g =
       let k : i + 1 + 1 ≡ i + 2 = omega arith in
@@ -352,8 +363,11 @@ inside-run {d} {from} {to} {q} {b} a r = record {
   stands = record {
     on = omega (arith, a .stands .on, r .on);
     within = r .within;
-    raw = part-join d from to q (a .stands .on) (r .on) ∙ rw (a .stands .raw) (ap (λ (x : List ℕ). doubled (a .f) ++ x) (sym (doubled-bare (part d to q) (r .plain))) ∙ sym (doubled-join (a .f) (part d to q)));
-    plain = a .stands .plain ∙ ap not (sym (none-more (hasQuote (a .f ++ part d to q)) (hasQuote (a .f)) (hasQuote (part d to q)) (quote-join (a .f) (part d to q)) (r .plain)));
+    raw = part-join d from to q (a .stands .on) (r .on)
+        ∙ rw (a .stands .raw) (ap (λ (x : List ℕ). doubled (a .f) ++ x) (sym (doubled-bare (part d to q) (r .plain)))
+        ∙ sym (doubled-join (a .f) (part d to q)));
+    plain = a .stands .plain ∙ ap not (sym (none-more (hasQuote (a .f ++ part d to q)) (hasQuote (a .f)) (hasQuote (part d to q))
+        (quote-join (a .f) (part d to q)) (r .plain)));
   };
   reads = a .reads ∙ ap (withBytes (a .f)) (r .reads) ∙ sym (with-join (a .f) (part d to q) (page inside (drop q d)));
 }
@@ -366,13 +380,15 @@ inside-run {d} {from} {to} {q} {b} a r = record {
     none-more x y z e w = e ∙ rw w (or-none y)
 
 -- a quote written as two
-pub inside-two : {d : List ℕ} {from to q : ℕ} {b : Bool} → InsideTo d from to b → QuoteTo d to q → q < length d → q + 1 < length d → getD d (q + 1) 0 ≡ 34
+pub inside-two : {d : List ℕ} {from to q : ℕ} {b : Bool} → InsideTo d from to b → QuoteTo d to q → q < length d → q + 1 < length d
+    → getD d (q + 1) 0 ≡ 34
     → InsideTo d from (q + 1 + 1) false
 unfolding withBytes doubled doubledByte hasQuote
 inside-two {d} {from} {to} {q} a r h l e =
     let i = inside-run a r in
     let p : part d from (q + 1 + 1) ≡ part d from q ++ (34 ∷ 34 ∷ []) =
-    part-more d from (q + 1) (omega (arith, i .stands .on)) l ∙ rw (part-more d from q (i .stands .on) h, r .stops h, e) (append-assoc (part d from q) (34 ∷ []) (34 ∷ [])) in
+    part-more d from (q + 1) (omega (arith, i .stands .on)) l
+    ∙ rw (part-more d from q (i .stands .on) h, r .stops h, e) (append-assoc (part d from q) (34 ∷ []) (34 ∷ [])) in
     record {
       f = i .f ++ (34 ∷ []);
       stands = record {
@@ -381,7 +397,8 @@ inside-two {d} {from} {to} {q} a r h l e =
         raw = p ∙ rw (i .stands .raw) (sym (doubled-join (i .f) (34 ∷ [])));
         plain = sym (ap not (quote-join (i .f) (34 ∷ []) ∙ or-true (hasQuote (i .f))));
       };
-      reads = i .reads ∙ ap (withBytes (i .f)) (inside-quote d q h (r .stops h) ∙ closing-quote d (q + 1) l e) ∙ sym (with-join (i .f) (34 ∷ []) (page inside (drop (q + 1 + 1) d)));
+      reads = i .reads ∙ ap (withBytes (i .f)) (inside-quote d q h (r .stops h) ∙ closing-quote d (q + 1) l e)
+          ∙ sym (with-join (i .f) (34 ∷ []) (page inside (drop (q + 1 + 1) d)));
     }
 
 -- quotes that close
@@ -390,14 +407,21 @@ pub record Closed (d : List ℕ) (from q : ℕ) (b : Bool) : Type 0 where
   pub stands : Stands d from q b f
   pub reads : page inside (drop from d) ≡ withBytes f (stopPage (drop (q + 1) d))
 
-pub inside-closed : {d : List ℕ} {from to q : ℕ} {b : Bool} → InsideTo d from to b → QuoteTo d to q → q < length d → (q + 1 < length d → getD d (q + 1) 0 ≡ 34 → ⊥)
+pub inside-closed : {d : List ℕ} {from to q : ℕ} {b : Bool} → InsideTo d from to b → QuoteTo d to q → q < length d
+    → (q + 1 < length d → getD d (q + 1) 0 ≡ 34 → ⊥)
     → Closed d from q b
 inside-closed {d} {from} {to} {q} a r h n =
     let i = inside-run a r in
-    record { f = i .f; stands = i .stands; reads = i .reads ∙ ap (withBytes (i .f)) (inside-quote d q h (r .stops h) ∙ closing-other d (q + 1) n) }
+    record {
+      f = i .f;
+      stands = i .stands;
+      reads = i .reads
+          ∙ ap (withBytes (i .f)) (inside-quote d q h (r .stops h) ∙ closing-other d (q + 1) n);
+    }
 
 -- quotes that don't
-pub inside-open : {d : List ℕ} {from to q : ℕ} {b : Bool} → InsideTo d from to b → QuoteTo d to q → length d ≤ q → page inside (drop from d) ≡ torn
+pub inside-open : {d : List ℕ} {from to q : ℕ} {b : Bool} → InsideTo d from to b → QuoteTo d to q → length d ≤ q → page inside (drop from d)
+    ≡ torn
 unfolding page atEnd
 inside-open {d} {q = q} a r h = let i = inside-run a r in i .reads ∙ rw (drop-of-length-le d h) (with-torn (i .f))
 
@@ -422,12 +446,27 @@ pub not-quote : (d : List ℕ) (i : ℕ) → quoteAt d i ≡ false → i < lengt
 unfolding quoteAt
 not-quote d i e h w = holds-not (rw (lt-ltb i (length d) h) (eq-eqb (getD d i 0) 34 w)) e
 
-module _ {d : List ℕ} {read : Page} {from to : ℕ} {b : Bool} {f : List ℕ} (s : Stands d from to b f) {i : ℕ} (e : read ≡ withBytes f (stopPage (drop i d))) (h : to ≤ i) where
+module _ {d : List ℕ} {read : Page} {from to : ℕ} {b : Bool} {f : List ℕ} (s : Stands d from to b f) {i : ℕ}
+    (e : read ≡ withBytes f (stopPage (drop i d))) (h : to ≤ i) where
   pub found-comma : {n : ℕ} → StopsAs d i (stop.Comma n) → CutAs d read (Comma from to b n)
-  found-comma {n} k = record { f = f; stands = s; reads = e ∙ rw (k .0) (with-more f [] (page fresh (drop n d)) ∙ rw (append-nil f)); ahead = omega (arith, k .1); inside′ = k .2 }
+  found-comma {n} k = record {
+    f = f;
+    stands = s;
+    reads = e
+        ∙ rw (k .0) (with-more f [] (page fresh (drop n d)) ∙ rw (append-nil f));
+    ahead = omega (arith, k .1);
+    inside′ = k .2;
+  }
 
   pub found-last : {n : ℕ} → StopsAs d i (stop.Last n) → CutAs d read (Last from to b n)
-  found-last {n} k = record { f = f; stands = s; reads = e ∙ rw (k .0) (with-last f [] (page start (drop n d)) ∙ rw (append-nil f)); ahead = omega (arith, k .1); inside′ = k .2 }
+  found-last {n} k = record {
+    f = f;
+    stands = s;
+    reads = e
+        ∙ rw (k .0) (with-last f [] (page start (drop n d)) ∙ rw (append-nil f));
+    ahead = omega (arith, k .1);
+    inside′ = k .2;
+  }
 
   pub found-torn : StopsAs d i stop.Torn → CutAs d read Torn
   found-torn k = e ∙ rw k (with-torn f)

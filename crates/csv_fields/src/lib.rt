@@ -5,7 +5,8 @@ ghost use lib.ListN.{length, drop};
 ghost use Rattle.csv_fields.specs.rule.Page.{page, fresh, inside, bare};
 ghost use Rattle.csv_fields.specs.Page.{BareTo, QuoteTo, StopsAs, CutAs, Ahead, cutOf, quoteAt};
 
-// A field in the text: its bytes, in which a quote is written as two, from a place to another; whether there is none; and where what follows
+// A field in the text: its bytes, in which a quote is written as two, from a place to another; whether there is none; and where what
+// follows
 // begins. It has a comma behind it, or ends its line, or is malformed.
 pub enum Cut {
     Comma {

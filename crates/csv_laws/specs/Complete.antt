@@ -9,7 +9,8 @@ use lib.Dec.{eqb}
 use Rattle.below.specs.Below.{holds-not}
 use Rattle.commas.specs.rule.Csv.{isSpecial, holdsSpecial, doubledByte, doubled, fieldBytes, behindFirst, lineBytes, textBytes}
 use Rattle.commas.specs.Csv.{field-quoted, field-plain}
-use Rattle.csv_fields.specs.rule.Page.{Page, over, torn, more, last, start, fresh, bare, ending, inside, closing, bareStep, stepOf, withByte, taken, atEnd, page}
+use Rattle.csv_fields.specs.rule.Page.{Page, over, torn, more, last, start, fresh, bare, ending, inside, closing, bareStep, stepOf}
+use Rattle.csv_fields.specs.rule.Page.{withByte, taken, atEnd, page}
 use Rattle.csv_fields.specs.rule.Page.{Lines, done, broken, line, withField, linesOf}
 use Rattle.csv_fields.specs.Page.{withBytes, with-more, with-last, special-quote, bare-keeps, inside-keeps}
 use Rattle.csv_laws.specs.rule.Grammar.{Spelt, plainly, quoted, IsLine, alone, and-more, IsText, no-line, and-lines, allOf}
@@ -87,28 +88,34 @@ last-nil f p = with-last f [] p ∙ rw (append-nil f)
 plain-comma : (f w : List ℕ) → holdsSpecial f ≡ false → page fresh (f ++ (44 ∷ w)) ≡ more f (page fresh w)
 plain-comma [] w e = comma-fresh w
 plain-comma (b ∷ f) w e =
-    fresh-bare b (f ++ (44 ∷ w)) (plain-head b f e .0) ∙ bare-run (b ∷ f) (44 ∷ w) e ∙ ap (withBytes (b ∷ f)) (comma-bare w) ∙ more-nil (b ∷ f) (page fresh w)
+    fresh-bare b (f ++ (44 ∷ w)) (plain-head b f e .0) ∙ bare-run (b ∷ f) (44 ∷ w) e ∙ ap (withBytes (b ∷ f)) (comma-bare w)
+    ∙ more-nil (b ∷ f) (page fresh w)
 
 plain-end : (f w : List ℕ) → holdsSpecial f ≡ false → page fresh (f ++ (13 ∷ 10 ∷ w)) ≡ last f (page start w)
 plain-end [] w e = end-fresh w
 plain-end (b ∷ f) w e =
-    fresh-bare b (f ++ (13 ∷ 10 ∷ w)) (plain-head b f e .0) ∙ bare-run (b ∷ f) (13 ∷ 10 ∷ w) e ∙ ap (withBytes (b ∷ f)) (end-bare w) ∙ last-nil (b ∷ f) (page start w)
+    fresh-bare b (f ++ (13 ∷ 10 ∷ w)) (plain-head b f e .0) ∙ bare-run (b ∷ f) (13 ∷ 10 ∷ w) e ∙ ap (withBytes (b ∷ f)) (end-bare w)
+    ∙ last-nil (b ∷ f) (page start w)
 
 pub spelt-comma : {f u : List ℕ} (w : List ℕ) → Spelt f u → page fresh (u ++ (44 ∷ w)) ≡ more f (page fresh w)
 spelt-comma {f} w (plainly e q) = rw q (plain-comma f w e)
 spelt-comma {f} w (quoted q) =
-    rw (q, quoted-as f (44 ∷ w)) (quote-fresh (doubled f ++ (34 ∷ 44 ∷ w)) ∙ inside-run f (34 ∷ 44 ∷ w) ∙ ap (withBytes f) (comma-inside w) ∙ more-nil f (page fresh w))
+    rw (q, quoted-as f (44 ∷ w)) (quote-fresh (doubled f ++ (34 ∷ 44 ∷ w)) ∙ inside-run f (34 ∷ 44 ∷ w) ∙ ap (withBytes f) (comma-inside w)
+    ∙ more-nil f (page fresh w))
 
 pub spelt-end : {f u : List ℕ} (w : List ℕ) → Spelt f u → page fresh (u ++ (13 ∷ 10 ∷ w)) ≡ last f (page start w)
 spelt-end {f} w (plainly e q) = rw q (plain-end f w e)
 spelt-end {f} w (quoted q) =
-    rw (q, quoted-as f (13 ∷ 10 ∷ w)) (quote-fresh (doubled f ++ (34 ∷ 13 ∷ 10 ∷ w)) ∙ inside-run f (34 ∷ 13 ∷ 10 ∷ w) ∙ ap (withBytes f) (end-inside w) ∙ last-nil f (page start w))
+    rw (q, quoted-as f (13 ∷ 10 ∷ w)) (quote-fresh (doubled f ++ (34 ∷ 13 ∷ 10 ∷ w)) ∙ inside-run f (34 ∷ 13 ∷ 10 ∷ w)
+    ∙ ap (withBytes f) (end-inside w) ∙ last-nil f (page start w))
 
 -- A LINE that the grammar derives is read
-pub line-read : {fs : List (List ℕ)} {s : List ℕ} → IsLine fs s → (w : List ℕ) → linesOf (page fresh (s ++ w)) ≡ line fs (linesOf (page start w))
+pub line-read : {fs : List (List ℕ)} {s : List ℕ} → IsLine fs s → (w : List ℕ) → linesOf (page fresh (s ++ w))
+    ≡ line fs (linesOf (page start w))
 unfolding linesOf withField
 line-read (alone {f = f} {u = u} p q) w = rw (q, append-assoc u (13 ∷ 10 ∷ []) w) (ap linesOf (spelt-end w p))
-line-read (and-more {f = f} {u = u} {w = v} p l q) w = rw (q, append-assoc u (44 ∷ v) w) (ap linesOf (spelt-comma (v ++ w) p) ∙ ap (withField f) (line-read l w))
+line-read (and-more {f = f} {u = u} {w = v} p l q) w = rw (q, append-assoc u (44 ∷ v) w)
+    (ap linesOf (spelt-comma (v ++ w) p) ∙ ap (withField f) (line-read l w))
 
 -- a line is not empty: where one may start, it is due
 nothing-read : {fs : List (List ℕ)} {ls : Lines} {A : Type 0} → linesOf (page fresh []) ≡ line fs ls → A
@@ -131,7 +138,8 @@ text-read (and-lines {fs = fs} {ls = ls} {u = u} {w = w} l t e) =
     rw e (ap linesOf (line-due (u ++ w) (line-read l w)) ∙ line-read l w ∙ ap (line fs) (text-read t))
 
 -- the first line is due in every text
-pub text-read-fresh : {fs : List (List ℕ)} {ls : List (List (List ℕ))} {s : List ℕ} → IsText (fs ∷ ls) s → linesOf (page fresh s) ≡ line fs (allOf ls)
+pub text-read-fresh : {fs : List (List ℕ)} {ls : List (List (List ℕ))} {s : List ℕ} → IsText (fs ∷ ls) s → linesOf (page fresh s)
+    ≡ line fs (allOf ls)
 text-read-fresh (and-lines {fs = fs} {ls = ls} {u = u} {w = w} l t e) = rw e (line-read l w ∙ ap (line fs) (text-read t))
 
 -- ---- what export writes

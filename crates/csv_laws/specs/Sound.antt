@@ -10,7 +10,8 @@ use lib.Dec.{eqb}
 use lib.ListN.{length, length-append}
 use Rattle.below.specs.Below.{holds-not}
 use Rattle.commas.specs.rule.Csv.{isSpecial, holdsSpecial, doubledByte, doubled}
-use Rattle.csv_fields.specs.rule.Page.{Page, over, torn, more, last, Mode, start, fresh, bare, ending, inside, closing, skip, keep, comma, ended, wrong}
+use Rattle.csv_fields.specs.rule.Page.{Page, over, torn, more, last, Mode, start, fresh, bare, ending, inside, closing, skip, keep, comma}
+use Rattle.csv_fields.specs.rule.Page.{ended, wrong}
 use Rattle.csv_fields.specs.rule.Page.{bareStep, stepOf, withByte, taken, atEnd, page, Lines, done, broken, line, withField, linesOf}
 use Rattle.csv_laws.specs.rule.Grammar.{Spelt, plainly, quoted, IsLine, alone, and-more, IsText, no-line, and-lines, allOf}
 use Rattle.csv_laws.specs.Complete.{text-read}
@@ -107,7 +108,8 @@ quoted-parts (b ∷ s) true = go (eqb b 34) (eqb b 44) (eqb b 13) refl refl refl
     go false false false a c d l = at-torn refl
 
 -- ---- where a field is due
-same-parts : (body body′ : List ℕ → List ℕ → Type 0) → ((f u : List ℕ) → body f u → body′ f u) → {s : List ℕ} {p p′ : Page} → p′ ≡ p → Parts body s p → Parts body′ s p′
+same-parts : (body body′ : List ℕ → List ℕ → Type 0) → ((f u : List ℕ) → body f u → body′ f u) → {s : List ℕ} {p p′ : Page} → p′ ≡ p
+    → Parts body s p → Parts body′ s p′
 same-parts body body′ g z (at-comma f u w k e q) = at-comma f u w (g f u k) e (z ∙ q)
 same-parts body body′ g z (at-end f u w k e q) = at-end f u w (g f u k) e (z ∙ q)
 same-parts body body′ g z (at-torn q) = at-torn (z ∙ q)
@@ -129,7 +131,8 @@ fresh-parts [] = at-torn fresh-none
 fresh-parts (b ∷ s) = go (eqb b 34) refl
   where
     go : (q : Bool) → eqb b 34 ≡ q → Parts Spelt (b ∷ s) (page fresh (b ∷ s))
-    go true e = rw (eqb-true b 34 e) (same-parts Spelt Spelt (λ f u k. k) (fresh-quote s) (front Inside Spelt 34 (λ f u k. quoted (ap (λ (x : List ℕ). 34 ∷ x) k)) (quoted-parts s false)))
+    go true e = rw (eqb-true b 34 e) (same-parts Spelt Spelt (λ f u k. k) (fresh-quote s)
+        (front Inside Spelt 34 (λ f u k. quoted (ap (λ (x : List ℕ). 34 ∷ x) k)) (quoted-parts s false)))
     go false e = same-parts Bare Spelt (λ f u k. plainly (k .1) (k .0)) (fresh-other b s e) (bare-parts (b ∷ s))
 
 -- ---- a line
@@ -161,7 +164,14 @@ line-sound (suc n) s h fs ls e = by (λ w l gs ms y. line-sound n w l gs ms y) (
         let x : line (f ∷ []) (linesOf (page start w)) ≡ line fs ls = sym (ap linesOf q) ∙ e in
         let a : f ∷ [] ≡ fs = cc in
         let b : linesOf (page start w) ≡ ls = cc in
-        record { u = u ++ (13 ∷ 10 ∷ []); w = w; is = i ∙ sym (append-assoc u (13 ∷ 10 ∷ []) w); derives = rw (← a) (alone k refl); rest = b }
+        record {
+          u = u ++ (13 ∷ 10 ∷ []);
+          w = w;
+          is = i
+              ∙ sym (append-assoc u (13 ∷ 10 ∷ []) w);
+          derives = rw (← a) (alone k refl);
+          rest = b;
+        }
     by rec (at-comma f u w k i q) =
         let l : length w < n = omega (arith, length-append u (44 ∷ w), ap length i) in
         go (linesOf (page fresh w)) refl (sym (ap linesOf q) ∙ e) l
@@ -217,7 +227,8 @@ text-sound (suc n) [] h (l ∷ ls) e = done-line (sym start-over ∙ e)
 text-sound (suc n) (b ∷ s) h [] e = absurd (never-done (suc (suc (length s))) (b ∷ s) (omega arith) (sym (ap linesOf (start-due b s)) ∙ e))
 text-sound (suc n) (b ∷ s) h (l ∷ ls) e =
     let d = line-sound (suc (suc (length s))) (b ∷ s) (omega arith) l (allOf ls) (sym (ap linesOf (start-due b s)) ∙ e) in
-    and-lines (d .derives) (text-sound n (d .w) (omega (arith, line-some (d .derives), length-append (d .u) (d .w), ap length (d .is))) ls (d .rest)) (d .is)
+    and-lines (d .derives) (text-sound n (d .w) (omega (arith, line-some (d .derives), length-append (d .u) (d .w), ap length (d .is))) ls
+    (d .rest)) (d .is)
 
 -- A TEXT IS READ AS THESE LINES EXACTLY WHEN the grammar derives them from it
 pub text-exactly : (s : List ℕ) (ls : List (List (List ℕ))) → (linesOf (page start s) ≡ allOf ls) ↔ IsText ls s

@@ -243,7 +243,8 @@ module _ (d : List ℕ) (w : Terminator) (from size : ℕ) where
       → Clear (part d from (from + size)) 0 (length (part d from (from + size))) → PlainNext d w from size
   plain-next low h e c =
       let l = part-length h in
-      let there : (j : ℕ) → from ≤ j → j < from + size → lowAt d j ≡ false = λ j a b. rw (byte-there j a b) at (c .plain (j - from) (omega arith) (omega arith)) in
+      let there : (j : ℕ) → from ≤ j → j < from + size → lowAt d j
+      ≡ false = λ j a b. rw (byte-there j a b) at (c .plain (j - from) (omega arith) (omega arith)) in
       let u : Clear d from (from + size) = record { on = omega arith; within = omega arith; plain = there } in
       record {
         inside = h;

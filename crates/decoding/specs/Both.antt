@@ -34,7 +34,11 @@ module _ (d : List ℕ) (place long : ℕ) where
     both-xml e p = record { says = rw (as-xml (length list) e) (p .says); leaves = rw (as-xml (length list) e, signs-xml e) (p .leaves) }
 
     pub both-plain : isXml d ≡ false → TextDecoded d place long list list′ r → BothDecoded d place long list list′ r
-    both-plain e p = record { says = rw (as-plain (length list) e) (p .says); leaves = rw (as-plain (length list) e, signs-plain e) (p .leaves) }
+    both-plain e p = record {
+      says = rw (as-plain (length list) e) (p .says);
+      leaves = rw (as-plain (length list) e, signs-plain e)
+          (p .leaves);
+    }
 
     pub xml-both : isXml d ≡ true → BothDecoded d place long list list′ r → StretchDecoded (latinOf d) d place long list list′ r
     xml-both e p = record { says = p .says ∙ as-xml (length list) e; leaves = p .leaves ∙ rw (as-xml (length list) e, signs-xml e) }

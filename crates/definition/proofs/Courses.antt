@@ -57,7 +57,8 @@ module _ (d : List ℕ) (t : Reading) (met other : ℕ → Bool) (same : (n : �
   wrong-same : (x : Figures) → wrongIdent met x ≡ wrongIdent other x
   unfolding wrongIdent
   wrong-same x = by (ltb 4 (x .count)) (ltb (x .size) 10000) refl where
-    by : (p q : Bool) → ltb (x .size) 10000 ≡ q → cond p true (cond q (eqb (x .size) 0 || met (x .size)) true) ≡ cond p true (cond q (eqb (x .size) 0 || other (x .size)) true)
+    by : (p q : Bool) → ltb (x .size) 10000 ≡ q → cond p true (cond q (eqb (x .size) 0 || met (x .size)) true)
+        ≡ cond p true (cond q (eqb (x .size) 0 || other (x .size)) true)
     by true q e = refl
     by false true e = ap (λ (b : Bool). eqb (x .size) 0 || b) (same (x .size) (ltb-true (x .size) 10000 e))
     by false false e = refl
@@ -81,14 +82,16 @@ module _ (d : List ℕ) where
   falls : (s s′ : Course) → variableStep d s ≡ Again s′ → 512 - length (s′ .earlier) < 512 - length (s .earlier)
   unfolding variableStep
   falls s s′ = by (next-entry s) refl where
-    choice : (v : Variable) (n : ℕ) (k : Choice) → length (s .earlier) < 512 → endOr (added (s .earlier) v) (notesOn d (At n)) k ≡ Again s′ → 512 - length (s′ .earlier) < 512 - length (s .earlier)
+    choice : (v : Variable) (n : ℕ) (k : Choice) → length (s .earlier) < 512 → endOr (added (s .earlier) v) (notesOn d (At n)) k ≡ Again s′
+        → 512 - length (s′ .earlier) < 512 - length (s .earlier)
     choice v n (Taken m) h e = none cc
     choice v n Left h e =
         let j : course (notesOn d (At n)) (added (s .earlier) v) ≡ s′ = cc in
         rw (← j) (omega (arith, length-with (s .earlier) v))
 
     by : (o : Entry) → next-entry s ≡ o → entered d (s .earlier) o ≡ Again s′ → 512 - length (s′ .earlier) < 512 - length (s .earlier)
-    by (entry.Is v n) i e = choice v n (choiceOf d (notesOn d (At n)) END) (entry-left d (s .at) (identMet (s .earlier)) (length (s .earlier)) (linesAll (s .earlier)) v n i) e
+    by (entry.Is v n) i e = choice v n (choiceOf d (notesOn d (At n)) END)
+        (entry-left d (s .at) (identMet (s .earlier)) (length (s .earlier)) (linesAll (s .earlier)) v n i) e
     by (entry.Not f) i e = none cc
 
   out : Variables

@@ -47,7 +47,8 @@ none : {A : Type 0} → _≡_ {A = ℕ} 0 1 → A
 none e = absurd (omega arith)
 
 -- what each step keeps, the loop keeps
-module _ {S A : Type 0} (step : S → Next S A) (out : A) (P : S → Type 0) (Q : A → Type 0) (again : (s s′ : S) → P s → step s ≡ Again s′ → P s′) (done : (s : S) (a : A) → P s → step s ≡ Done a → Q a) (over : Q out) where
+module _ {S A : Type 0} (step : S → Next S A) (out : A) (P : S → Type 0) (Q : A → Type 0)
+    (again : (s s′ : S) → P s → step s ≡ Again s′ → P s′) (done : (s : S) (a : A) → P s → step s ≡ Done a → Q a) (over : Q out) where
   kept : (f : ℕ) (s : S) → P s → Q (loopOf step out f s)
   unfolding loopOf
   kept zero s p = over
@@ -68,7 +69,8 @@ module _ (d : List ℕ) (long : length d ≤ 1048576) where
   again : (s s′ : Course) → Good (s .earlier) → variableStep d s ≡ Again s′ → Good (s′ .earlier)
   unfolding variableStep
   again s s′ g = by (next-entry d s) refl where
-    choice : (v : Variable) (n : ℕ) (k : Choice) → Good (added (s .earlier) v) → endOr (added (s .earlier) v) (notesOn d (At n)) k ≡ Again s′ → Good (s′ .earlier)
+    choice : (v : Variable) (n : ℕ) (k : Choice) → Good (added (s .earlier) v) → endOr (added (s .earlier) v) (notesOn d (At n)) k
+        ≡ Again s′ → Good (s′ .earlier)
     choice v n (Taken m) h e = none cc
     choice v n Left h e = let j : course (notesOn d (At n)) (added (s .earlier) v) ≡ s′ = cc in rw (← j) h
 
@@ -79,7 +81,8 @@ module _ (d : List ℕ) (long : length d ≤ 1048576) where
   done : (s : Course) (a : Variables) → Good (s .earlier) → variableStep d s ≡ Done a → AllGood a
   unfolding variableStep
   done s a g = by (next-entry d s) refl where
-    choice : (v : Variable) (n : ℕ) (k : Choice) → Good (added (s .earlier) v) → endOr (added (s .earlier) v) (notesOn d (At n)) k ≡ Done a → AllGood a
+    choice : (v : Variable) (n : ℕ) (k : Choice) → Good (added (s .earlier) v) → endOr (added (s .earlier) v) (notesOn d (At n)) k ≡ Done a
+        → AllGood a
     choice v n Left h e = none cc
     choice v n (Taken m) h e = record { all = λ {l} {m = k} q. same l k (let j : variables.Is (added (s .earlier) v) m ≡ a = cc in j ∙ q) }
       where
@@ -88,22 +91,28 @@ module _ (d : List ℕ) (long : length d ≤ 1048576) where
 
     by : (o : Entry) → next-entry d s ≡ o → entered d (s .earlier) o ≡ Done a → AllGood a
     by (entry.Is v n) i e = choice v n (choiceOf d (notesOn d (At n)) END) (grown s g v n i) e
-    by (entry.Not f) i e = record { all = λ {l} {m} q. let j : variables.Not f ≡ variables.Is l m = (let k : variables.Not f ≡ a = cc in k ∙ q) in none cc }
+    by (entry.Not f) i e = record {
+      all = λ {l} {m} q. let j : variables.Not f
+          ≡ variables.Is l m = (let k : variables.Not f ≡ a = cc in k ∙ q) in none cc;
+    }
 
   pub variables-good : (t : Reading) → AllGood (variablesFrom d (course t []))
   unfolding variablesFrom
-  variables-good t = kept (variableStep d) (variables.Not (fault 0 0)) (λ s. Good (s .earlier)) AllGood again done (record { all = λ {l} {m} q. none cc }) (suc (512 - 0)) (course t []) good.none
+  variables-good t = kept (variableStep d) (variables.Not (fault 0 0)) (λ s. Good (s .earlier)) AllGood again done
+      (record { all = λ {l} {m} q. none cc }) (suc (512 - 0)) (course t []) good.none
 
 -- ---- THE TABLE BUILT IS WELL FORMED, for every definition that is read
 module _ (d : List ℕ) (n : ℕ) (l : List Variable) where
   survey-good : length d ≤ 1048576 → (s : Survey) → surveyOf d ≡ Whole s → Good (s .variables) × (1 ≤ length (s .variables))
   unfolding surveyOf
   survey-good long s = by (variablesFrom d (course (frontOn d .next) [])) refl where
-    ends : (v : List Variable) (r : Reading) → Good v × (1 ≤ length v) → ended (frontOn d) v r ≡ Whole s → Good (s .variables) × (1 ≤ length (s .variables))
+    ends : (v : List Variable) (r : Reading) → Good v × (1 ≤ length v) → ended (frontOn d) v r ≡ Whole s → Good (s .variables)
+        × (1 ≤ length (s .variables))
     ends v (At k) g e = let j : record { front = frontOn d; variables = v } ≡ s = cc in rw (← j) g
     ends v (Refused f) g e = none cc
 
-    by : (v : Variables) → variablesFrom d (course (frontOn d .next) []) ≡ v → closed d (frontOn d) v ≡ Whole s → Good (s .variables) × (1 ≤ length (s .variables))
+    by : (v : Variables) → variablesFrom d (course (frontOn d .next) []) ≡ v → closed d (frontOn d) v ≡ Whole s → Good (s .variables)
+        × (1 ≤ length (s .variables))
     by (variables.Is v m) i e = ends v (endsOn d m) (variables-good d long (frontOn d .next) .all i) e
     by (variables.Not f) i e = none cc
 
@@ -132,7 +141,8 @@ module _ (d : List ℕ) (n : ℕ) (l : List Variable) where
         rw (← k .0) (g .0, g .1, k .1)
     whole long (Faulty f) i e = none cc
 
-    by : (b : Bool) → ltb 1048576 (length d) ≡ b → cond b (Refusal 1 0) (judged d n (surveyOf d)) ≡ Built l → Good l × (1 ≤ length l) × (length (tableOf l) ≤ n)
+    by : (b : Bool) → ltb 1048576 (length d) ≡ b → cond b (Refusal 1 0) (judged d n (surveyOf d)) ≡ Built l → Good l × (1 ≤ length l)
+        × (length (tableOf l) ≤ n)
     by true i e = none cc
     by false i e = whole (ltb-false 1048576 (length d) i) (surveyOf d) refl e
 
@@ -153,5 +163,6 @@ read-well-formed d t l e = rw (← table-same d (length t) t) (by refl e (outcom
   by i j bridge.refused = none cc
 
 -- ---- NO TWO OUTCOMES: the contract settles the answer and the table
-pub definition-settled : {d : List ℕ} {t t₁ t₂ : List ℤ} {r₁ r₂ : Answer} → DefinitionRead d t t₁ r₁ → DefinitionRead d t t₂ r₂ → (r₁ ≡ r₂) × (t₁ ≡ t₂)
+pub definition-settled : {d : List ℕ} {t t₁ t₂ : List ℤ} {r₁ r₂ : Answer} → DefinitionRead d t t₁ r₁ → DefinitionRead d t t₂ r₂ → (r₁ ≡ r₂)
+    × (t₁ ≡ t₂)
 definition-settled a b = (a .says ∙ sym (b .says), a .leaves ∙ sym (b .leaves))

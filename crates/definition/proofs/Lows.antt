@@ -12,4 +12,10 @@ use Rattle.definition.proofs.Small.{row-finish, finish-few}
 pub highest-low : {l : List Variable} → Good l → highestIn l ≤ 16384
 unfolding highestIn
 highest-low good.none = omega arith
-highest-low (good.more {l} {v} g w f k) = omega (arith, highest-with l v, highest-low g, finish-few (linesAll l) v w, row-finish (linesAll l) v w)
+highest-low (good.more {l} {v} g w f k) = omega (
+  arith,
+  highest-with l v,
+  highest-low g,
+  finish-few (linesAll l) v w,
+  row-finish (linesAll l) v w,
+)

@@ -74,7 +74,9 @@ module _ (d : List ℕ) (y : Tally) where
   unfolding turnAfter followed
   more-of (entry.Not f) ident z t i = none cc
   more-of (entry.Is v n) ident z t i = by (choiceOf d (notesOn d (At n)) END) refl i where
-    by : (k : Choice) → choiceOf d (notesOn d (At n)) END ≡ k → turnOr (columnsIn (y .lines) v .ident) (tallyWith y (columnsIn (y .lines) v) (y .lines + length (linesIn v))) (notesOn d (At n)) k ≡ turn.More ident z t → More (entry.Is v n) ident z t
+    by : (k : Choice) → choiceOf d (notesOn d (At n)) END ≡ k
+        → turnOr (columnsIn (y .lines) v .ident) (tallyWith y (columnsIn (y .lines) v) (y .lines + length (linesIn v))) (notesOn d (At n)) k
+        ≡ turn.More ident z t → More (entry.Is v n) ident z t
     by (Taken m) e j = none cc
     by Left e j =
         let a : columnsIn (y .lines) v .ident ≡ ident = cc in
@@ -86,7 +88,9 @@ module _ (d : List ℕ) (y : Tally) where
   unfolding turnAfter followed
   over-of (entry.Not f) z m i = none cc
   over-of (entry.Is v n) z m i = by (choiceOf d (notesOn d (At n)) END) refl i where
-    by : (k : Choice) → choiceOf d (notesOn d (At n)) END ≡ k → turnOr (columnsIn (y .lines) v .ident) (tallyWith y (columnsIn (y .lines) v) (y .lines + length (linesIn v))) (notesOn d (At n)) k ≡ turn.Over z m → Over (entry.Is v n) z m
+    by : (k : Choice) → choiceOf d (notesOn d (At n)) END ≡ k
+        → turnOr (columnsIn (y .lines) v .ident) (tallyWith y (columnsIn (y .lines) v) (y .lines + length (linesIn v))) (notesOn d (At n)) k
+        ≡ turn.Over z m → Over (entry.Is v n) z m
     by (Taken o) e j =
         let a : o ≡ m = cc in
         let b : tallyWith y (columnsIn (y .lines) v) (y .lines + length (linesIn v)) ≡ z = cc in
@@ -97,7 +101,8 @@ module _ (d : List ℕ) (y : Tally) where
   unfolding turnAfter followed
   not-of (entry.Not g) f i = let o : g ≡ f = cc in ap entry.Not o
   not-of (entry.Is v n) f i = by (choiceOf d (notesOn d (At n)) END) i where
-    by : (k : Choice) → turnOr (columnsIn (y .lines) v .ident) (tallyWith y (columnsIn (y .lines) v) (y .lines + length (linesIn v))) (notesOn d (At n)) k ≡ turn.Not f → entry.Is v n ≡ entry.Not f
+    by : (k : Choice) → turnOr (columnsIn (y .lines) v .ident) (tallyWith y (columnsIn (y .lines) v) (y .lines + length (linesIn v)))
+        (notesOn d (At n)) k ≡ turn.Not f → entry.Is v n ≡ entry.Not f
     by (Taken m) j = none cc
     by Left j = none cc
 
@@ -106,17 +111,19 @@ or-false true = refl
 or-false false = refl
 
 -- ---- THE INVARIANT
-pub record Ran (d : List ℕ) (t₀ : Reading) (rows₀ lines₀ : List ℤ) (at : Reading) (y : Tally) (seen : List ℕ) (rows lines : List ℤ) : Type 0 where
-  pub read : List Variable
-  pub same : variablesFrom d (course t₀ []) ≡ variablesFrom d (course at read)
-  pub tally : y ≡ tallyOf read
-  pub met : (n : ℕ) → n < 10000 → marked seen n ≡ identMet read n
-  pub rows-are : rows ≡ pasted rows₀ 0 (rowsFrom 0 read)
-  pub lines-are : lines ≡ pasted lines₀ 0 (allLines read)
-  pub good : Good read
-  pub seen-long : length seen ≡ 10000
+pub record Ran (d : List ℕ) (t₀ : Reading) (rows₀ lines₀ : List ℤ) (at : Reading) (y : Tally) (seen : List ℕ) (rows lines : List ℤ) : Type 0
+  where
+    pub read : List Variable
+    pub same : variablesFrom d (course t₀ []) ≡ variablesFrom d (course at read)
+    pub tally : y ≡ tallyOf read
+    pub met : (n : ℕ) → n < 10000 → marked seen n ≡ identMet read n
+    pub rows-are : rows ≡ pasted rows₀ 0 (rowsFrom 0 read)
+    pub lines-are : lines ≡ pasted lines₀ 0 (allLines read)
+    pub good : Good read
+    pub seen-long : length seen ≡ 10000
 
-pub ran-none : (d : List ℕ) (t : Reading) (rows lines : List ℤ) (seen : List ℕ) (y : Tally) → seen ≡ zeros 10000 → length seen ≡ 10000 → y ≡ tallyOf [] → Ran d t rows lines t y seen rows lines
+pub ran-none : (d : List ℕ) (t : Reading) (rows lines : List ℤ) (seen : List ℕ) (y : Tally) → seen ≡ zeros 10000 → length seen ≡ 10000 → y
+    ≡ tallyOf [] → Ran d t rows lines t y seen rows lines
 unfolding identMet rowsFrom allLines
 ran-none d t rows lines seen y e h q = record {
   read = [];
@@ -129,7 +136,8 @@ ran-none d t rows lines seen y e h q = record {
   seen-long = h;
 }
 
-module _ (d : List ℕ) (t₀ : Reading) (rows₀ lines₀ : List ℤ) (at : Reading) (y : Tally) (seen : List ℕ) (rows lines : List ℤ) (l : List Variable)
+module _ (d : List ℕ) (t₀ : Reading) (rows₀ lines₀ : List ℤ) (at : Reading) (y : Tally) (seen : List ℕ) (rows lines : List ℤ)
+    (l : List Variable)
     (same : variablesFrom d (course t₀ []) ≡ variablesFrom d (course at l))
     (tally : y ≡ tallyOf l)
     (met : (n : ℕ) → n < 10000 → marked seen n ≡ identMet l n)
@@ -154,7 +162,8 @@ module _ (d : List ℕ) (t₀ : Reading) (rows₀ lines₀ : List ℤ) (at : Rea
     not-here f i = same ∙ from-done d (course at l) (variables.Not f) (rw (sym entry-here ∙ not-of d y here f i))
 
     -- one variable more
-    module _ (v : Variable) (n : ℕ) (e : here ≡ entry.Is v n) (long : length d ≤ 1048576) (wide : length rows₀ ≡ rowSize * mostRows) (many : length lines₀ ≡ lineSize * mostLines) where
+    module _ (v : Variable) (n : ℕ) (e : here ≡ entry.Is v n) (long : length d ≤ 1048576) (wide : length rows₀ ≡ rowSize * mostRows)
+        (many : length lines₀ ≡ lineSize * mostLines) where
       read-good : EntryGood (marked seen) (y .rows) (y .lines) v
       read-good = entry-good d at (marked seen) (y .rows) (y .lines) v n long (few-here .1) e
 
@@ -168,7 +177,8 @@ module _ (d : List ℕ) (t₀ : Reading) (rows₀ lines₀ : List ℤ) (at : Rea
       unfolding tallyOf
       good-more = good.more sound (rw tally at (read-good .good)) fresh (rw tally at (read-good .left))
 
-      pub again-here : choiceOf d (notesOn d (At n)) END ≡ Left → variablesFrom d (course t₀ []) ≡ variablesFrom d (course (notesOn d (At n)) (added l v))
+      pub again-here : choiceOf d (notesOn d (At n)) END ≡ Left → variablesFrom d (course t₀ [])
+          ≡ variablesFrom d (course (notesOn d (At n)) (added l v))
       unfolding variableStep
       again-here k = same ∙ from-again d (course at l) (course (notesOn d (At n)) (added l v)) (rw (sym entry-here ∙ e, k))
 
@@ -181,7 +191,13 @@ module _ (d : List ℕ) (t₀ : Reading) (rows₀ lines₀ : List ℤ) (at : Rea
 
       pub tally-more : (z : Tally) → z ≡ tallyWith y (columnsIn (y .lines) v) (y .lines + length (linesIn v)) → z ≡ tallyOf (added l v)
       unfolding tallyOf tallyWith
-      tally-more z q = q ∙ rw (tally, length-with l v, lines-with l v, highest-with l v, row-finish (linesAll l) v (rw tally at (read-good .good)))
+      tally-more z q = q ∙ rw (
+        tally,
+        length-with l v,
+        lines-with l v,
+        highest-with l v,
+        row-finish (linesAll l) v (rw tally at (read-good .good)),
+      )
 
       pub rows-more : (end : List ℤ) → RowStored y here rows end → end ≡ pasted rows₀ 0 (rowsFrom 0 (added l v))
       unfolding tallyOf
@@ -189,14 +205,17 @@ module _ (d : List ℕ) (t₀ : Reading) (rows₀ lines₀ : List ℤ) (at : Rea
           let z : 0 + linesAll l ≡ linesAll l = omega arith in
           let k : length (rowsFrom 0 l) ≡ rowSize * length l = rows-length 0 l in
           s .row-stored e
-          ∙ rw (rows-are, tally, rows-with 0 l v, z) (at-start rows₀ (rowsFrom 0 l) (rowCells (columnsIn (linesAll l) v)) (rowSize * length l) (sym k) (omega (arith, k, few-rows sound)))
+          ∙ rw (rows-are, tally, rows-with 0 l v, z)
+          (at-start rows₀ (rowsFrom 0 l) (rowCells (columnsIn (linesAll l) v)) (rowSize * length l) (sym k)
+          (omega (arith, k, few-rows sound)))
 
       pub lines-more : (end : List ℤ) → Stored (y .lines) here lines end → end ≡ pasted lines₀ 0 (allLines (added l v))
       unfolding tallyOf
       lines-more end s =
           let k : length (allLines l) ≡ lineSize * linesAll l = lines-length l in
           s .stored e
-          ∙ rw (lines-are, tally, cells-with l v) (at-start lines₀ (allLines l) (cellsOf (linesIn v)) (lineSize * linesAll l) (sym k) (omega (arith, k, few-lines sound)))
+          ∙ rw (lines-are, tally, cells-with l v)
+          (at-start lines₀ (allLines l) (cellsOf (linesIn v)) (lineSize * linesAll l) (sym k) (omega (arith, k, few-lines sound)))
 
       pub met-more : (k : ℕ) → k < 10000 → marked (set seen (columnsIn (y .lines) v .ident) 1) k ≡ identMet (added l v) k
       met-more k h =
@@ -213,13 +232,15 @@ module _ (d : List ℕ) (t₀ : Reading) (rows₀ lines₀ : List ℤ) (at : Rea
               rw (getD-set-other seen i k 1 0 j) (met k h ∙ or-false (identMet l k))
 
 -- ---- carried on: another variable, the END behind the last, a refusal
-module _ (d : List ℕ) (t₀ : Reading) (rows₀ lines₀ : List ℤ) (at : Reading) (y : Tally) (seen : List ℕ) (rows lines : List ℤ) (r : Ran d t₀ rows₀ lines₀ at y seen rows lines)
+module _ (d : List ℕ) (t₀ : Reading) (rows₀ lines₀ : List ℤ) (at : Reading) (y : Tally) (seen : List ℕ) (rows lines : List ℤ)
+    (r : Ran d t₀ rows₀ lines₀ at y seen rows lines)
     (long : length d ≤ 1048576) (wide : length rows₀ ≡ rowSize * mostRows) (many : length lines₀ ≡ lineSize * mostLines) where
   abbrev entry-now : Entry
   entry-now = entryOf d at (marked seen) (y .rows) (y .lines)
 
   pub ran-few : (y .rows ≤ 512) × (y .lines ≤ 4096)
-  ran-few = few-here d t₀ rows₀ lines₀ at y seen rows lines (r .read) (r .same) (r .tally) (r .met) (r .rows-are) (r .lines-are) (r .good) (r .seen-long)
+  ran-few = few-here d t₀ rows₀ lines₀ at y seen rows lines (r .read) (r .same) (r .tally) (r .met) (r .rows-are) (r .lines-are) (r .good)
+      (r .seen-long)
 
   pub record Onward (ident : ℕ) (z : Tally) (t : Reading) (rows′ lines′ : List ℤ) : Type 0 where
     pub small : ident < 10000
@@ -227,7 +248,8 @@ module _ (d : List ℕ) (t₀ : Reading) (rows₀ lines₀ : List ℤ) (at : Rea
     pub left : y .rows < 512
     pub ran : Ran d t₀ rows₀ lines₀ t z (set seen ident 1) rows′ lines′
 
-  module _ (w : Turn) (rows′ lines′ : List ℤ) (says : w ≡ turnAfter d y entry-now) (row : RowStored y entry-now rows rows′) (line : Stored (y .lines) entry-now lines lines′) where
+  module _ (w : Turn) (rows′ lines′ : List ℤ) (says : w ≡ turnAfter d y entry-now) (row : RowStored y entry-now rows rows′)
+      (line : Stored (y .lines) entry-now lines lines′) where
     pub ran-more : (ident : ℕ) (z : Tally) (t : Reading) → w ≡ turn.More ident z t → Onward ident z t rows′ lines′
     unfolding tallyWith
     ran-more ident z t e =
@@ -237,19 +259,29 @@ module _ (d : List ℕ) (t₀ : Reading) (rows₀ lines₀ : List ℤ) (at : Rea
         let i = m .entry-is in
         let l = r .read in
         let small : columnsIn (y .lines) v .ident < 10000 =
-        ident-small d t₀ rows₀ lines₀ at y seen rows lines l (r .same) (r .tally) (r .met) (r .rows-are) (r .lines-are) (r .good) (r .seen-long) v n i long wide many in
+        ident-small d t₀ rows₀ lines₀ at y seen rows lines l (r .same) (r .tally) (r .met) (r .rows-are) (r .lines-are) (r .good)
+        (r .seen-long) v n i long wide many in
         record {
           small = rw (m .ident-is) small;
           further = ap (λ (q : Tally). q .rows) (m .tally-is);
-          left = left-here d t₀ rows₀ lines₀ at y seen rows lines l (r .same) (r .tally) (r .met) (r .rows-are) (r .lines-are) (r .good) (r .seen-long) v n i long wide many;
+          left = left-here d t₀ rows₀ lines₀ at y seen rows lines l (r .same) (r .tally) (r .met) (r .rows-are) (r .lines-are) (r .good)
+              (r .seen-long) v n i long wide many;
           ran = record {
             read = added l v;
-            same = again-here d t₀ rows₀ lines₀ at y seen rows lines l (r .same) (r .tally) (r .met) (r .rows-are) (r .lines-are) (r .good) (r .seen-long) v n i long wide many (m .choice) ∙ ap (λ (q : Reading). variablesFrom d (course q (added l v))) (sym (m .onward));
-            tally = tally-more d t₀ rows₀ lines₀ at y seen rows lines l (r .same) (r .tally) (r .met) (r .rows-are) (r .lines-are) (r .good) (r .seen-long) v n i long wide many z (m .tally-is);
-            met = λ k h. ap (λ (q : ℕ). marked (set seen q 1) k) (m .ident-is) ∙ (met-more d t₀ rows₀ lines₀ at y seen rows lines l (r .same) (r .tally) (r .met) (r .rows-are) (r .lines-are) (r .good) (r .seen-long) v n i long wide many k h);
-            rows-are = rows-more d t₀ rows₀ lines₀ at y seen rows lines l (r .same) (r .tally) (r .met) (r .rows-are) (r .lines-are) (r .good) (r .seen-long) v n i long wide many rows′ row;
-            lines-are = lines-more d t₀ rows₀ lines₀ at y seen rows lines l (r .same) (r .tally) (r .met) (r .rows-are) (r .lines-are) (r .good) (r .seen-long) v n i long wide many lines′ line;
-            good = good-more d t₀ rows₀ lines₀ at y seen rows lines l (r .same) (r .tally) (r .met) (r .rows-are) (r .lines-are) (r .good) (r .seen-long) v n i long wide many;
+            same = again-here d t₀ rows₀ lines₀ at y seen rows lines l (r .same) (r .tally) (r .met) (r .rows-are) (r .lines-are) (r .good)
+                (r .seen-long) v n i long wide many (m .choice)
+                ∙ ap (λ (q : Reading). variablesFrom d (course q (added l v))) (sym (m .onward));
+            tally = tally-more d t₀ rows₀ lines₀ at y seen rows lines l (r .same) (r .tally) (r .met) (r .rows-are) (r .lines-are) (r .good)
+                (r .seen-long) v n i long wide many z (m .tally-is);
+            met = λ k h. ap (λ (q : ℕ). marked (set seen q 1) k) (m .ident-is)
+                ∙ (met-more d t₀ rows₀ lines₀ at y seen rows lines l (r .same) (r .tally) (r .met) (r .rows-are) (r .lines-are) (r .good)
+                (r .seen-long) v n i long wide many k h);
+            rows-are = rows-more d t₀ rows₀ lines₀ at y seen rows lines l (r .same) (r .tally) (r .met) (r .rows-are) (r .lines-are)
+                (r .good) (r .seen-long) v n i long wide many rows′ row;
+            lines-are = lines-more d t₀ rows₀ lines₀ at y seen rows lines l (r .same) (r .tally) (r .met) (r .rows-are) (r .lines-are)
+                (r .good) (r .seen-long) v n i long wide many lines′ line;
+            good = good-more d t₀ rows₀ lines₀ at y seen rows lines l (r .same) (r .tally) (r .met) (r .rows-are) (r .lines-are) (r .good)
+                (r .seen-long) v n i long wide many;
             seen-long = length-set seen ident 1 ∙ r .seen-long;
           };
         }
@@ -271,10 +303,14 @@ module _ (d : List ℕ) (t₀ : Reading) (rows₀ lines₀ : List ℤ) (at : Rea
         let l = r .read in
         record {
           all = added l v;
-          are = over-here d t₀ rows₀ lines₀ at y seen rows lines l (r .same) (r .tally) (r .met) (r .rows-are) (r .lines-are) (r .good) (r .seen-long) v n i long wide many m (o .choice);
-          tally-are = tally-more d t₀ rows₀ lines₀ at y seen rows lines l (r .same) (r .tally) (r .met) (r .rows-are) (r .lines-are) (r .good) (r .seen-long) v n i long wide many z (o .tally-is);
-          rows-end = rows-more d t₀ rows₀ lines₀ at y seen rows lines l (r .same) (r .tally) (r .met) (r .rows-are) (r .lines-are) (r .good) (r .seen-long) v n i long wide many rows′ row;
-          lines-end = lines-more d t₀ rows₀ lines₀ at y seen rows lines l (r .same) (r .tally) (r .met) (r .rows-are) (r .lines-are) (r .good) (r .seen-long) v n i long wide many lines′ line;
+          are = over-here d t₀ rows₀ lines₀ at y seen rows lines l (r .same) (r .tally) (r .met) (r .rows-are) (r .lines-are) (r .good)
+              (r .seen-long) v n i long wide many m (o .choice);
+          tally-are = tally-more d t₀ rows₀ lines₀ at y seen rows lines l (r .same) (r .tally) (r .met) (r .rows-are) (r .lines-are)
+              (r .good) (r .seen-long) v n i long wide many z (o .tally-is);
+          rows-end = rows-more d t₀ rows₀ lines₀ at y seen rows lines l (r .same) (r .tally) (r .met) (r .rows-are) (r .lines-are) (r .good)
+              (r .seen-long) v n i long wide many rows′ row;
+          lines-end = lines-more d t₀ rows₀ lines₀ at y seen rows lines l (r .same) (r .tally) (r .met) (r .rows-are) (r .lines-are)
+              (r .good) (r .seen-long) v n i long wide many lines′ line;
         }
 
     pub run-over : (z : Tally) (m : ℕ) → w ≡ turn.Over z m → run.Is z m ≡ runOf (variablesFrom d (course t₀ []))
@@ -285,15 +321,18 @@ module _ (d : List ℕ) (t₀ : Reading) (rows₀ lines₀ : List ℤ) (at : Rea
     laid-over z m e =
         let o = ran-over z m e in
         record {
-          rows-laid = λ {l} {m = k} q. o .rows-end ∙ ap (λ (a : List Variable). pasted rows₀ 0 (rowsFrom 0 a)) (same-all (o .all) l m k (sym (o .are) ∙ q));
-          lines-laid = λ {l} {m = k} q. o .lines-end ∙ ap (λ (a : List Variable). pasted lines₀ 0 (allLines a)) (same-all (o .all) l m k (sym (o .are) ∙ q));
+          rows-laid = λ {l} {m = k} q. o .rows-end
+              ∙ ap (λ (a : List Variable). pasted rows₀ 0 (rowsFrom 0 a)) (same-all (o .all) l m k (sym (o .are) ∙ q));
+          lines-laid = λ {l} {m = k} q. o .lines-end
+              ∙ ap (λ (a : List Variable). pasted lines₀ 0 (allLines a)) (same-all (o .all) l m k (sym (o .are) ∙ q));
         }
       where
         same-all : (a b : List Variable) (m k : ℕ) → variables.Is a m ≡ variables.Is b k → a ≡ b
         same-all a b m k q = cc
 
     run-refused : (f : Fault) → w ≡ turn.Not f → variablesFrom d (course t₀ []) ≡ variables.Not f
-    run-refused f e = not-here d t₀ rows₀ lines₀ at y seen rows lines (r .read) (r .same) (r .tally) (r .met) (r .rows-are) (r .lines-are) (r .good) (r .seen-long) f (sym says ∙ e)
+    run-refused f e = not-here d t₀ rows₀ lines₀ at y seen rows lines (r .read) (r .same) (r .tally) (r .met) (r .rows-are) (r .lines-are)
+        (r .good) (r .seen-long) f (sym says ∙ e)
 
     pub run-not : (f : Fault) → w ≡ turn.Not f → run.Not f ≡ runOf (variablesFrom d (course t₀ []))
     unfolding runOf

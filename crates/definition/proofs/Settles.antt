@@ -44,7 +44,8 @@ place-in b (v ∷ l) zero h = first b v (rowsFrom (b + length (linesIn v)) l)
     first b v s = refl
 place-in b (v ∷ l) (suc i) h =
     let e : rowSize * suc i + 14 ≡ length (rowCells (columnsIn b v)) + (rowSize * i + 14) = omega (arith, row-length b v) in
-    rw (e, getD-append-add (rowCells (columnsIn b v)) (rowsFrom (b + length (linesIn v)) l) (rowSize * i + 14) (pos 0)) (place-in (b + length (linesIn v)) l i (le-of-suc-le-suc h))
+    rw (e, getD-append-add (rowCells (columnsIn b v)) (rowsFrom (b + length (linesIn v)) l) (rowSize * i + 14) (pos 0))
+    (place-in (b + length (linesIn v)) l i (le-of-suc-le-suc h))
 
 name-at : (d : List ℕ) (l : List Variable) (i : ℕ) → i < length l → nameAt (namesOf d l) i ≡ decodeOf Plain 0 (text d (placeAt l i))
 unfolding placeAt namesOf
@@ -76,14 +77,16 @@ module _ (d : List ℕ) (y : Tally) (rows lines : List ℤ) (l : List Variable) 
   place-here : (i : ℕ) → i < length l → countOf (cell rows (rowSize * i + 14)) ≡ placeAt l i
   place-here i k =
       let a : rowSize * i + 14 < rowSize * length l = omega arith in
-      ap countOf (sym (getD-take (rowSize * length l) rows (rowSize * i + 14) (pos 0) a) ∙ ap (λ (s : List ℤ). cell s (rowSize * i + 14)) (h .rows-held)) ∙ place-in 0 l i k
+      ap countOf (sym (getD-take (rowSize * length l) rows (rowSize * i + 14) (pos 0) a)
+      ∙ ap (λ (s : List ℤ). cell s (rowSize * i + 14)) (h .rows-held)) ∙ place-in 0 l i k
 
   -- the first name at fault
   fault-here : (r : ℕ) → NamesJudged d rows (y .rows) r → r ≡ nameFault (namesOf d l)
   unfolding nameIn
   fault-here r j =
       j .fault-is (namesOf d l) (names-count d l ∙ sym count-is)
-      (λ i k. let q : i < length l = omega (arith, count-is) in ap (λ (p : ℕ). decodeOf Plain 0 (text d p)) (place-here i q) ∙ sym (name-at d l i q))
+      (λ i k. let q : i < length l = omega (arith, count-is) in
+      ap (λ (p : ℕ). decodeOf Plain 0 (text d p)) (place-here i q) ∙ sym (name-at d l i q))
 
   -- the numbers that the rooms hold are those of the survey
   pub cells-are : cellsIn mark y rows lines ≡ tableOf l
@@ -119,7 +122,8 @@ module _ (d : List ℕ) (y : Tally) (rows lines : List ℤ) (l : List Variable) 
   good-outcome n r j k = rw (← fault-here r j, le-ltb r (length l) (omega (arith, count-is)))
 
   -- or one is not
-  bad-outcome : (n r : ℕ) → NamesJudged d rows (y .rows) r → r < y .rows → named d n true l ≡ Refusal 9 (countOf (cell rows (rowSize * r + 14)) - 1)
+  bad-outcome : (n r : ℕ) → NamesJudged d rows (y .rows) r → r < y .rows → named d n true l
+      ≡ Refusal 9 (countOf (cell rows (rowSize * r + 14)) - 1)
   unfolding named
   bad-outcome n r j k =
       let q : r < length l = omega (arith, count-is) in
@@ -138,11 +142,15 @@ module _ (d : List ℕ) (y : Tally) (rows : List ℤ) where
 
   module _ (r : ℕ) (j : NamesJudged d rows (y .rows) r) where
     pub good-settled : y .rows ≤ r → NamesSettled d true y rows (rooms.Held y)
-    good-settled k = record { passes = λ {z} e l lines h. (held-same z e, λ n. good-outcome d y rows lines l h n r j k); fails = λ e l lines h n. none cc } where
+    good-settled k = record {
+      passes = λ {z} e l lines h. (held-same z e, λ n. good-outcome d y rows lines l h n r j k);
+      fails = λ e l lines h n. none cc;
+    } where
       held-same : (z : Tally) → rooms.Held y ≡ rooms.Held z → z ≡ y
       held-same z e = cc
 
-    pub bad-settled : (p q : ℕ) → r < y .rows → p ≡ countOf (cell rows (rowSize * r + 14)) → q ≡ p - 1 → NamesSettled d true y rows (rooms.Refused 9 q)
+    pub bad-settled : (p q : ℕ) → r < y .rows → p ≡ countOf (cell rows (rowSize * r + 14)) → q ≡ p - 1
+        → NamesSettled d true y rows (rooms.Refused 9 q)
     bad-settled p q k e f = record {
       passes = λ i l lines h. none cc;
       fails = λ {k = u} {p = v} i l lines h n.

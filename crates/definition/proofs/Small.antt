@@ -11,7 +11,8 @@ use Rattle.measures.specs.Good.{GoodVariable}
 module _ (before : ℕ) (v : Variable) (g : GoodVariable before v) where
   pub small-row : SmallRow (columnsIn before v)
   unfolding holdsIn columnsIn fullColumns widened plainColumns countedIn
-  small-row = small-columns (columnsIn before v) (g .counts) (g .places) (g .holds) (omega (arith, g .few)) (omega (arith, g .few)) (omega arith) (omega arith)
+  small-row = small-columns (columnsIn before v) (g .counts) (g .places) (g .holds) (omega (arith, g .few)) (omega (arith, g .few))
+      (omega arith) (omega arith)
 
   pub row-ident : columnsIn before v .ident ≡ v .head .ident
   unfolding columnsIn fullColumns widened plainColumns

@@ -38,7 +38,8 @@ pub record Told (e : Entry) (before : ℕ) (c : Columns) (last n : ℕ) : Type 0
   pub columns-are : c ≡ columnsIn before variable
   pub last-is : last ≡ before + length (linesIn variable)
 
-pub told : (e : Entry) (before : ℕ) (c : Columns) (last n : ℕ) (s : Stood) → s ≡ stoodOf before e → s ≡ stood.Is c last n → Told e before c last n
+pub told : (e : Entry) (before : ℕ) (c : Columns) (last n : ℕ) (s : Stood) → s ≡ stoodOf before e → s ≡ stood.Is c last n
+    → Told e before c last n
 unfolding stoodOf
 told (entry.Is v m) before c last n s i j =
     let k : stood.Is (columnsIn before v) (before + length (linesIn v)) m ≡ stood.Is c last n = sym i ∙ j in
@@ -69,7 +70,10 @@ module _ (d : List ℕ) (t : Reading) (met : ℕ → Bool) (y : Tally) (long : l
     turn-here r z i j = j ∙ rw (i, k .columns-are, k .last-is, k .entry-is)
 
     pub row-here : (room end : List ℤ) → end ≡ pasted room (rowSize * y .rows) (rowCells c) → RowStored y here room end
-    row-here room end i = record { row-stored = λ {v} {n = m} e. i ∙ rw (k .columns-are) (ap (λ (w : Variable). pasted room (rowSize * y .rows) (rowCells (columnsIn (y .lines) w))) (same v m e)) }
+    row-here room end i = record {
+      row-stored = λ {v} {n = m} e. i
+          ∙ rw (k .columns-are) (ap (λ (w : Variable). pasted room (rowSize * y .rows) (rowCells (columnsIn (y .lines) w))) (same v m e));
+    }
       where
         same : (v : Variable) (m : ℕ) → here ≡ entry.Is v m → k .variable ≡ v
         same v m e = let q : entry.Is (k .variable) n ≡ entry.Is v m = sym (k .entry-is) ∙ e in cc
@@ -85,9 +89,14 @@ refused-is (entry.Not g) before f s i j =
     let o : g ≡ f = cc in
     ap entry.Not o
 
-pub turn-not : (d : List ℕ) (y : Tally) (e : Entry) (before : ℕ) (f : Fault) (s : Stood) → s ≡ stoodOf before e → s ≡ stood.Not f → turn.Not f ≡ turnAfter d y e
+pub turn-not : (d : List ℕ) (y : Tally) (e : Entry) (before : ℕ) (f : Fault) (s : Stood) → s ≡ stoodOf before e → s ≡ stood.Not f
+    → turn.Not f ≡ turnAfter d y e
 unfolding turnAfter
 turn-not d y e before f s i j = rw (refused-is e before f s i j)
 
-pub row-not : (y : Tally) (e : Entry) (before : ℕ) (f : Fault) (s : Stood) (room end : List ℤ) → s ≡ stoodOf before e → s ≡ stood.Not f → RowStored y e room end
-row-not y e before f s room end i j = record { row-stored = λ {v} {n} k. let q : entry.Not f ≡ entry.Is v n = sym (refused-is e before f s i j) ∙ k in none cc }
+pub row-not : (y : Tally) (e : Entry) (before : ℕ) (f : Fault) (s : Stood) (room end : List ℤ) → s ≡ stoodOf before e → s ≡ stood.Not f
+    → RowStored y e room end
+row-not y e before f s room end i j = record {
+  row-stored = λ {v} {n} k. let q : entry.Not f
+      ≡ entry.Is v n = sym (refused-is e before f s i j) ∙ k in none cc;
+}

@@ -70,8 +70,10 @@ module _ (d : List ℕ) (long : length d ≤ 1048576) (t : Reading) (front : t �
             are = i ∙ ap (variables.Is l) b;
             held = record {
               tally = sym a;
-              rows-held = ap (take (rowSize * length l)) (laid .rows-laid i) ∙ take-pasted rows (rowsFrom 0 l) (rowSize * length l) (sym (rows-length 0 l));
-              lines-held = ap (take (lineSize * linesAll l)) (laid .lines-laid i) ∙ take-pasted lines (allLines l) (lineSize * linesAll l) (sym (lines-length l));
+              rows-held = ap (take (rowSize * length l)) (laid .rows-laid i)
+                  ∙ take-pasted rows (rowsFrom 0 l) (rowSize * length l) (sym (rows-length 0 l));
+              lines-held = ap (take (lineSize * linesAll l)) (laid .lines-laid i)
+                  ∙ take-pasted lines (allLines l) (lineSize * linesAll l) (sym (lines-length l));
               good = variables-good d long t .all i .0;
             };
           }
@@ -85,10 +87,12 @@ module _ (d : List ℕ) (long : length d ≤ 1048576) (t : Reading) (front : t �
 
     module _ (n : ℕ) where
       -- and the ENDs behind them
-      ends-here : (y : Tally) (m k : ℕ) (r : Reading) (e : q ≡ run.Is y m) → r ≡ endsOn d m → r ≡ At k → judged d n (surveyOf d) ≡ named d n (frontOn d .heading .standard) (stands y m e .read)
+      ends-here : (y : Tally) (m k : ℕ) (r : Reading) (e : q ≡ run.Is y m) → r ≡ endsOn d m → r ≡ At k → judged d n (surveyOf d)
+          ≡ named d n (frontOn d .heading .standard) (stands y m e .read)
       ends-here y m k r e a b = let s = stands y m e in ap (judged d n) (survey-is (variables.Is (s .read) m) (s .are)) ∙ rw (sym a ∙ b)
 
-      ends-not : (y : Tally) (m : ℕ) (r : Reading) (g : Fault) → q ≡ run.Is y m → r ≡ endsOn d m → r ≡ Refused g → judged d n (surveyOf d) ≡ Refusal (g .number) (g .place)
+      ends-not : (y : Tally) (m : ℕ) (r : Reading) (g : Fault) → q ≡ run.Is y m → r ≡ endsOn d m → r ≡ Refused g → judged d n (surveyOf d)
+          ≡ Refusal (g .number) (g .place)
       ends-not y m r g e a b = let s = stands y m e in ap (judged d n) (survey-is (variables.Is (s .read) m) (s .are)) ∙ rw (sym a ∙ b)
 
       run-not : (g : Fault) → q ≡ run.Not g → judged d n (surveyOf d) ≡ Refusal (g .number) (g .place)
@@ -99,7 +103,8 @@ module _ (d : List ℕ) (long : length d ≤ 1048576) (t : Reading) (front : t �
         by (variables.Not h) i j = let o : h ≡ g = cc in ap (judged d n) (survey-is (variables.Not h) i) ∙ rw o
 
     -- what the rooms come to
-    pub rooms-here : (y : Tally) (m k : ℕ) (r : Reading) (standard : Bool) (o : Rooms) → q ≡ run.Is y m → r ≡ endsOn d m → r ≡ At k → standard ≡ frontOn d .heading .standard → NamesSettled d standard y rows′ o → RoomsRead d rows′ lines′ o
+    pub rooms-here : (y : Tally) (m k : ℕ) (r : Reading) (standard : Bool) (o : Rooms) → q ≡ run.Is y m → r ≡ endsOn d m → r ≡ At k
+        → standard ≡ frontOn d .heading .standard → NamesSettled d standard y rows′ o → RoomsRead d rows′ lines′ o
     rooms-here y m k r standard o e a b f j = record {
       stands = λ {y = z} i.
           let s = stands y m e in
@@ -114,7 +119,8 @@ module _ (d : List ℕ) (long : length d ≤ 1048576) (t : Reading) (front : t �
           ends-here n y m k r e a b ∙ rw (← f) (j .fails i (s .read) lines′ (s .held) n);
     }
 
-    refused-here : (g : Fault) → ((n : ℕ) → judged d n (surveyOf d) ≡ Refusal (g .number) (g .place)) → RoomsRead d rows′ lines′ (rooms.Refused (g .number) (g .place))
+    refused-here : (g : Fault) → ((n : ℕ) → judged d n (surveyOf d) ≡ Refusal (g .number) (g .place))
+        → RoomsRead d rows′ lines′ (rooms.Refused (g .number) (g .place))
     refused-here g h = record {
       stands = λ i. none cc;
       refuses = λ {k = u} {p = v} i n.
@@ -123,7 +129,8 @@ module _ (d : List ℕ) (long : length d ≤ 1048576) (t : Reading) (front : t �
           h n ∙ rw (a, b);
     }
 
-    pub rooms-ends : (y : Tally) (m : ℕ) (r : Reading) (g : Fault) → q ≡ run.Is y m → r ≡ endsOn d m → r ≡ Refused g → RoomsRead d rows′ lines′ (rooms.Refused (g .number) (g .place))
+    pub rooms-ends : (y : Tally) (m : ℕ) (r : Reading) (g : Fault) → q ≡ run.Is y m → r ≡ endsOn d m → r ≡ Refused g
+        → RoomsRead d rows′ lines′ (rooms.Refused (g .number) (g .place))
     rooms-ends y m r g e a b = refused-here g (λ n. ends-not n y m r g e a b)
 
     pub rooms-not : (g : Fault) → q ≡ run.Not g → RoomsRead d rows′ lines′ (rooms.Refused (g .number) (g .place))
@@ -142,9 +149,18 @@ module _ (d : List ℕ) (rows lines : List ℤ) (y : Tally) (s : Standing d rows
   unfolding fitting
   any-fits =
       let f : length (tableOf (s .read)) ≤ lineBase mostRows mostLines =
-      omega (arith, table-length (s .read), s .few .0, s .few .1, count-is d y rows lines (s .read) (s .held), lines-is d y rows lines (s .read) (s .held)) in
+      omega (
+        arith,
+        table-length (s .read),
+        s .few .0,
+        s .few .1,
+        count-is d y rows lines (s .read) (s .held),
+        lines-is d y rows lines (s .read) (s .held),
+      ) in
       rw (le-ltb (lineBase mostRows mostLines) (length (tableOf (s .read))) f)
 
-  pub held-says : (t : List ℤ) → comparedBy (begins (cellsIn mark y rows lines) t) ≡ heldIn (judged d (lineBase mostRows mostLines) (surveyOf d)) t
+  pub held-says : (t : List ℤ) → comparedBy (begins (cellsIn mark y rows lines) t)
+      ≡ heldIn (judged d (lineBase mostRows mostLines) (surveyOf d)) t
   unfolding comparedBy heldIn
-  held-says t = rw (cells-are d y rows lines (s .read) (s .held)) (sym (ap (λ (w : Outcome). heldIn w t) (s .outcome (lineBase mostRows mostLines) ∙ any-fits)))
+  held-says t = rw (cells-are d y rows lines (s .read) (s .held))
+      (sym (ap (λ (w : Outcome). heldIn w t) (s .outcome (lineBase mostRows mostLines) ∙ any-fits)))

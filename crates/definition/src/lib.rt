@@ -82,8 +82,10 @@ fn one_variable(
     requires { ⌜ (length (now rows) ≡ rowSize * mostRows) × (length (now lines) ≡ lineSize * mostLines) × (length (now marks) ≡ 16384) ⌝ }
     requires { ⌜ length (now seen) ≡ 10000 ⌝ }
     ensures { λ r. ⌜ r ≡ turnAfter (now (d .entry)) y (entryOf (now (d .entry)) at (marked (now (seen .entry))) (y .rows) (y .lines)) ⌝ }
-    ensures { λ r. ⌜ RowStored y (entryOf (now (d .entry)) at (marked (now (seen .entry))) (y .rows) (y .lines)) (now (rows .entry)) (now (rows .exit)) ⌝ }
-    ensures { λ r. ⌜ Stored (y .lines) (entryOf (now (d .entry)) at (marked (now (seen .entry))) (y .rows) (y .lines)) (now (lines .entry)) (now (lines .exit)) ⌝ }
+    ensures { λ r. ⌜ RowStored y (entryOf (now (d .entry)) at (marked (now (seen .entry))) (y .rows) (y .lines)) (now (rows .entry))
+        (now (rows .exit)) ⌝ }
+    ensures { λ r. ⌜ Stored (y .lines) (entryOf (now (d .entry)) at (marked (now (seen .entry))) (y .rows) (y .lines)) (now (lines .entry))
+        (now (lines .exit)) ⌝ }
 {
     let count = y.rows;
     let stamp = (count + 1) as u16;
@@ -134,7 +136,8 @@ fn read_variables(
     requires { ⌜ (length (now rows) ≡ rowSize * mostRows) × (length (now lines) ≡ lineSize * mostLines) × (length (now marks) ≡ 16384) ⌝ }
     requires { ⌜ now seen ≡ zeros 10000 ⌝ }
     ensures { λ r. ⌜ r ≡ runOf (variablesFrom (now (d .entry)) (course t [])) ⌝ }
-    ensures { λ r. ⌜ Laid (variablesFrom (now (d .entry)) (course t [])) (now (rows .entry)) (now (rows .exit)) (now (lines .entry)) (now (lines .exit)) ⌝ }
+    ensures { λ r. ⌜ Laid (variablesFrom (now (d .entry)) (course t [])) (now (rows .entry)) (now (rows .exit)) (now (lines .entry))
+        (now (lines .exit)) ⌝ }
 {
     let mut at = t;
     let mut y = Tally {

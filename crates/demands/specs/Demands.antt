@@ -41,7 +41,8 @@ use Rattle.summary.specs.rule.Summary.{summaryOf}
 use Rattle.matrix.specs.rule.Entry.{presenceOf, floatOf, presentOf}
 use Rattle.matrix.specs.rule.Bytes.{presenceAt, valuesAt, totalOf, summaryBytes}
 use Rattle.columns.specs.rule.Columns.{ofRow, entryOf}
-use Rattle.matrices.specs.rule.Matrix.{endedOf, tableColumns, columnEntries, matrixOf, MatrixVerdict, refusedAs, matrixVerdict, MatrixWritten}
+use Rattle.matrices.specs.rule.Matrix.{endedOf, tableColumns, columnEntries, matrixOf, MatrixVerdict, refusedAs, matrixVerdict}
+use Rattle.matrices.specs.rule.Matrix.{MatrixWritten}
 use Rattle.matrix_laws.specs.rule.Exactly.{Refusal, SizeOutcome}
 use Rattle.matrix_laws.specs.rule.Header.{Headed}
 use Rattle.matrix_laws.specs.rule.Summary.{Summarises}
@@ -199,7 +200,8 @@ module _ {t : List ℤ} {d : List ℕ} {terminator first last : ℕ} where
   one-part-told = face.part-told-one
 
 module _ {t : List ℤ} {d out : List ℕ} where
-  pub one-matrix : {o₁ o₂ : List ℕ} {v₁ v₂ : MatrixVerdict} → MatrixWritten t d out o₁ v₁ → MatrixWritten t d out o₂ v₂ → (v₁ ≡ v₂) × (o₁ ≡ o₂)
+  pub one-matrix : {o₁ o₂ : List ℕ} {v₁ v₂ : MatrixVerdict} → MatrixWritten t d out o₁ v₁ → MatrixWritten t d out o₂ v₂ → (v₁ ≡ v₂)
+      × (o₁ ≡ o₂)
   one-matrix = matrix.matrix-one
 
   pub one-matrix-told : {o₁ o₂ : List ℕ} {a₁ a₂ : List ℤ} {r₁ r₂ : ℕ} → MatrixTold t d out o₁ a₁ r₁ → MatrixTold t d out o₂ a₂ r₂
@@ -207,7 +209,8 @@ module _ {t : List ℤ} {d out : List ℕ} where
   one-matrix-told = face.matrix-told-one
 
 module _ {def : List ℕ} {t : List ℤ} {d out : List ℕ} where
-  pub one-export : {o₁ o₂ : List ℕ} {v₁ v₂ : ExportVerdict} → Exported def t d out o₁ v₁ → Exported def t d out o₂ v₂ → (v₁ ≡ v₂) × (o₁ ≡ o₂)
+  pub one-export : {o₁ o₂ : List ℕ} {v₁ v₂ : ExportVerdict} → Exported def t d out o₁ v₁ → Exported def t d out o₂ v₂ → (v₁ ≡ v₂)
+      × (o₁ ≡ o₂)
   one-export = exports.export-one
 
   pub one-export-told : {o₁ o₂ : List ℕ} {a₁ a₂ : List ℤ} {r₁ r₂ : ℕ} → ExportTold def t d out o₁ a₁ r₁ → ExportTold def t d out o₂ a₂ r₂
@@ -215,7 +218,8 @@ module _ {def : List ℕ} {t : List ℤ} {d out : List ℕ} where
   one-export-told = face.export-told-one
 
 module _ {def : List ℕ} {t : List ℤ} {s out : List ℕ} where
-  pub one-import : {o₁ o₂ : List ℕ} {v₁ v₂ : ImportVerdict} → Imported def t s out o₁ v₁ → Imported def t s out o₂ v₂ → (v₁ ≡ v₂) × (o₁ ≡ o₂)
+  pub one-import : {o₁ o₂ : List ℕ} {v₁ v₂ : ImportVerdict} → Imported def t s out o₁ v₁ → Imported def t s out o₂ v₂ → (v₁ ≡ v₂)
+      × (o₁ ≡ o₂)
   one-import = imports.import-one
 
   pub one-import-told : {o₁ o₂ : List ℕ} {a₁ a₂ : List ℤ} {r₁ r₂ : ℕ} → ImportTold def t s out o₁ a₁ r₁ → ImportTold def t s out o₂ a₂ r₂
@@ -314,10 +318,12 @@ so-part = part.part-only
 
 -- the matrix is refused by 20 and by the file's own refusal exactly when the file is refused so; that of a sound file by 80, 81, 82, or
 -- written, exactly when what that says is so
-pub matrix-own : (t : List ℤ) (d : List ℕ) (room : ℕ) (v : FileVerdict) → matrixVerdict t d room ≡ refusedAs v → Refusal v × (fileVerdict t d ≡ v)
+pub matrix-own : (t : List ℤ) (d : List ℕ) (room : ℕ) (v : FileVerdict) → matrixVerdict t d room ≡ refusedAs v → Refusal v
+    × (fileVerdict t d ≡ v)
 matrix-own = sizes.own-named
 
-pub own-matrix : (t : List ℤ) (d : List ℕ) (room : ℕ) (v : FileVerdict) → Refusal v → fileVerdict t d ≡ v → matrixVerdict t d room ≡ refusedAs v
+pub own-matrix : (t : List ℤ) (d : List ℕ) (room : ℕ) (v : FileVerdict) → Refusal v → fileVerdict t d ≡ v → matrixVerdict t d room
+    ≡ refusedAs v
 own-matrix = sizes.own-only
 
 pub matrix-so : (t : List ℤ) (d : List ℕ) (room n : ℕ) → fileVerdict t d ≡ soundWith n
@@ -355,7 +361,8 @@ module _ (t : List ℤ) (rs : List (List ℕ)) (out : List ℕ) (inside : totalO
 
 -- and that summary, of each column of a sound file, is the count, a smallest and a largest of the values present, or zeros
 pub matrix-extremes : (t : List ℤ) (d : List ℕ) (n k : ℕ) → fileVerdict t d ≡ soundWith n → k < length (tableColumns t)
-    → let xs = presentOf (columnEntries t (rowsOf t) (getD (tableColumns t) k (ofRow 0)) (endedOf (recordsOf d))) in Summarises xs (summaryOf xs)
+    → let xs = presentOf (columnEntries t (rowsOf t) (getD (tableColumns t) k (ofRow 0)) (endedOf (recordsOf d))) in
+    Summarises xs (summaryOf xs)
 matrix-extremes = summaries.sound-summary
 
 -- a file cut into parts of any sizes, each beginning where the one before left off, gets its own verdict; where a part left off, behind its
@@ -372,7 +379,8 @@ part-left-off = parts.left-off
 pub file-numbered : (d : List ℕ) → FileNumber d
 file-numbered = parts.file-number
 
--- a file's verdict, its table tested once, is that of each of its records, found by the next-record call and judged by the record call; by a
+-- a file's verdict, its table tested once, is that of each of its records, found by the next-record call and judged by the record call; by
+-- a
 -- table that is not well formed it is 20
 pub file-as-each : (t : List ℤ) (d : List ℕ) → wellFormed t ≡ true → {v : FileVerdict} → Driven t d 0 0 0 v → fileVerdict t d ≡ v
 file-as-each = each.once-as-each
@@ -477,7 +485,8 @@ pub truth-laws : {t : List ℤ} {i b : ℕ} {old new : List ℕ} → TruthTold t
 truth-laws = face.truth-written
 
 -- ==== C-18 OF DOCUMENT 02: WHAT IS WRONG WITH A FIELD
--- where a field is refused, its fault is 241, 242 or 243, the record's by a row of the table; and the list is kept. (That a row is refused in
+-- where a field is refused, its fault is 241, 242 or 243, the record's by a row of the table; and the list is kept. (That a row is refused
+-- in
 -- the same cases as before is in `read-so` and `record-so`: they go by the reading, as before.)
 pub judged-fault-told : {t : List ℤ} {bytes : List ℕ} {i : ℕ} {x : Fault} → RecordJudged t bytes (badField i x)
     → (i < rowsOf t) × Told x (faultNumber x)
@@ -642,27 +651,31 @@ listed-is-due = mend-listed.listed-due
 pub export-so : (def : List ℕ) (t : List ℤ) (d : List ℕ) (room : ℕ) → ExportOutcome def t d room (exportVerdict def t d room)
 export-so = exports.export-named
 
-pub so-export : (def : List ℕ) (t : List ℤ) (d : List ℕ) (room : ℕ) {v : ExportVerdict} → ExportOutcome def t d room v → exportVerdict def t d room ≡ v
+pub so-export : (def : List ℕ) (t : List ℤ) (d : List ℕ) (room : ℕ) {v : ExportVerdict} → ExportOutcome def t d room v
+    → exportVerdict def t d room ≡ v
 so-export def t d room o = exports.export-only def t d room o
 
 -- what it says of the data is what judging them says; it has a line for the names and one for each record before the first fault
-pub export-judged : {def : List ℕ} {t : List ℤ} {d out out′ : List ℕ} {v : FileVerdict} {n : ℕ} → Exported def t d out out′ (export.written v n)
+pub export-judged : {def : List ℕ} {t : List ℤ} {d out out′ : List ℕ} {v : FileVerdict} {n : ℕ}
+    → Exported def t d out out′ (export.written v n)
     → v ≡ fileVerdict t d
 export-judged a = exports.export-judged a
 
-pub export-lines : (def : List ℕ) (t : List ℤ) (d : List ℕ) → wellFormed t ≡ true → length (exportLines def t d) ≡ suc (before (fileVerdict t d))
+pub export-lines : (def : List ℕ) (t : List ℤ) (d : List ℕ) → wellFormed t ≡ true → length (exportLines def t d)
+    ≡ suc (before (fileVerdict t d))
 export-lines = lines.export-lines
 
 -- the output keeps all it held, or holds the text, and behind it what stood there
 pub export-kept : {def : List ℕ} {t : List ℤ} {d out out′ : List ℕ} {k : ℕ} → Exported def t d out out′ (export.refused k) → out′ ≡ out
 export-kept a = exports.export-kept a
 
-module _ {def : List ℕ} {t : List ℤ} {d out out′ : List ℕ} {v : FileVerdict} {n : ℕ} (a : Exported def t d out out′ (export.written v n)) where
-  pub export-stands : take (length (exportText def t d)) out′ ≡ exportText def t d
-  export-stands = exports.export-stands a
+module _ {def : List ℕ} {t : List ℤ} {d out out′ : List ℕ} {v : FileVerdict} {n : ℕ} (a : Exported def t d out out′ (export.written v n))
+  where
+    pub export-stands : take (length (exportText def t d)) out′ ≡ exportText def t d
+    export-stands = exports.export-stands a
 
-  pub export-behind : drop (length (exportText def t d)) out′ ≡ drop (length (exportText def t d)) out
-  export-behind = exports.export-behind a
+    pub export-behind : drop (length (exportText def t d)) out′ ≡ drop (length (exportText def t d)) out
+    export-behind = exports.export-behind a
 
 -- a field is quoted exactly when it holds a comma, a quote, CR or LF
 pub quoted-when : (f : List ℕ) → HoldsOne f → fieldBytes f ≡ (34 ∷ []) ++ (doubled f ++ (34 ∷ []))
@@ -677,7 +690,8 @@ pub lines-apart : (t : List ℤ) (r s : List ℕ) → 1 ≤ rowsOf t → lineByt
 lines-apart = apart.record-same
 
 -- and so of two sound records only where their rows read the same
-pub lines-read : (t : List ℤ) → wellFormed t ≡ true → (r s : List ℕ) → verdict.verdictOf t r ≡ verdict.sound → verdict.verdictOf t s ≡ verdict.sound
+pub lines-read : (t : List ℤ) → wellFormed t ≡ true → (r s : List ℕ) → verdict.verdictOf t r ≡ verdict.sound → verdict.verdictOf t s
+    ≡ verdict.sound
     → lineBytes (recordLine t r) ≡ lineBytes (recordLine t s) → (i : ℕ) → i < rowsOf t → readingAt t i r ≡ readingAt t i s
 lines-read = equal.equal-lines
 
@@ -685,7 +699,8 @@ lines-read = equal.equal-lines
 pub import-so : (def : List ℕ) (t : List ℤ) (s : List ℕ) (room : ℕ) → ImportOutcome def t s room (importVerdict def t s room)
 import-so = imports.import-named
 
-pub so-import : (def : List ℕ) (t : List ℤ) (s : List ℕ) (room : ℕ) {v : ImportVerdict} → ImportOutcome def t s room v → importVerdict def t s room ≡ v
+pub so-import : (def : List ℕ) (t : List ℤ) (s : List ℕ) (room : ℕ) {v : ImportVerdict} → ImportOutcome def t s room v
+    → importVerdict def t s room ≡ v
 so-import def t s room o = imports.import-only def t s room o
 
 -- the text's own refusal: that of its first line that has one, of a line the lowest number
@@ -697,7 +712,8 @@ module _ (t : List ℤ) (g : wellFormed t ≡ true) (names : List (List ℕ)) (s
   so-text o = imports.text-only t g names s o
 
 -- the output keeps all it held, or holds the data, and behind them what stood there
-pub import-kept : {def : List ℕ} {t : List ℤ} {s out out′ : List ℕ} {k n c : ℕ} → Imported def t s out out′ (import′.refused k n c) → out′ ≡ out
+pub import-kept : {def : List ℕ} {t : List ℤ} {s out out′ : List ℕ} {k n c : ℕ} → Imported def t s out out′ (import′.refused k n c) → out′
+    ≡ out
 import-kept a = imports.import-kept a
 
 module _ {def : List ℕ} {t : List ℤ} {s out out′ : List ℕ} {n m : ℕ} (a : Imported def t s out out′ (import′.written n m)) where
@@ -711,7 +727,8 @@ module _ {def : List ℕ} {t : List ℤ} {s out out′ : List ℕ} {n m : ℕ} (
 pub import-export : (def : List ℕ) {t : List ℤ} (d : List ℕ) {n : ℕ} → Table t → fileVerdict t d ≡ soundWith n → Returned def t d
 import-export = trip.import-export
 
--- exporting what a text builds gives the text again, needless quotes and cut zeros aside; and a text is accepted exactly when it is, these aside,
+-- exporting what a text builds gives the text again, needless quotes and cut zeros aside; and a text is accepted exactly when it is, these
+-- aside,
 -- the export of some sound file of records of L bytes
 module _ {t : List ℤ} (g : Table t) (def s : List ℕ) where
   pub import-again : (rs : List (List ℕ)) → importSays def t s ≡ accepts rs → IsExport def t (fileBytes rs) s

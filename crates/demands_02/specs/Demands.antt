@@ -1,4 +1,5 @@
--- FURTHER FINAL THEOREMS of document 02's requests, each restated with its name in the crate that proves it. Demands.antt of crate `demands` has
+-- FURTHER FINAL THEOREMS of document 02's requests, each restated with its name in the crate that proves it. Demands.antt of crate
+-- `demands` has
 -- the public calls' own; here stand the grammars beside the state machines, both ways, and what uses and filters mean.
 use mathlib.Core.Path.{_≡_}
 use mathlib.Core.Logic.{_↔_}
@@ -91,7 +92,8 @@ filter-meant = filtering.filter-means
 pub uses-kept : (bad : Bool) (d : List ℕ) (m : Manner) (n : ℕ) {s : List Entry} {i : ℕ} → variables bad d m n ≡ Is s i → Kept s
 uses-kept = joining.variables-kept
 
-pub kept-joined : (latin standard : Bool) (d : List ℕ) (l : List Entry) (w : Entry) → Kept l → Joins latin standard d l w → Kept (l ++ w ∷ [])
+pub kept-joined : (latin standard : Bool) (d : List ℕ) (l : List Entry) (w : Entry) → Kept l → Joins latin standard d l w
+    → Kept (l ++ w ∷ [])
 kept-joined = keeping.kept-more
 
 pub kept-good : (l : List Entry) → Kept l → usesGood (tableOf l) (length l) ≡ true
@@ -102,7 +104,8 @@ kept-good = keeping.uses-good
 pub xml-never-three : {d : List ℕ} {t t′ : List ℤ} {k p : ℕ} → DefinitionRead d t t′ (definition.Refused k p) → isXml d ≡ true → k ≡ 3 → ⊥
 xml-never-three = kind-numbers.three-never-in-xml
 
-pub sss-never-fifty : {d : List ℕ} {t t′ : List ℤ} {k p : ℕ} → DefinitionRead d t t′ (definition.Refused k p) → isXml d ≡ false → (1 ≤ k) × (k ≤ 10)
+pub sss-never-fifty : {d : List ℕ} {t t′ : List ℤ} {k p : ℕ} → DefinitionRead d t t′ (definition.Refused k p) → isXml d ≡ false → (1 ≤ k)
+    × (k ≤ 10)
 sss-never-fifty = kind-numbers.fifty-never-in-sss
 
 -- a definition in XML and one of 1.1 that say the same have tables that differ only where no record rule looks

@@ -45,7 +45,8 @@ module _ (bad : Bool) (d : List ℕ) (p e : ℕ) where
   pub phrase-good : (w : List ℕ) (m : ℕ) {q : Quoted} → phraseOf (text bad d w m p e) ≡ phrase.Is q
       → (e < q .place) × (q .place + q .length ≤ q .next) × (q .next ≤ length d)
   phrase-good w m {q} f = by (text bad d w m p e) refl f where
-    by : (r : Result Text) → text bad d w m p e ≡ r → phraseOf r ≡ phrase.Is q → (e < q .place) × (q .place + q .length ≤ q .next) × (q .next ≤ length d)
+    by : (r : Result Text) → text bad d w m p e ≡ r → phraseOf r ≡ phrase.Is q → (e < q .place) × (q .place + q .length ≤ q .next)
+        × (q .next ≤ length d)
     by (Is t k) g f =
         let x = text-good bad d w m p e g in
         let i : record { place = t .place; length = t .length; next = k } ≡ q = cc in
@@ -63,19 +64,26 @@ module _ (bad : Bool) (d : List ℕ) (p e : ℕ) where
         let a = g .low in
         let b = g .order in
         let c = g .high in
-        rw (capped-low (x .start .value) (omega arith), capped-low (Option·getD (x .finish) (x .start) .value) c) (omega arith, b, c, g .after, g .within)
+        rw (capped-low (x .start .value) (omega arith), capped-low (Option·getD (x .finish) (x .start) .value) c)
+        (omega arith, b, c, g .after, g .within)
 
     by : (r : Result Position) → position bad d p e ≡ r → toStated r ≡ stated.Is s
         → (1 ≤ s .start) × (s .start ≤ s .finish) × (s .finish ≤ 16384) × (e < s .next) × (s .next ≤ length d)
     by (Is x k) g f =
-        let i : record { start = capped (x .start .value); finish = capped (Option·getD (x .finish) (x .start) .value); place = x .start .place; next = k } ≡ s = cc in
+        let i : record {
+          start = capped (x .start .value);
+          finish = capped (Option·getD (x .finish) (x .start) .value);
+          place = x .start .place;
+          next = k;
+        } ≡ s = cc in
         rw (← i) (held x k (position-good bad d p e g))
     by (Not g′) g f = never cc
 
   pub spreading-good : (room : ℕ) {s : Subfields} → toSpreading room (spread bad d room p e) ≡ spreading.Is s
       → (1 ≤ s .count) × (e < s .next) × (s .next ≤ length d)
   spreading-good room {s} f = by (spread bad d room p e) refl f where
-    by : (r : Result Spread) → spread bad d room p e ≡ r → toSpreading room r ≡ spreading.Is s → (1 ≤ s .count) × (e < s .next) × (s .next ≤ length d)
+    by : (r : Result Spread) → spread bad d room p e ≡ r → toSpreading room r ≡ spreading.Is s → (1 ≤ s .count) × (e < s .next)
+        × (s .next ≤ length d)
     by (Is x k) g f =
         let y = spread-good bad d room p e g in
         let c = capped-some (x .count .value) (y .some) in
@@ -83,12 +91,14 @@ module _ (bad : Bool) (d : List ℕ) (p e : ℕ) where
         rw (← i) (c, y .after, y .within)
     by (Not g′) g f = never cc
 
-  pub number-good : {x : Figures} → toNumber (size bad d p e) ≡ number.Is x → (1 ≤ x .size) × (x .size ≤ 4096) × (e < x .next) × (x .next ≤ length d)
+  pub number-good : {x : Figures} → toNumber (size bad d p e) ≡ number.Is x → (1 ≤ x .size) × (x .size ≤ 4096) × (e < x .next)
+      × (x .next ≤ length d)
   number-good {x} f = by (size bad d p e) refl f where
     held : (y : Figure) (k : ℕ) → SizeGood d e y k → (1 ≤ capped (y .value)) × (capped (y .value) ≤ 4096) × (e < k) × (k ≤ length d)
     held y k g = let a = g .high in rw (capped-low (y .value) (omega arith)) (g .low, a, g .after, g .within)
 
-    by : (r : Result Figure) → size bad d p e ≡ r → toNumber r ≡ number.Is x → (1 ≤ x .size) × (x .size ≤ 4096) × (e < x .next) × (x .next ≤ length d)
+    by : (r : Result Figure) → size bad d p e ≡ r → toNumber r ≡ number.Is x → (1 ≤ x .size) × (x .size ≤ 4096) × (e < x .next)
+        × (x .next ≤ length d)
     by (Is y k) g f =
         let i : record { size = capped (y .value); count = y .digits; place = y .place; next = k } ≡ x = cc in
         rw (← i) (held y k (size-good bad d p e g))

@@ -46,7 +46,8 @@ pub passed-refused : (r : Result (List Charge)) {f : Fault} → passedOf r ≡ p
 passed-refused (Is l m) e = never cc
 passed-refused (Not g) {f} e = let i : g ≡ f = cc in ap Not i
 
-pub nothing-numbered : (bad : Bool) (d w : List ℕ) (em : Bool) (n : ℕ) {l : List Charge} {k : ℕ} → rule.nothing bad d w em n ≡ Is l k → Numbered l
+pub nothing-numbered : (bad : Bool) (d w : List ℕ) (em : Bool) (n : ℕ) {l : List Charge} {k : ℕ} → rule.nothing bad d w em n ≡ Is l k
+    → Numbered l
 unfolding rule.nothing
 nothing-numbered bad d w em n {l} {k} f = by em (pairOf bad d n w) f where
   is : {m : List Charge} {j : ℕ} → Numbered m → _≡_ {A = Result (List Charge)} (Is m j) (Is l k) → Numbered l
@@ -82,7 +83,8 @@ pub body-refused : (r : Result element.Body) {f : Fault} → bodiedOf r ≡ bodi
 body-refused (Is b n) e = never cc
 body-refused (Not g) {f} e = let i : g ≡ f = cc in ap Not i
 
-pub body-numbered : (bad : Bool) (d w : List ℕ) (m : ℕ) (em : Bool) (n : ℕ) {b : element.Body} {k : ℕ} → element.body bad d w m em n ≡ Is b k → Numbered (b .charges)
+pub body-numbered : (bad : Bool) (d w : List ℕ) (m : ℕ) (em : Bool) (n : ℕ) {b : element.Body} {k : ℕ} → element.body bad d w m em n
+    ≡ Is b k → Numbered (b .charges)
 unfolding element.body
 body-numbered bad d w m em n {b} {k} f = by em (contentOf bad d m w n) f where
   is : {x : element.Body} {j : ℕ} → Numbered (x .charges) → _≡_ {A = Result element.Body} (Is x j) (Is b k) → Numbered (b .charges)
@@ -95,15 +97,24 @@ body-numbered bad d w m em n {b} {k} f = by em (contentOf bad d m w n) f where
   by false (content.Fault j p) e = never cc
 
 -- what the code holds of a text that was read
-pub body-tells : (bad : Bool) (d w : List ℕ) (m : ℕ) (em : Bool) (n : ℕ) {b : Body} (t : BodyIs (element.body bad d w m em n) b) → Tells (t .body) b
-body-tells bad d w m em n t = record { text = t .text; whole = t .whole; found = t .found; numbered = body-numbered bad d w m em n (t .reads) }
+pub body-tells : (bad : Bool) (d w : List ℕ) (m : ℕ) (em : Bool) (n : ℕ) {b : Body} (t : BodyIs (element.body bad d w m em n) b)
+    → Tells (t .body) b
+body-tells bad d w m em n t = record {
+  text = t .text;
+  whole = t .whole;
+  found = t .found;
+  numbered = body-numbered bad d w m em n
+      (t .reads);
+}
 
 -- an attribute that isn't known, before other charges
-pub behind-found : (u : ℕ) (l : List Charge) {x y : Found} → Numbered l → foundOf l ≡ y → x ≡ lowerOf (faultOf 51 u) y → x ≡ foundOf (rule.unknownAt u ∷ l)
+pub behind-found : (u : ℕ) (l : List Charge) {x y : Found} → Numbered l → foundOf l ≡ y → x ≡ lowerOf (faultOf 51 u) y → x
+    ≡ foundOf (rule.unknownAt u ∷ l)
 behind-found u l {x} {y} h i j = j ∙ sym (found-behind u l h ∙ ap (λ (z : Found). lowerOf (faultOf 51 u) z) i)
 
 -- an element that is only a text
-module _ (bad : Bool) (d w : List ℕ) (m : ℕ) (em : Bool) (n : ℕ) (u : ℕ) (b : Body) (e : bodiedOf (element.body bad d w m em n) ≡ bodied.Is b) where
+module _ (bad : Bool) (d w : List ℕ) (m : ℕ) (em : Bool) (n : ℕ) (u : ℕ) (b : Body)
+    (e : bodiedOf (element.body bad d w m em n) ≡ bodied.Is b) where
   pub text-said : (y : Found) → y ≡ lowerOf (faultOf 51 u) (b .found)
       → phraseOf (ruled y (record { place = b .place; length = b .length }) (b .next))
       ≡ phraseOf (bind (element.body bad d w m em n) λ t. judged (rule.unknownAt u ∷ t .charges) (t .text))
@@ -121,14 +132,16 @@ lies-from at e n h i = omega arith
 abbrev pub Kept : List ℕ → Body → Type 0
 Kept d b = (b .place + b .length ≤ length d) × (b .whole ≡ false → b .length ≡ 0)
 
-pub body-lies : (bad : Bool) (d w : List ℕ) (m : ℕ) (em : Bool) (n : ℕ) {b : Body} → n ≤ length d → bodiedOf (element.body bad d w m em n) ≡ bodied.Is b
+pub body-lies : (bad : Bool) (d w : List ℕ) (m : ℕ) (em : Bool) (n : ℕ) {b : Body} → n ≤ length d → bodiedOf (element.body bad d w m em n)
+    ≡ bodied.Is b
     → Kept d b
 unfolding element.body
 body-lies bad d w m em n {b} h f = by em (contentOf bad d m w n) refl f where
   is : {x : Body} → Kept d x → _≡_ {A = Bodied} (bodied.Is x) (bodied.Is b) → Kept d b
   is {x} h e = let i : x ≡ b = cc in rw (← i) h
 
-  by : (em : Bool) (c : Content) → contentOf bad d m w n ≡ c → bodiedOf (cond em (Is (element.bodyOf n n true []) n) (element.onContent n c)) ≡ bodied.Is b → Kept d b
+  by : (em : Bool) (c : Content) → contentOf bad d m w n ≡ c
+      → bodiedOf (cond em (Is (element.bodyOf n n true []) n) (element.onContent n c)) ≡ bodied.Is b → Kept d b
   by true c g e = is (omega arith, λ i. omega arith) e
   by false (content.Read e′ n′ u) g e =
       let t = content-within bad d m w n e′ n′ u h g in

@@ -52,7 +52,8 @@ end-long {d} {w} {p} {n} x = by (x .ends) (x .lies .place) where
   by : {u : List ℕ} → Ends w u → n ≡ p + length u → p + 2 < n
   by (ends {v} h) e = omega (arith, length-append w (v ++ 62 ∷ []), length-append v (62 ∷ []))
 
-pub shut-within : (bad : Bool) (d w : List ℕ) (at p e : ℕ) → standOf bad d at ≡ stand.Close p e → Within d at (openOf (onShut p (shutOf bad d p e w)))
+pub shut-within : (bad : Bool) (d w : List ℕ) (at p e : ℕ) → standOf bad d at ≡ stand.Close p e
+    → Within d at (openOf (onShut p (shutOf bad d p e w)))
 shut-within bad d w at p e f = by (shutOf bad d p e w) refl where
   s : StandsAt bad d at p (angle.Close e)
   s = stand-close bad d at p e f
@@ -77,7 +78,8 @@ module _ (bad : Bool) (d : List ℕ) (o : ℕ) (x y z : List ℕ) (f g k require
       let t = turn-on bad d o x y z f g k required h i (rw (attribute-exactly bad d o (h .next) .1 a) q) in
       omega (arith, t .0, placed-on r)
 
-  pub tag-within : (at : ℕ) (h : Held) (em : Bool) (q n : ℕ) → tagOf bad d o at x y z f g k required ≡ tag.Read h em q n → (at ≤ q) × (q < n) × (n ≤ length d)
+  pub tag-within : (at : ℕ) (h : Held) (em : Bool) (q n : ℕ) → tagOf bad d o at x y z f g k required ≡ tag.Read h em q n → (at ≤ q)
+      × (q < n) × (n ≤ length d)
   tag-within at h em q n e =
       let t = tag-exactly bad d o at x y z f g k required h em q n .0 e in
       let l = placed-on (t .placed) in
@@ -85,14 +87,16 @@ module _ (bad : Bool) (d : List ℕ) (o : ℕ) (x y z : List ℕ) (f g k require
       (omega (arith, l, s .0), s .1, s .2)
 
 -- ---- a text
-pub goes-on : {l bad : Bool} {d : List ℕ} {m : ℕ} {w : List ℕ} {g k : Going} {cs : List Sign} → Goes l bad d m w g k cs → g .next ≤ length d → (g .next ≤ k .next) × (k .next ≤ length d)
+pub goes-on : {l bad : Bool} {d : List ℕ} {m : ℕ} {w : List ℕ} {g k : Going} {cs : List Sign} → Goes l bad d m w g k cs → g .next ≤ length d
+    → (g .next ≤ k .next) × (k .next ≤ length d)
 goes-on stay h = (omega arith, h)
 goes-on {bad = bad} {d = d} {m = m} {w = w} {g = g} (on {h = i} {s = s} e r) h =
     let t = step-on bad d m w g i s e in
     let u = goes-on r (t .1) in
     (omega (arith, t .0, u .0), u .1)
 
-pub content-within : (bad : Bool) (d : List ℕ) (m : ℕ) (w : List ℕ) (at e n u : ℕ) → at ≤ length d → contentOf bad d m w at ≡ content.Read e n u → (at ≤ e) × (e < n) × (n ≤ length d)
+pub content-within : (bad : Bool) (d : List ℕ) (m : ℕ) (w : List ℕ) (at e n u : ℕ) → at ≤ length d → contentOf bad d m w at
+    ≡ content.Read e n u → (at ≤ e) × (e < n) × (n ≤ length d)
 content-within bad d m w at e n u h f = by (rw (← (r .over)) (step-view false bad d m w (r .last))) where
   r : Reached false bad d m w (begun at) (content.Read e n u)
   r = content-reached false bad d m w (begun at) (content.Read e n u) f

@@ -41,8 +41,10 @@ use Rattle.contents.specs.declared.Content.{Content}
 use Rattle.contents.specs.declared.Content.the-variants as content
 use Rattle.contents.specs.declared.Step.{Step}
 use Rattle.contents.specs.declared.Step.the-variants as step
-use Rattle.contents.specs.rule.Step.{goOn, brokenAt, cutAt, onChar, referAt, bracketAt, returnAt, onNote, noteAt, knowing, onPair, pairAt, onBreak, breakAt}
-use Rattle.contents.specs.rule.Step.{onLanguage, languageAt, onOther, otherAt, modeIn, kindOf, startAt, onOut, onEnd, closeAt, onAngle, markAt, stepOf}
+use Rattle.contents.specs.rule.Step.{goOn, brokenAt, cutAt, onChar, referAt, bracketAt, returnAt, onNote, noteAt, knowing, onPair, pairAt}
+use Rattle.contents.specs.rule.Step.{onBreak, breakAt}
+use Rattle.contents.specs.rule.Step.{onLanguage, languageAt, onOther, otherAt, modeIn, kindOf, startAt, onOut, onEnd, closeAt, onAngle}
+use Rattle.contents.specs.rule.Step.{markAt, stepOf}
 use Rattle.contents.specs.rule.Content.{begun, contentOf}
 use Rattle.contents.proofs.Goes.{Reached, content-reached}
 use Rattle.elements.proofs.Bounds.{start-within, tag-within, goes-on}
@@ -82,7 +84,8 @@ foreign-within bad d at p f = on (gapOf bad d at) refl f where
         (omega arith, omega arith)
     opened (angle.Broken q) h f = never cc
 
-    by : (x y : Bool) → leb (length d) n ≡ x → cond x (stand.Broken n) (cond y (stands.onAngle n (angleOf bad d n)) (textOf d n)) ≡ stand.Foreign p → (at ≤ p) × (p < length d)
+    by : (x y : Bool) → leb (length d) n ≡ x → cond x (stand.Broken n) (cond y (stands.onAngle n (angleOf bad d n)) (textOf d n))
+        ≡ stand.Foreign p → (at ≤ p) × (p < length d)
     by true y h f = never cc
     by false true h f = opened (angleOf bad d n) h f
     by false false h f = let t = sym (text-known d n) ∙ ap isForeign f in absurd (omega arith)
@@ -149,7 +152,8 @@ module _ (bad : Bool) (d : List ℕ) (m : ℕ) (w : List ℕ) (g : Going) (p u :
   break-in : (e : ℕ) (t : Tag) → g .next < e → bareOf bad d (g .next) e ≡ t → onBreak bad d g t ≡ Over → Lies
   unfolding pairAt
   break-in e (tag.Read h em q n) i o f = by em f where
-    by : (em : Bool) → cond em (goOn (knowing g (h .unknown)) n said.Break) (onPair (knowing g (h .unknown)) (pairOf bad d n br)) ≡ Over → Lies
+    by : (em : Bool) → cond em (goOn (knowing g (h .unknown)) n said.Break) (onPair (knowing g (h .unknown)) (pairOf bad d n br)) ≡ Over
+        → Lies
     by true f = never cc
     by false f =
         let t = tag-within bad d (g .next) [] [] [] 0 0 0 0 e h em q n o in
@@ -170,7 +174,8 @@ module _ (bad : Bool) (d : List ℕ) (m : ℕ) (w : List ℕ) (g : Going) (p u :
     kind : ℕ
     kind = kindOf d (modeIn m (g .inside)) (g .next + 1) e
 
-    by : (x y : Bool) → cond x (onBreak bad d g (bareOf bad d (g .next) e)) (cond y (onLanguage g (tagOf bad d (g .next) e lang [] [] 0 0 0 1)) (onOther g (bareOf bad d (g .next) e))) ≡ Over → Lies
+    by : (x y : Bool) → cond x (onBreak bad d g (bareOf bad d (g .next) e))
+        (cond y (onLanguage g (tagOf bad d (g .next) e lang [] [] 0 0 0 1)) (onOther g (bareOf bad d (g .next) e))) ≡ Over → Lies
     by true y f = break-in e (bareOf bad d (g .next) e) i refl f
     by false true f = language-no (tagOf bad d (g .next) e lang [] [] 0 0 0 1) f
     by false false f = other-in (bareOf bad d (g .next) e) j f
@@ -196,7 +201,8 @@ module _ (bad : Bool) (d : List ℕ) (m : ℕ) (w : List ℕ) (g : Going) (p u :
   mark-in : g .next < length d → markAt bad d m w g ≡ Over → Lies
   unfolding markAt noteAt
   mark-in i f = by (bytes.stands (60 ∷ 33 ∷ 45 ∷ 45 ∷ []) (drop (g .next) d)) f where
-    by : (x : Bool) → cond x (onNote g (commentOf bad (g .next) (g .next + 4) (drop (g .next + 4) d))) (onAngle bad d m w g (angleOf bad d (g .next))) ≡ Over → Lies
+    by : (x : Bool) → cond x (onNote g (commentOf bad (g .next) (g .next + 4) (drop (g .next + 4) d)))
+        (onAngle bad d m w g (angleOf bad d (g .next))) ≡ Over → Lies
     by true f = note-no (commentOf bad (g .next) (g .next + 4) (drop (g .next + 4) d)) f
     by false f = angle-in (angleOf bad d (g .next)) refl i f
 
@@ -213,7 +219,8 @@ module _ (bad : Bool) (d : List ℕ) (m : ℕ) (w : List ℕ) (g : Going) (p u :
     by : (x y z v t : Bool) → leb (length d) (g .next) ≡ x
         → cond x (brokenAt (g .next)) (cond y (markAt bad d m w g) (cond z (onChar g (referenceOf (g .next) (drop (g .next + 1) d)))
         (cond v (cond (bytes.stands (93 ∷ 93 ∷ 62 ∷ []) (drop (g .next) d)) (brokenAt (g .next)) (goOn g (g .next + 1) (said.Byte 93)))
-        (cond t (goOn g (g .next + 1) (cond (bytes.stands (10 ∷ []) (drop (g .next + 1) d)) said.Nothing (said.Byte 10))) (goOn g (g .next + 1) (said.Byte b)))))) ≡ Over → Lies
+        (cond t (goOn g (g .next + 1) (cond (bytes.stands (10 ∷ []) (drop (g .next + 1) d)) said.Nothing (said.Byte 10)))
+        (goOn g (g .next + 1) (said.Byte b)))))) ≡ Over → Lies
     by true y z v t e f = never cc
     by false true z v t e f = mark-in (leb-false (length d) (g .next) e) f
     by false false true v t e f = char-no g (referenceOf (g .next) (drop (g .next + 1) d)) f
@@ -221,7 +228,8 @@ module _ (bad : Bool) (d : List ℕ) (m : ℕ) (w : List ℕ) (g : Going) (p u :
     by false false false false true e f = never cc
     by false false false false false e f = never cc
 
-pub content-cut : (bad : Bool) (d : List ℕ) (m : ℕ) (w : List ℕ) (at p u : ℕ) → at ≤ length d → contentOf bad d m w at ≡ content.Cut p u → (at ≤ p) × (p < length d)
+pub content-cut : (bad : Bool) (d : List ℕ) (m : ℕ) (w : List ℕ) (at p u : ℕ) → at ≤ length d → contentOf bad d m w at ≡ content.Cut p u
+    → (at ≤ p) × (p < length d)
 content-cut bad d m w at p u h f =
     let r = content-reached false bad d m w (begun at) (content.Cut p u) f in
     let t = goes-on (r .goes) h in

@@ -38,7 +38,8 @@ module _ (bad : Bool) (d : List ℕ) where
   pub due-then : {A : Type 0} (w : List ℕ) (o : Open) (k : ℕ → Reader A)
       → bind (readOf o) (λ x. rule.due bad d w x k) ≡ bind (dueRead (dueOf (bind (readOf o) λ x. rule.due bad d w x give))) k
   due-then {A} w (opened.Start p e) k = by (isNamed d (p + 1) e w) where
-    by : (q : Bool) → cond q (k p e) (rule.misplaced bad d {A = A} p e) ≡ bind (dueRead (dueOf (cond q (give p e) (rule.misplaced bad d p e)))) k
+    by : (q : Bool) → cond q (k p e) (rule.misplaced bad d {A = A} p e)
+        ≡ bind (dueRead (dueOf (cond q (give p e) (rule.misplaced bad d p e)))) k
     by true = refl
     by false = rw (missed {A = A} p e, missed {A = ℕ} p e)
   due-then w (opened.Shut p n) k = refl
@@ -46,7 +47,8 @@ module _ (bad : Bool) (d : List ℕ) where
 
   -- EITHER: and where another thing may stand, by `is_start`
   pub either-then : {A : Type 0} (w : List ℕ) (o : Open) (k : ℕ → Reader A) (q : rule.Open → Reader A)
-      → bind (readOf o) (λ x. rule.either bad d w x k (q x)) ≡ cond (startsOf d o w) (bind (readOf o) λ x. rule.either bad d w x k (q x)) (bind (readOf o) q)
+      → bind (readOf o) (λ x. rule.either bad d w x k (q x))
+      ≡ cond (startsOf d o w) (bind (readOf o) λ x. rule.either bad d w x k (q x)) (bind (readOf o) q)
   either-then w (opened.Start p e) k q = by (isNamed d (p + 1) e w) where
     by : (b : Bool) → cond b (k p e) (q (rule.start p) e) ≡ cond b (cond b (k p e) (q (rule.start p) e)) (q (rule.start p) e)
     by true = refl

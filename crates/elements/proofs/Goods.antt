@@ -1,4 +1,5 @@
--- GOODS: what is known of an element that was accepted: where it ends, that nothing cuts it, and the bounds of its numbers, which are held in
+-- GOODS: what is known of an element that was accepted: where it ends, that nothing cuts it, and the bounds of its numbers, which are held
+-- in
 -- full.
 use mathlib.Core.Path.{_≡_, refl, sym, ap, _∙_}
 use mathlib.Core.Bool.{Bool, true, false, cond, not}
@@ -97,7 +98,8 @@ module _ (bad : Bool) (d w : List ℕ) (m : ℕ) (em : Bool) (n : ℕ) where
   pub body-within : {b : Body} {k : ℕ} → n ≤ length d → body bad d w m em n ≡ Is b k → (n ≤ k) × (k ≤ length d)
   unfolding body
   body-within {b} {k} h f = by em (contentOf bad d m w n) refl f where
-    by : (em : Bool) (c : Content) → contentOf bad d m w n ≡ c → cond em (Is (bodyOf n n true []) n) (onContent n c) ≡ Is b k → (n ≤ k) × (k ≤ length d)
+    by : (em : Bool) (c : Content) → contentOf bad d m w n ≡ c → cond em (Is (bodyOf n n true []) n) (onContent n c) ≡ Is b k → (n ≤ k)
+        × (k ≤ length d)
     by true c g f = let i : n ≡ k = cc in (omega arith, omega arith)
     by false (content.Read e q u) g f =
         let i : q ≡ k = cc in
@@ -157,7 +159,8 @@ text-good bad d w m p e {t} {k} f = on (bareOf bad d p e) refl f where
       rw (← (s .same)) (record { starts = omega arith; ends = omega arith; within = omega arith })
   inner h n (Not f′) em i o g f = never cc
 
-  on : (r : Tag) → bareOf bad d p e ≡ r → onTag bad d r (λ h em q n. bind (body bad d w m em n) (λ b. judged (unknownAt (h .unknown) ∷ b .charges) (b .text))) ≡ Is t k → TextGood d e t k
+  on : (r : Tag) → bareOf bad d p e ≡ r → onTag bad d r
+      (λ h em q n. bind (body bad d w m em n) (λ b. judged (unknownAt (h .unknown) ∷ b .charges) (b .text))) ≡ Is t k → TextGood d e t k
   on (tag.Read h em q n) g f =
       let s = tag-within bad d p [] [] [] 0 0 0 0 e h em q n g in
       inner h n (body bad d w m em n) em (omega (arith, s .0, s .1)) (s .2) refl f
@@ -202,10 +205,17 @@ position-good bad d p e {x} {k} f = on (tagOf bad d p e START FINISH [] 1 1 0 1)
       let c = position-clear a (Option·getD b a) (join-clear (positionCharges a (Option·getD b a)) m (s .clears) .0) in
       let t = nothing-within bad d POSITION em n o g in
       let y = s .place in
-      rw (← (s .same)) (record { low = c .low; order = c .order; high = c .high; after = omega (arith, t .0); within = omega (arith, t .1) })
+      rw (← (s .same)) (record {
+        low = c .low;
+        order = c .order;
+        high = c .high;
+        after = omega (arith, t .0);
+        within = omega (arith, t .1);
+      })
   inner h n em (Not f′) i o g f = never cc
 
-  on : (r : Tag) → tagOf bad d p e START FINISH [] 1 1 0 1 ≡ r → onTag bad d r (λ h em q. positionBehind bad d h em) ≡ Is x k → PositionGood d e x k
+  on : (r : Tag) → tagOf bad d p e START FINISH [] 1 1 0 1 ≡ r → onTag bad d r (λ h em q. positionBehind bad d h em) ≡ Is x k
+      → PositionGood d e x k
   on (tag.Read h em q n) g f =
       let s = tag-within bad d p START FINISH [] 1 1 0 1 e h em q n g in
       inner h n em (nothing bad d POSITION em n) (omega (arith, s .0, s .1)) (s .2) refl f
@@ -241,7 +251,8 @@ pub spread-good : (bad : Bool) (d : List ℕ) (room p e : ℕ) {x : Spread} {k :
 unfolding spread
 spread-good bad d room p e {x} {k} f = on (tagOf bad d p e SUBFIELDS WIDTH [] 1 1 0 1) refl f where
   inner : (h : Held) (n : ℕ) (em : Bool) (r : Result (List Charge)) → e < n → n ≤ length d → nothing bad d SPREAD em n ≡ r
-      → bind r (λ l. spreadJudged room (figureOf d (h .a) (h .ae)) (givenAt (h .b) (figureOf d (h .b) (h .be))) (unknownAt (h .unknown) ∷ l)) ≡ Is x k → SpreadGood d room e x k
+      → bind r (λ l. spreadJudged room (figureOf d (h .a) (h .ae)) (givenAt (h .b) (figureOf d (h .b) (h .be)))
+      (unknownAt (h .unknown) ∷ l)) ≡ Is x k → SpreadGood d room e x k
   inner h n em (Is l j) i o g f =
       let a = figureOf d (h .a) (h .ae) in
       let b = givenAt (h .b) (figureOf d (h .b) (h .be)) in
@@ -253,7 +264,8 @@ spread-good bad d room p e {x} {k} f = on (tagOf bad d p e SUBFIELDS WIDTH [] 1 
       rw (← (s .same)) (record { some = c .0; shared = c .1; after = omega (arith, t .0); within = omega (arith, t .1) })
   inner h n em (Not f′) i o g f = never cc
 
-  on : (r : Tag) → tagOf bad d p e SUBFIELDS WIDTH [] 1 1 0 1 ≡ r → onTag bad d r (λ h em q. spreadBehind bad d room h em) ≡ Is x k → SpreadGood d room e x k
+  on : (r : Tag) → tagOf bad d p e SUBFIELDS WIDTH [] 1 1 0 1 ≡ r → onTag bad d r (λ h em q. spreadBehind bad d room h em) ≡ Is x k
+      → SpreadGood d room e x k
   on (tag.Read h em q n) g f =
       let s = tag-within bad d p SUBFIELDS WIDTH [] 1 1 0 1 e h em q n g in
       inner h n em (nothing bad d SPREAD em n) (omega (arith, s .0, s .1)) (s .2) refl f
@@ -274,14 +286,16 @@ size-clear x c =
     (positive (x .value) (p .0), ltb-false 4096 (x .value) (q .0))
 
 module _ (bad : Bool) (d : List ℕ) (e : ℕ) {x : Figure} {k : ℕ} where
-  judged-size : (y : Figure) (u j : ℕ) (l : List Charge) → e < j → j ≤ length d → judged (sizeCharges y ++ unknownAt u ∷ l) y j ≡ Is x k → SizeGood d e x k
+  judged-size : (y : Figure) (u j : ℕ) (l : List Charge) → e < j → j ≤ length d → judged (sizeCharges y ++ unknownAt u ∷ l) y j ≡ Is x k
+      → SizeGood d e x k
   judged-size y u j l i o f =
       let s = judged-fine (sizeCharges y ++ unknownAt u ∷ l) y j f in
       let c = size-clear y (join-clear (sizeCharges y) (unknownAt u ∷ l) (s .clears) .0) in
       let z = s .place in
       rw (← (s .same)) (record { low = c .0; high = c .1; after = omega arith; within = omega arith })
 
-  size-body : (u n : ℕ) (em : Bool) (b : Body) (j : ℕ) → e < n → n ≤ length d → body bad d SIZE 0 em n ≡ Is b j → sizeIn bad d u b j ≡ Is x k → SizeGood d e x k
+  size-body : (u n : ℕ) (em : Bool) (b : Body) (j : ℕ) → e < n → n ≤ length d → body bad d SIZE 0 em n ≡ Is b j → sizeIn bad d u b j
+      ≡ Is x k → SizeGood d e x k
   unfolding sizeIn
   size-body u n em b j i o g f = by (b .whole) (fitsOf 1 (heard (take (v + b .text .length - v) (drop v d)) 0)) refl f where
     v : ℕ
@@ -300,7 +314,8 @@ module _ (bad : Bool) (d : List ℕ) (e : ℕ) {x : Figure} {k : ℕ} where
         never (ap (λ q. cond q 1 0) (sym w ∙ l .whole))
 
     by : (q r : Bool) → b .whole ≡ q
-        → cond q (cond r (judged (sizeCharges y ++ unknownAt u ∷ b .charges) y j) (Not (fault 2 v))) (judged (unknownAt u ∷ b .charges) y j) ≡ Is x k → SizeGood d e x k
+        → cond q (cond r (judged (sizeCharges y ++ unknownAt u ∷ b .charges) y j) (Not (fault 2 v))) (judged (unknownAt u ∷ b .charges) y j)
+        ≡ Is x k → SizeGood d e x k
     by true true w f = judged-size y u j (b .charges) (omega (arith, t .0)) (t .1) f
     by true false w f = never cc
     by false r w f = cut w f
@@ -308,11 +323,13 @@ module _ (bad : Bool) (d : List ℕ) (e : ℕ) {x : Figure} {k : ℕ} where
 pub size-good : (bad : Bool) (d : List ℕ) (p e : ℕ) {x : Figure} {k : ℕ} → size bad d p e ≡ Is x k → SizeGood d e x k
 unfolding size
 size-good bad d p e {x} {k} f = on (bareOf bad d p e) refl f where
-  inner : (h : Held) (n : ℕ) (em : Bool) (r : Result Body) → e < n → n ≤ length d → body bad d SIZE 0 em n ≡ r → bind r (sizeIn bad d (h .unknown)) ≡ Is x k → SizeGood d e x k
+  inner : (h : Held) (n : ℕ) (em : Bool) (r : Result Body) → e < n → n ≤ length d → body bad d SIZE 0 em n ≡ r
+      → bind r (sizeIn bad d (h .unknown)) ≡ Is x k → SizeGood d e x k
   inner h n em (Is b j) i o g f = size-body bad d e (h .unknown) n em b j i o g f
   inner h n em (Not f′) i o g f = never cc
 
-  on : (r : Tag) → bareOf bad d p e ≡ r → onTag bad d r (λ h em q n. bind (body bad d SIZE 0 em n) (sizeIn bad d (h .unknown))) ≡ Is x k → SizeGood d e x k
+  on : (r : Tag) → bareOf bad d p e ≡ r → onTag bad d r (λ h em q n. bind (body bad d SIZE 0 em n) (sizeIn bad d (h .unknown))) ≡ Is x k
+      → SizeGood d e x k
   on (tag.Read h em q n) g f =
       let s = tag-within bad d p [] [] [] 0 0 0 0 e h em q n g in
       inner h n em (body bad d SIZE 0 em n) (omega (arith, s .0, s .1)) (s .2) refl f

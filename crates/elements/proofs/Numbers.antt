@@ -76,14 +76,16 @@ take-nothing d v e h = let z : e - v ≡ 0 = omega arith in rw z
 
 pub figure-told : (d : List ℕ) (v e : ℕ) → Written d v e → toFigures v e (figuresOf (heard (stretch d v e) 0)) ≡ figures (figureOf d v e) e
 unfolding figureOf charsOf figuresAfter decimalOf eachOf
-figure-told d v e = ⊎-elim (λ q. number-of v e (heard (stretch d v e) 0) (fits-digits d v e q)) (λ q. rw (take-nothing d v e q, heard-nothing))
+figure-told d v e = ⊎-elim (λ q. number-of v e (heard (stretch d v e) 0) (fits-digits d v e q))
+    (λ q. rw (take-nothing d v e q, heard-nothing))
 
 -- ---- which says less
 digits-all : (cs : List ℕ) → eachOf isDigit cs ≡ true → digitsIn cs ≡ cs
 unfolding eachOf digitsIn
 digits-all [] e = refl
 digits-all (c ∷ cs) e = by (isDigit c) refl e (digits-all cs) where
-  by : (q : Bool) → isDigit c ≡ q → (q && eachOf isDigit cs) ≡ true → (eachOf isDigit cs ≡ true → digitsIn cs ≡ cs) → digitsIn (c ∷ cs) ≡ c ∷ cs
+  by : (q : Bool) → isDigit c ≡ q → (q && eachOf isDigit cs) ≡ true → (eachOf isDigit cs ≡ true → digitsIn cs ≡ cs) → digitsIn (c ∷ cs) ≡ c
+      ∷ cs
   by true f e ih = rw (digit-yes c f) (ap (λ (s : List ℕ). c ∷ s) (ih e))
   by false f e ih = let z : _≡_ {A = ℕ} 0 1 = cc in absurd (omega arith)
 

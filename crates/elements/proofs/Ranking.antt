@@ -36,24 +36,30 @@ module _ (a b : Found) where
   lower-keep e f g = rw (e, f, g)
 
 pub lower-join : (a b c : Found) → lowerOf a (lowerOf b c) ≡ lowerOf (lowerOf a b) c
-lower-join a b c = by (eqb (a .number) 0) (eqb (b .number) 0) (eqb (c .number) 0) (precedes b a) (precedes c b) (precedes c a) refl refl refl refl refl refl where
-  by : (x y z p q r : Bool) → eqb (a .number) 0 ≡ x → eqb (b .number) 0 ≡ y → eqb (c .number) 0 ≡ z → precedes b a ≡ p → precedes c b ≡ q → precedes c a ≡ r
-      → lowerOf a (lowerOf b c) ≡ lowerOf (lowerOf a b) c
-  by true y z p q r e f g i j k = rw (lower-left a b e) (lower-left a (lowerOf b c) e)
-  by false true z p q r e f g i j k = rw (lower-left b c f, lower-right a b e f)
-  by false false true p q r e f g i j k = rw (lower-right b c f g) (of p i) where
-    of : (p : Bool) → precedes b a ≡ p → lowerOf a b ≡ lowerOf (lowerOf a b) c
-    of true i = rw (lower-take a b e f i) (sym (lower-right b c f g))
-    of false i = rw (lower-keep a b e f i) (sym (lower-right a c e g))
-  by false false false true true true e f g i j k = rw (lower-take b c f g j, lower-take a b e f i, lower-take b c f g j) (lower-take a c e g k)
-  by false false false true true false e f g i j k =
-      rw (lower-take b c f g j, lower-take a b e f i, lower-take b c f g j) (lower-keep a c e g k ∙ same a c (below-of a c k) (below-join c b a (turned b c j) (turned a b i)))
-  by false false false true false r e f g i j k = rw (lower-keep b c f g j, lower-take a b e f i) (sym (lower-keep b c f g j))
-  by false false false false true true e f g i j k = rw (lower-take b c f g j, lower-keep a b e f i)
-  by false false false false true false e f g i j k = rw (lower-take b c f g j, lower-keep a b e f i)
-  by false false false false false true e f g i j k =
-      rw (lower-keep b c f g j, lower-keep a b e f i) (sym (lower-take a c e g k ∙ sym (same a c (below-join a b c (below-of a b i) (below-of b c j)) (turned a c k))))
-  by false false false false false false e f g i j k = rw (lower-keep b c f g j, lower-keep a b e f i) (sym (lower-keep a c e g k))
+lower-join a b c = by (eqb (a .number) 0) (eqb (b .number) 0) (eqb (c .number) 0) (precedes b a) (precedes c b) (precedes c a) refl refl
+    refl refl refl refl where
+      by : (x y z p q r : Bool) → eqb (a .number) 0 ≡ x → eqb (b .number) 0 ≡ y → eqb (c .number) 0 ≡ z → precedes b a ≡ p → precedes c b
+          ≡ q
+          → precedes c a ≡ r
+          → lowerOf a (lowerOf b c) ≡ lowerOf (lowerOf a b) c
+      by true y z p q r e f g i j k = rw (lower-left a b e) (lower-left a (lowerOf b c) e)
+      by false true z p q r e f g i j k = rw (lower-left b c f, lower-right a b e f)
+      by false false true p q r e f g i j k = rw (lower-right b c f g) (of p i) where
+        of : (p : Bool) → precedes b a ≡ p → lowerOf a b ≡ lowerOf (lowerOf a b) c
+        of true i = rw (lower-take a b e f i) (sym (lower-right b c f g))
+        of false i = rw (lower-keep a b e f i) (sym (lower-right a c e g))
+      by false false false true true true e f g i j k = rw (lower-take b c f g j, lower-take a b e f i, lower-take b c f g j)
+          (lower-take a c e g k)
+      by false false false true true false e f g i j k =
+          rw (lower-take b c f g j, lower-take a b e f i, lower-take b c f g j)
+          (lower-keep a c e g k ∙ same a c (below-of a c k) (below-join c b a (turned b c j) (turned a b i)))
+      by false false false true false r e f g i j k = rw (lower-keep b c f g j, lower-take a b e f i) (sym (lower-keep b c f g j))
+      by false false false false true true e f g i j k = rw (lower-take b c f g j, lower-keep a b e f i)
+      by false false false false true false e f g i j k = rw (lower-take b c f g j, lower-keep a b e f i)
+      by false false false false false true e f g i j k =
+          rw (lower-keep b c f g j, lower-keep a b e f i)
+          (sym (lower-take a c e g k ∙ sym (same a c (below-join a b c (below-of a b i) (below-of b c j)) (turned a c k))))
+      by false false false false false false e f g i j k = rw (lower-keep b c f g j, lower-keep a b e f i) (sym (lower-keep a c e g k))
 
 pub lower-some : (a b : Found) → 0 < a .number → eqb (lowerOf a b .number) 0 ≡ false
 lower-some a b h = by (eqb (b .number) 0) (precedes b a) refl refl where
@@ -67,10 +73,11 @@ lower-some a b h = by (eqb (b .number) 0) (precedes b a) refl refl where
 
 same-keeps : (a : Found) → precedes a a ≡ false
 unfolding precedes
-same-keeps a = rw (le-ltb (a .number) (a .number) (omega arith), le-ltb (a .place) (a .place) (omega arith)) (by (eqb (a .number) (a .number))) where
-  by : (q : Bool) → (q && false) ≡ false
-  by true = refl
-  by false = refl
+same-keeps a = rw (le-ltb (a .number) (a .number) (omega arith), le-ltb (a .place) (a .place) (omega arith))
+    (by (eqb (a .number) (a .number))) where
+      by : (q : Bool) → (q && false) ≡ false
+      by true = refl
+      by false = refl
 
 -- a fault that is named twice
 pub lower-same : (f : Fault) (q : Bool) → 0 < f .number → lowerOf (alone f true) (alone f q) ≡ alone f true
@@ -149,7 +156,8 @@ lower-found f (first g) h i = by (before f g) refl where
   by false e = sym (lower-take (asFound f) (asFound g) (some (f .number) h) (some (g .number) i)
       (back (before f g) (precedes (asFound g) (asFound f)) (before-precedes f g) ∙ ap not e))
 
-pub found-cons : (f : Fault) (q : Bool) (l : List Charge) → 0 < f .number → Numbered l → foundOf (f when q ∷ l) ≡ lowerOf (alone f q) (foundOf l)
+pub found-cons : (f : Fault) (q : Bool) (l : List Charge) → 0 < f .number → Numbered l → foundOf (f when q ∷ l)
+    ≡ lowerOf (alone f q) (foundOf l)
 unfolding foundOf named least
 found-cons f q l h i = by q where
   by : (q : Bool) → foundIn (least (cond q (f ∷ named l) (named l))) ≡ lowerOf (cond q (asFound f) none) (foundIn (least (named l)))

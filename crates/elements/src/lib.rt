@@ -397,7 +397,8 @@ fn shared(count: u64, width: u64, next: usize, found: Found) -> Spreading
 // Subfields without a width: they share the position's.
 fn share_even(n: Figures, room: u64, behind: Found, next: usize) -> Spreading
     requires { ⌜ room < 1000000000000000 ⌝ }
-    ensures { λ r. ⌜ ((x : Figure) (e : ℕ) (l : List Charge) → n ≡ figures x e → Numbered l → behind ≡ foundOf l → r ≡ toSpreading room (spreadJudged room x none l next)) ⌝ }
+    ensures { λ r. ⌜ ((x : Figure) (e : ℕ) (l : List Charge) → n ≡ figures x e → Numbered l → behind ≡ foundOf l → r
+        ≡ toSpreading room (spreadJudged room x none l next)) ⌝ }
 {
     let count = n.size;
     if count == 0 {
@@ -412,7 +413,8 @@ fn share_even(n: Figures, room: u64, behind: Found, next: usize) -> Spreading
 
 // Subfields of a width of their own.
 fn share_fields(n: Figures, w: Figures, behind: Found, next: usize) -> Spreading
-    ensures { λ r. ⌜ ((room : ℕ) (x y : Figure) (e k : ℕ) (l : List Charge) → n ≡ figures x e → w ≡ figures y k → Numbered l → behind ≡ foundOf l → r ≡ toSpreading room (spreadJudged room x (some y) l next)) ⌝ }
+    ensures { λ r. ⌜ ((room : ℕ) (x y : Figure) (e k : ℕ) (l : List Charge) → n ≡ figures x e → w ≡ figures y k → Numbered l → behind
+        ≡ foundOf l → r ≡ toSpreading room (spreadJudged room x (some y) l next)) ⌝ }
 {
     let none = charge(n.size == 0, 7, n.place);
     let thin = charge(w.size == 0, 7, w.place);
@@ -424,7 +426,8 @@ fn share_fields(n: Figures, w: Figures, behind: Found, next: usize) -> Spreading
 // A spread whose tag was read, before what was found behind it.
 fn share(d: &[u8], h: Held, room: u64, behind: Found, next: usize) -> Spreading
     requires { ⌜ Numbers (now d) h × (room < 1000000000000000) ⌝ }
-    ensures { λ r. ⌜ ((l : List Charge) → Numbered l → behind ≡ foundOf l → r ≡ toSpreading room (spreadHeld room (now (d .entry)) h l next)) ⌝ }
+    ensures { λ r. ⌜ ((l : List Charge) → Numbered l → behind ≡ foundOf l → r
+        ≡ toSpreading room (spreadHeld room (now (d .entry)) h l next)) ⌝ }
 {
     let n = figure_at(d, h.a, h.ae);
     if h.b == 0 {
@@ -482,7 +485,8 @@ fn sized(x: Figures, next: usize, found: Found) -> Number
 
 // A size whose text is digits.
 fn size_judged(x: Figures, behind: Found, next: usize) -> Number
-    ensures { λ r. ⌜ ((y : Figure) (e : ℕ) (l : List Charge) → x ≡ figures y e → Numbered l → behind ≡ foundOf l → r ≡ toNumber (judged (sizeCharges y ++ l) y next)) ⌝ }
+    ensures { λ r. ⌜ ((y : Figure) (e : ℕ) (l : List Charge) → x ≡ figures y e → Numbered l → behind ≡ foundOf l → r
+        ≡ toNumber (judged (sizeCharges y ++ l) y next)) ⌝ }
 {
     let none = charge(x.size == 0, 7, x.place);
     let large = charge(4096 < x.size, 8, x.place);
@@ -494,7 +498,8 @@ fn size_judged(x: Figures, behind: Found, next: usize) -> Number
 // A size whose text was read: it has to be digits, unless something cuts it.
 fn size_in(d: &[u8], b: Body, behind: Found) -> Number
     requires { ⌜ (b .place + b .length ≤ length (now d)) × (b .whole ≡ false → b .length ≡ 0) ⌝ }
-    ensures { λ r. ⌜ ((bad : Bool) (u : ℕ) (t : rule.Body) → Tells t b → behind ≡ lowerOf (faultOf 51 u) (b .found) → r ≡ toNumber (sizeIn bad (now (d .entry)) u t (b .next))) ⌝ }
+    ensures { λ r. ⌜ ((bad : Bool) (u : ℕ) (t : rule.Body) → Tells t b → behind ≡ lowerOf (faultOf 51 u) (b .found) → r
+        ≡ toNumber (sizeIn bad (now (d .entry)) u t (b .next))) ⌝ }
 {
     let v = b.place;
     let e = v + b.length;

@@ -57,9 +57,11 @@ module _ (h : Head) (x : Telling) (before : ℕ) (g : GoodHead h) (s : GoodTelli
     other n e f = rw e f
 
     by : (p q r t : Bool) → eqb (h .kind) 1 ≡ p → eqb (h .kind) 2 ≡ q → eqb (h .kind) 3 ≡ r
-        → Fitting (cond p Single (cond q (Multiple (spreadOf (x .subfields) (x .subwidth))) (cond r (Quantity (record { decimals = x .block .decimals; point = x .block .point })) (cond t Character Logical))))
+        → Fitting (cond p Single (cond q (Multiple (spreadOf (x .subfields) (x .subwidth)))
+        (cond r (Quantity (record { decimals = x .block .decimals; point = x .block .point })) (cond t Character Logical))))
     by true q r t e f i = category-fits Single refl refl (other 1 (eqb-true (h .kind) 1 e) refl)
-    by false true r t e f i = category-fits (Multiple (spreadOf (x .subfields) (x .subwidth))) refl refl (other 2 (eqb-true (h .kind) 2 f) refl)
+    by false true r t e f i = category-fits (Multiple (spreadOf (x .subfields) (x .subwidth))) refl refl
+        (other 2 (eqb-true (h .kind) 2 f) refl)
     by false false true t e f i = quantity-fits i
     by false false false true e f i = category-fits Character refl refl i
     by false false false false e f i = category-fits Logical refl refl i
@@ -81,17 +83,22 @@ module _ (h : Head) (x : Telling) (before : ℕ) (g : GoodHead h) (s : GoodTelli
   pub range-fits : rangeGood (rowOf plain) ≡ true
   unfolding rowOf plainColumns countedIn flagOf
   range-fits = by (x .block .ranged) refl where
-    by : (b : Bool) → x .block .ranged ≡ b → (not (eqb (flagOf b) 1) || (leZ (x .block .from) (x .block .to) && (fitsKind (kindOf plain) (x .block .from) && fitsKind (kindOf plain) (x .block .to)))) ≡ true
+    by : (b : Bool) → x .block .ranged ≡ b → (not (eqb (flagOf b) 1)
+        || (leZ (x .block .from) (x .block .to) && (fitsKind (kindOf plain) (x .block .from) && fitsKind (kindOf plain) (x .block .to))))
+        ≡ true
     by false e = refl
     by true e =
-        and-true (leZ (x .block .from) (x .block .to)) (fitsKind (kindOf plain) (x .block .from) && fitsKind (kindOf plain) (x .block .to)) (s .block .ordered e)
+        and-true (leZ (x .block .from) (x .block .to)) (fitsKind (kindOf plain) (x .block .from) && fitsKind (kindOf plain) (x .block .to))
+        (s .block .ordered e)
         (and-true (fitsKind (kindOf plain) (x .block .from)) (fitsKind (kindOf plain) (x .block .to))
         (number-fits (x .block .from) (s .block .from-limited e) (s .block .from-near e))
         (number-fits (x .block .to) (s .block .to-limited e) (s .block .to-near e)))
 
-  pub lines-fit : (f : ℕ → ℤ) → ((i : ℕ) → i < length (x .lines) → f i ≡ numberAt (x .lines) i) → valuesFit (kindOf plain) f (length (x .lines)) ≡ true
+  pub lines-fit : (f : ℕ → ℤ) → ((i : ℕ) → i < length (x .lines) → f i ≡ numberAt (x .lines) i)
+      → valuesFit (kindOf plain) f (length (x .lines)) ≡ true
   unfolding valuesFit
-  lines-fit f same = all-of (λ j. fitsKind (kindOf plain) (f j)) (length (x .lines)) (λ j l. rw (same j l) (number-fits (numberAt (x .lines) j) (s .lines .limited j l) (s .near j l)))
+  lines-fit f same = all-of (λ j. fitsKind (kindOf plain) (f j)) (length (x .lines))
+      (λ j l. rw (same j l) (number-fits (numberAt (x .lines) j) (s .lines .limited j l) (s .near j l)))
 
   -- all that measuring asks for, where the lines stand in the room
   module _ (room : List ℤ) (long : length room ≡ 16384) where

@@ -55,7 +55,8 @@ max-same f g (suc n) h = rw (max-same f g n (λ i l. h i (omega arith)), h n (om
 module _ (r : Row) (f g : ℕ → ℤ) (same : (i : ℕ) → i < r .lines → f i ≡ g i) where
   pub widest-same : widestOf r f ≡ widestOf r g
   unfolding widestOf linesWidth
-  widest-same = ap (max (rangeWidth r)) (max-same (λ i. need (r .kind) (f i)) (λ i. need (r .kind) (g i)) (r .lines) (λ i l. ap (need (r .kind)) (same i l)))
+  widest-same = ap (max (rangeWidth r)) (max-same (λ i. need (r .kind) (f i)) (λ i. need (r .kind) (g i)) (r .lines)
+      (λ i l. ap (need (r .kind)) (same i l)))
 
   pub width-same : (k : Kind) (size : ℕ) → widthOf k r f size ≡ widthOf k r g size
   unfolding widthOf
@@ -65,7 +66,8 @@ module _ (r : Row) (f g : ℕ → ℤ) (same : (i : ℕ) → i < r .lines → f 
   width-same Character size = refl
   width-same Logical size = refl
 
-module _ (h : Head) (x : Telling) (before : ℕ) (g : GoodHead h) (s : GoodTelling (h .kind) before x) (room : List ℤ) (long : length room ≡ 16384) where
+module _ (h : Head) (x : Telling) (before : ℕ) (g : GoodHead h) (s : GoodTelling (h .kind) before x) (room : List ℤ)
+    (long : length room ≡ 16384) where
   abbrev here : List ℤ
   here = filled h x before g s room long
 
@@ -78,13 +80,16 @@ module _ (h : Head) (x : Telling) (before : ℕ) (g : GoodHead h) (s : GoodTelli
       same : (i : ℕ) → i < rowOf (plainColumns h (countedIn before x) before) .lines → numberIn here before i ≡ numberAt (x .lines) i
       same i l = in-room h x before g s room long i (omega arith)
 
-  pub settled-is : (end : Reading) → settledBy (numberIn here before) h (countedIn before x) before end ≡ stoodOf before (ended end (heldBy before (variable h x)))
+  pub settled-is : (end : Reading) → settledBy (numberIn here before) h (countedIn before x) before end
+      ≡ stoodOf before (ended end (heldBy before (variable h x)))
   unfolding stoodOf measured heldBy holdsIn countedIn
   settled-is (Refused f) = refl
-  settled-is (At n) = rw full-same (by (roomGood (kindOf (columnsIn before (variable h x))) (rowOf (columnsIn before (variable h x))))) where
-    by : (b : Bool) → measuredAt (cond b (measure.Is (columnsIn before (variable h x))) (measure.Not (fault 7 (h .place)))) (before + length (x .lines)) n ≡ stoodOf before (cond b (entry.Is (variable h x) n) (entry.Not (fault 7 (h .place))))
-    by true = refl
-    by false = refl
+  settled-is (At n) = rw full-same (by (roomGood (kindOf (columnsIn before (variable h x))) (rowOf (columnsIn before (variable h x)))))
+    where
+      by : (b : Bool) → measuredAt (cond b (measure.Is (columnsIn before (variable h x))) (measure.Not (fault 7 (h .place))))
+          (before + length (x .lines)) n ≡ stoodOf before (cond b (entry.Is (variable h x) n) (entry.Not (fault 7 (h .place))))
+      by true = refl
+      by false = refl
 
 -- ---- what the code has read behind the position
 module _ (d : List ℕ) (h : Head) (before : ℕ) where
@@ -100,7 +105,8 @@ module _ (d : List ℕ) (h : Head) (before : ℕ) where
     pub good : GoodTelling (h .kind) before telling
 
   module _ (long : length d ≤ 1048576) (few : before ≤ 4096) (g : GoodHead h) (room after : List ℤ) (wide : length room ≡ 16384) where
-    pub known : (q : Rested) (r : Rest) → q ≡ restedOf before told-of → told.Stored before told-of room after → q ≡ rested.Is r → Known room after r
+    pub known : (q : Rested) (r : Rest) → q ≡ restedOf before told-of → told.Stored before told-of room after → q ≡ rested.Is r
+        → Known room after r
     unfolding restedOf countedIn
     known q r e s i = by told-of refl where
       by : (t : Told) → told-of ≡ t → Known room after r
@@ -112,7 +118,8 @@ module _ (d : List ℕ) (h : Head) (before : ℕ) where
             told-is = j;
             counted = sym m;
             stored = s .stored j;
-            good = rest-good d before long few (λ q t b l n v. values-good d q before t long few v) (h .kind) (At (h .next)) (h .finish + 1 - h .start) x (g .kind-some) (g .kind-few) (omega (arith, g .ordered)) j;
+            good = rest-good d before long few (λ q t b l n v. values-good d q before t long few v) (h .kind) (At (h .next))
+                (h .finish + 1 - h .start) x (g .kind-some) (g .kind-few) (omega (arith, g .ordered)) j;
           }
       by (told.Not f) j =
           let k : rested.Not f ≡ rested.Is r = sym (rw j at e) ∙ i in
@@ -126,35 +133,47 @@ module _ (d : List ℕ) (h : Head) (before : ℕ) where
       unfolding restThen
       rest-is = rw (k .told-is)
 
-      pub stood-here : (s : Stood) (end : Reading) → end ≡ endVariable d (r .next) → s ≡ settledBy (numberIn after before) h r before end → s ≡ stoodOf before (restThen d before h)
+      pub stood-here : (s : Stood) (end : Reading) → end ≡ endVariable d (r .next) → s ≡ settledBy (numberIn after before) h r before end
+          → s ≡ stoodOf before (restThen d before h)
       unfolding countedIn
       stood-here s end e i =
-          i ∙ rw (e, k .stored, k .counted, rest-is) (settled-is h (k .telling) before g (k .good) room wide (endVariable d (k .telling .next)))
+          i ∙ rw (e, k .stored, k .counted, rest-is)
+          (settled-is h (k .telling) before g (k .good) room wide (endVariable d (k .telling .next)))
 
       -- the lines are those of the variable that stands
       pub stored-here : Stored before (restThen d before h) room after
       unfolding heldBy
-      stored-here = record { stored = λ {v} {n} e. k .stored ∙ ap (λ (w : Variable). pasted room (4 * before) (cellsOf (linesIn w))) (same v n (endVariable d (k .telling .next)) (sym rest-is ∙ e)) }
+      stored-here = record {
+        stored = λ {v} {n} e. k .stored
+            ∙ ap (λ (w : Variable). pasted room (4 * before) (cellsOf (linesIn w)))
+            (same v n (endVariable d (k .telling .next)) (sym rest-is ∙ e));
+      }
         where
-          same : (v : Variable) (n : ℕ) (t : Reading) → ended t (heldBy before (variable h (k .telling))) ≡ entry.Is v n → variable h (k .telling) ≡ v
+          same : (v : Variable) (n : ℕ) (t : Reading) → ended t (heldBy before (variable h (k .telling))) ≡ entry.Is v n
+              → variable h (k .telling) ≡ v
           same v n (Refused f) e = none cc
           same v n (At m) e = by (holdsIn before (variable h (k .telling))) e where
-            by : (b : Bool) → cond b (entry.Is (variable h (k .telling)) m) (entry.Not (fault 7 (h .place))) ≡ entry.Is v n → variable h (k .telling) ≡ v
+            by : (b : Bool) → cond b (entry.Is (variable h (k .telling)) m) (entry.Not (fault 7 (h .place))) ≡ entry.Is v n
+                → variable h (k .telling) ≡ v
             by true i = cc
             by false i = none cc
 
     -- a refusal stays
-    pub stood-not : (q : Rested) (f : Fault) → q ≡ restedOf before told-of → q ≡ rested.Not f → stood.Not f ≡ stoodOf before (restThen d before h)
+    pub stood-not : (q : Rested) (f : Fault) → q ≡ restedOf before told-of → q ≡ rested.Not f → stood.Not f
+        ≡ stoodOf before (restThen d before h)
     unfolding restedOf restThen stoodOf
     stood-not q f e i = by told-of (sym e ∙ i) where
-      by : (t : Told) → restedOf before t ≡ rested.Not f → stood.Not f ≡ stoodOf before (toldThen t (λ x. ended (endVariable d (x .next)) (heldBy before (variable h x))))
+      by : (t : Told) → restedOf before t ≡ rested.Not f → stood.Not f
+          ≡ stoodOf before (toldThen t (λ x. ended (endVariable d (x .next)) (heldBy before (variable h x))))
       by (told.Is x) j = none cc
       by (told.Not g) j = let k : g ≡ f = cc in rw k
 
-    pub stored-not : (q : Rested) (f : Fault) → q ≡ restedOf before told-of → q ≡ rested.Not f → Stored before (restThen d before h) room after
+    pub stored-not : (q : Rested) (f : Fault) → q ≡ restedOf before told-of → q ≡ rested.Not f
+        → Stored before (restThen d before h) room after
     unfolding restedOf restThen
     stored-not q f e i = by told-of (sym e ∙ i) where
-      by : (t : Told) → restedOf before t ≡ rested.Not f → Stored before (toldThen t (λ x. ended (endVariable d (x .next)) (heldBy before (variable h x)))) room after
+      by : (t : Told) → restedOf before t ≡ rested.Not f
+          → Stored before (toldThen t (λ x. ended (endVariable d (x .next)) (heldBy before (variable h x)))) room after
       by (told.Is x) j = none cc
       by (told.Not g) j = record { stored = λ e. none cc }
 
@@ -164,7 +183,8 @@ good-head d i h q e j =
     let g = head-good d i h (sym e ∙ j) in
     record { kind-some = g .kind-some; kind-few = g .kind-few; from-one = g .from-one; ordered = g .ordered; low = g .low }
 
-module _ (d : List ℕ) (t : Reading) (met : ℕ → Bool) (count before : ℕ) (i : Number) (q : Headed) (e : i ≡ identOn d t met count) (o : q ≡ headOn d i) where
+module _ (d : List ℕ) (t : Reading) (met : ℕ → Bool) (count before : ℕ) (i : Number) (q : Headed) (e : i ≡ identOn d t met count)
+    (o : q ≡ headOn d i) where
   pub entry-is : (h : Head) → q ≡ headed.Is h → entryOf d t met count before ≡ restThen d before h
   unfolding entryOf
   entry-is h j = rw (← e, ← o, j)

@@ -18,7 +18,8 @@ use Rattle.layout.specs.rule.Layout.{lineSize, lineAt}
 use Rattle.layout.specs.rule.Row.{kindOf, rowOf}
 use Rattle.layout.specs.Row.{kind-cases}
 use Rattle.layout.specs.declared.Columns.{Columns}
-use Rattle.sound.specs.rule.Sound.{lackedZero, pointGiven, sharesGiven, valuesGiven, countsGood, placesGood, rangeLacked, rangeGood, linePlain}
+use Rattle.sound.specs.rule.Sound.{lackedZero, pointGiven, sharesGiven, valuesGiven, countsGood, placesGood, rangeLacked, rangeGood}
+use Rattle.sound.specs.rule.Sound.{linePlain}
 use Rattle.sound.specs.rule.Sound.{valuesFit, rangeWidth, widthGood}
 use Rattle.tokens.specs.declared.Reading.{Reading}
 use Rattle.tokens.specs.declared.Reading.the-variants.{At, Refused}
@@ -71,12 +72,14 @@ not-wrong met count x l = by (ltb 4 (x .count)) (ltb (x .size) 10000) (eqb (x .s
       let k = eqb-false (x .size) 0 b in
       record { some = omega arith; short = omega arith; fresh = c; left = l }
 
-ident-judged : (met : ℕ → Bool) (count : ℕ) (i : Number) (y : Figures) → judgeIdent met count i ≡ number.Is y → GoodIdent met count (y .size)
+ident-judged : (met : ℕ → Bool) (count : ℕ) (i : Number) (y : Figures) → judgeIdent met count i ≡ number.Is y
+    → GoodIdent met count (y .size)
 unfolding judgeIdent
 ident-judged met count (number.Not f) y e = none cc
 ident-judged met count (number.Is x) y e = by (wrongIdent met x) (leb 512 count) refl refl e where
   by : (p q : Bool) → wrongIdent met x ≡ p → leb 512 count ≡ q
-      → cond p (number.Not (fault 5 (x .place))) (cond q (number.Not (fault 8 (x .place))) (number.Is x)) ≡ number.Is y → GoodIdent met count (y .size)
+      → cond p (number.Not (fault 5 (x .place))) (cond q (number.Not (fault 8 (x .place))) (number.Is x)) ≡ number.Is y
+      → GoodIdent met count (y .size)
   by true q a b e = none cc
   by false true a b e = none cc
   by false false a b e = let j : x ≡ y = cc in rw (← j) (not-wrong met count x (leb-false 512 count b) a)
@@ -106,7 +109,8 @@ line-plain : {l : List Said} → EachGood l → (k : ℕ) → k < length l → l
 unfolding cellsOf lineCells lineAt countOf
 line-plain each.none k h = absurd (omega arith)
 line-plain (each.more {s} g m) zero h =
-    and-true _ _ (and-true _ _ (le-leb (s .special) 1 (g .special)) (le-leb (s .text .place) 1048576 (g .text-place))) (le-leb (s .text .length) 1048576 (g .text-length))
+    and-true _ _ (and-true _ _ (le-leb (s .special) 1 (g .special)) (le-leb (s .text .place) 1048576 (g .text-place)))
+    (le-leb (s .text .length) 1048576 (g .text-length))
 line-plain (each.more {s} {l} g m) (suc k) h = ap linePlain (next-line s l k) ∙ line-plain m k (omega arith)
 
 module _ (f : ℕ → ℤ) (n : ℕ) (differ : (i j : ℕ) → i < j → j < n → eqZ (f i) (f j) ≡ false) where
@@ -143,18 +147,20 @@ module _ (h : Head) (x : Telling) (before : ℕ) (g : GoodHead h) (s : GoodTelli
 
   lacks : lackedZero full ≡ true
   unfolding columnsIn fullColumns widened plainColumns countedIn flagOf
-  lacks = and-true _ _ (and-true _ _ (or-else (eqb (h .kind) 3) _ plainly) (or-else (eqb (h .kind) 2) _ whole)) (or-else (leb (h .kind) 3) _ valueless) where
-    plainly : eqb (h .kind) 3 ≡ false → (eqb (x .block .decimals) 0 && eqb (x .block .point) 0) ≡ true
-    plainly e = let z = s .block .category e in and-true _ _ (eq-eqb _ 0 (z .0)) (eq-eqb _ 0 (z .1))
+  lacks = and-true _ _ (and-true _ _ (or-else (eqb (h .kind) 3) _ plainly) (or-else (eqb (h .kind) 2) _ whole))
+      (or-else (leb (h .kind) 3) _ valueless) where
+        plainly : eqb (h .kind) 3 ≡ false → (eqb (x .block .decimals) 0 && eqb (x .block .point) 0) ≡ true
+        plainly e = let z = s .block .category e in and-true _ _ (eq-eqb _ 0 (z .0)) (eq-eqb _ 0 (z .1))
 
-    whole : eqb (h .kind) 2 ≡ false → (eqb (x .subfields) 0 && eqb (x .subwidth) 0) ≡ true
-    whole e = ⊎-elim (λ z. and-true _ _ (eq-eqb _ 0 (z .0)) (eq-eqb _ 0 (z .1))) (λ z. absurd (eqb-false (h .kind) 2 e (z .0))) (s .subfields)
+        whole : eqb (h .kind) 2 ≡ false → (eqb (x .subfields) 0 && eqb (x .subwidth) 0) ≡ true
+        whole e = ⊎-elim (λ z. and-true _ _ (eq-eqb _ 0 (z .0)) (eq-eqb _ 0 (z .1))) (λ z. absurd (eqb-false (h .kind) 2 e (z .0)))
+            (s .subfields)
 
-    valueless : leb (h .kind) 3 ≡ false → (eqb (flagOf (x .block .ranged)) 0 && eqb counted 0) ≡ true
-    valueless e =
-        let z = s .nothing (leb-false (h .kind) 3 e) in
-        let f : eqb (flagOf (x .block .ranged)) 0 ≡ true = rw (z .0) in
-        and-true _ _ f (eq-eqb counted 0 (omega (arith, z .1)))
+        valueless : leb (h .kind) 3 ≡ false → (eqb (flagOf (x .block .ranged)) 0 && eqb counted 0) ≡ true
+        valueless e =
+            let z = s .nothing (leb-false (h .kind) 3 e) in
+            let f : eqb (flagOf (x .block .ranged)) 0 ≡ true = rw (z .0) in
+            and-true _ _ f (eq-eqb counted 0 (omega (arith, z .1)))
 
   points : pointGiven full ≡ true
   unfolding columnsIn fullColumns widened plainColumns countedIn
@@ -200,7 +206,8 @@ module _ (h : Head) (x : Telling) (before : ℕ) (g : GoodHead h) (s : GoodTelli
   fit = rw kind-same (lines-fit h x before g s (numberAt (x .lines)) (λ i l. refl))
 
   -- w: SIZE for CHARACTER, 1 for LOGICAL, else the widest number
-  width-good : (m : ℕ) → widestOf (rowOf plain) (numberAt (x .lines)) ≡ m → widthGood (kindOf plain) (widthOf (kindOf plain) (rowOf plain) (numberAt (x .lines)) (x .size)) m ≡ true
+  width-good : (m : ℕ) → widestOf (rowOf plain) (numberAt (x .lines)) ≡ m
+      → widthGood (kindOf plain) (widthOf (kindOf plain) (rowOf plain) (numberAt (x .lines)) (x .size)) m ≡ true
   unfolding widthGood widthOf plainColumns countedIn
   width-good m e =
       kind-cases plain (λ k. widthGood k (widthOf k (rowOf plain) (numberAt (x .lines)) (x .size)) m ≡ true)
@@ -221,18 +228,22 @@ pub record TextsShort (h : Head) : Type 0 where
   pub label-len : h .label .length ≤ 1048576
 
 -- the ident, the position, the subfields and the texts; by whatever road the variable came
-module _ (h : Head) (x : Telling) (before : ℕ) (g : GoodHead h) (texts : TextsShort h) (some : 1 ≤ h .ident) (short : h .ident ≤ 9999) (s : GoodTelling (h .kind) before x) where
+module _ (h : Head) (x : Telling) (before : ℕ) (g : GoodHead h) (texts : TextsShort h) (some : 1 ≤ h .ident) (short : h .ident ≤ 9999)
+    (s : GoodTelling (h .kind) before x) where
   spread-whole : Bool·beq (eqb (x .subfields) 0) (eqb (x .subwidth) 0) ≡ true
-  spread-whole = ⊎-elim (λ z. rw (z .0, z .1)) (λ z. rw (ne-eqb (x .subfields) 0 (λ e. omega (arith, z .1)), ne-eqb (x .subwidth) 0 (λ e. omega (arith, z .2)))) (s .subfields)
+  spread-whole = ⊎-elim (λ z. rw (z .0, z .1)) (λ z.
+      rw (ne-eqb (x .subfields) 0 (λ e. omega (arith, z .1)), ne-eqb (x .subwidth) 0 (λ e. omega (arith, z .2)))) (s .subfields)
 
   places : placesGood (columnsIn before (variable h x)) ≡ true
   unfolding placesGood columnsIn fullColumns widened plainColumns countedIn
   places =
       both-and (both-and (both-and
       (and-true _ _ (le-leb 1 (h .ident) some) (le-leb (h .ident) 9999 short))
-      (and-true _ _ (and-true _ _ (le-leb 1 (h .start) (g .from-one)) (le-leb (h .start) (h .finish) (g .ordered))) (le-leb (h .finish) 16384 (g .low))))
+      (and-true _ _ (and-true _ _ (le-leb 1 (h .start) (g .from-one)) (le-leb (h .start) (h .finish) (g .ordered)))
+      (le-leb (h .finish) 16384 (g .low))))
       spread-whole)
-      (and-true _ _ (and-true _ _ (and-true _ _ (le-leb _ 1048576 (texts .name)) (le-leb _ 1048576 (texts .name-len))) (le-leb _ 1048576 (texts .label))) (le-leb _ 1048576 (texts .label-len)))
+      (and-true _ _ (and-true _ _ (and-true _ _ (le-leb _ 1048576 (texts .name)) (le-leb _ 1048576 (texts .name-len)))
+      (le-leb _ 1048576 (texts .label))) (le-leb _ 1048576 (texts .label-len)))
 
   pub variable-good : holdsIn before (variable h x) ≡ true → GoodVariable before (variable h x)
   variable-good e =
@@ -300,7 +311,8 @@ module _ (d : List ℕ) (t : Reading) (met : ℕ → Bool) (count before : ℕ) 
     rest-then : (h : Head) → heads.GoodHead d (identOn d t met count) h → restThen d before h ≡ entry.Is v n → EntryGood met count before v
     unfolding restThen
     rest-then h g = by (restOf d before (h .kind) (At (h .next)) (h .finish + 1 - h .start)) refl where
-      end : (x : Telling) (r : Reading) → GoodTelling (h .kind) before x → ended r (heldBy before (variable h x)) ≡ entry.Is v n → EntryGood met count before v
+      end : (x : Telling) (r : Reading) → GoodTelling (h .kind) before x → ended r (heldBy before (variable h x)) ≡ entry.Is v n
+          → EntryGood met count before v
       end x (At m) s e = held-good h x m g s e
       end x (Refused f) s e = none cc
 
@@ -308,7 +320,8 @@ module _ (d : List ℕ) (t : Reading) (met : ℕ → Bool) (count before : ℕ) 
           → toldThen o (λ x. ended (endVariable d (x .next)) (heldBy before (variable h x))) ≡ entry.Is v n → EntryGood met count before v
       by (told.Not f) i e = none cc
       by (told.Is x) i e =
-          let s = rest-good d before long few (λ q t b l n v. values-good d q before t long few v) (h .kind) (At (h .next)) (h .finish + 1 - h .start) x (g .kind-some) (g .kind-few) (omega (arith, g .ordered)) i in
+          let s = rest-good d before long few (λ q t b l n v. values-good d q before t long few v) (h .kind) (At (h .next))
+          (h .finish + 1 - h .start) x (g .kind-some) (g .kind-few) (omega (arith, g .ordered)) i in
           end x (endVariable d (x .next)) s e
 
 -- a variable that was read is good
@@ -325,7 +338,8 @@ entry-good d t met count before v n long few = by (headOn d (identOn d t met cou
   by (headed.Is h) i e = rest-then d t met count before v n long few h (head-good d (identOn d t met count) h i) e
 
 -- no variable is a 513th
-pub entry-left : (d : List ℕ) (t : Reading) (met : ℕ → Bool) (count before : ℕ) (v : Variable) (n : ℕ) → entryOf d t met count before ≡ entry.Is v n → count < 512
+pub entry-left : (d : List ℕ) (t : Reading) (met : ℕ → Bool) (count before : ℕ) (v : Variable) (n : ℕ) → entryOf d t met count before
+    ≡ entry.Is v n → count < 512
 unfolding entryOf identOn
 entry-left d t met count before v n = by (headOn d (identOn d t met count)) refl where
   by : (q : Headed) → headOn d (identOn d t met count) ≡ q → headThen q (restThen d before) ≡ entry.Is v n → count < 512

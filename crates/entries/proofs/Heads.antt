@@ -60,10 +60,22 @@ uncapped v = by (ltb 1000000000000000 v) where
 digits-true : (d : List ℕ) (n : ℕ) (x : Figures) → ofDigits n (digitsFrom 0 0 n (text d n)) ≡ number.Is x → True d x
 unfolding ofDigits digitsFrom
 digits-true d n x = by (eqb (digitsFrom 0 0 n (text d n) .count) 0) where
-  by : (b : Bool) → cond b (number.Not (fault 2 n)) (number.Is (record { size = digitsFrom 0 0 n (text d n) .size; count = digitsFrom 0 0 n (text d n) .count; place = n; next = digitsFrom 0 0 n (text d n) .next })) ≡ number.Is x → True d x
+  by : (b : Bool) → cond b (number.Not (fault 2 n))
+      (number.Is (record {
+        size = digitsFrom 0 0 n (text d n) .size;
+        count = digitsFrom 0 0 n (text d n) .count;
+        place = n;
+        next = digitsFrom 0 0 n (text d n) .next;
+      })) ≡ number.Is x → True d x
   by true e = none cc
   by false e =
-      let j : record { size = digitsFrom 0 0 n (text d n) .size; count = digitsFrom 0 0 n (text d n) .count; place = n; next = digitsFrom 0 0 n (text d n) .next } ≡ x = cc in
+      let j : record {
+        size = digitsFrom 0 0 n (text d n) .size;
+        count = digitsFrom 0 0 n (text d n) .count;
+        place = n;
+        next = digitsFrom 0
+            0 n (text d n) .next;
+      } ≡ x = cc in
       rw (← j) (record { same = λ h. uncapped _ h ∙ sym (run-value d n); held = digits-held 0 0 n (text d n) })
 
 number-true : (d : List ℕ) (t : Reading) (x : Figures) → numberOn d t ≡ number.Is x → True d x
@@ -79,24 +91,30 @@ pub record GoodPosition (p : Position) : Type 0 where
   pub ordered : p .start ≤ p .finish
   pub low : p .finish ≤ 16384
 
-judge-good : (d : List ℕ) (a b : Figures) (n : ℕ) (p : Position) → True d a → True d b → judgePosition (belowOf d b a) a b n ≡ stated.Is p → GoodPosition p
+judge-good : (d : List ℕ) (a b : Figures) (n : ℕ) (p : Position) → True d a → True d b → judgePosition (belowOf d b a) a b n ≡ stated.Is p
+    → GoodPosition p
 unfolding judgePosition
-judge-good d a b n p s t = by (eqb (a .size) 0) (ltb (trueOf d b) (trueOf d a)) (ltb 16384 (a .size)) (ltb 16384 (b .size)) refl refl refl refl where
-  by : (q r u v : Bool) → eqb (a .size) 0 ≡ q → ltb (trueOf d b) (trueOf d a) ≡ r → ltb 16384 (a .size) ≡ u → ltb 16384 (b .size) ≡ v
-      → cond q (stated.Not (fault 7 (a .place))) (cond r (stated.Not (fault 7 (b .place))) (cond u (stated.Not (fault 8 (a .place))) (cond v (stated.Not (fault 8 (b .place))) (stated.Is (record { start = a .size; finish = b .size; place = a .place; next = n }))))) ≡ stated.Is p → GoodPosition p
-  by true r u v e f g h i = none cc
-  by false true u v e f g h i = none cc
-  by false false true v e f g h i = none cc
-  by false false false true e f g h i = none cc
-  by false false false false e f g h i =
-      let j : record { start = a .size; finish = b .size; place = a .place; next = n } ≡ p = cc in
-      let x = ltb-false 16384 (a .size) g in
-      let y = ltb-false 16384 (b .size) h in
-      let z = ltb-false (trueOf d b) (trueOf d a) f in
-      let k = eqb-false (a .size) 0 e in
-      rw (← j) (record { from-one = omega arith; ordered = omega (arith, s .same (omega arith), t .same (omega arith)); low = y })
+judge-good d a b n p s t = by (eqb (a .size) 0) (ltb (trueOf d b) (trueOf d a)) (ltb 16384 (a .size)) (ltb 16384 (b .size)) refl refl refl
+    refl where
+      by : (q r u v : Bool) → eqb (a .size) 0 ≡ q → ltb (trueOf d b) (trueOf d a) ≡ r → ltb 16384 (a .size) ≡ u → ltb 16384 (b .size) ≡ v
+          → cond q (stated.Not (fault 7 (a .place))) (cond r (stated.Not (fault 7 (b .place)))
+          (cond u (stated.Not (fault 8 (a .place)))
+          (cond v (stated.Not (fault 8 (b .place)))
+          (stated.Is (record { start = a .size; finish = b .size; place = a .place; next = n }))))) ≡ stated.Is p → GoodPosition p
+      by true r u v e f g h i = none cc
+      by false true u v e f g h i = none cc
+      by false false true v e f g h i = none cc
+      by false false false true e f g h i = none cc
+      by false false false false e f g h i =
+          let j : record { start = a .size; finish = b .size; place = a .place; next = n } ≡ p = cc in
+          let x = ltb-false 16384 (a .size) g in
+          let y = ltb-false 16384 (b .size) h in
+          let z = ltb-false (trueOf d b) (trueOf d a) f in
+          let k = eqb-false (a .size) 0 e in
+          rw (← j) (record { from-one = omega arith; ordered = omega (arith, s .same (omega arith), t .same (omega arith)); low = y })
 
-position-rest : (d : List ℕ) (a : Number) (g : Reading) (p : Position) → ((x : Figures) → a ≡ number.Is x → True d x) → (k : Choice) → positionRest d a g k ≡ stated.Is p → GoodPosition p
+position-rest : (d : List ℕ) (a : Number) (g : Reading) (p : Position) → ((x : Figures) → a ≡ number.Is x → True d x) → (k : Choice)
+    → positionRest d a g k ≡ stated.Is p → GoodPosition p
 unfolding bothOf pastNumber
 position-rest d (number.Not f) g p h (Taken m) e = none cc
 position-rest d (number.Not f) g p h Left e = none cc
@@ -118,17 +136,18 @@ position-good d t p e =
 -- ---- TYPE: 1 to 5
 type-here : (d : List ℕ) (t : Reading) (k n : ℕ) → typeHere d t ≡ typed.Is k n → (1 ≤ k) × (k ≤ 5)
 unfolding typeHere
-type-here d t k n = by (choiceOf d t SINGLE) (choiceOf d t MULTIPLE) (choiceOf d t QUANTITY) (choiceOf d t CHARACTER) (wordHere d t LOGICAL) where
-  is : (j m : ℕ) → (1 ≤ j) × (j ≤ 5) → typed.Is j m ≡ typed.Is k n → (1 ≤ k) × (k ≤ 5)
-  is j m h e = let q : j ≡ k = cc in rw (← q) h
+type-here d t k n = by (choiceOf d t SINGLE) (choiceOf d t MULTIPLE) (choiceOf d t QUANTITY) (choiceOf d t CHARACTER) (wordHere d t LOGICAL)
+  where
+    is : (j m : ℕ) → (1 ≤ j) × (j ≤ 5) → typed.Is j m ≡ typed.Is k n → (1 ≤ k) × (k ≤ 5)
+    is j m h e = let q : j ≡ k = cc in rw (← q) h
 
-  by : (a b c e : Choice) (r : Reading) → or a 1 (or b 2 (or c 3 (or e 4 (last r 5)))) ≡ typed.Is k n → (1 ≤ k) × (k ≤ 5)
-  by (Taken m) b c e r q = is 1 m (omega arith, omega arith) q
-  by Left (Taken m) c e r q = is 2 m (omega arith, omega arith) q
-  by Left Left (Taken m) e r q = is 3 m (omega arith, omega arith) q
-  by Left Left Left (Taken m) r q = is 4 m (omega arith, omega arith) q
-  by Left Left Left Left (At m) q = is 5 m (omega arith, omega arith) q
-  by Left Left Left Left (Refused f) q = none cc
+    by : (a b c e : Choice) (r : Reading) → or a 1 (or b 2 (or c 3 (or e 4 (last r 5)))) ≡ typed.Is k n → (1 ≤ k) × (k ≤ 5)
+    by (Taken m) b c e r q = is 1 m (omega arith, omega arith) q
+    by Left (Taken m) c e r q = is 2 m (omega arith, omega arith) q
+    by Left Left (Taken m) e r q = is 3 m (omega arith, omega arith) q
+    by Left Left Left (Taken m) r q = is 4 m (omega arith, omega arith) q
+    by Left Left Left Left (At m) q = is 5 m (omega arith, omega arith) q
+    by Left Left Left Left (Refused f) q = none cc
 
 -- ---- all of them together
 pub record GoodHead (d : List ℕ) (i : Number) (h : Head) : Type 0 where
@@ -146,11 +165,13 @@ pub record GoodHead (d : List ℕ) (i : Number) (h : Head) : Type 0 where
   pub label-len : h .label .length ≤ length d
 
 module _ (d : List ℕ) (i : Number) (h : Head) where
-  joined : (t u v w : Reading) (n l : Phrase) (k : Typed) (p : Stated) → stringOn d t ≡ n → stringOn d u ≡ l → typeHere d v ≡ k → positionOn d w ≡ p
+  joined : (t u v w : Reading) (n l : Phrase) (k : Typed) (p : Stated) → stringOn d t ≡ n → stringOn d u ≡ l → typeHere d v ≡ k
+      → positionOn d w ≡ p
       → joinHead (joinTitles i n l) k p ≡ headed.Is h → GoodHead d i h
   unfolding joinHead joinTitles
   joined t u v w n l k p a b c e = by i n l k p refl a b c e where
-    by : (j : Number) (n l : Phrase) (k : Typed) (p : Stated) → i ≡ j → stringOn d t ≡ n → stringOn d u ≡ l → typeHere d v ≡ k → positionOn d w ≡ p
+    by : (j : Number) (n l : Phrase) (k : Typed) (p : Stated) → i ≡ j → stringOn d t ≡ n → stringOn d u ≡ l → typeHere d v ≡ k
+        → positionOn d w ≡ p
         → joinHead (joinTitles j n l) k p ≡ headed.Is h → GoodHead d i h
     by (number.Not f) n l k p o a b c e g = none cc
     by (number.Is x) (phrase.Not f) l k p o a b c e g = none cc
@@ -158,7 +179,16 @@ module _ (d : List ℕ) (i : Number) (h : Head) where
     by (number.Is x) (phrase.Is n) (phrase.Is l) (typed.Not f) p o a b c e g = none cc
     by (number.Is x) (phrase.Is n) (phrase.Is l) (typed.Is k m) (stated.Not f) o a b c e g = none cc
     by (number.Is x) (phrase.Is n) (phrase.Is l) (typed.Is k m) (stated.Is q) o a b c e g =
-        let j : record { ident = x .size; name = n; label = l; kind = k; start = q .start; finish = q .finish; place = q .place; next = q .next } ≡ h = cc in
+        let j : record {
+          ident = x .size;
+          name = n;
+          label = l;
+          kind = k;
+          start = q .start;
+          finish = q .finish;
+          place = q .place;
+          next = q .next;
+        } ≡ h = cc in
         let y = position-good d w q e in
         let z = type-here d v k m c in
         let r = quoted-within d t n a in

@@ -43,7 +43,10 @@ whole-some w n h e = by (w / n) refl where
 fields-good : (n w : Figures) (m : ℕ) (s : Subfields) → judgeOf n w m ≡ spreading.Is s → GoodSpread s
 unfolding judgeOf
 fields-good n w m s = by (eqb (n .size) 0) (eqb (w .size) 0) refl refl where
-  by : (p q : Bool) → eqb (n .size) 0 ≡ p → eqb (w .size) 0 ≡ q → cond p (spreading.Not (fault 7 (n .place))) (cond q (spreading.Not (fault 7 (w .place))) (spreading.Is (record { count = n .size; width = w .size; next = m }))) ≡ spreading.Is s → GoodSpread s
+  by : (p q : Bool) → eqb (n .size) 0 ≡ p → eqb (w .size) 0 ≡ q
+      → cond p (spreading.Not (fault 7 (n .place)))
+      (cond q (spreading.Not (fault 7 (w .place))) (spreading.Is (record { count = n .size; width = w .size; next = m }))) ≡ spreading.Is s
+      → GoodSpread s
   by true q e f g = none cc
   by false true e f g = none cc
   by false false e f g =
@@ -55,7 +58,10 @@ fields-good n w m s = by (eqb (n .size) 0) (eqb (w .size) 0) refl refl where
 even-good : (n : Figures) (w m : ℕ) (s : Subfields) → 1 ≤ w → judgeEven n w m ≡ spreading.Is s → GoodSpread s
 unfolding judgeEven
 even-good n w m s h = by (eqb (n .size) 0) (eqb (w % n .size) 0) refl refl where
-  by : (p q : Bool) → eqb (n .size) 0 ≡ p → eqb (w % n .size) 0 ≡ q → cond p (spreading.Not (fault 7 (n .place))) (cond q (spreading.Is (record { count = n .size; width = w / n .size; next = m })) (spreading.Not (fault 7 (n .place)))) ≡ spreading.Is s → GoodSpread s
+  by : (p q : Bool) → eqb (n .size) 0 ≡ p → eqb (w % n .size) 0 ≡ q
+      → cond p (spreading.Not (fault 7 (n .place)))
+      (cond q (spreading.Is (record { count = n .size; width = w / n .size; next = m })) (spreading.Not (fault 7 (n .place))))
+      ≡ spreading.Is s → GoodSpread s
   by true q e f g = none cc
   by false false e f g = none cc
   by false true e f g =
@@ -82,7 +88,9 @@ spread-good d t w s h = by (numberOn d t) (choiceOf d (gapOn d (pastNumber (numb
 pub size-good : (d : List ℕ) (t : Reading) (x : Figures) → sizeOn d t ≡ number.Is x → (1 ≤ x .size) × (x .size ≤ 4096)
 unfolding sizeOn judgeSize
 size-good d t x = by (numberOn d (statementOn d t SIZE)) where
-  sized : (y : Figures) (p q : Bool) → eqb (y .size) 0 ≡ p → ltb 4096 (y .size) ≡ q → cond p (number.Not (fault 7 (y .place))) (cond q (number.Not (fault 8 (y .place))) (number.Is y)) ≡ number.Is x → (1 ≤ x .size) × (x .size ≤ 4096)
+  sized : (y : Figures) (p q : Bool) → eqb (y .size) 0 ≡ p → ltb 4096 (y .size) ≡ q
+      → cond p (number.Not (fault 7 (y .place))) (cond q (number.Not (fault 8 (y .place))) (number.Is y)) ≡ number.Is x → (1 ≤ x .size)
+      × (x .size ≤ 4096)
   sized y true q e f g = none cc
   sized y false true e f g = none cc
   sized y false false e f g =

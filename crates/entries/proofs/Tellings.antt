@@ -62,9 +62,12 @@ empty-lines q first h = record {
   each = good.none;
 }
 
-module _ (d : List ℕ) (first : ℕ) (long : length d ≤ 1048576) (few : first ≤ 4096) (values-good : (q : Bool) (t : Reading) (b : Block) (l : List Said) (n : ℕ) → valuesOn d q first t ≡ given.Is b l n → GoodValues q first b l) where
+module _ (d : List ℕ) (first : ℕ) (long : length d ≤ 1048576) (few : first ≤ 4096)
+    (values-good : (q : Bool) (t : Reading) (b : Block) (l : List Said) (n : ℕ) → valuesOn d q first t ≡ given.Is b l n
+    → GoodValues q first b l) where
   -- VALUES, with so many subfields of such a width
-  values-told : (kind : ℕ) (t : Reading) (count width : ℕ) (x : Telling) → kind ≤ 3 → ((count ≡ 0) × (width ≡ 0)) ⊎ ((kind ≡ 2) × (1 ≤ count) × (1 ≤ width))
+  values-told : (kind : ℕ) (t : Reading) (count width : ℕ) (x : Telling) → kind ≤ 3
+      → ((count ≡ 0) × (width ≡ 0)) ⊎ ((kind ≡ 2) × (1 ≤ count) × (1 ≤ width))
       → valuesRest d (eqb kind 3) first t count width ≡ told.Is x → GoodTelling kind first x
   unfolding valuesRest joinValues
   values-told kind t count width x k s = by (valuesOn d (eqb kind 3) first t) refl where
@@ -132,14 +135,17 @@ module _ (d : List ℕ) (first : ℕ) (long : length d ≤ 1048576) (few : first
         sized = λ h. absurd (omega arith);
       })
 
-  pub rest-good : (kind : ℕ) (t : Reading) (w : ℕ) (x : Telling) → 1 ≤ kind → kind ≤ 5 → 1 ≤ w → restOf d first kind t w ≡ told.Is x → GoodTelling kind first x
+  pub rest-good : (kind : ℕ) (t : Reading) (w : ℕ) (x : Telling) → 1 ≤ kind → kind ≤ 5 → 1 ≤ w → restOf d first kind t w ≡ told.Is x
+      → GoodTelling kind first x
   unfolding restOf
   rest-good kind t w x k m h = by (eqb kind 1) (eqb kind 2) (eqb kind 3) (eqb kind 4) refl refl refl refl where
     values : (n : ℕ) → kind ≡ n → n ≤ 3 → valuesRest d (eqb n 3) first t 0 0 ≡ told.Is x → GoodTelling kind first x
     values n e l i = rw e (values-told n t 0 0 x l (inl (refl, refl)) i)
 
     by : (p q r s : Bool) → eqb kind 1 ≡ p → eqb kind 2 ≡ q → eqb kind 3 ≡ r → eqb kind 4 ≡ s
-        → cond p (valuesRest d false first t 0 0) (cond q (spreadThen d first t w) (cond r (valuesRest d true first t 0 0) (cond s (joinSize (sizeOn d t)) (joinNothing t)))) ≡ told.Is x
+        → cond p (valuesRest d false first t 0 0)
+        (cond q (spreadThen d first t w) (cond r (valuesRest d true first t 0 0) (cond s (joinSize (sizeOn d t)) (joinNothing t))))
+        ≡ told.Is x
         → GoodTelling kind first x
     by true q r s e f g i j = values 1 (eqb-true kind 1 e) (omega arith) j
     by false true r s e f g i j = rw (eqb-true kind 2 f) (spread-told t w x h j)

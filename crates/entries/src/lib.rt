@@ -114,7 +114,8 @@ pub fn variable_on(
     requires { ⌜ (length (now lines) ≡ lineSize * mostLines) × (before ≤ mostLines) × (length (now marks) ≡ 16384) ⌝ }
     requires { ⌜ length (now seen) ≡ 10000 ⌝ }
     ensures { λ s. ⌜ s ≡ stoodOf before (entryOf (now (d .entry)) t (marked (now (seen .entry))) count before) ⌝ }
-    ensures { λ s. ⌜ Stored before (entryOf (now (d .entry)) t (marked (now (seen .entry))) count before) (now (lines .entry)) (now (lines .exit)) ⌝ }
+    ensures { λ s. ⌜ Stored before (entryOf (now (d .entry)) t (marked (now (seen .entry))) count before) (now (lines .entry))
+        (now (lines .exit)) ⌝ }
 {
     let i = variables::ident_on(classes, d, t, seen, count);
     match variables::head_on(classes, d, i) {

@@ -1,4 +1,5 @@
--- EQUAL LINES ONLY FOR EQUAL FIELDS: what stands between commas is the field's own, so that a text says its lines and a line its fields. A line
+-- EQUAL LINES ONLY FOR EQUAL FIELDS: what stands between commas is the field's own, so that a text says its lines and a line its fields. A
+-- line
 -- has a field at least, as every table has a row.
 -- Assumes nothing.
 use mathlib.Core.Path.{_≡_, refl, sym, ap, _∙_}
@@ -112,7 +113,8 @@ module _ {u w : List ℕ} (stops : Stop u) (ends : Stop w) where
   field-same f g e = go (holdsSpecial f) (holdsSpecial g) refl refl e
     where
       go : (p q : Bool) → holdsSpecial f ≡ p → holdsSpecial g ≡ q
-          → cond p ((34 ∷ []) ++ (doubled f ++ (34 ∷ []))) f ++ u ≡ cond q ((34 ∷ []) ++ (doubled g ++ (34 ∷ []))) g ++ w → (f ≡ g) × (u ≡ w)
+          → cond p ((34 ∷ []) ++ (doubled f ++ (34 ∷ []))) f ++ u ≡ cond q ((34 ∷ []) ++ (doubled g ++ (34 ∷ []))) g ++ w → (f ≡ g)
+          × (u ≡ w)
       go true true k l h =
           doubled-same f g (sym (append-assoc (doubled f) (34 ∷ []) u) ∙ ap rest h ∙ append-assoc (doubled g) (34 ∷ []) w)
       go true false k l h = absurd (mixed f g _ l h)
@@ -166,12 +168,14 @@ each-same : (f g : ℕ → List ℕ) (n i j : ℕ) → each f i n ≡ each g i n
 unfolding each heads tails
 each-same f g zero i j e h = absurd (omega arith)
 each-same f g (suc n) i zero e h = let z : i + 0 ≡ i = omega arith in rw z (ap heads e)
-each-same f g (suc n) i (suc j) e h = let z : i + suc j ≡ suc i + j = omega arith in rw z (each-same f g n (suc i) j (ap tails e) (omega arith))
+each-same f g (suc n) i (suc j) e h = let z : i + suc j ≡ suc i + j = omega arith in
+    rw z (each-same f g n (suc i) j (ap tails e) (omega arith))
 
 pub record-same : (t : List ℤ) (r s : List ℕ) → 1 ≤ rowsOf t → lineBytes (recordLine t r) ≡ lineBytes (recordLine t s)
     → (i : ℕ) → i < rowsOf t → rowField t r i ≡ rowField t s i
 unfolding recordLine
 record-same t r s some e i h =
-    let l = line-same (each-line (rowField t r) 0 (rowsOf t) some) (each-line (rowField t s) 0 (rowsOf t) some) [] [] (ap (λ (x : List ℕ). x ++ []) e) in
+    let l = line-same (each-line (rowField t r) 0 (rowsOf t) some) (each-line (rowField t s) 0 (rowsOf t) some) [] []
+    (ap (λ (x : List ℕ). x ++ []) e) in
     let z : 0 + i ≡ i = omega arith in
     rw z at (each-same (rowField t r) (rowField t s) (rowsOf t) 0 i (l .0) h)

@@ -105,7 +105,8 @@ module _ (room : ℕ) {r : ℕ} {out out′ s : List ℕ} (a : Sent (room + 1) o
 -- where it has room, it stands there, and what stood behind it is kept
 pub stands : {r : ℕ} {out out′ s : List ℕ} → Sent (length out + 1) out 0 s out′ r → length s ≤ length out
     → (r ≡ length s) × (out′ ≡ s ++ drop (length s) out)
-stands {r} {out = out} {s = s} a h = let e = a .within (omega arith) in (omega arith, a .stored (omega arith) (omega arith) ∙ sets-front out s h)
+stands {r} {out = out} {s = s} a h = let e = a .within
+    (omega arith) in (omega arith, a .stored (omega arith) (omega arith) ∙ sets-front out s h)
 
 -- ---- the answer
 module _ (def : List ℕ) (t : List ℤ) (d out : List ℕ) where

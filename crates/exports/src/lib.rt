@@ -50,7 +50,8 @@ fn send_all(
     requires { ⌜ Classes (now classes) ⌝ }
     requires { ⌜ Ready (now powers) (now t) h (length (now list)) ⌝ }
     requires { ⌜ Found (now d) w × Long (h .length) n (recordsOf (now d)) ⌝ }
-    ensures { λ r. ⌜ Sent bound (now (out .entry)) 0 (textWith (now (def .entry)) (now (t .entry)) n (recordsOf (now (d .entry)))) (now (out .exit)) r ⌝ }
+    ensures { λ r. ⌜ Sent bound (now (out .entry)) 0 (textWith (now (def .entry)) (now (t .entry)) n (recordsOf (now (d .entry))))
+        (now (out .exit)) r ⌝ }
 {
     let end = name_line::send_names(classes, def, t, h.rows, bound, out, 0);
     record_lines::send_lines(powers, t, h, d, w, n, list, bound, out, end)
@@ -105,7 +106,9 @@ fn write(
     requires { ⌜ Ready (now powers) (now t) h (length (now list)) ⌝ }
     requires { ⌜ Found (now d) w × Long (h .length) n (recordsOf (now d)) ⌝ }
     requires { ⌜ length (textWith (now def) (now t) n (recordsOf (now d))) ≤ length (now out) ⌝ }
-    ensures { λ r. ⌜ (r ≡ length (textWith (now (def .entry)) (now (t .entry)) n (recordsOf (now (d .entry))))) × (now (out .exit) ≡ textWith (now (def .entry)) (now (t .entry)) n (recordsOf (now (d .entry))) ++ drop (length (textWith (now (def .entry)) (now (t .entry)) n (recordsOf (now (d .entry))))) (now (out .entry))) ⌝ }
+    ensures { λ r. ⌜ (r ≡ length (textWith (now (def .entry)) (now (t .entry)) n (recordsOf (now (d .entry)))))
+        × (now (out .exit) ≡ textWith (now (def .entry)) (now (t .entry)) n (recordsOf (now (d .entry)))
+        ++ drop (length (textWith (now (def .entry)) (now (t .entry)) n (recordsOf (now (d .entry))))) (now (out .entry))) ⌝ }
 {
     let bound = out.len() + 1;
     send_all(classes, powers, def, t, h, d, w, n, list, bound, out)
@@ -128,7 +131,11 @@ fn judge(t: &[i64], h: Header, d: &[u8], w: Terminator) -> Judgement
 // The export by a table that was tested and is the definition's: 60, or written.
 fn export_tested(def: &[u8], t: &[i64], d: &[u8], out: &mut [u8]) -> Export
     requires { ⌜ wellFormed (now t) ≡ true ⌝ }
-    ensures { λ r. ⌜ (exportSaid r ≡ fitted (fileVerdict (now (t .entry)) (now (d .entry))) (exportText (now (def .entry)) (now (t .entry)) (now (d .entry))) (length (now (out .entry)))) × (now (out .exit) ≡ outputAfter (fitted (fileVerdict (now (t .entry)) (now (d .entry))) (exportText (now (def .entry)) (now (t .entry)) (now (d .entry))) (length (now (out .entry)))) (exportText (now (def .entry)) (now (t .entry)) (now (d .entry))) (now (out .entry))) ⌝ }
+    ensures { λ r. ⌜ (exportSaid r ≡ fitted (fileVerdict (now (t .entry)) (now (d .entry)))
+        (exportText (now (def .entry)) (now (t .entry)) (now (d .entry))) (length (now (out .entry))))
+        × (now (out .exit) ≡ outputAfter (fitted (fileVerdict (now (t .entry)) (now (d .entry)))
+        (exportText (now (def .entry)) (now (t .entry)) (now (d .entry))) (length (now (out .entry))))
+        (exportText (now (def .entry)) (now (t .entry)) (now (d .entry))) (now (out .entry))) ⌝ }
 {
     let h = Header::read(t);
     let w = cuts::find_terminator(d);

@@ -52,7 +52,8 @@ unfolding isIllegal singleSays numberField formed valueFault usable someFault
 single-some ok blank = refl
 single-some ok (says z) = go (eqZ z (pos 0)) (ok z)
   where
-    go : (a b : Bool) → isIllegal (cond a (holds missing) (cond b (holds (number z)) illegal)) ≡ someFault (cond (a || b) Sound (NotLegal z))
+    go : (a b : Bool) → isIllegal (cond a (holds missing) (cond b (holds (number z)) illegal))
+        ≡ someFault (cond (a || b) Sound (NotLegal z))
     go true b = refl
     go false true = refl
     go false false = refl
@@ -116,7 +117,8 @@ text-cases r ps = plain-some Plain r ps _ (go (allPlain (pick r ps)) ∙ sym (te
 
 truth-cases : (r : List ℕ) (p : ℕ) → isIllegal (truthField (pick r (run p 1))) ≡ someFault (plainForm Bit r (run p 1))
 unfolding isIllegal truthField allBits
-truth-cases r p = plain-some Bit r (run p 1) _ (go (eqb (getD r p 0) 48) (eqb (getD r p 0) 49) ∙ ap not (sym (and-true (eqb (getD r p 0) 48 || eqb (getD r p 0) 49))) ∙ sym (bits-some r (run p 1)))
+truth-cases r p = plain-some Bit r (run p 1) _ (go (eqb (getD r p 0) 48) (eqb (getD r p 0) 49)
+    ∙ ap not (sym (and-true (eqb (getD r p 0) 48 || eqb (getD r p 0) 49))) ∙ sym (bits-some r (run p 1)))
   where
     go : (a b : Bool) → isIllegal (cond b (holds (truth true)) (cond a (holds (truth false)) illegal)) ≡ not (a || b)
     go true true = refl
@@ -225,7 +227,8 @@ FixedFacts Logical r = Unit
 module _ (t : List ℤ) (v : ℕ) (r : Row) (record′ : List ℕ) where
   cases-by : (k : Kind) → KindFacts k r → FixedFacts k r
       → isIllegal (fieldBy k t v r (pick record′ (placesBy k t v r)))
-      ≡ (someFault (formBy k (r .width) record′ (placesBy k t v r)) || someFault (valueBy k (legal t v r) (r .width) record′ (placesBy k t v r)))
+      ≡ (someFault (formBy k (r .width) record′ (placesBy k t v r))
+      || someFault (valueBy k (legal t v r) (r .width) record′ (placesBy k t v r)))
   unfolding fieldBy placesBy formBy valueBy someFault
   cases-by Single a x =
       let ps = run (r .finish - r .width) (r .width) in
@@ -252,7 +255,8 @@ module _ (t : List ℤ) (v : ℕ) (r : Row) (record′ : List ℕ) where
   unfolding readingOf faultOf
   same-cases a x =
       cases-by (r .kind) a x
-      ∙ sym (else-some (formBy (r .kind) (r .width) record′ (placesOf t v r)) (valueBy (r .kind) (legal t v r) (r .width) record′ (placesOf t v r)))
+      ∙ sym (else-some (formBy (r .kind) (r .width) record′ (placesOf t v r))
+      (valueBy (r .kind) (legal t v r) (r .width) record′ (placesOf t v r)))
 
 -- every legal number takes its fixed places
 fixed-by : (k : Kind) (r : Row) (z : ℤ) → need k z ≤ r .width → FixedFacts k r

@@ -36,7 +36,8 @@ standing-each q f left n (b ∷ s) e zero h =
     rw (append-nil left, k) (and-left (mayStand q f left (length s + n) b) (standing q f (left ++ (b ∷ [])) n s) e)
 standing-each q f left n (b ∷ s) e (suc j) h =
     let k : suc (length s) - suc (suc j) + n ≡ length s - suc j + n = omega arith in
-    let i = standing-each q f (left ++ (b ∷ [])) n s (and-right (mayStand q f left (length s + n) b) (standing q f (left ++ (b ∷ [])) n s) e) j (omega arith) in
+    let i = standing-each q f (left ++ (b ∷ [])) n s
+    (and-right (mayStand q f left (length s + n) b) (standing q f (left ++ (b ∷ [])) n s) e) j (omega arith) in
     rw k (rw (append-assoc left (b ∷ []) (take j s)) at i)
 
 -- THE FAULT of the bytes at the places ps: what stands before it, the byte, and what follows
@@ -58,7 +59,8 @@ from-leftmost q f r left (p ∷ ps) e =
   where
     go : (c : Bool) → mayStand q f left (length ps) (getD r p 0) ≡ c
         → someFault (cond c (numberFrom q f r (left ++ (getD r p 0 ∷ [])) ps) (faultAt q f (length ps) p (getD r p 0))) ≡ true
-        → (someFault (numberFrom q f r (left ++ (getD r p 0 ∷ [])) ps) ≡ true → Leftmost q f r (left ++ (getD r p 0 ∷ [])) ps (numberFrom q f r (left ++ (getD r p 0 ∷ [])) ps))
+        → (someFault (numberFrom q f r (left ++ (getD r p 0 ∷ [])) ps) ≡ true
+        → Leftmost q f r (left ++ (getD r p 0 ∷ [])) ps (numberFrom q f r (left ++ (getD r p 0 ∷ [])) ps))
         → Leftmost q f r left (p ∷ ps) (cond c (numberFrom q f r (left ++ (getD r p 0 ∷ [])) ps) (faultAt q f (length ps) p (getD r p 0)))
     go false m u ih = record {
       before = [];
@@ -101,7 +103,8 @@ unfolding stands standing
 stands-append q f left [] y = rw (append-nil left)
 stands-append q f left (b ∷ x) y =
     rw (length-append x y, stands-append q f (left ++ (b ∷ [])) x y, append-assoc left (b ∷ []) x)
-    (sym (and-assoc (mayStand q f left (length x + length y) b) (standing q f (left ++ (b ∷ [])) (length y) x) (stands q f (left ++ (b ∷ x)) y)))
+    (sym (and-assoc (mayStand q f left (length x + length y) b) (standing q f (left ++ (b ∷ [])) (length y) x)
+    (stands q f (left ++ (b ∷ x)) y)))
 
 -- the point at its place, zeros elsewhere
 fill : Format → ℕ → List ℕ
@@ -120,7 +123,8 @@ fill-stands q f left (suc n) =
     rw (length-fill f n) (go (pointPlace f n) (fill-stands q f (left ++ (cond (pointPlace f n) 46 48 ∷ [])) n))
   where
     go : (c : Bool) → stands q f (left ++ (cond (pointPlace f n) 46 48 ∷ [])) (fill f n) ≡ true
-        → (cond c (eqb (cond c 46 48) 46) (within 48 57 (cond c 46 48) || ((leb (fixedOf f) n && allSpaces left) && (eqb (cond c 46 48) 32 || (q && eqb (cond c 46 48) 45))))
+        → (cond c (eqb (cond c 46 48) 46) (within 48 57 (cond c 46 48)
+        || ((leb (fixedOf f) n && allSpaces left) && (eqb (cond c 46 48) 32 || (q && eqb (cond c 46 48) 45))))
         && stands q f (left ++ (cond (pointPlace f n) 46 48 ∷ [])) (fill f n)) ≡ true
     go true ih = ih
     go false ih = ih
@@ -130,7 +134,8 @@ module _ (q : Bool) (f : Format) (r ps : List ℕ) (x : Fault) (a : Leftmost q f
   pub none-goes-on : (rest : List ℕ) → length rest ≡ length (a .later) → stands q f [] (a .before ++ (a .byte ∷ rest)) ≡ false
   unfolding stands
   none-goes-on rest l =
-      rw (stands-append q f [] (a .before) (a .byte ∷ rest), l, a .may-not) (and-false (standing q f [] (suc (length (a .later))) (a .before)))
+      rw (stands-append q f [] (a .before) (a .byte ∷ rest), l, a .may-not)
+      (and-false (standing q f [] (suc (length (a .later))) (a .before)))
 
   -- some number begins with those before it
   pub record GoesOn : Type 0 where
@@ -156,7 +161,8 @@ module _ (q : Bool) (f : Format) (r ps : List ℕ) (wide : fixedOf f ≤ length 
       → formAfter q f (unspaced (a .before ++ (a .byte ∷ rest))) ≡ false
   none-after rest l s =
       let n : length (a .before ++ (a .byte ∷ rest)) ≡ length ps = length-append (a .before) (a .byte ∷ rest) ∙ rw l (sym size) in
-      let h : leb (fixedOf f) (length (a .before ++ (a .byte ∷ rest))) ≡ true = le-leb (fixedOf f) (length (a .before ++ (a .byte ∷ rest))) (omega arith) in
+      let h : leb (fixedOf f) (length (a .before ++ (a .byte ∷ rest)))
+      ≡ true = le-leb (fixedOf f) (length (a .before ++ (a .byte ∷ rest))) (omega arith) in
       sym (form-stands q f [] (a .before ++ (a .byte ∷ rest)) none-spaces h) ∙ rw (s, none-goes-on q f r ps x a rest l)
 
   one-after : formAfter q f (unspaced (a .before ++ one-goes-on q f r ps x a .rest)) ≡ true

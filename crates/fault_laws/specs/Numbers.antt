@@ -47,7 +47,8 @@ fault-some q f after p b = go (q && (pointPlace f after || eqb b 46))
 pub from-stands : (q : Bool) (f : Format) (r left ps : List ℕ) → someFault (numberFrom q f r left ps) ≡ not (stands q f left (pick r ps))
 unfolding numberFrom stands someFault
 from-stands q f r left [] = refl
-from-stands q f r left (p ∷ ps) = rw (length-pick r ps) (go (mayStand q f left (length ps) (getD r p 0)) (from-stands q f r (left ++ (getD r p 0 ∷ [])) ps))
+from-stands q f r left (p ∷ ps) = rw (length-pick r ps)
+    (go (mayStand q f left (length ps) (getD r p 0)) (from-stands q f r (left ++ (getD r p 0 ∷ [])) ps))
   where
     go : (c : Bool) → someFault (numberFrom q f r (left ++ (getD r p 0 ∷ [])) ps) ≡ not (stands q f (left ++ (getD r p 0 ∷ [])) (pick r ps))
         → someFault (cond c (numberFrom q f r (left ++ (getD r p 0 ∷ [])) ps) (faultAt q f (length ps) p (getD r p 0)))
@@ -148,7 +149,8 @@ formAfter q f (b ∷ s) =
 short-form : (q : Bool) (f : Format) (s : List ℕ) → leb (fixedOf f) (length s) ≡ false → formAfter q f (unspaced s) ≡ allSpaces s
 unfolding formAfter unspaced allSpaces
 short-form q f [] e = refl
-short-form q f (b ∷ s) e = let l : leb (fixedOf f) (length s) ≡ false = lt-leb (fixedOf f) (length s) (omega (arith, leb-false (fixedOf f) (suc (length s)) e)) in
+short-form q f (b ∷ s) e = let l : leb (fixedOf f) (length s)
+    ≡ false = lt-leb (fixedOf f) (length s) (omega (arith, leb-false (fixedOf f) (suc (length s)) e)) in
     go (eqb b 32) (short-form q f s l) l
   where
     other : (c : Bool) → leb (fixedOf f) (length s) ≡ false

@@ -138,7 +138,8 @@ module _ (t : List ℤ) (v : ℕ) (r : Row) (record′ : List ℕ) where
   placed-is : (x : Fault) → faultOf t v r record′ ≡ x → numbered x ≡ false → formBy (r .kind) (r .width) record′ (placesOf t v r) ≡ x
   unfolding faultOf
   placed-is x e h =
-      else-placed (formBy (r .kind) (r .width) record′ (placesOf t v r)) (valueBy (r .kind) (legal t v r) (r .width) record′ (placesOf t v r)) x e
+      else-placed (formBy (r .kind) (r .width) record′ (placesOf t v r))
+      (valueBy (r .kind) (legal t v r) (r .width) record′ (placesOf t v r)) x e
       (by-numbered (r .kind) (legal t v r) (r .width) record′ (placesOf t v r)) h
 
   -- 241 and 243: the leftmost fault of the row's value places

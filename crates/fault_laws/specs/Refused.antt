@@ -49,8 +49,10 @@ module _ (t : List ℤ) (v : ℕ) (r : Row) (f : Format) (is : r .kind ≡ Quant
   fixed-wide h = go (r .range) refl h
     where
       go : (b : Bool) → r .range ≡ b
-          → 1 ≤ max (cond b (max (need (r .kind) (r .from)) (need (r .kind) (r .to))) 0) (maxBelow (r .lines) (λ k. need (r .kind) (valueAt t v (r .before) k)))
-          → fixedOf f ≤ max (cond b (max (need (r .kind) (r .from)) (need (r .kind) (r .to))) 0) (maxBelow (r .lines) (λ k. need (r .kind) (valueAt t v (r .before) k)))
+          → 1 ≤ max (cond b (max (need (r .kind) (r .from)) (need (r .kind) (r .to))) 0)
+          (maxBelow (r .lines) (λ k. need (r .kind) (valueAt t v (r .before) k)))
+          → fixedOf f ≤ max (cond b (max (need (r .kind) (r .from)) (need (r .kind) (r .to))) 0)
+          (maxBelow (r .lines) (λ k. need (r .kind) (valueAt t v (r .before) k)))
       go true e l = omega (arith, needs (r .from))
       go false e l = omega (arith, lines-wide (r .lines) (omega arith))
 

@@ -62,7 +62,8 @@ from-placed : (q : Bool) (f : Format) (r left ps : List ℕ) → placed (numberF
 unfolding numberFrom
 from-placed q f r left [] = sound-placed
 from-placed q f r left (p ∷ ps) =
-    placed-cond (mayStand q f left (length ps) (getD r p 0)) _ _ (from-placed q f r (left ++ (getD r p 0 ∷ [])) ps) (at-placed q f (length ps) p (getD r p 0))
+    placed-cond (mayStand q f left (length ps) (getD r p 0)) _ _ (from-placed q f r (left ++ (getD r p 0 ∷ [])) ps)
+    (at-placed q f (length ps) p (getD r p 0))
 
 number-placed : (q : Bool) (f : Format) (r ps : List ℕ) → placed (numberForm q f r ps) ≡ true
 unfolding numberForm
@@ -180,7 +181,8 @@ module _ (t : List ℤ) (v : ℕ) (r : Row) (record′ : List ℕ) (z : ℤ) (is
   pub form-first : formBy (r .kind) (r .width) record′ (placesOf t v r) ≡ Sound
   unfolding faultOf
   form-first =
-      else-form (formBy (r .kind) (r .width) record′ (placesOf t v r)) (valueBy (r .kind) (legal t v r) (r .width) record′ (placesOf t v r)) z
+      else-form (formBy (r .kind) (r .width) record′ (placesOf t v r)) (valueBy (r .kind) (legal t v r) (r .width) record′ (placesOf t v r))
+      z
       (form-placed (r .kind) (r .width) record′ (placesOf t v r)) is
 
   value-is : valueBy (r .kind) (legal t v r) (r .width) record′ (placesOf t v r) ≡ NotLegal z

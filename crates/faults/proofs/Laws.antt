@@ -132,7 +132,8 @@ module _ (q : Bool) (f : Format) (r : List ℕ) (at w i : ℕ) where
   number-none h = rw (run-none at w i h)
 
 -- one byte more is a space or not
-pub open-more : (r : List ℕ) (at i : ℕ) → allSpaces (pick r (run at (i + 1))) ≡ (allSpaces (pick r (run at i)) && eqb (getD r (at + i) 0) 32)
+pub open-more : (r : List ℕ) (at i : ℕ) → allSpaces (pick r (run at (i + 1)))
+    ≡ (allSpaces (pick r (run at i)) && eqb (getD r (at + i) 0) 32)
 open-more r at i = rw (pick-more r at i) (spaces-more (pick r (run at i)) (getD r (at + i) 0))
 
 pub number-blank : (q : Bool) (f : Format) (r ps : List ℕ) → allSpaces (pick r ps) ≡ true → numberForm q f r ps ≡ Sound
@@ -217,5 +218,6 @@ module _ (t : List ℤ) (v : ℕ) (r : Row) (record′ : List ℕ) (k : Kind) (i
   pub form-as : formBy (r .kind) (r .width) record′ (placesOf t v r) ≡ formBy k (r .width) record′ (placesBy k t v r)
   form-as = ap (λ (x : Kind). formBy x (r .width) record′ (placesBy x t v r)) is
 
-  pub value-as : valueBy (r .kind) (legal t v r) (r .width) record′ (placesOf t v r) ≡ valueBy k (legal t v r) (r .width) record′ (placesBy k t v r)
+  pub value-as : valueBy (r .kind) (legal t v r) (r .width) record′ (placesOf t v r)
+      ≡ valueBy k (legal t v r) (r .width) record′ (placesBy k t v r)
   value-as = ap (λ (x : Kind). valueBy x (legal t v r) (r .width) record′ (placesBy x t v r)) is

@@ -320,7 +320,8 @@ fn row_form(t: &[i64], rows: usize, row: Row, bytes: &[u8]) -> Fault
 
 fn row_value(t: &[i64], rows: usize, row: Row, bytes: &[u8]) -> Fault
     requires { ⌜ RowReady (now t) rows row (length (now bytes)) ⌝ }
-    ensures { λ r. ⌜ r ≡ valueBy (row .kind) (legal (now (t .entry)) rows row) (row .width) (now (bytes .entry)) (placesOf (now (t .entry)) rows row) ⌝ }
+    ensures { λ r. ⌜ r ≡ valueBy (row .kind) (legal (now (t .entry)) rows row) (row .width) (now (bytes .entry))
+        (placesOf (now (t .entry)) rows row) ⌝ }
 {
     let kind = row.kind;
     let w = row.width;

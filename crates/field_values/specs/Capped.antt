@@ -112,7 +112,8 @@ said-padded (suc k) a n =
 pub decimal-parts : (k n : ℕ) → n < 10 ^ 16 → decimal (numeral (n / 10 ^ k) ++ padded k n) ≡ n
 decimal-parts k n h =
     let l : n / 10 ^ k < 10 ^ 16 = lt-of-le-of-lt (div-le-self n (10 ^ k)) h in
-    decimal-join (numeral (n / 10 ^ k)) (padded k n) 0 ∙ rw (decimal-numeral (n / 10 ^ k) l) (said-padded k (n / 10 ^ k) n ∙ div-add-mod' n (10 ^ k))
+    decimal-join (numeral (n / 10 ^ k)) (padded k n) 0
+    ∙ rw (decimal-numeral (n / 10 ^ k) l) (said-padded k (n / 10 ^ k) n ∙ div-add-mod' n (10 ^ k))
 
 -- ---- before the point and behind it
 pub point-at : (a b : List ℕ) → Free 46 a → pointAt (a ++ (46 ∷ b)) ≡ length a
@@ -129,7 +130,8 @@ pub size-parts : (k : ℕ) (a b : List ℕ) → Free 46 a → sizeGuess k (a ++ 
 unfolding sizeGuess
 size-parts k a b h =
     let f = take-at a (46 ∷ b) (pointAt (a ++ (46 ∷ b))) (sym (point-at a b h)) in
-    let g : drop (pointAt (a ++ (46 ∷ b)) + 1) (a ++ (46 ∷ b)) ≡ b = ap (λ (x : ℕ). drop (x + 1) (a ++ (46 ∷ b))) (point-at a b h) ∙ drop-append-add a (46 ∷ b) 1 in
+    let g : drop (pointAt (a ++ (46 ∷ b)) + 1) (a ++ (46 ∷ b)) ≡ b = ap (λ (x : ℕ). drop (x + 1) (a ++ (46 ∷ b))) (point-at a b h)
+    ∙ drop-append-add a (46 ∷ b) 1 in
     rw (f, g) (sym (capped-join a (b ++ zeros (k - length b)) 0 ∙ capped-join b (zeros (k - length b)) (cappedFrom 0 a)))
 
 pub size-whole : (k : ℕ) (a : List ℕ) → Free 46 a → sizeGuess k a ≡ cappedFrom 0 (a ++ zeros k)

@@ -117,7 +117,8 @@ module _ {f : List ℕ} {list : List ℤ} {count n i : ℕ} (g : Coding f list c
         codes = g .codes;
         reads = g .reads
             ∙ ap (λ (u : List ℕ). ended (take count list) ++ u)
-            (ap (λ (u : List ℕ). begun n ++ u) (next-byte f i h) ∙ begun-more n b m (drop (i + 1) f) (s .low z) (s .high z) (s .is z) (s .few) z);
+            (ap (λ (u : List ℕ). begun n ++ u) (next-byte f i h)
+            ∙ begun-more n b m (drop (i + 1) f) (s .low z) (s .high z) (s .is z) (s .few) z);
       }
 
   module _ (some : n ≡ 0 → ⊥) (low : count < length list) {z : ℤ} (is : z ≡ pos n) where
@@ -139,7 +140,8 @@ module _ {f : List ℕ} {list : List ℤ} {count n i : ℕ} (g : Coding f list c
           inside = omega arith;
           few = omega arith;
           codes = codes-taken;
-          reads = g .reads ∙ ap (λ (x : List ℕ). ended ms ++ x) (ap (λ (x : List ℕ). x ++ drop i f) (begun-some n some) ∙ ap (λ (x : List ℕ). numeral n ++ x) a) ∙ k
+          reads = g .reads ∙ ap (λ (x : List ℕ). ended ms ++ x)
+              (ap (λ (x : List ℕ). x ++ drop i f) (begun-some n some) ∙ ap (λ (x : List ℕ). numeral n ++ x) a) ∙ k
               ∙ ap (λ (x : List ℕ). ended (take (count + 1) (set list count z)) ++ (x ++ u)) (sym begun-none);
         }
 

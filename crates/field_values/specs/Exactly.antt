@@ -50,25 +50,30 @@ guess-some : (k : Kind) {f : List ℕ} (b : ℕ) (s : List ℕ) → f ≡ b ∷ 
 unfolding guessOf
 guess-some k b s e = rw e
 
-guess-number : (k : Kind) (d : ℕ) → someGuess k ≡ (λ f. number (numberGuess d f)) → (t : List ℤ) (v : ℕ) (r : Row) → Limits k t v r → (z : ℤ) → legal t v r z ≡ true
+guess-number : (k : Kind) (d : ℕ) → someGuess k ≡ (λ f. number (numberGuess d f)) → (t : List ℤ) (v : ℕ) (r : Row) → Limits k t v r
+    → (z : ℤ) → legal t v r z ≡ true
     → (f : List ℕ) → Left d (numberText d z) f → guessOf k f ≡ number z
 guess-number k d g t v r l z e f w =
     let n = number-left d z f (size-small k z (l .least z e) (l .most z e)) w in
     guess-some k (n .first) (n .others) (n .is) ∙ ap (λ (h : List ℕ → Value). h f) g ∙ ap number (n .guess)
 
-guess-set : (k : Kind) → someGuess k ≡ (λ f. members (setGuess f)) → (ms : List ℤ) → AreCodes ms → (f : List ℕ) → setText ms ≡ f → guessOf k f ≡ members ms
+guess-set : (k : Kind) → someGuess k ≡ (λ f. members (setGuess f)) → (ms : List ℤ) → AreCodes ms → (f : List ℕ) → setText ms ≡ f
+    → guessOf k f ≡ members ms
 guess-set k g ms c f e =
     let n = set-filled ms c in
-    guess-some k (n .first) (n .others) (sym e ∙ n .is) ∙ ap (λ (h : List ℕ → Value). h f) g ∙ ap members (ap setGuess (sym e) ∙ set-back ms c)
+    guess-some k (n .first) (n .others) (sym e ∙ n .is) ∙ ap (λ (h : List ℕ → Value). h f) g
+    ∙ ap members (ap setGuess (sym e) ∙ set-back ms c)
 
 -- the sets of a row are codes, and few
-pub bits-codes : (t : List ℤ) (v : ℕ) (r : Row) → Limits (Multiple Bits) t v r → (ms : List ℤ) → setFits (legal t v r) ms ≡ true → AreCodes ms × (length ms ≤ 9999)
+pub bits-codes : (t : List ℤ) (v : ℕ) (r : Row) → Limits (Multiple Bits) t v r → (ms : List ℤ) → setFits (legal t v r) ms ≡ true
+    → AreCodes ms × (length ms ≤ 9999)
 bits-codes t v r l ms e =
     let m = bits-members t v r l ms e in
     let h = l .kind .few in
     (rising-codes (omega arith) m, omega (arith, rising-few m))
 
-pub spread-codes : (t : List ℤ) (v : ℕ) (r : Row) (n b : ℕ) → Limits (Multiple (Fields n b)) t v r → (ms : List ℤ) → setFits (legal t v r) ms ≡ true
+pub spread-codes : (t : List ℤ) (v : ℕ) (r : Row) (n b : ℕ) → Limits (Multiple (Fields n b)) t v r → (ms : List ℤ)
+    → setFits (legal t v r) ms ≡ true
     → AreCodes ms × (length ms ≤ 9999)
 spread-codes t v r n b l ms e =
     let m = spread-members t v r n b l ms e in
@@ -98,12 +103,14 @@ guess-value Logical t v r l (number z) e f w = no-other e
 guess-value (Multiple Bits) t v r l (members ms) e f w =
     guess-set (Multiple Bits) refl ms (bits-codes t v r l ms (fit-legal (setFits (legal t v r) ms) e) .0) f (left-all w)
 guess-value (Multiple (Fields n b)) t v r l (members ms) e f w =
-    guess-set (Multiple (Fields n b)) refl ms (spread-codes t v r n b l ms (fit-set (setFits (legal t v r) ms) (ltb n (length ms)) e .0) .0) f (left-all w)
+    guess-set (Multiple (Fields n b)) refl ms (spread-codes t v r n b l ms (fit-set (setFits (legal t v r) ms) (ltb n (length ms)) e .0) .0)
+    f (left-all w)
 guess-value Single t v r l (members ms) e f w = no-other e
 guess-value (Quantity g) t v r l (members ms) e f w = no-other e
 guess-value Character t v r l (members ms) e f w = no-other e
 guess-value Logical t v r l (members ms) e f w = no-other e
-guess-value Character t v r l (text s) e f w = guess-text f s (fitting (r .width) s (fit-legal (textFits (r .width) s) e) .some) (left-all w)
+guess-value Character t v r l (text s) e f w = guess-text f s (fitting (r .width) s (fit-legal (textFits (r .width) s) e) .some)
+    (left-all w)
 guess-value Single t v r l (text s) e f w = no-other e
 guess-value (Multiple s) t v r l (text x) e f w = no-other e
 guess-value (Quantity g) t v r l (text s) e f w = no-other e
@@ -124,11 +131,14 @@ fits-is tooMany e = holds-not e refl
 module _ {t : List ℤ} {v len : ℕ} {r : Row} (g : RowFacts t v len r) (f : List ℕ) where
   found-is : (x : Value) → valueFrom t v r f ≡ holds x → IsValue t v r f x
   unfolding valueFrom triedAs
-  found-is x e = go (leftOf (decimalsOf (r .kind)) (valueText (decimalsOf (r .kind)) (guessOf (r .kind) f)) f) (isFits (fitOf t v r (guessOf (r .kind) f))) refl refl e
+  found-is x e = go (leftOf (decimalsOf (r .kind)) (valueText (decimalsOf (r .kind)) (guessOf (r .kind) f)) f)
+      (isFits (fitOf t v r (guessOf (r .kind) f))) refl refl e
     where
-      go : (p q : Bool) → leftOf (decimalsOf (r .kind)) (valueText (decimalsOf (r .kind)) (guessOf (r .kind) f)) f ≡ p → isFits (fitOf t v r (guessOf (r .kind) f)) ≡ q
+      go : (p q : Bool) → leftOf (decimalsOf (r .kind)) (valueText (decimalsOf (r .kind)) (guessOf (r .kind) f)) f ≡ p
+          → isFits (fitOf t v r (guessOf (r .kind) f)) ≡ q
           → cond p (cond q (holds (guessOf (r .kind) f)) illegal) illegal ≡ holds x → IsValue t v r f x
-      go true true a b e = subst (IsValue t v r f) (held e) (record { accepted = fits-is (fitOf t v r (guessOf (r .kind) f)) b; written = left-is _ _ _ a })
+      go true true a b e = subst (IsValue t v r f) (held e)
+          (record { accepted = fits-is (fitOf t v r (guessOf (r .kind) f)) b; written = left-is _ _ _ a })
       go true false a b e = illegal-holds e
       go false q a b e = illegal-holds e
 

@@ -22,7 +22,8 @@ use Rattle.value_fields.specs.Values.{amount-whole, amount-parts}
 use Rattle.field_values.specs.rule.Value.{zeros, Left, whole, cut, unpointed}
 use Rattle.field_values.specs.rule.Read.{capped, cappedFrom, sizeGuess, numberGuess, codesIn, setGuess}
 use Rattle.field_values.specs.Left.{length-zeros, same-tail}
-use Rattle.field_values.specs.Capped.{Free, no-point, no-semicolon, free-numeral, Led, led-numeral, capped-same, decimal-parts, decimal-numeral, size-parts, size-whole}
+use Rattle.field_values.specs.Capped.{Free, no-point, no-semicolon, free-numeral, Led, led-numeral, capped-same, decimal-parts}
+use Rattle.field_values.specs.Capped.{decimal-numeral, size-parts, size-whole}
 
 -- ---- a size
 pub record Sized (k n : ℕ) (f : List ℕ) : Type 0 where
@@ -51,7 +52,8 @@ module _ (k n : ℕ) (few : n ≤ 1000000000000000) where
   sized-none e = record {
     behind = [];
     is = sym (append-nil (numeral (n / 10 ^ k)));
-    size = size-whole k (numeral (n / 10 ^ k)) free ∙ ap (λ (x : List ℕ). cappedFrom 0 (numeral (n / 10 ^ k) ++ x)) (zeros-none e) ∙ all-digits;
+    size = size-whole k (numeral (n / 10 ^ k)) free ∙ ap (λ (x : List ℕ). cappedFrom 0 (numeral (n / 10 ^ k) ++ x)) (zeros-none e)
+        ∙ all-digits;
   }
 
   -- some of the decimals, and zeros for the others
@@ -83,11 +85,19 @@ module _ (k n : ℕ) (few : n ≤ 1000000000000000) where
       let u = drop (k - j) (padded k n) in
       let m : length u ≡ length (zeros j) = omega (arith, length-drop (k - j) (padded k n), length-padded k n, length-zeros j) in
       let w : (a ++ (46 ∷ d)) ++ u ≡ f ++ zeros j =
-      append-assoc a (46 ∷ d) u ∙ ap (λ (x : List ℕ). a ++ (46 ∷ x)) (take-append-drop (k - j) (padded k n)) ∙ sym (parts (λ q. omega arith)) ∙ e in
+      append-assoc a (46 ∷ d) u ∙ ap (λ (x : List ℕ). a ++ (46 ∷ x)) (take-append-drop (k - j) (padded k n))
+      ∙ sym (parts (λ q. omega arith)) ∙ e in
       let s = same-tail (a ++ (46 ∷ d)) f u (zeros j) w m in
-      let l : length d ≡ k - j = omega (arith, length-append d u, ap length (take-append-drop (k - j) (padded k n)), length-drop (k - j) (padded k n), length-padded k n) in
+      let l : length d ≡ k - j = omega (
+        arith,
+        length-append d u,
+        ap length (take-append-drop (k - j) (padded k n)),
+        length-drop (k - j) (padded k n),
+        length-padded k n,
+      ) in
       let z : k - length d ≡ j = omega (arith, l) in
-      subst (Sized k n) (s .0) (sized-some d (ap (λ (i : ℕ). d ++ zeros i) z ∙ ap (λ (x : List ℕ). d ++ x) (sym (s .1)) ∙ take-append-drop (k - j) (padded k n)))
+      subst (Sized k n) (s .0) (sized-some d (ap (λ (i : ℕ). d ++ zeros i) z ∙ ap (λ (x : List ℕ). d ++ x) (sym (s .1))
+      ∙ take-append-drop (k - j) (padded k n)))
 
   sized-unpointed : (f : List ℕ) → 0 < k → amountText k n ≡ f ++ (46 ∷ zeros k) → Sized k n f
   sized-unpointed f h e =
@@ -126,8 +136,10 @@ left-head k b s [] p q (cut zero h e) = no-nil e
 left-head k b s [] p q (cut (suc j) h e) = no-head b 48 p e
 left-head k b s [] p q (unpointed h e) = no-head b 46 q e
 left-head k b s (c ∷ f) p q (whole e) = let z : b ≡ c = cc in let w : s ≡ f = cc in record { rest = f; is = rw z; left = whole w }
-left-head k b s (c ∷ f) p q (cut j h e) = let z : b ≡ c = cc in let w : s ≡ f ++ zeros j = cc in record { rest = f; is = rw z; left = cut j h w }
-left-head k b s (c ∷ f) p q (unpointed h e) = let z : b ≡ c = cc in let w : s ≡ f ++ (46 ∷ zeros k) = cc in record { rest = f; is = rw z; left = unpointed h w }
+left-head k b s (c ∷ f) p q (cut j h e) = let z : b ≡ c = cc in let w : s ≡ f ++ zeros j = cc in
+    record { rest = f; is = rw z; left = cut j h w }
+left-head k b s (c ∷ f) p q (unpointed h e) = let z : b ≡ c = cc in let w : s ≡ f ++ (46 ∷ zeros k) = cc in
+    record { rest = f; is = rw z; left = unpointed h w }
 
 -- a field that is not empty, with its number
 pub record Numbered (k : ℕ) (z : ℤ) (f : List ℕ) : Type 0 where
@@ -145,7 +157,8 @@ up-left k n f s =
       first = l .first;
       others = l .others ++ s .behind;
       is = e;
-      guess = ap (numberGuess k) e ∙ rw (ne-eqb (l .first) 45 (λ q. omega (arith, l .low))) (ap (λ (x : List ℕ). pos (sizeGuess k x)) (sym e) ∙ ap pos (s .size));
+      guess = ap (numberGuess k) e ∙ rw (ne-eqb (l .first) 45 (λ q. omega (arith, l .low)))
+          (ap (λ (x : List ℕ). pos (sizeGuess k x)) (sym e) ∙ ap pos (s .size));
     }
 
 pub number-left : (k : ℕ) (z : ℤ) (f : List ℕ) → sizeOf z ≤ 999999999999999 → Left k (numberText k z) f → Numbered k z f
@@ -183,17 +196,20 @@ code-said n h =
 
 code-last : (n : ℕ) → n ≤ 9999 → codesIn 0 (numeral n ++ []) ≡ pos n ∷ []
 unfolding codesIn
-code-last n h = let e : min n 9999 ≡ n = omega arith in codes-digits (numeral n) [] 0 (free-numeral 59 no-semicolon n) ∙ rw (code-said n h, e)
+code-last n h = let e : min n 9999 ≡ n = omega arith in
+    codes-digits (numeral n) [] 0 (free-numeral 59 no-semicolon n) ∙ rw (code-said n h, e)
 
 code-next : (n : ℕ) (u : List ℕ) → n ≤ 9999 → codesIn 0 (numeral n ++ (59 ∷ u)) ≡ pos n ∷ codesIn 0 u
 unfolding codesIn
-code-next n u h = let e : min n 9999 ≡ n = omega arith in codes-digits (numeral n) (59 ∷ u) 0 (free-numeral 59 no-semicolon n) ∙ rw (code-said n h, e)
+code-next n u h = let e : min n 9999 ≡ n = omega arith in
+    codes-digits (numeral n) (59 ∷ u) 0 (free-numeral 59 no-semicolon n) ∙ rw (code-said n h, e)
 
 codes-back : (n : ℕ) (ms : List ℤ) → n ≤ 9999 → AreCodes ms → codesIn 0 (numberText 0 (pos n) ++ codesBehind ms) ≡ pos n ∷ ms
 unfolding codesBehind
 codes-back n [] h c = rw (code-text n) (code-last n h)
 codes-back n (pos m ∷ ms) h c =
-    rw (code-text n) (code-next n (numberText 0 (pos m) ++ codesBehind ms) h) ∙ ap (λ (x : List ℤ). pos n ∷ x) (codes-back m ms (c .0) (c .1))
+    rw (code-text n) (code-next n (numberText 0 (pos m) ++ codesBehind ms) h)
+    ∙ ap (λ (x : List ℤ). pos n ∷ x) (codes-back m ms (c .0) (c .1))
 codes-back n (negsuc m ∷ ms) h c = absurd c
 
 -- THE MEMBERS of a set's text
@@ -202,7 +218,8 @@ unfolding setText setGuess
 set-back [] c = refl
 set-back (pos n ∷ ms) c =
     let l = led-numeral n in
-    let e : numberText 0 (pos n) ++ codesBehind ms ≡ l .first ∷ (l .others ++ codesBehind ms) = ap (λ (x : List ℕ). x ++ codesBehind ms) (code-text n ∙ l .is) in
+    let e : numberText 0 (pos n) ++ codesBehind ms ≡ l .first
+    ∷ (l .others ++ codesBehind ms) = ap (λ (x : List ℕ). x ++ codesBehind ms) (code-text n ∙ l .is) in
     ap setGuess e ∙ rw (ne-eqb (l .first) 110 (λ q. omega (arith, l .high))) (ap (codesIn 0) (sym e) ∙ codes-back n ms (c .0) (c .1))
 set-back (negsuc n ∷ ms) c = absurd c
 

@@ -25,7 +25,8 @@ all-zeros (suc n) = all-zeros n
 zeros-all : (s : List ℕ) → allZeros s ≡ true → s ≡ zeros (length s)
 unfolding zeros allZeros
 zeros-all [] e = refl
-zeros-all (b ∷ s) e = rw (eqb-true b 48 (and-left (eqb b 48) (allZeros s) e)) (ap (λ (l : List ℕ). 48 ∷ l) (zeros-all s (and-right (eqb b 48) (allZeros s) e)))
+zeros-all (b ∷ s) e = rw (eqb-true b 48 (and-left (eqb b 48) (allZeros s) e))
+    (ap (λ (l : List ℕ). 48 ∷ l) (zeros-all s (and-right (eqb b 48) (allZeros s) e)))
 
 -- ---- the test holds only of what is left
 left-none : (k : ℕ) (s : List ℕ) → tailGood k s ≡ true → Left k s []
@@ -38,7 +39,8 @@ left-none k (b ∷ s) e = go (eqb b 46) (eqb (length s) k) (eqb k 0) (ltb (suc (
     go true true true l p q z y e = holds-not e refl
     go true true false l p q z y e =
         let k≠0 = eqb-false k 0 z in
-        unpointed (omega (arith, k≠0)) (rw (eqb-true b 46 p) (ap (λ (x : List ℕ). 46 ∷ x) (zeros-all s e ∙ ap zeros (eqb-true (length s) k q))))
+        unpointed (omega (arith, k≠0)) (rw (eqb-true b 46 p)
+        (ap (λ (x : List ℕ). 46 ∷ x) (zeros-all s e ∙ ap zeros (eqb-true (length s) k q))))
     go true false z l p q w y e = holds-not e refl
     go false q z true p w u y e = cut (suc (length s)) (ltb-true (suc (length s)) k y) (zeros-all (b ∷ s) e)
     go false q z false p w u y e = holds-not e refl

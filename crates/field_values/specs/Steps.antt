@@ -38,7 +38,8 @@ use Rattle.writes.specs.declared.Wrote.{Wrote}
 use Rattle.writes.specs.declared.Wrote.the-variants.{Done, NotWellFormed, NoRow, TooShort, OtherType, NotLegal, TooMany}
 use Rattle.value_fields.specs.rule.Values.{amountText, numberText, setText, valueText, decimalsOf}
 use Rattle.field_values.specs.rule.Value.{zeros, Left, whole}
-use Rattle.field_values.specs.rule.Read.{capped, cappedFrom, pointAt, sizeGuess, numberGuess, codesIn, setGuess, truthGuess, someGuess, guessOf}
+use Rattle.field_values.specs.rule.Read.{capped, cappedFrom, pointAt, sizeGuess, numberGuess, codesIn, setGuess, truthGuess}
+use Rattle.field_values.specs.rule.Read.{someGuess, guessOf}
 use Rattle.field_values.specs.rule.Read.{allZeros, tailGood, leftOf, isFits, triedAs, valueFrom}
 use Rattle.field_values.specs.Capped.{capped-few, capped-join}
 use Rattle.field_values.specs.Left.{left-is, is-left}
@@ -165,12 +166,14 @@ pub text-short : (k : ℕ) (z : ℤ) → k ≤ 9 → length (numberText k z) ≤
 unfolding numberText
 text-short k z h = go (signedOf z .minus) (amount-short k (signedOf z .size) h)
   where
-    go : (q : Bool) → length (amountText k (signedOf z .size)) ≤ 26 → length (cond q ((45 ∷ []) ++ amountText k (signedOf z .size)) (amountText k (signedOf z .size))) ≤ 27
+    go : (q : Bool) → length (amountText k (signedOf z .size)) ≤ 26
+        → length (cond q ((45 ∷ []) ++ amountText k (signedOf z .size)) (amountText k (signedOf z .size))) ≤ 27
     go true l = omega arith
     go false l = omega arith
 
 -- ---- what was sent to a room stands there
-pub sent-stands : {bound : ℕ} {out : List ℕ} {s out′ : List ℕ} {r : ℕ} → Sent bound out 0 s out′ r → length s < bound → bound ≡ length out + 1
+pub sent-stands : {bound : ℕ} {out : List ℕ} {s out′ : List ℕ} {r : ℕ} → Sent bound out 0 s out′ r → length s < bound → bound ≡ length out
+    + 1
     → (r ≡ length s) × (take r out′ ≡ s)
 sent-stands {bound} {out} {s} {out′} {r} a h e =
     let l : 0 + length s < bound = omega arith in
@@ -203,14 +206,16 @@ part-more f from to h l =
     let e : to + 1 - from ≡ suc (to - from) = omega arith in
     let k : from + (to - from) ≡ to = omega arith in
     let m : to - from < length (drop from f) = rw (length-drop from f) (omega arith) in
-    rw e (take-suc (drop from f) (to - from) 0 m ∙ ap (λ (x : ℕ). take (to - from) (drop from f) ++ (x ∷ [])) (getD-drop from f (to - from) 0 ∙ ap (λ (x : ℕ). getD f x 0) k))
+    rw e (take-suc (drop from f) (to - from) 0 m ∙ ap (λ (x : ℕ). take (to - from) (drop from f) ++ (x ∷ []))
+    (getD-drop from f (to - from) 0 ∙ ap (λ (x : ℕ). getD f x 0) k))
 
 pub passed-more : {f : List ℕ} {from to : ℕ} → Passed f from to → to < length f → (getD f to 0 ≡ 59 → ⊥) → Passed f from (to + 1)
 unfolding codesIn cappedFrom
 passed-more {f} {from} {to} p h n = record {
   on = omega (arith, p .on);
   within = omega arith;
-  codes = λ m. p .codes m ∙ ap (codesIn (cappedFrom m (part f from to))) (next-byte f to h) ∙ rw (ne-eqb (getD f to 0) 59 n) (ap (λ (x : ℕ). codesIn x (drop (to + 1) f)) (step m));
+  codes = λ m. p .codes m ∙ ap (codesIn (cappedFrom m (part f from to))) (next-byte f to h)
+      ∙ rw (ne-eqb (getD f to 0) 59 n) (ap (λ (x : ℕ). codesIn x (drop (to + 1) f)) (step m));
 }
   where
     step : (m : ℕ) → capped (cappedFrom m (part f from to) * 10 + (getD f to 0 - 48)) ≡ cappedFrom m (part f from (to + 1))
@@ -230,7 +235,8 @@ pub record Gathered (f : List ℕ) (list : List ℤ) (r : ℕ) : Type 0 where
   pub all : r ≤ 9999 → take r list ≡ codesIn 0 f
   pub many : 9999 < r → 9999 < length (codesIn 0 f)
 
-module _ {f : List ℕ} {list : List ℤ} {count at : ℕ} (g : Gathering f list count at) (size : length list ≡ 9999) {to : ℕ} (s : SemiTo f at to) where
+module _ {f : List ℕ} {list : List ℤ} {count at : ℕ} (g : Gathering f list count at) (size : length list ≡ 9999) {to : ℕ}
+    (s : SemiTo f at to) where
   abbrev code : ℕ
   code = min (cappedFrom 0 (part f at to)) 9999
 
@@ -240,7 +246,8 @@ module _ {f : List ℕ} {list : List ℤ} {count at : ℕ} (g : Gathering f list
 
   code-more : to < length f → codesIn 0 (drop at f) ≡ pos code ∷ codesIn 0 (drop (to + 1) f)
   unfolding codesIn
-  code-more h = s .passed .codes 0 ∙ ap (codesIn (cappedFrom 0 (part f at to))) (next-byte f to h) ∙ rw (eq-eqb (getD f to 0) 59 (s .stops h))
+  code-more h = s .passed .codes 0 ∙ ap (codesIn (cappedFrom 0 (part f at to))) (next-byte f to h)
+      ∙ rw (eq-eqb (getD f to 0) 59 (s .stops h))
 
   codes-some : (e : (length f ≤ to) ⊎ (to < length f)) → 1 ≤ length (codesIn 0 (drop at f))
   codes-some (inl h) = rw (code-over h) (omega arith)
@@ -251,7 +258,13 @@ module _ {f : List ℕ} {list : List ℤ} {count at : ℕ} (g : Gathering f list
     all = λ l. absurd (omega arith);
     many = λ l.
         let k : length (take count list) ≡ count = length-take-le count list (omega (arith, g .few)) in
-        omega (arith, ap length (g .codes), length-append (take count list) (codesIn 0 (drop at f)), k, codes-some (⊎-elim inr inl (lt-or-le to (length f))));
+        omega (
+          arith,
+          ap length (g .codes),
+          length-append (take count list) (codesIn 0 (drop at f)),
+          k,
+          codes-some (⊎-elim inr inl (lt-or-le to (length f))),
+        );
   }
 
   module _ (low : count < 9999) {z : ℤ} (is : z ≡ pos code) where
@@ -259,18 +272,25 @@ module _ {f : List ℕ} {list : List ℤ} {count at : ℕ} (g : Gathering f list
     more-taken = rw (add-one count, is) (take-suc-set list count (pos code) (omega (arith, size)))
 
     pub gathered-all : length f ≤ to → Gathered f (set list count z) (count + 1)
-    gathered-all h = record { all = λ l. more-taken ∙ sym (g .codes ∙ ap (λ (x : List ℤ). take count list ++ x) (code-over h)); many = λ l. absurd (omega arith) }
+    gathered-all h = record {
+      all = λ l. more-taken
+          ∙ sym (g .codes ∙ ap (λ (x : List ℤ). take count list ++ x) (code-over h));
+      many = λ l. absurd (omega arith);
+    }
 
     pub gathering-more : to < length f → Gathering f (set list count z) (count + 1) (to + 1)
     gathering-more h = record {
       few = omega arith;
       inside = omega arith;
-      codes = g .codes ∙ ap (λ (x : List ℤ). take count list ++ x) (code-more h) ∙ sym (ap (λ (x : List ℤ). x ++ codesIn 0 (drop (to + 1) f)) more-taken ∙ append-assoc (take count list) (pos code ∷ []) (codesIn 0 (drop (to + 1) f)));
+      codes = g .codes ∙ ap (λ (x : List ℤ). take count list ++ x) (code-more h)
+          ∙ sym (ap (λ (x : List ℤ). x ++ codesIn 0 (drop (to + 1) f)) more-taken
+          ∙ append-assoc (take count list) (pos code ∷ []) (codesIn 0 (drop (to + 1) f)));
     }
 
 -- ---- what is left of a text, byte by byte
 module _ (k : ℕ) (s f : List ℕ) (i : ℕ) where
-  pub left-next : i < length s → i < length f → getD s i 0 ≡ getD f i 0 → leftOf k (drop i s) (drop i f) ≡ leftOf k (drop (i + 1) s) (drop (i + 1) f)
+  pub left-next : i < length s → i < length f → getD s i 0 ≡ getD f i 0 → leftOf k (drop i s) (drop i f)
+      ≡ leftOf k (drop (i + 1) s) (drop (i + 1) f)
   unfolding leftOf
   left-next h l e = rw (next-byte s i h, next-byte f i l, eq-eqb (getD s i 0) (getD f i 0) e)
 
@@ -379,7 +399,8 @@ unfolding valueFrom
 left-tried t v r f e = rw e
 
 pub wrote : {t : List ℤ} {v : ℕ} {r : Row} {f old new : List ℕ} {x : given.Value} {list : List ℤ} {bytes : List ℕ} {a : Wrote} {b : Bool}
-    → valueOf x list bytes ≡ guessOf (r .kind) f → LeftOf r f true → WrittenBy (r .kind) t v r x list bytes old new a → b ≡ isDone a → Took t v r f old new b
+    → valueOf x list bytes ≡ guessOf (r .kind) f → LeftOf r f true → WrittenBy (r .kind) t v r x list bytes old new a → b ≡ isDone a
+    → Took t v r f old new b
 unfolding writtenOf
 wrote {t} {v} {r} {f} {old} {new} {x} {list} {bytes} {a} {b} g l w d =
     let y = guessOf (r .kind) f in
@@ -387,7 +408,8 @@ wrote {t} {v} {r} {f} {old} {new} {x} {list} {bytes} {a} {b} g l w d =
     let e = left-tried t v r f l in
     record {
       says = d ∙ ap isDone (w .says ∙ ap (λ (z : Value). answerBy (fitsBy (r .kind) t v r z)) g) ∙ k .0 ∙ ap isHeld (sym e);
-      leaves = w .leaves ∙ ap (λ (z : Value). leftBy (fitsBy (r .kind) t v r z) (put old (placesBy (r .kind) t v r) (bytesBy (r .kind) t v r z)) old) g
+      leaves = w .leaves ∙ ap (λ (z : Value). leftBy (fitsBy (r .kind) t v r z)
+          (put old (placesBy (r .kind) t v r) (bytesBy (r .kind) t v r z)) old) g
           ∙ k .1 ∙ ap (λ (z : Field). tookBy t v r z old) (sym e);
     }
 
@@ -416,9 +438,11 @@ number-guessed (Quantity g) f e = refl
 number-guessed Character f e = holds-not e refl
 number-guessed Logical f e = holds-not e refl
 
-module _ (r : Row) (f : List ℕ) (some : length f ≡ 0 → ⊥) (takes : takesNumbers (r .kind) ≡ true) {k : ℕ} (is : k ≡ decimalsOf (r .kind)) {z : ℤ} (guess : z ≡ numberGuess k f) where
+module _ (r : Row) (f : List ℕ) (some : length f ≡ 0 → ⊥) (takes : takesNumbers (r .kind) ≡ true) {k : ℕ} (is : k ≡ decimalsOf (r .kind))
+    {z : ℤ} (guess : z ≡ numberGuess k f) where
   pub number-is : number z ≡ guessOf (r .kind) f
-  number-is = sym (some-is (r .kind) f some ∙ number-guessed (r .kind) f takes ∙ ap (λ (i : ℕ). number (numberGuess i f)) (sym is) ∙ ap number (sym guess))
+  number-is = sym (some-is (r .kind) f some ∙ number-guessed (r .kind) f takes ∙ ap (λ (i : ℕ). number (numberGuess i f)) (sym is)
+      ∙ ap number (sym guess))
 
   pub number-left-is : {s : List ℕ} {b : Bool} → s ≡ numberText k z → b ≡ leftOf k s f → LeftOf r f b
   unfolding valueText
@@ -446,7 +470,8 @@ module _ (r : Row) (f : List ℕ) (some : length f ≡ 0 → ⊥) {s : Spread} (
       ∙ ap (λ (i : ℕ). leftOf i (setText ms) f) no-decimals ∙ ap (λ (x : List ℕ). leftOf 0 x f) (sym e) ∙ sym l
 
   -- a set that fits is made of codes, and few
-  fit-codes : (k : Kind) → k ≡ Multiple s → (t : List ℤ) (v : ℕ) → Limits k t v r → (ms : List ℤ) → fitsBy k t v r (members ms) ≡ fits → AreCodes ms × (length ms ≤ 9999)
+  fit-codes : (k : Kind) → k ≡ Multiple s → (t : List ℤ) (v : ℕ) → Limits k t v r → (ms : List ℤ) → fitsBy k t v r (members ms) ≡ fits
+      → AreCodes ms × (length ms ≤ 9999)
   unfolding fitsBy
   fit-codes (Multiple Bits) e t v l ms q = bits-codes t v r l ms (fit-legal (setFits (legal t v r) ms) q)
   fit-codes (Multiple (Fields n b)) e t v l ms q = spread-codes t v r n b l ms (fit-set (setFits (legal t v r) ms) (ltb n (length ms)) q .0)
@@ -466,10 +491,12 @@ module _ (r : Row) (f : List ℕ) (some : length f ≡ 0 → ⊥) {s : Spread} (
         let x = guessOf (r .kind) f in
         go (leftOf (decimalsOf (r .kind)) (valueText (decimalsOf (r .kind)) x) f) (isFits (fitOf t v r x)) refl refl
       where
-        go : (p q : Bool) → leftOf (decimalsOf (r .kind)) (valueText (decimalsOf (r .kind)) (guessOf (r .kind) f)) f ≡ p → isFits (fitOf t v r (guessOf (r .kind) f)) ≡ q
+        go : (p q : Bool) → leftOf (decimalsOf (r .kind)) (valueText (decimalsOf (r .kind)) (guessOf (r .kind) f)) f ≡ p
+            → isFits (fitOf t v r (guessOf (r .kind) f)) ≡ q
             → cond p (cond q (holds (guessOf (r .kind) f)) illegal) illegal ≡ illegal
         go true true a b =
-            let m = fit-codes (r .kind) kind t v l (setGuess f) (ap (fitOf t v r) (sym set-guessed) ∙ fits-is (fitOf t v r (guessOf (r .kind) f)) b) in
+            let m = fit-codes (r .kind) kind t v l (setGuess f)
+            (ap (fitOf t v r) (sym set-guessed) ∙ fits-is (fitOf t v r (guessOf (r .kind) f)) b) in
             absurd (no-set (m .0) (m .1) (left-all (left-is 0 (setText (setGuess f)) f (set-whole a))))
         go true false a b = refl
         go false q a b = refl
@@ -527,7 +554,8 @@ set-few (b ∷ f) = go (eqb b 110)
     go true = tt
     go false = codes-few (b ∷ f) 0
 
-code-cells : (ms : List ℤ) → AreCodes ms → (j : ℕ) → j < length ms → (signedOf (cell ms j) .size < 10 ^ 4) × (signedOf (cell ms j) .minus ≡ false)
+code-cells : (ms : List ℤ) → AreCodes ms → (j : ℕ) → j < length ms → (signedOf (cell ms j) .size < 10 ^ 4)
+    × (signedOf (cell ms j) .minus ≡ false)
 unfolding signedOf
 code-cells [] c j h = absurd (omega arith)
 code-cells (pos n ∷ ms) c zero h = (omega (arith, c .0), refl)
@@ -595,7 +623,8 @@ ready-limits g = record { kind = g .kind; least = g .least; most = g .most; room
 -- a set's text in its room
 module _ {out s out′ : List ℕ} {r : ℕ} (a : Sent 50001 out 0 s out′ r) (size : length out ≡ 50000) where
   pub set-stands : r ≤ 50000 → (r ≡ length s) × (take r out′ ≡ s)
-  set-stands h = sent-stands a (⊎-elim (λ l. l) (λ l. absurd (omega (arith, sent-other a l))) (lt-or-le (length s) 50001)) (omega (arith, size))
+  set-stands h = sent-stands a (⊎-elim (λ l. l) (λ l. absurd (omega (arith, sent-other a l))) (lt-or-le (length s) 50001))
+      (omega (arith, size))
 
   pub set-other : (f : List ℕ) → length f ≤ 50000 → (r ≡ length f → ⊥) → length s ≡ length f → ⊥
   set-other f h n e = n (sent-stands a (omega arith) (omega (arith, size)) .0 ∙ e)
@@ -611,9 +640,10 @@ unfolding decimalsOf
 quantity-number r q t v n e g = (ap takesNumbers e, sym (ap decimalsOf e), (rw e at (g .kind)) .decimals)
 
 -- a number's text in its room
-module _ (k : ℕ) (z : ℤ) {out out′ : List ℕ} {r : ℕ} (a : Sent 33 out 0 (numberText k z) out′ r) (few : k ≤ 9) (size : length out ≡ 32) where
-  pub number-stands : (r ≡ length (numberText k z)) × (take r out′ ≡ numberText k z)
-  number-stands = sent-stands a (omega (arith, text-short k z few)) (omega (arith, size))
+module _ (k : ℕ) (z : ℤ) {out out′ : List ℕ} {r : ℕ} (a : Sent 33 out 0 (numberText k z) out′ r) (few : k ≤ 9) (size : length out ≡ 32)
+  where
+    pub number-stands : (r ≡ length (numberText k z)) × (take r out′ ≡ numberText k z)
+    number-stands = sent-stands a (omega (arith, text-short k z few)) (omega (arith, size))
 
-  pub number-inside : r ≤ length out′
-  number-inside = omega (arith, number-stands .0, text-short k z few, a .room, size)
+    pub number-inside : r ≤ length out′
+    number-inside = omega (arith, number-stands .0, text-short k z few, a .room, size)

@@ -27,7 +27,8 @@ pub record SoundNext (t : List ℤ) (d : List ℕ) (w : Terminator) (first from 
 pub record Passed (t : List ℤ) (d : List ℕ) (w : Terminator) (first : ℕ) (a b : Place) : Type 0 where
   pub on : a .from ≤ b .from
   pub fewer : b .n ≤ b .from + 1
-  pub same : recordsVerdict t (a .n) first (recordsFrom w (drop (a .from) d)) ≡ recordsVerdict t (b .n) first (recordsFrom w (drop (b .from) d))
+  pub same : recordsVerdict t (a .n) first (recordsFrom w (drop (a .from) d))
+      ≡ recordsVerdict t (b .n) first (recordsFrom w (drop (b .from) d))
 
 -- ---- laws
 first-known : (n first size : ℕ) → 1 ≤ n → firstLength n first size ≡ first
@@ -43,13 +44,15 @@ sound-next t d w first from p l e s = record {
 
 -- a sound record is passed
 pub sound-on : (t : List ℤ) (d : List ℕ) (w : Terminator) (first from n : ℕ) → 1 ≤ n → SoundNext t d w first from
-    → recordsVerdict t n first (recordsFrom w (drop from d)) ≡ recordsVerdict t (n + 1) first (recordsFrom w (drop (from + first + w .size) d))
+    → recordsVerdict t n first (recordsFrom w (drop from d))
+    ≡ recordsVerdict t (n + 1) first (recordsFrom w (drop (from + first + w .size) d))
 sound-on t d w first from n h s =
     let r = part d from (from + first) in
     let e = next-ended d w from (s .next .ends) in
     let f : firstLength n first (length r) ≡ first = first-known n first (length r) h in
     records-next t n first (recordsFrom w (drop from d)) (e .records)
-    ∙ rw f (go-sound (recordVerdict t first r) n (recordsVerdict t (n + 1) first (recordsFrom w (drop (from + first + w .size) d))) (s .sound))
+    ∙ rw f (go-sound (recordVerdict t first r) n (recordsVerdict t (n + 1) first (recordsFrom w (drop (from + first + w .size) d)))
+    (s .sound))
 
 -- a sound record is long enough, and as long as the first
 pub sound-long : (t : List ℤ) (first : ℕ) (r : List ℕ) → isSound (recordVerdict t first r) ≡ true → lengthOf t ≤ first

@@ -22,7 +22,8 @@ use Rattle.xml_reading.specs.rule.Role.{Entry, mayServe, useWrong, signsIn, sam
 use Rattle.xml_reading.specs.rule.Whole.{namesOf}
 use Rattle.filters.specs.rule.Kept.{At, nameOf, kindOf}
 use Rattle.filters.specs.rule.Kept as kept
-use Rattle.filters.specs.Code.{columnIn, nameIn, Lying, RowsOf, ServedSaid, CountSaid, FoundSaid, FilterSaid, TakenSaid, UseSaid, NamesSaid}
+use Rattle.filters.specs.Code.{columnIn, nameIn, Lying, RowsOf, ServedSaid, CountSaid, FoundSaid, FilterSaid, TakenSaid, UseSaid}
+use Rattle.filters.specs.Code.{NamesSaid}
 use Rattle.filters.proofs.Rooms.{RowReads, row-reads, next-row, name-in}
 
 pub above : (f : ℕ) → (f ≡ 0 → ⊥) → 0 < f
@@ -79,7 +80,8 @@ module _ (latin standard : Bool) (d : List ℕ) (rows : List ℤ) (count : ℕ) 
       → Passes rows count (servedBy latin standard d t) i q
   served-row y i k q e l h v r = by (ltb 0 (v .filter)) refl ∙ sym (e ∙ rw (r .filter)) where
     by : (b : Bool) → ltb 0 (v .filter) ≡ b
-        → (ltb 0 (v .filter) && isNameOf (sameName latin standard d t) l (v .filter - 1)) ≡ (ltb 0 (v .filter) && sameName latin standard d t (nameIn rows (v .filter - 1)))
+        → (ltb 0 (v .filter) && isNameOf (sameName latin standard d t) l (v .filter - 1))
+        ≡ (ltb 0 (v .filter) && sameName latin standard d t (nameIn rows (v .filter - 1)))
     by true f =
         let a = ltb-true 0 (v .filter) f in
         let b = y .filters i k in
@@ -87,7 +89,8 @@ module _ (latin standard : Bool) (d : List ℕ) (rows : List ℤ) (count : ℕ) 
         rw (name-in (sameName latin standard d t) h (v .filter - 1) (omega arith))
     by false f = rw f
 
-  pub served-said : (r : Bool) → ((l : List Entry) → RowsOf rows count l → r ≡ someOf (servedBy latin standard d t l) l) → ServedSaid latin standard d rows count t r
+  pub served-said : (r : Bool) → ((l : List Entry) → RowsOf rows count l → r ≡ someOf (servedBy latin standard d t l) l)
+      → ServedSaid latin standard d rows count t r
   unfolding hasServed
   served-said r f = record { is = f }
 
@@ -96,7 +99,8 @@ module _ (latin standard : Bool) (d : List ℕ) (rows : List ℤ) (count : ℕ) 
   same = sameName latin standard d t
 
   abbrev pub CountFrom : ℕ → ℕ → Type 0
-  CountFrom found i = (l : List Entry) → RowsOf rows count l → countNamed (sameName latin standard d t) l ≡ found + countNamed (sameName latin standard d t) (drop i l)
+  CountFrom found i = (l : List Entry) → RowsOf rows count l → countNamed (sameName latin standard d t) l ≡ found
+      + countNamed (sameName latin standard d t) (drop i l)
 
   pub count-begin : CountFrom 0 0
   count-begin l h = omega arith
@@ -127,12 +131,14 @@ module _ (latin standard : Bool) (d : List ℕ) (rows : List ℤ) (count : ℕ) 
 
   -- ---- the first logical that has it
   abbrev pub FoundFrom : ℕ → Type 0
-  FoundFrom i = (l : List Entry) → RowsOf rows count l → filterFrom (sameName latin standard d t) 0 l ≡ filterFrom (sameName latin standard d t) i (drop i l)
+  FoundFrom i = (l : List Entry) → RowsOf rows count l → filterFrom (sameName latin standard d t) 0 l
+      ≡ filterFrom (sameName latin standard d t) i (drop i l)
 
   pub found-begin : FoundFrom 0
   found-begin l h = refl
 
-  found-step : (i : ℕ) (q : Bool) → i < count → FoundFrom i → q ≡ (same (nameIn rows i) && eqb (columnIn rows i 1) 5) → (l : List Entry) → RowsOf rows count l
+  found-step : (i : ℕ) (q : Bool) → i < count → FoundFrom i → q ≡ (same (nameIn rows i) && eqb (columnIn rows i 1) 5) → (l : List Entry)
+      → RowsOf rows count l
       → filterFrom same 0 l ≡ cond q (i + 1) (filterFrom same (i + 1) (drop (i + 1) l))
   unfolding filterFrom
   found-step i q k s e l h =
@@ -143,7 +149,8 @@ module _ (latin standard : Bool) (d : List ℕ) (rows : List ℤ) (count : ℕ) 
       let c : drop i l ≡ r .row ∷ drop (i + 1) l = r .cut ∙ rw (add-one i) in
       s l h ∙ rw (c, ← f)
 
-  pub found-here : (i : ℕ) → i < count → FoundFrom i → true ≡ (same (nameIn rows i) && eqb (columnIn rows i 1) 5) → FoundSaid latin standard d rows count t (i + 1)
+  pub found-here : (i : ℕ) → i < count → FoundFrom i → true ≡ (same (nameIn rows i) && eqb (columnIn rows i 1) 5)
+      → FoundSaid latin standard d rows count t (i + 1)
   found-here i k s e = record { is = λ l h. sym (found-step i true k s e l h) }
 
   pub found-next : (i : ℕ) → i < count → FoundFrom i → false ≡ (same (nameIn rows i) && eqb (columnIn rows i 1) 5) → FoundFrom (i + 1)
@@ -170,11 +177,13 @@ module _ (latin standard : Bool) (d : List ℕ) (rows : List ℤ) (count : ℕ) 
       filter-own e = record { is = λ l h. rw (eq-eqb usage 0 u, e) }
 
       module _ (o : sameName latin standard d t name ≡ false) where
-        pub filter-many : (r : ℕ) → CountSaid latin standard d rows count t r → (r ≡ 1 → ⊥) → FilterSaid latin standard d rows count name usage t 0
+        pub filter-many : (r : ℕ) → CountSaid latin standard d rows count t r → (r ≡ 1 → ⊥)
+            → FilterSaid latin standard d rows count name usage t 0
         unfolding filterOf
         filter-many r c k = record { is = λ l h. rw (eq-eqb usage 0 u, o, ← c .is l h, ne-eqb r 1 k) }
 
-        pub filter-one : (r f : ℕ) → CountSaid latin standard d rows count t r → r ≡ 1 → FoundSaid latin standard d rows count t f → FilterSaid latin standard d rows count name usage t f
+        pub filter-one : (r f : ℕ) → CountSaid latin standard d rows count t r → r ≡ 1 → FoundSaid latin standard d rows count t f
+            → FilterSaid latin standard d rows count name usage t f
         unfolding filterOf
         filter-one r f c k g = record { is = λ l h. rw (eq-eqb usage 0 u, o, ← c .is l h, eq-eqb r 1 k) (g .is l h) }
 
@@ -198,7 +207,8 @@ module _ (rows : List ℤ) (count usage : ℕ) where
     unfolding useWrong
     use-mistyped k e = record { is = λ l h. rw (lt-ltb 0 usage (above usage k), e) }
 
-    pub use-asked : (usage ≡ 0 → ⊥) → mayServe usage kind ≡ true → (r : Bool) → TakenSaid rows count usage r → UseSaid rows count usage kind r
+    pub use-asked : (usage ≡ 0 → ⊥) → mayServe usage kind ≡ true → (r : Bool) → TakenSaid rows count usage r
+        → UseSaid rows count usage kind r
     unfolding useWrong
     use-asked k e r x = record { is = λ l h. rw (lt-ltb 0 usage (above usage k), e) (x .is l h) }
 
@@ -208,20 +218,24 @@ unfolding namesOf
 names-count latin d [] = refl
 names-count latin d (v ∷ l) = ap suc (names-count latin d l)
 
-name-at : (latin : Bool) (d : List ℕ) {l : List Entry} {i : ℕ} {v : Entry} → At l i v → nameAt (namesOf latin d l) i ≡ signsIn latin d (nameOf v)
+name-at : (latin : Bool) (d : List ℕ) {l : List Entry} {i : ℕ} {v : Entry} → At l i v → nameAt (namesOf latin d l) i
+    ≡ signsIn latin d (nameOf v)
 unfolding namesOf
 name-at latin d kept.here = refl
 name-at latin d (kept.there a) = name-at latin d a
 
 pub names-said : (latin : Bool) (d : List ℕ) (rows : List ℤ) (keys : List ℕ) (count i r : ℕ) → i ≡ count
-    → ((j : ℕ) → j < i → getD keys j 0 ≡ keyOf 0 0 (signsIn latin d (nameIn rows j))) → r ≡ faultOf keys count → NamesSaid latin d rows count r
-names-said latin d rows keys count i r q g e = record { is = λ l h. e ∙ ap (faultOf keys) (sym (names-count latin d l ∙ h .counted)) ∙ keys-fault keys (namesOf latin d l) (told l h) } where
-  told : (l : List Entry) → RowsOf rows count l → (j : ℕ) → j < length (namesOf latin d l) → getD keys j 0 ≡ keyOf 0 0 (nameAt (namesOf latin d l) j)
-  told l h j m =
-      let n = h .counted in
-      let o = names-count latin d l in
-      let x = next-row l j (omega arith) in
-      g j (omega arith) ∙ ap (keyOf 0 0) (ap (signsIn latin d) (row-reads h (x .at) .name) ∙ sym (name-at latin d (x .at)))
+    → ((j : ℕ) → j < i → getD keys j 0 ≡ keyOf 0 0 (signsIn latin d (nameIn rows j))) → r ≡ faultOf keys count
+    → NamesSaid latin d rows count r
+names-said latin d rows keys count i r q g e = record
+    { is = λ l h. e ∙ ap (faultOf keys) (sym (names-count latin d l ∙ h .counted)) ∙ keys-fault keys (namesOf latin d l) (told l h) } where
+      told : (l : List Entry) → RowsOf rows count l → (j : ℕ) → j < length (namesOf latin d l) → getD keys j 0
+          ≡ keyOf 0 0 (nameAt (namesOf latin d l) j)
+      told l h j m =
+          let n = h .counted in
+          let o = names-count latin d l in
+          let x = next-row l j (omega arith) in
+          g j (omega arith) ∙ ap (keyOf 0 0) (ap (signsIn latin d) (row-reads h (x .at) .name) ∙ sym (name-at latin d (x .at)))
 
 pub keys-more : (f : ℕ → ℕ) (keys : List ℕ) (i k : ℕ) → i < length keys → ((j : ℕ) → j < i → getD keys j 0 ≡ f j) → k ≡ f i
     → (j : ℕ) → j < i + 1 → getD (set keys i k) j 0 ≡ f j

@@ -1,4 +1,5 @@
--- FILTER-MEANS: the rule names row i as a variable's filter exactly when of the rows up to and with its own that one alone has the text as its
+-- FILTER-MEANS: the rule names row i as a variable's filter exactly when of the rows up to and with its own that one alone has the text as
+-- its
 -- name, it is a logical before it, and the variable has no use.
 use mathlib.Core.Path.{_≡_, refl, ap}
 use mathlib.Core.Logic.{_↔_}
@@ -60,12 +61,20 @@ module _ (f : Text → Bool) where
   first-only here c y = refl
   first-only (there a) c y = holds-not y (none-named a c)
 
-  later-only : {v : Entry} {l : List Entry} {i j : ℕ} {w : Entry} → f (nameOf v) ≡ false → Sole l i → At (v ∷ l) j w → f (nameOf w) ≡ true → j ≡ suc i
+  later-only : {v : Entry} {l : List Entry} {i j : ℕ} {w : Entry} → f (nameOf v) ≡ false → Sole l i → At (v ∷ l) j w → f (nameOf w) ≡ true
+      → j ≡ suc i
   later-only g s here y = holds-not y g
   later-only g s (there {v = w} {i = j} a) y = ap suc (s .only j w a y)
 
   shift : {v : Entry} {l : List Entry} {i : ℕ} → f (nameOf v) ≡ false → Sole l i → Sole (v ∷ l) (suc i)
-  shift g s = record { row = s .row; before = there (s .before); logical = s .logical; named = s .named; only = λ j w a y. later-only g s a y }
+  shift g s = record {
+    row = s .row;
+    before = there (s .before);
+    logical = s .logical;
+    named = s .named;
+    only = λ j w a y. later-only g s a
+        y;
+  }
 
   later : {v : Entry} {l : List Entry} {k n : ℕ} → f (nameOf v) ≡ false → Found l (k + 1) n → Found (v ∷ l) k n
   later g x = let e = x .is in record { place = suc (x .place); is = omega arith; sole = shift g (x .sole) }
@@ -105,18 +114,31 @@ module _ (f : Text → Bool) where
 module _ (latin standard : Bool) (d : List ℕ) (earlier : List Entry) (name : Text) (usage : ℕ) (t : Text) (i : ℕ) where
   to : filterOf latin standard d earlier name usage t ≡ suc i → Filters latin standard d earlier name usage t i
   unfolding filterOf
-  to e = by (eqb usage 0) (sameName latin standard d t name) (eqb (countNamed (sameName latin standard d t) earlier) 1) refl refl refl e where
-    by : (a b c : Bool) → eqb usage 0 ≡ a → sameName latin standard d t name ≡ b → eqb (countNamed (sameName latin standard d t) earlier) 1 ≡ c
-        → cond (a && (not b && c)) (filterFrom (sameName latin standard d t) 0 earlier) 0 ≡ suc i → Filters latin standard d earlier name usage t i
-    by true false true p q r e =
-        let x = sole-sound (sameName latin standard d t) earlier 0 i (eqb-true _ 1 r) e in
-        let n = x .is in
-        let o : x .place ≡ i = omega arith in
-        let s = rw o at (x .sole) in
-        record { row = s .row; before = s .before; logical = s .logical; named = s .named; only = s .only; own = q; unused = eqb-true usage 0 p }
-    by true false false p q r e = absurd (omega arith)
-    by true true c p q r e = absurd (omega arith)
-    by false b c p q r e = absurd (omega arith)
+  to e = by (eqb usage 0) (sameName latin standard d t name) (eqb (countNamed (sameName latin standard d t) earlier) 1) refl refl refl e
+    where
+      by : (a b c : Bool) → eqb usage 0 ≡ a → sameName latin standard d t name ≡ b
+          → eqb (countNamed (sameName latin standard d t) earlier) 1
+          ≡ c
+          → cond (a && (not b && c)) (filterFrom (sameName latin standard d t) 0 earlier) 0 ≡ suc i
+          → Filters latin standard d earlier name usage t i
+      by true false true p q r e =
+          let x = sole-sound (sameName latin standard d t) earlier 0 i (eqb-true _ 1 r) e in
+          let n = x .is in
+          let o : x .place ≡ i = omega arith in
+          let s = rw o at (x .sole) in
+          record {
+            row = s .row;
+            before = s .before;
+            logical = s .logical;
+            named = s .named;
+            only = s .only;
+            own = q;
+            unused = eqb-true usage
+                0 p;
+          }
+      by true false false p q r e = absurd (omega arith)
+      by true true c p q r e = absurd (omega arith)
+      by false b c p q r e = absurd (omega arith)
 
   from : Filters latin standard d earlier name usage t i → filterOf latin standard d earlier name usage t ≡ suc i
   unfolding filterOf

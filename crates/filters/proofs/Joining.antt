@@ -30,7 +30,8 @@ use Rattle.xml_reading.specs.rule.Word.{IDENT, TYPE, USE, NAME, LABEL, POSITION
 use Rattle.xml_reading.specs.rule.Open.{Open, start, shut, within, misplaced, onBare, either, due, over, unknownAt, onTag, entered}
 use Rattle.xml_reading.specs.rule.Element.{text, position, size, figureOf}
 use Rattle.xml_reading.specs.rule.Block.{rich}
-use Rattle.xml_reading.specs.rule.Role.{Entry, Title, variablesOf, typeAt, useAt, mayServe, useWrong, sameName, isNameOf, hasServed, title, naming, filter, filterOf}
+use Rattle.xml_reading.specs.rule.Role.{Entry, Title, variablesOf, typeAt, useAt, mayServe, useWrong, sameName, isNameOf, hasServed, title}
+use Rattle.xml_reading.specs.rule.Role.{naming, filter, filterOf}
 use Rattle.xml_reading.specs.rule.Variable.{Manner, Then, with, filtered, block, ended, content, variable}
 use Rattle.xml_reading.specs.rule.Sheet.{onOpen, another, variables}
 use Rattle.filters.specs.rule.Kept.{At, here, there, nameOf, kindOf, Joins, Kept}
@@ -53,14 +54,16 @@ record Used (l : List Entry) (t : Title) : Type 0 where
   pub known : t .usage ≤ 2
   pub right : useWrong l (t .usage) (t .type) ≡ false
 
-used-charged : (l : List Entry) (x : Figure) (u c t k : ℕ) → Clear (identCharges (variablesOf l) x ++ unknownAt k ∷ fault 52 c when useWrong l u t ∷ []) → useWrong l u t ≡ false
+used-charged : (l : List Entry) (x : Figure) (u c t k : ℕ)
+    → Clear (identCharges (variablesOf l) x ++ unknownAt k ∷ fault 52 c when useWrong l u t ∷ []) → useWrong l u t ≡ false
 unfolding identCharges
 used-charged l x u c t k (clear a (clear b (clear e (clear f (clear g (clear h r)))))) = h
 
 used-same : {l : List Entry} {s t : Title} → s ≡ t → Used l s → Used l t
 used-same e x = rw (← e) x
 
-title-used : (bad : Bool) (d : List ℕ) (old : Bool) (l : List Entry) (p e : ℕ) {t : Title} {n : ℕ} → title bad d old l p e ≡ Is t n → Used l t
+title-used : (bad : Bool) (d : List ℕ) (old : Bool) (l : List Entry) (p e : ℕ) {t : Title} {n : ℕ} → title bad d old l p e ≡ Is t n
+    → Used l t
 unfolding title
 title-used bad d old l p e {t} {n} f = on (tagOf bad d p e IDENT TYPE (cond old [] USE) 1 4 (cond old 0 5) 2) f where
   shut-is : (em : Bool) (q : ℕ) (a : Title) (m : ℕ) → cond em (Not (fault 2 q)) (Is a m) ≡ Is t n → a ≡ t
@@ -81,7 +84,8 @@ title-used bad d old l p e {t} {n} f = on (tagOf bad d p e IDENT TYPE (cond old 
       let c = identCharges (variablesOf l) x ++ unknownAt (h .unknown) ∷ fault 52 (h .c) when useWrong l u k ∷ [] in
       let b = bound (judged c (record { ident = x; type = k; usage = u }) m) _ t n f in
       let j = judged-is c (record { ident = x; type = k; usage = u }) m (b .first-is) in
-      used-same (j .0 ∙ shut-is em q (b .value) (b .place) (b .then-is)) (record { known = use-known d (h .c) (h .ce); right = used-charged l x u (h .c) k (h .unknown) (j .2) })
+      used-same (j .0 ∙ shut-is em q (b .value) (b .place) (b .then-is))
+      (record { known = use-known d (h .c) (h .ce); right = used-charged l x u (h .c) k (h .unknown) (j .2) })
   on (tag.Fault k q) f = never cc
 
 -- a use that is not wrong is one that the type may have, and new
@@ -148,7 +152,8 @@ module _ (bad : Bool) (d : List ℕ) (m : Manner) (l : List Entry) (name : Text)
     absent : (o : Open) → Is (with 0 o) e ≡ Is x n → Filter (x .it)
     absent o f = let q : with 0 o ≡ x = cc in filter-of q none
 
-    read : (p : ℕ) → bind (filter bad d (m .latin) (m .standard) l name usage p e) (λ f k. bind (within bad d VARIABLE k) λ o j. Is (with f o) j) ≡ Is x n → Filter (x .it)
+    read : (p : ℕ) → bind (filter bad d (m .latin) (m .standard) l name usage p e)
+        (λ f k. bind (within bad d VARIABLE k) λ o j. Is (with f o) j) ≡ Is x n → Filter (x .it)
     read p f =
         let b = bound (filter bad d (m .latin) (m .standard) l name usage p e) _ x n f in
         let c = bound (within bad d VARIABLE (b .place)) _ x n (b .then-is) in
@@ -157,12 +162,14 @@ module _ (bad : Bool) (d : List ℕ) (m : Manner) (l : List Entry) (name : Text)
 
     by : (old : Bool) (o : Open)
         → cond old (λ n. Is (with 0 o) n)
-        (either bad d FILTER o (λ p n. bind (filter bad d (m .latin) (m .standard) l name usage p n) λ f k. bind (within bad d VARIABLE k) λ o j. Is (with f o) j)
+        (either bad d FILTER o (λ p n. bind (filter bad d (m .latin) (m .standard) l name usage p n) λ f k. bind (within bad d VARIABLE k)
+        λ o j. Is (with f o) j)
         (λ n. Is (with 0 o) n)) e ≡ Is x n → Filter (x .it)
     by true o f = absent o f
     by false (shut p) f = absent (shut p) f
     by false (start p) f = on (isNamed d (p + 1) e FILTER) f where
-      on : (q : Bool) → cond q (bind (filter bad d (m .latin) (m .standard) l name usage p e) (λ f k. bind (within bad d VARIABLE k) λ o j. Is (with f o) j)) (Is (with 0 (start p)) e) ≡ Is x n
+      on : (q : Bool) → cond q (bind (filter bad d (m .latin) (m .standard) l name usage p e)
+          (λ f k. bind (within bad d VARIABLE k) λ o j. Is (with f o) j)) (Is (with 0 (start p)) e) ≡ Is x n
           → Filter (x .it)
       on true f = read p f
       on false f = absent (start p) f
@@ -235,10 +242,12 @@ record NameIs (bad latin standard : Bool) (d : List ℕ) (l : List Entry) (t : T
 clear-head : {f : Fault} {q : Bool} {l : List Charge} → Clear (f when q ∷ l) → q ≡ false
 clear-head (clear e r) = e
 
-name-same : {bad latin standard : Bool} {d : List ℕ} {l : List Entry} {s t : Text} → s ≡ t → NameIs bad latin standard d l s → NameIs bad latin standard d l t
+name-same : {bad latin standard : Bool} {d : List ℕ} {l : List Entry} {s t : Text} → s ≡ t → NameIs bad latin standard d l s
+    → NameIs bad latin standard d l t
 name-same e x = rw (← e) x
 
-naming-is : (bad latin standard : Bool) (d : List ℕ) (l : List Entry) (p e : ℕ) {t : Text} {n : ℕ} → naming bad d latin standard l p e ≡ Is t n
+naming-is : (bad latin standard : Bool) (d : List ℕ) (l : List Entry) (p e : ℕ) {t : Text} {n : ℕ} → naming bad d latin standard l p e
+    ≡ Is t n
     → NameIs bad latin standard d l t
 unfolding naming
 naming-is bad latin standard d l p e {t} {n} f =
@@ -247,18 +256,21 @@ naming-is bad latin standard d l p e {t} {n} f =
     name-same (j .0) (record { unserved = clear-head (j .2); lies = text-lies bad d NAME 0 p e (b .first-is) .inside })
 
 module _ (latin standard : Bool) (d : List ℕ) (l : List Entry) (t : Text) (s : hasServed latin standard d l t ≡ false) where
-  served-no : (j : ℕ) (w : Entry) (i : ℕ) (row : Entry) → At l j w → w .filter ≡ suc i → At l i row → sameName latin standard d t (nameOf row) ≡ false
+  served-no : (j : ℕ) (w : Entry) (i : ℕ) (row : Entry) → At l j w → w .filter ≡ suc i → At l i row
+      → sameName latin standard d t (nameOf row) ≡ false
   unfolding hasServed
   served-no j w i row a e b =
       let x = none-takes (λ v. ltb 0 (v .filter) && isNameOf (sameName latin standard d t) l (v .filter - 1)) a s in
       let y : suc i - 1 ≡ i = omega arith in
       sym (name-here (sameName latin standard d t) b) ∙ by (rw e at x) y where
-        by : (ltb 0 (suc i) && isNameOf (sameName latin standard d t) l (suc i - 1)) ≡ false → suc i - 1 ≡ i → isNameOf (sameName latin standard d t) l i ≡ false
+        by : (ltb 0 (suc i) && isNameOf (sameName latin standard d t) l (suc i - 1)) ≡ false → suc i - 1 ≡ i
+            → isNameOf (sameName latin standard d t) l i ≡ false
         by x y = rw (lt-ltb 0 (suc i) (omega arith), y) at x
 
 -- ---- a variable joins those before it
 module _ (bad : Bool) (d : List ℕ) (m : Manner) (l : List Entry) where
-  joined : (t : Title) (name : Text) (f : ℕ) (v : Entry) → hasServed (m .latin) (m .standard) d l name ≡ false → Used l t → Filter bad d m l name (t .usage) f → v .usage ≡ t .usage → v .filter ≡ f → nameOf v ≡ name
+  joined : (t : Title) (name : Text) (f : ℕ) (v : Entry) → hasServed (m .latin) (m .standard) d l name ≡ false → Used l t
+      → Filter bad d m l name (t .usage) f → v .usage ≡ t .usage → v .filter ≡ f → nameOf v ≡ name
       → (t .type ≡ 3 → kindOf v ≡ 3) → (t .type ≡ 4 → kindOf v ≡ 4) → Joins (m .latin) (m .standard) d l v
   joined t name f v s u x a b c three four = record {
     unserved = λ j w i row y e z. rw c (served-no (m .latin) (m .standard) d l name s j w i row y e z);
@@ -266,10 +278,15 @@ module _ (bad : Bool) (d : List ℕ) (m : Manner) (l : List Entry) where
     serial = λ e. ⊎-elim (λ z. inl (three z)) (λ z. inr (four (z .1))) (typed l (t .usage) (t .type) (u .right) (omega arith));
     weight = λ e. ⊎-elim three (λ z. let k = z .0 in absurd (omega arith)) (typed l (t .usage) (t .type) (u .right) (omega arith));
     first = λ h j w i g.
-        eqb-false (w .usage) (t .usage) (none-takes (λ v. eqb (v .usage) (t .usage)) i (untaken l (t .usage) (t .type) (u .right) (omega arith))) (g ∙ a);
+        eqb-false (w .usage) (t .usage) (none-takes (λ v. eqb (v .usage) (t .usage)) i
+        (untaken l (t .usage) (t .type) (u .right) (omega arith))) (g ∙ a);
     filter = λ i e.
         let n = named-by bad d m l name (t .usage) x i (sym b ∙ e) in
-        record { text = n .text; filters = rw (c, a) (filter-means (m .latin) (m .standard) d l name (t .usage) (n .text) i .0 (sym (n .is))) };
+        record {
+          text = n .text;
+          filters = rw (c, a)
+              (filter-means (m .latin) (m .standard) d l name (t .usage) (n .text) i .0 (sym (n .is)));
+        };
   }
 
   pub record VariableRead (v : Entry) : Type 0 where
@@ -278,10 +295,12 @@ module _ (bad : Bool) (d : List ℕ) (m : Manner) (l : List Entry) where
 
   -- what follows the title, text by text
   abbrev settled : Title → Text → Text → Position → ℕ → Content → Reader Entry
-  settled t name label p f c k = bind (held (variableOf (t .ident) name label p c) k) (λ w i. Is (record { variable = w; usage = t .usage; filter = f }) i)
+  settled t name label p f c k = bind (held (variableOf (t .ident) name label p c) k)
+      (λ w i. Is (record { variable = w; usage = t .usage; filter = f }) i)
 
   abbrev contained : Title → Text → Text → Position → Then ℕ → Reader Entry
-  contained t name label p f k = bind (content bad d m p (linesAll (variablesOf l)) (t .type) (f .behind) k) (settled t name label p (f .it))
+  contained t name label p f k = bind (content bad d m p (linesAll (variablesOf l)) (t .type) (f .behind) k)
+      (settled t name label p (f .it))
 
   abbrev placed : Title → Text → Text → Position → Open → Reader Entry
   placed t name label p o k = bind (filtered bad d m l name (t .usage) o k) (contained t name label p)
@@ -290,13 +309,17 @@ module _ (bad : Bool) (d : List ℕ) (m : Manner) (l : List Entry) where
   labelled t name label o k = bind (due bad d POSITION o (position bad d) k) (λ p i. bind (within bad d VARIABLE i) (placed t name label p))
 
   abbrev named : Title → Text → Open → Reader Entry
-  named t name o k = bind (due bad d LABEL o (text bad d LABEL (rich (m .languages))) k) (λ label i. bind (within bad d VARIABLE i) (labelled t name label))
+  named t name o k = bind (due bad d LABEL o (text bad d LABEL (rich (m .languages))) k)
+      (λ label i. bind (within bad d VARIABLE i) (labelled t name label))
 
   abbrev titled : Title → Open → Reader Entry
-  titled t o k = bind (due bad d NAME o (naming bad d (m .latin) (m .standard) l) k) (λ name i. bind (within bad d VARIABLE i) (named t name))
+  titled t o k = bind (due bad d NAME o (naming bad d (m .latin) (m .standard) l) k)
+      (λ name i. bind (within bad d VARIABLE i) (named t name))
 
-  settled-joins : (t : Title) (name label : Text) (p : Position) (f : ℕ) (c : Content) (k : ℕ) {v : Entry} {n : ℕ} → NameIs bad (m .latin) (m .standard) d l name → Used l t
-      → Filter bad d m l name (t .usage) f → (t .type ≡ 3 → typeOf c ≡ 3) → (t .type ≡ 4 → typeOf c ≡ 4) → settled t name label p f c k ≡ Is v n → VariableRead v
+  settled-joins : (t : Title) (name label : Text) (p : Position) (f : ℕ) (c : Content) (k : ℕ) {v : Entry} {n : ℕ}
+      → NameIs bad (m .latin) (m .standard) d l name → Used l t
+      → Filter bad d m l name (t .usage) f → (t .type ≡ 3 → typeOf c ≡ 3) → (t .type ≡ 4 → typeOf c ≡ 4) → settled t name label p f c k
+      ≡ Is v n → VariableRead v
   settled-joins t name label p f c k {v} {n} s u x three four g =
       let w = variableOf (t .ident) name label p c in
       let h = bound (held w k) (λ w i. Is (record { variable = w; usage = t .usage; filter = f }) i) v n g in
@@ -310,30 +333,36 @@ module _ (bad : Bool) (d : List ℕ) (m : Manner) (l : List Entry) where
         lies = omega (arith, ap (λ (t : Text). t .place) i, ap (λ (t : Text). t .length) i, s .lies);
       }
 
-  placed-joins : (t : Title) (name label : Text) (p : Position) (o : Open) (k : ℕ) {v : Entry} {n : ℕ} → NameIs bad (m .latin) (m .standard) d l name → Used l t → placed t name label p o k ≡ Is v n → VariableRead v
+  placed-joins : (t : Title) (name label : Text) (p : Position) (o : Open) (k : ℕ) {v : Entry} {n : ℕ}
+      → NameIs bad (m .latin) (m .standard) d l name → Used l t → placed t name label p o k ≡ Is v n → VariableRead v
   placed-joins t name label p o k {v} {n} s u g =
       let x = bound (filtered bad d m l name (t .usage) o k) (contained t name label p) v n g in
-      let c = bound (content bad d m p (linesAll (variablesOf l)) (t .type) (x .value .behind) (x .place)) (settled t name label p (x .value .it)) v n (x .then-is) in
+      let c = bound (content bad d m p (linesAll (variablesOf l)) (t .type) (x .value .behind) (x .place))
+      (settled t name label p (x .value .it)) v n (x .then-is) in
       settled-joins t name label p (x .value .it) (c .value) (c .place) s u (filtered-is bad d m l name (t .usage) o k (x .first-is))
       (λ e. content-three bad d m p (linesAll (variablesOf l)) (x .value .behind) (x .place) (t .type) e (c .first-is))
       (λ e. content-four bad d m p (linesAll (variablesOf l)) (x .value .behind) (x .place) (t .type) e (c .first-is))
       (c .then-is)
 
-  labelled-joins : (t : Title) (name label : Text) (o : Open) (k : ℕ) {v : Entry} {n : ℕ} → NameIs bad (m .latin) (m .standard) d l name → Used l t → labelled t name label o k ≡ Is v n → VariableRead v
+  labelled-joins : (t : Title) (name label : Text) (o : Open) (k : ℕ) {v : Entry} {n : ℕ} → NameIs bad (m .latin) (m .standard) d l name
+      → Used l t → labelled t name label o k ≡ Is v n → VariableRead v
   labelled-joins t name label o k {v} {n} s u g =
       let p = bound (due bad d POSITION o (position bad d) k) (λ p i. bind (within bad d VARIABLE i) (placed t name label p)) v n g in
       let x = bound (within bad d VARIABLE (p .place)) (placed t name label (p .value)) v n (p .then-is) in
       placed-joins t name label (p .value) (x .value) (x .place) s u (x .then-is)
 
-  named-joins : (t : Title) (name : Text) (o : Open) (k : ℕ) {v : Entry} {n : ℕ} → NameIs bad (m .latin) (m .standard) d l name → Used l t → named t name o k ≡ Is v n → VariableRead v
+  named-joins : (t : Title) (name : Text) (o : Open) (k : ℕ) {v : Entry} {n : ℕ} → NameIs bad (m .latin) (m .standard) d l name → Used l t
+      → named t name o k ≡ Is v n → VariableRead v
   named-joins t name o k {v} {n} s u g =
-      let p = bound (due bad d LABEL o (text bad d LABEL (rich (m .languages))) k) (λ label i. bind (within bad d VARIABLE i) (labelled t name label)) v n g in
+      let p = bound (due bad d LABEL o (text bad d LABEL (rich (m .languages))) k)
+      (λ label i. bind (within bad d VARIABLE i) (labelled t name label)) v n g in
       let x = bound (within bad d VARIABLE (p .place)) (labelled t name (p .value)) v n (p .then-is) in
       labelled-joins t name (p .value) (x .value) (x .place) s u (x .then-is)
 
   titled-joins : (t : Title) (o : Open) (k : ℕ) {v : Entry} {n : ℕ} → Used l t → titled t o k ≡ Is v n → VariableRead v
   titled-joins t o k {v} {n} u g =
-      let p = bound (due bad d NAME o (naming bad d (m .latin) (m .standard) l) k) (λ name i. bind (within bad d VARIABLE i) (named t name)) v n g in
+      let p = bound (due bad d NAME o (naming bad d (m .latin) (m .standard) l) k) (λ name i. bind (within bad d VARIABLE i) (named t name))
+      v n g in
       let x = bound (within bad d VARIABLE (p .place)) (named t (p .value)) v n (p .then-is) in
       let y = due-is bad d m NAME o (naming bad d (m .latin) (m .standard) l) k (p .first-is) in
       named-joins t (p .value) (x .value) (x .place) (naming-is bad (m .latin) (m .standard) d l (y .place) k (y .then-is)) u (x .then-is)

@@ -1,4 +1,5 @@
--- The variables of a definition keep the rule of uses and filters: it holds of none, and of one more that joins them. The table of variables
+-- The variables of a definition keep the rule of uses and filters: it holds of none, and of one more that joins them. The table of
+-- variables
 -- that keep it has good uses (crate `uses`).
 use mathlib.Core.Path.{_≡_, refl, sym, ap, _∙_}
 use mathlib.Core.Logic.{⊎-elim}
@@ -176,24 +177,26 @@ module _ (t : List ℤ) (l : List Entry) (k : Kept l) (shown : (i : ℕ) (v : En
 
   once : (u : ℕ) → 0 < u → leb (usesOf t (length l) u) 1 ≡ true
   unfolding isUse
-  once u h = le-leb _ 1 (sum-one (λ i. isUse (columnsAt t (rowBase i) .usage) u) (length l) (λ i g. small (eqb (columnsAt t (rowBase i) .usage) u)) same) where
-    small : (q : Bool) → cond q 1 0 ≤ 1
-    small true = omega arith
-    small false = omega arith
+  once u h = le-leb _ 1 (sum-one (λ i. isUse (columnsAt t (rowBase i) .usage) u) (length l)
+      (λ i g. small (eqb (columnsAt t (rowBase i) .usage) u)) same) where
+        small : (q : Bool) → cond q 1 0 ≤ 1
+        small true = omega arith
+        small false = omega arith
 
-    is : (x : ℕ) (q : Bool) → eqb x u ≡ q → 0 < cond q 1 0 → x ≡ u
-    is x true e g = eqb-true x u e
-    is x false e g = absurd (omega arith)
+        is : (x : ℕ) (q : Bool) → eqb x u ≡ q → 0 < cond q 1 0 → x ≡ u
+        is x true e g = eqb-true x u e
+        is x false e g = absurd (omega arith)
 
-    same : (i m : ℕ) → i < length l → m < length l → 0 < isUse (columnsAt t (rowBase i) .usage) u → 0 < isUse (columnsAt t (rowBase m) .usage) u → i ≡ m
-    same i m a b p q =
-        let x = next-row l i a in
-        let y = next-row l m b in
-        let e = is (columnsAt t (rowBase i) .usage) _ refl p in
-        let f = is (columnsAt t (rowBase m) .usage) _ refl q in
-        let g = shown i (x .row) (x .at) .usage in
-        let o = shown m (y .row) (y .at) .usage in
-        k .one i m (x .row) (y .row) (x .at) (y .at) (omega arith) (omega arith)
+        same : (i m : ℕ) → i < length l → m < length l → 0 < isUse (columnsAt t (rowBase i) .usage) u → 0
+            < isUse (columnsAt t (rowBase m) .usage) u → i ≡ m
+        same i m a b p q =
+            let x = next-row l i a in
+            let y = next-row l m b in
+            let e = is (columnsAt t (rowBase i) .usage) _ refl p in
+            let f = is (columnsAt t (rowBase m) .usage) _ refl q in
+            let g = shown i (x .row) (x .at) .usage in
+            let o = shown m (y .row) (y .at) .usage in
+            k .one i m (x .row) (y .row) (x .at) (y .at) (omega arith) (omega arith)
 
   -- the uses of the table are good
   pub shown-good : usesGood t (length l) ≡ true
@@ -212,7 +215,8 @@ rows-long b (v ∷ l) =
     let n = b + length (linesOf (v .variable)) in
     length-append (rowCells (columnsFor b v)) (rowsFrom n l) ∙ (let e = row-long (columnsFor b v) in let f = rows-long n l in omega arith)
 
-pub table-row : (l : List Entry) (i k : ℕ) → i < length l → k < rowSize → cell (tableOf l) (rowBase i + k) ≡ cell (rowsFrom 0 l) (rowSize * i + k)
+pub table-row : (l : List Entry) (i k : ℕ) → i < length l → k < rowSize → cell (tableOf l) (rowBase i + k)
+    ≡ cell (rowsFrom 0 l) (rowSize * i + k)
 unfolding tableOf
 table-row l i k h g =
     let e : rowBase i + k ≡ length (headerCells (headerFor l)) + (rowSize * i + k) = omega (arith, header-long (headerFor l)) in
@@ -238,6 +242,7 @@ table-shown l i v a =
 pub uses-good : (l : List Entry) → Kept l → usesGood (tableOf l) (length l) ≡ true
 uses-good l k = shown-good (tableOf l) l k (table-shown l)
 
-pub kind-good : (l : List Entry) → Kept l → specialsNone (tableOf l) (length l) (linesAll (variablesOf l)) ≡ true → kindGood (tableOf l) (headerFor l) ≡ true
+pub kind-good : (l : List Entry) → Kept l → specialsNone (tableOf l) (length l) (linesAll (variablesOf l)) ≡ true
+    → kindGood (tableOf l) (headerFor l) ≡ true
 unfolding kindGood xmlGood headerFor
 kind-good l k s = both-and (uses-good l k) s

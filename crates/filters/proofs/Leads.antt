@@ -53,11 +53,13 @@ unfolding bytesOf encode
 byte-itself true b h = rw (lt-ltb b 128 h)
 byte-itself false b h = refl
 
-step-is : (d : List ℕ) (p : ℕ) → p < length d → Plain (getD d p 0) → stepOf false d 2 [] (begun p) ≡ step.More (begun (p + 1)) (said.Byte (getD d p 0))
+step-is : (d : List ℕ) (p : ℕ) → p < length d → Plain (getD d p 0) → stepOf false d 2 [] (begun p)
+    ≡ step.More (begun (p + 1)) (said.Byte (getD d p 0))
 unfolding stepOf
 step-is d p h x = rw (lt-leb (length d) p h, x .no-mark, x .no-refer, x .no-bracket, x .no-return)
 
-plain-signs : (l : Bool) (d : List ℕ) (p : ℕ) → p < length d → plainOf (getD d p 0) ≡ true → signsFrom l d (begun p) ≡ Byte (getD d p 0) ∷ signsFrom l d (begun (p + 1))
+plain-signs : (l : Bool) (d : List ℕ) (p : ℕ) → p < length d → plainOf (getD d p 0) ≡ true → signsFrom l d (begun p) ≡ Byte (getD d p 0)
+    ∷ signsFrom l d (begun (p + 1))
 unfolding signsOf
 plain-signs l d p h e =
     let x = plain (getD d p 0) e in
@@ -67,7 +69,8 @@ plain-signs l d p h e =
 module _ (standard : Bool) (s t : List ℕ) (p q : ℕ) where
   -- so many bytes are shared
   abbrev pub Shares : ℕ → Type 0
-  Shares k = (l : Bool) → alike standard (signsFrom l s (begun p)) (signsFrom l t (begun q)) ≡ alike standard (signsFrom l s (begun (p + k))) (signsFrom l t (begun (q + k)))
+  Shares k = (l : Bool) → alike standard (signsFrom l s (begun p)) (signsFrom l t (begun q))
+      ≡ alike standard (signsFrom l s (begun (p + k))) (signsFrom l t (begun (q + k)))
 
   pub shares-none : Shares 0
   shares-none l =
@@ -75,28 +78,35 @@ module _ (standard : Bool) (s t : List ℕ) (p q : ℕ) where
       let f : q + 0 ≡ q = omega arith in
       rw (e, f)
 
-  shares-step : (k : ℕ) → p + k < length s → q + k < length t → plainOf (getD s (p + k) 0) ≡ true → plainOf (getD t (q + k) 0) ≡ true → (b : Bool)
-      → b ≡ cond standard (eqb (upperOf (getD s (p + k) 0)) (upperOf (getD t (q + k) 0))) (eqb (getD s (p + k) 0) (getD t (q + k) 0)) → Shares k → (l : Bool)
-      → alike standard (signsFrom l s (begun p)) (signsFrom l t (begun q)) ≡ (b && alike standard (signsFrom l s (begun (p + k + 1))) (signsFrom l t (begun (q + k + 1))))
+  shares-step : (k : ℕ) → p + k < length s → q + k < length t → plainOf (getD s (p + k) 0) ≡ true → plainOf (getD t (q + k) 0) ≡ true
+      → (b : Bool)
+      → b ≡ cond standard (eqb (upperOf (getD s (p + k) 0)) (upperOf (getD t (q + k) 0))) (eqb (getD s (p + k) 0) (getD t (q + k) 0))
+      → Shares k → (l : Bool)
+      → alike standard (signsFrom l s (begun p)) (signsFrom l t (begun q))
+      ≡ (b && alike standard (signsFrom l s (begun (p + k + 1))) (signsFrom l t (begun (q + k + 1))))
   shares-step k i j x y b e h l =
       h l
       ∙ rw (plain-signs l s (p + k) i x, plain-signs l t (q + k) j y)
-      (like-both standard (Byte (getD s (p + k) 0)) (Byte (getD t (q + k) 0)) (signsFrom l s (begun (p + k + 1))) (signsFrom l t (begun (q + k + 1)))
+      (like-both standard (Byte (getD s (p + k) 0)) (Byte (getD t (q + k) 0)) (signsFrom l s (begun (p + k + 1)))
+      (signsFrom l t (begun (q + k + 1)))
       ∙ ap (λ (z : Bool). z && alike standard (signsFrom l s (begun (p + k + 1))) (signsFrom l t (begun (q + k + 1)))) (sym e))
 
   pub shares-more : (k : ℕ) → p + k < length s → q + k < length t → plainOf (getD s (p + k) 0) ≡ true → plainOf (getD t (q + k) 0) ≡ true
-      → true ≡ cond standard (eqb (upperOf (getD s (p + k) 0)) (upperOf (getD t (q + k) 0))) (eqb (getD s (p + k) 0) (getD t (q + k) 0)) → Shares k → Shares (k + 1)
+      → true ≡ cond standard (eqb (upperOf (getD s (p + k) 0)) (upperOf (getD t (q + k) 0))) (eqb (getD s (p + k) 0) (getD t (q + k) 0))
+      → Shares k → Shares (k + 1)
   shares-more k i j x y e h l =
       let a : p + (k + 1) ≡ p + k + 1 = omega arith in
       let c : q + (k + 1) ≡ q + k + 1 = omega arith in
       shares-step k i j x y true e h l ∙ rw (a, c)
 
   pub lead-apart : (k : ℕ) → p + k < length s → q + k < length t → plainOf (getD s (p + k) 0) ≡ true → plainOf (getD t (q + k) 0) ≡ true
-      → false ≡ cond standard (eqb (upperOf (getD s (p + k) 0)) (upperOf (getD t (q + k) 0))) (eqb (getD s (p + k) 0) (getD t (q + k) 0)) → Shares k
+      → false ≡ cond standard (eqb (upperOf (getD s (p + k) 0)) (upperOf (getD t (q + k) 0))) (eqb (getD s (p + k) 0) (getD t (q + k) 0))
+      → Shares k
       → Leads standard s t p q lead.Apart
   lead-apart k i j x y e h = record { says = shares-step k i j x y false e h; first = omega arith; second = omega arith }
 
-  pub lead-shared : (k : ℕ) → p ≤ length s → q ≤ length t → k ≤ length s - p → k ≤ length t - q → Shares k → Leads standard s t p q (lead.Shared k)
+  pub lead-shared : (k : ℕ) → p ≤ length s → q ≤ length t → k ≤ length s - p → k ≤ length t - q → Shares k
+      → Leads standard s t p q (lead.Shared k)
   lead-shared k a b i j h = record { says = h; first = i; second = j }
 
   pub lead-is : {r u : Lead} → r ≡ u → Leads standard s t p q r → Leads standard s t p q u

@@ -19,7 +19,8 @@ use Rattle.filters.specs.declared.Met.{Met}
 use Rattle.filters.specs.declared.Met.the-variants as met
 
 -- ---- lists of signs
-pub like-both : (standard : Bool) (x y : Sign) (s t : List Sign) → alike standard (x ∷ s) (y ∷ t) ≡ (likeOf standard x y && alike standard s t)
+pub like-both : (standard : Bool) (x y : Sign) (s t : List Sign) → alike standard (x ∷ s) (y ∷ t)
+    ≡ (likeOf standard x y && alike standard s t)
 unfolding alike agree sameSigns
 like-both true x y s t = refl
 like-both false x y s t = refl
@@ -40,16 +41,22 @@ like-none true = refl
 like-none false = refl
 
 module _ (latin standard : Bool) (s t : List ℕ) (a b : Cursor) {u v : Part} (f : Tells latin s a u) (g : Tells latin t b v) where
-  pub meets-on : (x y : Sign) (m n : Cursor) → u ≡ part.One x m → v ≡ part.One y n → likeOf standard x y ≡ true → Meets latin standard s t a b (met.On m n)
+  pub meets-on : (x y : Sign) (m n : Cursor) → u ≡ part.One x m → v ≡ part.One y n → likeOf standard x y ≡ true
+      → Meets latin standard s t a b (met.On m n)
   meets-on x y m n e h q =
       let i = told-one x m f e in
       let j = told-one y n g h in
       record {
         says = rw (i .split, j .split) (like-both standard x y (signsAt latin s m) (signsAt latin t n) ∙ rw q);
-        ahead = record { first = record { next = i .next; small = i .small }; second = record { next = j .next; small = j .small }; less = omega (arith, ap length (i .split)) };
+        ahead = record {
+          first = record { next = i .next; small = i .small };
+          second = record { next = j .next; small = j .small };
+          less = omega (arith, ap length (i .split));
+        };
       }
 
-  pub meets-apart : (x y : Sign) (m n : Cursor) → u ≡ part.One x m → v ≡ part.One y n → likeOf standard x y ≡ false → Meets latin standard s t a b (met.Over false)
+  pub meets-apart : (x y : Sign) (m n : Cursor) → u ≡ part.One x m → v ≡ part.One y n → likeOf standard x y ≡ false
+      → Meets latin standard s t a b (met.Over false)
   meets-apart x y m n e h q =
       let i = told-one x m f e in
       let j = told-one y n g h in
@@ -69,5 +76,6 @@ module _ (latin standard : Bool) (s t : List ℕ) (a b : Cursor) {u v : Part} (f
   meets-none e h = record { says = rw (told-over f e, told-over g h) (like-none standard); ahead = tt }
 
 -- what was met, by its answer
-pub met-is : {latin standard : Bool} {s t : List ℕ} {a b : Cursor} {r q : Met} → r ≡ q → Meets latin standard s t a b r → Meets latin standard s t a b q
+pub met-is : {latin standard : Bool} {s t : List ℕ} {a b : Cursor} {r q : Met} → r ≡ q → Meets latin standard s t a b r
+    → Meets latin standard s t a b q
 met-is e x = rw (← e) x

@@ -38,7 +38,8 @@ module _ (bad latin standard : Bool) (d : List ℕ) (rows : List ℤ) (count p e
         → NamingSaid bad latin standard d rows count p e (phrase.Not (fault 52 (q .place)))
     unfolding naming
     naming-served s = record {
-      is = λ l r. rw (t .reads, ← s .is l r) (ap phraseOf (sym (judged-one (fault 52 (q .place)) true (textAt (q .place) (q .length)) (q .next))));
+      is = λ l r. rw (t .reads, ← s .is l r) (ap phraseOf
+          (sym (judged-one (fault 52 (q .place)) true (textAt (q .place) (q .length)) (q .next))));
       inside = omega arith;
       next = omega arith;
     }
@@ -47,22 +48,27 @@ module _ (bad latin standard : Bool) (d : List ℕ) (rows : List ℤ) (count p e
         → NamingSaid bad latin standard d rows count p e (phrase.Is q)
     unfolding naming
     naming-good s = record {
-      is = λ l r. rw (t .reads, ← s .is l r) (ap phraseOf (sym (judged-one (fault 52 (q .place)) false (textAt (q .place) (q .length)) (q .next))));
+      is = λ l r. rw (t .reads, ← s .is l r) (ap phraseOf
+          (sym (judged-one (fault 52 (q .place)) false (textAt (q .place) (q .length)) (q .next))));
       inside = t .inside;
       next = t .next;
     }
 
   module _ (name : Text) (usage : ℕ) where
-    pub filter-not : (f : Fault) → text bad d FILTER 0 p e ≡ Not f → FilteringSaid bad latin standard d rows count name usage p e (filtered.Not f)
+    pub filter-not : (f : Fault) → text bad d FILTER 0 p e ≡ Not f
+        → FilteringSaid bad latin standard d rows count name usage p e (filtered.Not f)
     unfolding filter
     filter-not f g = record { is = λ l r. rw g; next = omega arith }
 
     module _ (q : Quoted) (t : TextIs bad d FILTER 0 p e q) where
-      judge : (l : List Entry) (f : ℕ) → f ≡ filterOf latin standard d l name usage (textAt (q .place) (q .length)) → (b : Bool) → eqb f 0 ≡ b
-          → cond b (filtered.Not (fault 52 (q .place))) (filtered.Is f (q .next)) ≡ filteredOf (filter bad d latin standard l name usage p e)
+      judge : (l : List Entry) (f : ℕ) → f ≡ filterOf latin standard d l name usage (textAt (q .place) (q .length)) → (b : Bool) → eqb f 0
+          ≡ b
+          → cond b (filtered.Not (fault 52 (q .place))) (filtered.Is f (q .next))
+          ≡ filteredOf (filter bad d latin standard l name usage p e)
       unfolding filter
       judge l f k b h = rw (t .reads, ← k, h) (by b ∙ ap filteredOf (sym (judged-one (fault 52 (q .place)) b f (q .next)))) where
-        by : (b : Bool) → cond b (filtered.Not (fault 52 (q .place))) (filtered.Is f (q .next)) ≡ filteredOf (cond b (Not (fault 52 (q .place))) (Is f (q .next)))
+        by : (b : Bool) → cond b (filtered.Not (fault 52 (q .place))) (filtered.Is f (q .next))
+            ≡ filteredOf (cond b (Not (fault 52 (q .place))) (Is f (q .next)))
         by true = refl
         by false = refl
 

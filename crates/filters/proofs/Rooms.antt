@@ -109,7 +109,8 @@ unfolding isNameOf
 name-here f here = refl
 name-here f (there a) = name-here f a
 
-pub name-in : (f : Text → Bool) {rows : List ℤ} {count : ℕ} {l : List Entry} → RowsOf rows count l → (i : ℕ) → i < count → isNameOf f l i ≡ f (nameIn rows i)
+pub name-in : (f : Text → Bool) {rows : List ℤ} {count : ℕ} {l : List Entry} → RowsOf rows count l → (i : ℕ) → i < count → isNameOf f l i
+    ≡ f (nameIn rows i)
 name-in f {rows} {count} {l} h i k =
     let n = h .counted in
     let r = next-row l i (omega arith) in

@@ -97,7 +97,8 @@ module _ (d : List ℕ) (f g k : ℕ) where
     pub second : Slot d g (h .b) (h .be)
     pub third : (h .c ≡ 0 → ⊥) → Slot d k (h .c) (h .ce)
 
-  pub two-held : (bad : Bool) (o at : ℕ) (x y z : List ℕ) {h : Held} {em : Bool} {p n : ℕ} → tagOf bad d o at x y z f g k 2 ≡ Read h em p n → Held-two h
+  pub two-held : (bad : Bool) (o at : ℕ) (x y z : List ℕ) {h : Held} {em : Bool} {p n : ℕ} → tagOf bad d o at x y z f g k 2 ≡ Read h em p n
+      → Held-two h
   unfolding missesOf
   two-held bad o at x y z {h} {em} {p} {n} e = by (eqb (h .a) 0) (eqb (h .b) 0) refl refl (t .whole) where
     t : Tagged bad d o x y z f g k 2 (nothing at) h em p n
@@ -110,4 +111,9 @@ module _ (d : List ℕ) (f g k : ℕ) where
         → ((ltb 0 2 && p) || ((ltb 1 2 && q) || (ltb 2 2 && eqb (h .c) 0))) ≡ false → Held-two h
     by true q i j m = let z : _≡_ {A = ℕ} 0 1 = cc in absurd (omega arith)
     by false true i j m = let z : _≡_ {A = ℕ} 0 1 = cc in absurd (omega arith)
-    by false false i j m = record { first = there (s .a) i; second = there (s .b) j; third = λ k. ⊎-elim (λ z. absurd (k z)) (λ x. x) (s .c) }
+    by false false i j m = record {
+      first = there (s .a) i;
+      second = there (s .b) j;
+      third = λ k. ⊎-elim (λ z. absurd (k z)) (λ x. x)
+          (s .c);
+    }

@@ -23,7 +23,8 @@ nil-right : (s : List ℤ) → s ++ [] ≡ s
 nil-right [] = refl
 nil-right (x ∷ s) = ap (x ∷_) (nil-right s)
 
-rows-with : (b : ℕ) (l : List Entry) (v : Entry) → rowsFrom b (l ++ v ∷ []) ≡ rowsFrom b l ++ rowCells (columnsFor (b + linesAll (variablesOf l)) v)
+rows-with : (b : ℕ) (l : List Entry) (v : Entry) → rowsFrom b (l ++ v ∷ []) ≡ rowsFrom b l
+    ++ rowCells (columnsFor (b + linesAll (variablesOf l)) v)
 unfolding rowsFrom linesAll
 rows-with b [] v =
     let e : b + 0 ≡ b = omega arith in
@@ -39,7 +40,8 @@ unfolding rowsFrom
 rows-none rows = record { counted = refl; held = refl }
 
 -- the row of one more
-pub rows-more : (rows : List ℤ) (count : ℕ) (l : List Entry) (v : Entry) → length rows ≡ rowSize * mostRows → count < mostRows → RowsOf rows count l
+pub rows-more : (rows : List ℤ) (count : ℕ) (l : List Entry) (v : Entry) → length rows ≡ rowSize * mostRows → count < mostRows
+    → RowsOf rows count l
     → RowsOf (pasted rows (rowSize * count) (rowCells (columnsFor (linesAll (variablesOf l)) v))) (count + 1) (l ++ v ∷ [])
 unfolding pasted
 rows-more rows count l v r k h = record { counted = length-append l (v ∷ []) ∙ (let c = h .counted in omega arith); held = here } where
@@ -53,7 +55,8 @@ rows-more rows count l v r k h = record { counted = length-append l (v ∷ []) �
       let c = row-long (columnsFor (linesAll (variablesOf l)) v) in
       length-append (take (rowSize * count) rows) s ∙ omega arith
 
-  here : take (rowSize * (count + 1)) (take (rowSize * count) rows ++ s ++ drop (rowSize * count + length s) rows) ≡ rowsFrom 0 (l ++ v ∷ [])
+  here : take (rowSize * (count + 1)) (take (rowSize * count) rows ++ s ++ drop (rowSize * count + length s) rows)
+      ≡ rowsFrom 0 (l ++ v ∷ [])
   here =
       take-at (take (rowSize * count) rows ++ s) (drop (rowSize * count + length s) rows) (rowSize * (count + 1)) long
       ∙ ap (λ (x : List ℤ). x ++ s) (h .held)
@@ -75,7 +78,8 @@ lie-more n l w x h = record { lie = λ i v a. by i v (at-split l w a) } where
   by i v (new e) = h
 
 -- what the calls of this crate ask
-pub lying : (n : ℕ) (rows : List ℤ) (count : ℕ) (l : List Entry) → length rows ≡ rowSize * mostRows → count ≤ mostRows → RowsOf rows count l → Kept l
+pub lying : (n : ℕ) (rows : List ℤ) (count : ℕ) (l : List Entry) → length rows ≡ rowSize * mostRows → count ≤ mostRows → RowsOf rows count l
+    → Kept l
     → NamesLie n l → Lying n rows count
 lying n rows count l r k h x y = record { room = r; few = k; names = named; filters = filtered } where
   named : (i : ℕ) → i < count → columnIn rows i 14 + columnIn rows i 15 ≤ n

@@ -56,7 +56,8 @@ module _ (bad : Bool) (d : List ℕ) where
     pub inside : t .place + t .length ≤ length d
     pub next : n ≤ length d
 
-  body-lies : (w : List ℕ) (m : ℕ) (em : Bool) (n : ℕ) {b : Body} {k : ℕ} → n ≤ length d → body bad d w m em n ≡ Is b k → Clear (b .charges) → Lies (b .text) k
+  body-lies : (w : List ℕ) (m : ℕ) (em : Bool) (n : ℕ) {b : Body} {k : ℕ} → n ≤ length d → body bad d w m em n ≡ Is b k → Clear (b .charges)
+      → Lies (b .text) k
   unfolding body
   body-lies w m true n {b} {k} h e c =
       let q : bodyOf n n true [] ≡ b = cc in
@@ -83,7 +84,8 @@ module _ (bad : Bool) (d : List ℕ) where
   unfolding text
   text-lies w m p e {t} {n} f = on (bareOf bad d p e) refl f where
     on : (g : Tag) → bareOf bad d p e ≡ g
-        → onTag bad d g (λ h empty q n. bind (body bad d w m empty n) (λ b. judged (unknownAt (h .unknown) ∷ b .charges) (b .text))) ≡ Is t n → Lies t n
+        → onTag bad d g (λ h empty q n. bind (body bad d w m empty n) (λ b. judged (unknownAt (h .unknown) ∷ b .charges) (b .text)))
+        ≡ Is t n → Lies t n
     on (tag.Read h em q k) i f =
         let b = bound (body bad d w m em k) _ t n f in
         let j = judged-is (unknownAt (h .unknown) ∷ b .value .charges) (b .value .text) (b .place) (b .then-is) in
@@ -110,5 +112,6 @@ module _ (bad : Bool) (d : List ℕ) where
       let l = text-lies w m p e g in
       record { reads = g; inside = l .inside; next = l .next }
 
-  pub text-not : (w : List ℕ) (m p e : ℕ) {r : Phrase} {f : Fault} → r ≡ phraseOf (text bad d w m p e) → r ≡ phrase.Not f → text bad d w m p e ≡ Not f
+  pub text-not : (w : List ℕ) (m p e : ℕ) {r : Phrase} {f : Fault} → r ≡ phraseOf (text bad d w m p e) → r ≡ phrase.Not f
+      → text bad d w m p e ≡ Not f
   text-not w m p e {f = f} s g = phrase-not (text bad d w m p e) f (sym s ∙ g)

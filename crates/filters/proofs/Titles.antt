@@ -1,4 +1,5 @@
--- A variable's start tag, judged: 5 and 8 of its ident, 51, 52 stand in the order of their numbers, so that the first that is met is the least.
+-- A variable's start tag, judged: 5 and 8 of its ident, 51, 52 stand in the order of their numbers, so that the first that is met is the
+-- least.
 use mathlib.Core.Path.{_≡_, refl, _∙_, sym, ap}
 use mathlib.Core.Bool.{Bool, true, false, cond, not, _||_}
 use mathlib.Core.List.{List, [], _∷_, _++_}
@@ -59,21 +60,26 @@ module _ (met : ℕ → Bool) (earlier : List Variable) (knows : (n : ℕ) → m
   -- behind the ident
   last : to (Is is n) ≡ cond em (titled.Not (fault 2 q)) (titled.Is (capped (x .value)) kind usage n)
   last = by em where
-    by : (b : Bool) → titledOf (cond b (Not (fault 2 q)) (Is is n)) ≡ cond b (titled.Not (fault 2 q)) (titled.Is (capped (x .value)) kind usage n)
+    by : (b : Bool) → titledOf (cond b (Not (fault 2 q)) (Is is n))
+        ≡ cond b (titled.Not (fault 2 q)) (titled.Is (capped (x .value)) kind usage n)
     by true = refl
     by false = refl
 
   abbrev rest : Titled
   rest = cond (not (eqb u 0)) (titled.Not (fault 51 u)) (cond w (titled.Not (fault 52 at)) (to (Is is n)))
 
-  rest-is : titledBy (number.Is (record { size = capped (x .value); count = x .digits; place = x .place; next = n })) u w at em q kind usage ≡ rest
+  rest-is : titledBy (number.Is (record { size = capped (x .value); count = x .digits; place = x .place; next = n })) u w at em q kind usage
+      ≡ rest
   rest-is = rw last (by (eqb u 0)) where
-    by : (b : Bool) → cond b (cond w (titled.Not (fault 52 at)) (cond em (titled.Not (fault 2 q)) (titled.Is (capped (x .value)) kind usage n))) (titled.Not (fault 51 u))
-        ≡ cond (not b) (titled.Not (fault 51 u)) (cond w (titled.Not (fault 52 at)) (cond em (titled.Not (fault 2 q)) (titled.Is (capped (x .value)) kind usage n)))
+    by : (b : Bool) → cond b (cond w (titled.Not (fault 52 at))
+        (cond em (titled.Not (fault 2 q)) (titled.Is (capped (x .value)) kind usage n))) (titled.Not (fault 51 u))
+        ≡ cond (not b) (titled.Not (fault 51 u)) (cond w (titled.Not (fault 52 at))
+        (cond em (titled.Not (fault 2 q)) (titled.Is (capped (x .value)) kind usage n)))
     by true = refl
     by false = refl
 
-  rest-sized : (s : ℕ) → s ≡ capped (x .value) → titledBy (number.Is (record { size = s; count = x .digits; place = x .place; next = n })) u w at em q kind usage ≡ rest
+  rest-sized : (s : ℕ) → s ≡ capped (x .value) → titledBy (number.Is (record { size = s; count = x .digits; place = x .place; next = n })) u
+      w at em q kind usage ≡ rest
   rest-sized s e = rw e rest-is
 
   chained : titledBy (judgeIdent met (length earlier) (toNumber (Is x n))) u w at em q kind usage ≡ chain titled.Not (to (Is is n)) charges
@@ -89,7 +95,8 @@ module _ (met : ℕ → Bool) (earlier : List Variable) (knows : (n : ℕ) → m
     small : x .digits ≤ 4 → capped (x .value) ≡ x .value
     small h = let v = few h in rw (le-ltb 1000000000000000 (x .value) (omega arith))
 
-    by : (b : Bool) → ltb 4 (x .digits) ≡ b → titledBy (judgeIdent met (length earlier) (toNumber (Is x n))) u w at em q kind usage ≡ chain titled.Not (to (Is is n)) charges
+    by : (b : Bool) → ltb 4 (x .digits) ≡ b → titledBy (judgeIdent met (length earlier) (toNumber (Is x n))) u w at em q kind usage
+        ≡ chain titled.Not (to (Is is n)) charges
     by true e = rw e (over (eqb (x .value) 0))
     by false e =
         let h = ltb-false 4 (x .digits) e in
@@ -116,15 +123,18 @@ numberNext (number.Not f) = 0
 judged-next : (met : ℕ → Bool) (count : ℕ) (x : Figures) → numberNext (judgeIdent met count (number.Is x)) ≤ x .next
 unfolding judgeIdent
 judged-next met count x = by (wrongIdent met x) (leb 512 count) where
-  by : (a b : Bool) → numberNext (cond a (number.Not (fault 5 (x .place))) (cond b (number.Not (fault 8 (x .place))) (number.Is x))) ≤ x .next
+  by : (a b : Bool) → numberNext (cond a (number.Not (fault 5 (x .place))) (cond b (number.Not (fault 8 (x .place))) (number.Is x)))
+      ≤ x .next
   by true b = omega arith
   by false true = omega arith
   by false false = omega arith
 
-titled-next : (i : Number) (u : ℕ) (w : Bool) (at : ℕ) (em : Bool) (q kind usage m : ℕ) → numberNext i ≤ m → titledNext (titledBy i u w at em q kind usage) ≤ m
+titled-next : (i : Number) (u : ℕ) (w : Bool) (at : ℕ) (em : Bool) (q kind usage m : ℕ) → numberNext i ≤ m
+    → titledNext (titledBy i u w at em q kind usage) ≤ m
 titled-next (number.Not f) u w at em q kind usage m h = omega arith
 titled-next (number.Is x) u w at em q kind usage m h = by (eqb u 0) w em where
-  by : (a b c : Bool) → titledNext (cond a (cond b (titled.Not (fault 52 at)) (cond c (titled.Not (fault 2 q)) (titled.Is (x .size) kind usage (x .next)))) (titled.Not (fault 51 u))) ≤ m
+  by : (a b c : Bool) → titledNext (cond a (cond b (titled.Not (fault 52 at))
+      (cond c (titled.Not (fault 2 q)) (titled.Is (x .size) kind usage (x .next)))) (titled.Not (fault 51 u))) ≤ m
   by true true c = omega arith
   by true false true = omega arith
   by true false false = h
@@ -143,16 +153,23 @@ title-held bad d old p e {h = h} {em = em} {q = q} {n = n} s t = record {
 }
 
 module _ (bad : Bool) (d : List ℕ) (old : Bool) (seen : List ℕ) (rows : List ℤ) (count p e : ℕ) where
-  pub title-faulty : (number place : ℕ) → titleTag bad d old p e ≡ tag.Fault number place → TitleSaid bad d old seen rows count p e (titled.Not (fault number place))
+  pub title-faulty : (number place : ℕ) → titleTag bad d old p e ≡ tag.Fault number place
+      → TitleSaid bad d old seen rows count p e (titled.Not (fault number place))
   unfolding title
   title-faulty number place f = record { is = λ l r k. rw f; next = omega arith }
 
-  module _ (h : Held) (em : Bool) (q n : ℕ) (t : titleTag bad d old p e ≡ tag.Read h em q n) (fits : stretchFits 1 d (h .a) (h .ae) ≡ true) (m : n ≤ length d) where
+  module _ (h : Held) (em : Bool) (q n : ℕ) (t : titleTag bad d old p e ≡ tag.Read h em q n) (fits : stretchFits 1 d (h .a) (h .ae) ≡ true)
+      (m : n ≤ length d) where
     pub title-read : (w : Bool) → UseSaid rows count (useAt d (h .c) (h .ce)) (typeAt d (h .b) (h .be)) w
         → TitleSaid bad d old seen rows count p e
-        (titledBy (judgeIdent (marked seen) count (toNumber (Is (figureOf d (h .a) (h .ae)) n))) (h .unknown) w (h .c) em q (typeAt d (h .b) (h .be)) (useAt d (h .c) (h .ce)))
+        (titledBy (judgeIdent (marked seen) count (toNumber (Is (figureOf d (h .a) (h .ae)) n))) (h .unknown) w (h .c) em q
+        (typeAt d (h .b) (h .be)) (useAt d (h .c) (h .ce)))
     unfolding title
-    title-read w u = record { is = said; next = titled-next (judgeIdent (marked seen) count (number.Is figures)) (h .unknown) w (h .c) em q (typeAt d (h .b) (h .be)) (useAt d (h .c) (h .ce)) (length d) (omega (arith, judged-next (marked seen) count figures)) } where
+    title-read w u = record {
+      is = said;
+      next = titled-next (judgeIdent (marked seen) count (number.Is figures)) (h .unknown) w (h .c) em q
+          (typeAt d (h .b) (h .be)) (useAt d (h .c) (h .ce)) (length d) (omega (arith, judged-next (marked seen) count figures));
+    } where
       x : Figure
       x = figureOf d (h .a) (h .ae)
 
@@ -160,7 +177,8 @@ module _ (bad : Bool) (d : List ℕ) (old : Bool) (seen : List ℕ) (rows : List
       figures = record { size = capped (x .value); count = x .digits; place = x .place; next = n }
 
       said : (l : List Entry) → RowsOf rows count l → Idents seen l
-          → titledBy (judgeIdent (marked seen) count (toNumber (Is (figureOf d (h .a) (h .ae)) n))) (h .unknown) w (h .c) em q (typeAt d (h .b) (h .be)) (useAt d (h .c) (h .ce))
+          → titledBy (judgeIdent (marked seen) count (toNumber (Is (figureOf d (h .a) (h .ae)) n))) (h .unknown) w (h .c) em q
+          (typeAt d (h .b) (h .be)) (useAt d (h .c) (h .ce))
           ≡ titledOf (title bad d old l p e)
       said l r k =
           let c : length (variablesOf l) ≡ count = variables-count l ∙ r .counted in

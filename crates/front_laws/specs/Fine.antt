@@ -1,4 +1,5 @@
--- What the writer asks of a variable holds of all that are read: their places and parts by the faults that they don't have, their number and
+-- What the writer asks of a variable holds of all that are read: their places and parts by the faults that they don't have, their number
+-- and
 -- lines by the test that reading makes.
 use mathlib.Core.Path.{_≡_, refl, sym, ap, _∙_}
 use mathlib.Core.Logic.{_⊎_, inl, inr}
@@ -70,7 +71,8 @@ content-parts : (room before : ℕ) (c : Content) → Clean (contentFaults room 
     → c ≡ multiple (some s) b → s .width ≡ none → (1 ≤ s .count .value) × (s .count .value ≤ 16384)
 content-parts room before c f h g s b e w =
     let k : Clean (contentFaults room before (multiple (some s) b)) = rw e at f in
-    let n : Clean (spreadCharges room (s .count) (s .width)) = clean-left (spreadCharges room (s .count) (s .width)) (blockFaults false before b) k in
+    let n : Clean (spreadCharges room (s .count) (s .width)) = clean-left (spreadCharges room (s .count) (s .width))
+    (blockFaults false before b) k in
     parts-some room (s .count) (rw w at n) h g
 
 fine : (earlier : List Variable) (v : Variable) → Clean (variableFaults earlier v) → length (linesOf v) ≤ 4096 → Fine v
@@ -85,7 +87,8 @@ fine earlier v c few =
       finish = p .high;
       start = p .order;
       lines = few;
-      parts = content-parts (roomIn v) (linesAll earlier) (v .content) r (omega (arith, p .order, p .high, p .some)) (omega (arith, p .order, p .high, p .some));
+      parts = content-parts (roomIn v) (linesAll earlier) (v .content) r (omega (arith, p .order, p .high, p .some))
+          (omega (arith, p .order, p .high, p .some));
     }
 
 pub all-fine : (d : List ℕ) (earlier l : List Variable) → Clean (variablesFaults earlier l) → linesAll l ≤ 4096 → AllFine d l

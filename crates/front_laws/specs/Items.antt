@@ -45,8 +45,10 @@ module _ (d : List ℕ) where
   abbrev Misses : List ℕ → ℕ → ℕ → Type 0
   Misses v n k = statementFound d n v ≡ found false k
 
-  misses : {n k m : ℕ} (w v : List ℕ) → capitals w ≡ true → capitals v ≡ true → differ w NOTE ≡ true → differ w v ≡ true → Notes d n k → Here d w k m → Misses v n k
-  misses w v a b o q r h = statement-missed d {w = v} b r (other-word d {w = w} {v = NOTE} a note-capitals o h) (other-word d {w = w} {v = v} a b q h)
+  misses : {n k m : ℕ} (w v : List ℕ) → capitals w ≡ true → capitals v ≡ true → differ w NOTE ≡ true → differ w v ≡ true → Notes d n k
+      → Here d w k m → Misses v n k
+  misses w v a b o q r h = statement-missed d {w = v} b r (other-word d {w = w} {v = NOTE} a note-capitals o h)
+      (other-word d {w = w} {v = v} a b q h)
 
   same-text : {t u : Text} → _≡_ {A = Option Text} (some t) (some u) → t ≡ u
   same-text e = cc
@@ -73,7 +75,13 @@ module _ (d : List ℕ) where
       let y = misses USER TIME refl refl refl refl r h in
       let v = misses USER ORIGIN refl refl refl refl r h in
       let a = statement-found d {w = USER} refl refl (token.statement r h) in
-      record { which = rw (z, y, v, a); past = rw (z, y, v, a, string-past d x); few = omega arith; told = λ u e. rw (z, y, v, a) (told-by x u e) }
+      record {
+        which = rw (z, y, v, a);
+        past = rw (z, y, v, a, string-past d x);
+        few = omega arith;
+        told = λ u e. rw (z, y, v, a)
+            (told-by x u e);
+      }
   item-stands (says.standard-names (token.statement r h) k) =
       let z = misses STANDARD DATE refl refl refl refl r h in
       let y = misses STANDARD TIME refl refl refl refl r h in
@@ -98,7 +106,8 @@ module _ (d : List ℕ) where
         misses SURVEY STANDARD refl refl refl refl r h,
       )
 
-  found-step : {n m : ℕ} {e : Entry} (f q : ℕ) → Stands n e m → itemFound (suc f) d n q ≡ cond (eqb (e .item) q) (found true (itemAt d n .next)) (itemFound f d m q)
+  found-step : {n m : ℕ} {e : Entry} (f q : ℕ) → Stands n e m → itemFound (suc f) d n q
+      ≡ cond (eqb (e .item) q) (found true (itemAt d n .next)) (itemFound f d m q)
   unfolding itemFound
   found-step {e = e} f q s = rw (s .past, s .which, ne-eqb (e .item) 5 (λ z. omega (arith, s .few)))
 
@@ -173,7 +182,8 @@ module _ (d : List ℕ) where
   less {e = e} l s g = missing-less (e .item) (e .text) l (s .few) g
 
   -- the place behind all of them
-  pub items-end : (f : ℕ) {l k : List Entry} {n m c : ℕ} → Items d l n k m → Statement d SURVEY m c → missing l < f → itemFound f d n 5 .next ≡ m
+  pub items-end : (f : ℕ) {l k : List Entry} {n m c : ℕ} → Items d l n k m → Statement d SURVEY m c → missing l < f
+      → itemFound f d n 5 .next ≡ m
   items-end zero x s h = absurd (not-suc-le-zero h)
   items-end (suc f) no-more s h = rw (found-none d f 5 s)
   items-end (suc f) (more {l = l} {e = e} x g y) s h =
@@ -196,7 +206,8 @@ module _ (d : List ℕ) where
         by false z ih = ih (there 4 e l (eqb-false (e .item) 4 z) o)
 
   -- a text
-  pub items-text : (f j : ℕ) {l k : List Entry} {n m c : ℕ} → j ≤ 3 → Items d l n k m → Statement d SURVEY m c → missing l < f → given j l ≡ false
+  pub items-text : (f j : ℕ) {l k : List Entry} {n m c : ℕ} → j ≤ 3 → Items d l n k m → Statement d SURVEY m c → missing l < f → given j l
+      ≡ false
       → Tells (itemFound f d n j) (textOf j k)
   items-text zero j b x s h o = absurd (not-suc-le-zero h)
   items-text (suc f) j {l = l} b no-more s h o = rw (found-none d f j s, ne-eqb 5 j (λ z. omega arith), untold j l o) (nothing refl)

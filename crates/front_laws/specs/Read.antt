@@ -29,16 +29,19 @@ use Rattle.front_laws.specs.Fine.{all-fine}
 pub few : (d : List ℕ) (n : ℕ) (l : List Variable) → outcomeOf d n ≡ Built l → (length l ≤ 512) × (linesAll l ≤ 4096)
 unfolding books.answerIn answerOf
 few d n l e = by refl e (outcome-same d n) where
-  by : {o : books.Outcome} {q : Outcome} → books.outcomeIn d n ≡ o → q ≡ Built l → SameOutcome d o q → (length l ≤ 512) × (linesAll l ≤ 4096)
+  by : {o : books.Outcome} {q : Outcome} → books.outcomeIn d n ≡ o → q ≡ Built l → SameOutcome d o q → (length l ≤ 512)
+      × (linesAll l ≤ 4096)
   by i j (bridge.built {l = k} s) =
       let g = built-good d n k i in
-      let a : answer.Read (length k) (kept.linesAll k) ≡ answer.Read (length l) (linesAll l) = sym (ap books.answerIn i) ∙ answer-same d n ∙ ap answerOf e in
+      let a : answer.Read (length k) (kept.linesAll k) ≡ answer.Read (length l) (linesAll l) = sym (ap books.answerIn i) ∙ answer-same d n
+      ∙ ap answerOf e in
       let b : length k ≡ length l = cc in
       let c : kept.linesAll k ≡ linesAll l = cc in
       (omega (arith, b, few-rows (g .0)), omega (arith, c, few-lines (g .0)))
   by i j bridge.refused = never cc
 
-pub read-clean : (d : List ℕ) (n : ℕ) {s : Survey} {m : ℕ} → surveyOf d ≡ Is s m → outcomeOf d n ≡ Built (s .variables) → wholeText d ≡ cleanOf d s
+pub read-clean : (d : List ℕ) (n : ℕ) {s : Survey} {m : ℕ} → surveyOf d ≡ Is s m → outcomeOf d n ≡ Built (s .variables) → wholeText d
+    ≡ cleanOf d s
 read-clean d n {s} {m} e o =
     let x = definition-exactly d s m .0 e in
     let f = few d n (s .variables) o in

@@ -33,7 +33,8 @@ use Rattle.page_laws.specs.Tokens.{string-end}
 use Rattle.page_laws.specs.Values.{text-append}
 use Rattle.page_laws.specs.Variables.{AllFine, variables-page}
 use Rattle.fronts.specs.declared.Letter as books
-use Rattle.fronts.specs.Front.{found, itemFound, letterIn, letterAt, openingPast, itemsOf, frontAt, perhapsText, standardText, opened, headText, tailText, closed, wholeText}
+use Rattle.fronts.specs.Front.{found, itemFound, letterIn, letterAt, openingPast, itemsOf, frontAt, perhapsText, standardText, opened}
+use Rattle.fronts.specs.Front.{headText, tailText, closed, wholeText}
 use Rattle.front_laws.specs.Items.{Spoken, Tells, nothing, a-text, items-end, items-standard, items-text}
 
 -- lists one behind the other
@@ -41,7 +42,8 @@ flat : (a b c e f g m r : List ℕ) → ((((((a ++ b) ++ c) ++ e) ++ f) ++ g) ++
 flat a b c e f g m r =
     append-assoc (((((a ++ b) ++ c) ++ e) ++ f) ++ g) m r
     ∙ ap (λ (x : List ℕ). x ++ (m ++ r))
-    (append-assoc (((a ++ b) ++ c) ++ e) f g ∙ append-assoc ((a ++ b) ++ c) e (f ++ g) ∙ append-assoc (a ++ b) c (e ++ (f ++ g)) ∙ append-assoc a b (c ++ (e ++ (f ++ g))))
+    (append-assoc (((a ++ b) ++ c) ++ e) f g ∙ append-assoc ((a ++ b) ++ c) e (f ++ g) ∙ append-assoc (a ++ b) c (e ++ (f ++ g))
+    ∙ append-assoc a b (c ++ (e ++ (f ++ g))))
 
 module _ (d : List ℕ) where
   -- ---- the opening
@@ -62,7 +64,8 @@ module _ (d : List ℕ) where
   unfolding perhapsText framed textOf
   perhaps-text w (nothing e) = rw e
   perhaps-text w (a-text {t = t} e s) =
-      rw (e, s .from, s .end) (quoted-words w (spanOf d (t .place) (t .place + t .length)) ∙ sym (append-nil (lineOf (w ∷ quoted d t ∷ []))))
+      rw (e, s .from, s .end) (quoted-words w (spanOf d (t .place) (t .place + t .length))
+      ∙ sym (append-nil (lineOf (w ∷ quoted d t ∷ []))))
 
   standard-text : (f : Found) (q : Bool) → f .there ≡ q → standardText f ≡ textOf (standardLine d q)
   unfolding standardText textOf lineOf
@@ -73,23 +76,27 @@ module _ (d : List ℕ) where
   title-tells : {c e f : ℕ} {t : Option Text} → Title d c t e → Statement d RECORD e f → Tells d (statementFound d c TITLE) t
   unfolding capitals differ
   title-tells (says.title {t = t} (token.phrase s x)) r =
-      rw (statement-found d {w = TITLE} refl refl s) (a-text {t = t} refl (record { from = rw (string-past d x); end = rw (string-past d x) (string-end d x) }))
+      rw (statement-found d {w = TITLE} refl refl s)
+      (a-text {t = t} refl (record { from = rw (string-past d x); end = rw (string-past d x) (string-end d x) }))
   title-tells says.untitled (token.statement z h) =
-      rw (statement-missed d {w = TITLE} refl z (other-word d {w = RECORD} {v = NOTE} refl note-capitals refl h) (other-word d {w = RECORD} {v = TITLE} refl refl refl h)) (nothing refl)
+      rw (statement-missed d {w = TITLE} refl z (other-word d {w = RECORD} {v = NOTE} refl note-capitals refl h)
+      (other-word d {w = RECORD} {v = TITLE} refl refl refl h)) (nothing refl)
 
   title-past : {c e f : ℕ} {t : Option Text} → Title d c t e → Statement d RECORD e f
       → cond (statementFound d c TITLE .there) (stringSpan d (statementFound d c TITLE .next) .next) c ≡ e
   unfolding capitals differ
   title-past (says.title (token.phrase s x)) r = rw (statement-found d {w = TITLE} refl refl s, string-past d x)
   title-past says.untitled (token.statement z h) =
-      rw (statement-missed d {w = TITLE} refl z (other-word d {w = RECORD} {v = NOTE} refl note-capitals refl h) (other-word d {w = RECORD} {v = TITLE} refl refl refl h))
+      rw (statement-missed d {w = TITLE} refl z (other-word d {w = RECORD} {v = NOTE} refl note-capitals refl h)
+      (other-word d {w = RECORD} {v = TITLE} refl refl refl h))
 
   letter-past : {n b m : ℕ} → Letter d n b m → letterAt d n ≡ record { byte = b; next = m }
   unfolding letterAt letterIn stepOf
   letter-past (token.letter g e c) = rw (gap-past d g, e)
 
   -- ---- where all of it stands
-  module _ {a b c e f g : ℕ} {l : List Entry} {t : Option Text} {x : ℕ} (o : Opening d a) (i : Items d [] a l b) (v : Statement d SURVEY b c) (u : Title d c t e)
+  module _ {a b c e f g : ℕ} {l : List Entry} {t : Option Text} {x : ℕ} (o : Opening d a) (i : Items d [] a l b)
+      (v : Statement d SURVEY b c) (u : Title d c t e)
       (r : Statement d RECORD e f) (w : Letter d f x g) where
     none-given : reading.given 0 [] ≡ false
     unfolding given someOf
@@ -115,7 +122,8 @@ module _ (d : List ℕ) where
     unfolding frontAt
     front-title = rw (opening-past o) (rw items-next (rw survey-past refl))
 
-    letter-is : letterAt d (statementPast d (cond (statementFound d c TITLE .there) (stringSpan d (statementFound d c TITLE .next) .next) c) RECORD) ≡ record { byte = x; next = g }
+    letter-is : letterAt d (statementPast d (cond (statementFound d c TITLE .there) (stringSpan d (statementFound d c TITLE .next) .next) c)
+        RECORD) ≡ record { byte = x; next = g }
     letter-is = rw (title-past u r) (rw record-past (letter-past w))
 
     front-letter : frontAt d .letter ≡ x
@@ -190,9 +198,11 @@ module _ (d : List ℕ) where
             (text-append ((p0 ++ p1) ++ p2) p3
             ∙ ap (λ (s : List ℕ). s ++ textOf p3)
             (text-append (p0 ++ p1) p2 ∙ ap (λ (s : List ℕ). s ++ textOf p2) (text-append p0 p1)))))
-            ∙ flat opened (textOf (perhaps d DATE (reading.textOf 0 l))) (textOf p1) (textOf p2) (textOf p3) (textOf p4) (textOf p5) (textOf p6)
+            ∙ flat opened (textOf (perhaps d DATE (reading.textOf 0 l))) (textOf p1) (textOf p2) (textOf p3) (textOf p4) (textOf p5)
+            (textOf p6)
 
-    clean-text : (v : List Variable) → cleanOf d (record { heading = heading l t x; variables = v }) ≡ heads ++ (tails ++ (textOf (eachVariable d v) ++ closed))
+    clean-text : (v : List Variable) → cleanOf d (record { heading = heading l t x; variables = v }) ≡ heads
+        ++ (tails ++ (textOf (eachVariable d v) ++ closed))
     unfolding cleanOf cleanLines textOf lineOf
     clean-text v = whole
       where
@@ -212,11 +222,13 @@ module _ (d : List ℕ) where
             ∙ append-assoc (heads ++ tails) (textOf e′) closed
             ∙ append-assoc heads tails (textOf e′ ++ closed)
 
-    whole-front : (v : List Variable) → variablesPage 512 d g .text ≡ textOf (eachVariable d v) → wholeText d ≡ heads ++ (tails ++ (textOf (eachVariable d v) ++ closed))
+    whole-front : (v : List Variable) → variablesPage 512 d g .text ≡ textOf (eachVariable d v) → wholeText d ≡ heads
+        ++ (tails ++ (textOf (eachVariable d v) ++ closed))
     unfolding wholeText
     whole-front v q = rw (front-items, front-title, front-letter, front-next) (rw (head-text, tail-text, q) refl)
 
   -- THE WHOLE
-  pub whole-is : {s : Survey} {m : ℕ} → Definition d s m → AllFine d (s .variables) → length (s .variables) ≤ 512 → wholeText d ≡ cleanOf d s
+  pub whole-is : {s : Survey} {m : ℕ} → Definition d s m → AllFine d (s .variables) → length (s .variables) ≤ 512 → wholeText d
+      ≡ cleanOf d s
   whole-is (says.definition {v = vs} o i v u r w x (token.end y e) a b) fine few =
       whole-front o i v u r w vs (ap (λ (q : Page). q .text) (variables-page d 512 x y fine few)) ∙ sym (clean-text o i v u r w vs)

@@ -1,4 +1,5 @@
-// All that stands before the first variable of a definition that was read before: where its texts are, whatever their order; and the clean text
+// All that stands before the first variable of a definition that was read before: where its texts are, whatever their order; and the clean
+// text
 // as a whole, sent to be measured or stored. Above it stands the call that writes clean definitions.
 use scan::Step;
 use steps::Found;
@@ -10,10 +11,12 @@ ghost use Rattle.ascii.specs.rule.Tens.{Tens};
 ghost use Rattle.scan.specs.rule.Text.{text};
 ghost use Rattle.sink.specs.rule.Sent.{Sent};
 ghost use Rattle.steps.specs.Step.{placeIn};
-ghost use Rattle.fronts.specs.Front.{itemAt, itemPast, itemFound, letterIn, letterAt, openingPast, itemsOf, frontAt, perhapsText, standardText, headText, tailText};
+ghost use Rattle.fronts.specs.Front.{itemAt, itemPast, itemFound, letterIn, letterAt, openingPast, itemsOf, frontAt, perhapsText};
+ghost use Rattle.fronts.specs.Front.{standardText, headText, tailText};
 ghost use Rattle.fronts.specs.Front.{wholeText};
 
-// A statement of the heading: 0 DATE, 1 TIME, 2 ORIGIN, 3 USER, 4 STANDARD, and the place behind its word; 5 another, and where it was looked for.
+// A statement of the heading: 0 DATE, 1 TIME, 2 ORIGIN, 3 USER, 4 STANDARD, and the place behind its word; 5 another, and where it was
+// looked for.
 pub struct Item {
     pub which: usize,
     pub next: usize,

@@ -71,7 +71,8 @@ module _ (d : List ℕ) (t : Reading) where
   names-less : (h : Heading) (m : ℕ) → left d (At m) < left d t → left d (nameEntry d h t m .next) < left d t
   unfolding nameEntry
   names-less h m l = by (h .standard) where
-    by : (q : Bool) → left d (cond {A = Entered} q (entered (named h) (again t)) (entered (named h) (notesOn d (wordOn d (At m) NAMES))) .next) < left d t
+    by : (q : Bool) → left d (cond {A = Entered} q (entered (named h) (again t))
+        (entered (named h) (notesOn d (wordOn d (At m) NAMES))) .next) < left d t
     by true = omega (arith, again-left)
     by false = omega (arith, notes-left d (wordOn d (At m) NAMES), word-left d (At m) 78 (65 ∷ 77 ∷ 69 ∷ 83 ∷ []))
 
@@ -79,23 +80,34 @@ module _ (d : List ℕ) where
   pub falls : (e f : Entered) → entryStep d e (entryOf d (e .next)) ≡ Again f → left d (f .next) < left d (e .next)
   falls e f = by (entryOf d (e .next)) (takes d (e .next)) where
     by : (k : Entry) → Takes d (e .next) k → entryStep d e k ≡ Again f → left d (f .next) < left d (e .next)
-    by (Text k m) (text l) q = let j : textEntry d (e .heading) (e .next) k m ≡ f = cc in rw (← j) (text-less d (e .next) (e .heading) k m l)
-    by (Standard m) (names l) q = let j : nameEntry d (e .heading) (e .next) m ≡ f = cc in rw (← j) (names-less d (e .next) (e .heading) m l)
+    by (Text k m) (text l) q = let j : textEntry d (e .heading) (e .next) k m ≡ f = cc in
+        rw (← j) (text-less d (e .next) (e .heading) k m l)
+    by (Standard m) (names l) q = let j : nameEntry d (e .heading) (e .next) m ≡ f = cc in
+        rw (← j) (names-less d (e .next) (e .heading) m l)
     by Other none q = let z : _≡_ {A = ℕ} 0 1 = cc in absurd (omega arith)
 
   module _ (h : Heading) (t : Reading) {k : Entry} (e : k ≡ entryOf d t) where
-    pub entries-text : {n m : ℕ} → k ≡ Text n m → (entriesFrom d (entered h t) ≡ entriesFrom d (textEntry d h t n m)) × (left d (textEntry d h t n m .next) < left d t)
+    pub entries-text : {n m : ℕ} → k ≡ Text n m → (entriesFrom d (entered h t) ≡ entriesFrom d (textEntry d h t n m))
+        × (left d (textEntry d h t n m .next) < left d t)
     unfolding entriesFrom
     entries-text {n} {m} f =
-        let q : entryStep d (entered h t) (entryOf d t) ≡ Again (textEntry d h t n m) = rw (sym e ∙ f) in
-        (loop-again (λ e. entryStep d e (entryOf d (e .next))) (entered noHeading (At 0)) (λ e. left d (e .next)) falls {s = entered h t} {s′ = textEntry d h t n m} q, falls (entered h t) (textEntry d h t n m) q)
+        let q : entryStep d (entered h t) (entryOf d t) ≡ Again (textEntry d h t n m) = rw (sym e ∙ f) in (
+          loop-again (λ e. entryStep d e (entryOf d (e .next))) (entered noHeading (At 0)) (λ e. left d (e .next)) falls {s = entered h t}
+              {s′ = textEntry d h t n m} q,
+          falls (entered h t) (textEntry d h t n m) q,
+        )
 
-    pub entries-names : {m : ℕ} → k ≡ Standard m → (entriesFrom d (entered h t) ≡ entriesFrom d (nameEntry d h t m)) × (left d (nameEntry d h t m .next) < left d t)
+    pub entries-names : {m : ℕ} → k ≡ Standard m → (entriesFrom d (entered h t) ≡ entriesFrom d (nameEntry d h t m))
+        × (left d (nameEntry d h t m .next) < left d t)
     unfolding entriesFrom
     entries-names {m} f =
-        let q : entryStep d (entered h t) (entryOf d t) ≡ Again (nameEntry d h t m) = rw (sym e ∙ f) in
-        (loop-again (λ e. entryStep d e (entryOf d (e .next))) (entered noHeading (At 0)) (λ e. left d (e .next)) falls {s = entered h t} {s′ = nameEntry d h t m} q, falls (entered h t) (nameEntry d h t m) q)
+        let q : entryStep d (entered h t) (entryOf d t) ≡ Again (nameEntry d h t m) = rw (sym e ∙ f) in (
+          loop-again (λ e. entryStep d e (entryOf d (e .next))) (entered noHeading (At 0)) (λ e. left d (e .next)) falls {s = entered h t}
+              {s′ = nameEntry d h t m} q,
+          falls (entered h t) (nameEntry d h t m) q,
+        )
 
     pub entries-other : k ≡ Other → entriesFrom d (entered h t) ≡ entered h t
     unfolding entriesFrom
-    entries-other f = loop-done (λ e. entryStep d e (entryOf d (e .next))) (entered noHeading (At 0)) (λ e. left d (e .next)) falls {s = entered h t} (rw (sym e ∙ f))
+    entries-other f = loop-done (λ e. entryStep d e (entryOf d (e .next))) (entered noHeading (At 0)) (λ e. left d (e .next)) falls
+        {s = entered h t} (rw (sym e ∙ f))

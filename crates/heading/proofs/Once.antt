@@ -139,14 +139,16 @@ module _ (d : List ℕ) (t : Reading) where
     text-onward : (k m : ℕ) → k ≤ 3 → Onward d s (textEntry d h t k m)
     unfolding textEntry keptOf pastString
     text-onward k m l = by (onceOf d (textAt h k) t m) refl where
-      by : (p : Phrase) → onceOf d (textAt h k) t m ≡ p → Onward d s (entered (withText h k (keptOf (textAt h k) p)) (notesOn d (pastString p)))
+      by : (p : Phrase) → onceOf d (textAt h k) t m ≡ p
+          → Onward d s (entered (withText h k (keptOf (textAt h k) p)) (notesOn d (pastString p)))
       by (Is q) e = on k (text t m r l e)
       by (Not f) e = rw (notes-over f) over
 
     names-onward : (m : ℕ) → Onward d s (nameEntry d h t m)
     unfolding nameEntry again
     names-onward m = by (h .standard) t where
-      by : (x : Bool) (t : Reading) → Onward d s (cond {A = Entered} x (entered (named h) (again t)) (entered (named h) (notesOn d (wordOn d (At m) NAMES))))
+      by : (x : Bool) (t : Reading) → Onward d s (cond {A = Entered} x (entered (named h) (again t))
+          (entered (named h) (notesOn d (wordOn d (At m) NAMES))))
       by true (At n) = over
       by true (Refused f) = over
       by false t = on 4 (names r)

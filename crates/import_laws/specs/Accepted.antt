@@ -42,9 +42,11 @@ use Rattle.name_line.specs.rule.Names.{nameLine}
 use Rattle.name_line.specs.Names.{nameAt}
 use Rattle.exports.specs.rule.Text.{exportLines}
 use Rattle.import_rule.specs.rule.Line.{LineSays, builds, faulty, onField, recordFrom, lineSays}
-use Rattle.import_rule.specs.rule.Text.{TextSays, accepts, refuses, andRecord, onLine, linesSay, sameBytes, differAt, namesThen, namesSay, textSays, fileBytes}
+use Rattle.import_rule.specs.rule.Text.{TextSays, accepts, refuses, andRecord, onLine, linesSay, sameBytes, differAt, namesThen, namesSay}
+use Rattle.import_rule.specs.rule.Text.{textSays, fileBytes}
 use Rattle.imports.specs.rule.Import.{importSays}
-use Rattle.import_laws.specs.rule.Exported.{FieldsLeft, no-field, and-field, LinesLeft, no-line, and-line, TextLeft, and-names, IsExport, Original, Accepts}
+use Rattle.import_laws.specs.rule.Exported.{FieldsLeft, no-field, and-field, LinesLeft, no-line, and-line, TextLeft, and-names}
+use Rattle.import_laws.specs.rule.Exported.{IsExport, Original, Accepts}
 use Rattle.import_laws.specs.rule.Trip.{Table}
 use Rattle.import_laws.specs.Round.{none-differ}
 use Rattle.import_laws.specs.Again.{AllLeft, all-left, line-again}
@@ -80,7 +82,8 @@ no-accepts e = let z : _≡_ {A = ℕ} 0 1 = cc in absurd (omega arith)
 -- ---- the lines that are accepted, one by one
 data AllBuilt (t : List ℤ) : List (List (List ℕ)) → List (List ℕ) → Type 0 where
   none-built : AllBuilt t [] []
-  one-built : {fs : List (List ℕ)} {ms : List (List (List ℕ))} {r : List ℕ} {rs : List (List ℕ)} → lineSays t fs ≡ builds r → AllBuilt t ms rs
+  one-built : {fs : List (List ℕ)} {ms : List (List (List ℕ))} {r : List ℕ} {rs : List (List ℕ)} → lineSays t fs ≡ builds r
+      → AllBuilt t ms rs
       → AllBuilt t (fs ∷ ms) (r ∷ rs)
 
 record Lined (t : List ℤ) (ls : Lines) (rs : List (List ℕ)) : Type 0 where
@@ -124,12 +127,14 @@ texted t names s rs e = go (linesOf (page fresh s)) refl e
     go (broken c) p w = no-accepts w
     go (line fs ls) p w = by (eqb (differAt 1 names fs) 0) refl w
       where
-        by : (b : Bool) → eqb (differAt 1 names fs) 0 ≡ b → cond b (linesSay t 2 ls) (refuses 62 1 (differAt 1 names fs)) ≡ accepts rs → Texted t names s rs
+        by : (b : Bool) → eqb (differAt 1 names fs) 0 ≡ b → cond b (linesSay t 2 ls) (refuses 62 1 (differAt 1 names fs)) ≡ accepts rs
+            → Texted t names s rs
         by false q k = no-accepts k
         by true q k =
             let l = lined t 2 ls rs k in
             let n : names ≡ fs = differ-none 1 names fs (omega arith) (eqb-true (differAt 1 names fs) 0 q) in
-            let h : linesOf (page start s) ≡ allOf (names ∷ l .fields) = ap linesOf (start-fresh s 0 (not-empty s p)) ∙ p ∙ ap (line fs) (l .are) ∙ ap (λ (x : List (List ℕ)). line x (allOf (l .fields))) (sym n) in
+            let h : linesOf (page start s) ≡ allOf (names ∷ l .fields) = ap linesOf (start-fresh s 0 (not-empty s p)) ∙ p
+            ∙ ap (line fs) (l .are) ∙ ap (λ (x : List (List ℕ)). line x (allOf (l .fields))) (sym n) in
             record { fields = l .fields; spelt = text-exactly s (names ∷ l .fields) .0 h; all = l .all }
 
 -- ---- what is exported of the records
@@ -148,7 +153,8 @@ module _ {t : List ℤ} (g : Table t) where
   unfolding rows.recordLine
   line-left fs r e = let a = line-again g fs r e in rw (← (a .many)) (fields-left (all-left (a .reads)))
 
-  lines-left : {fs : List (List (List ℕ))} {rs : List (List ℕ)} → AllBuilt t fs rs → LinesLeft t (rows.linesOf t (length rs) (before rs over)) fs
+  lines-left : {fs : List (List (List ℕ))} {rs : List (List ℕ)} → AllBuilt t fs rs
+      → LinesLeft t (rows.linesOf t (length rs) (before rs over)) fs
   unfolding rows.linesOf before
   lines-left none-built = no-line
   lines-left (one-built {fs = fs} {r = r} e k) = and-line (line-left fs r e) (lines-left k)
@@ -159,7 +165,8 @@ module _ {t : List ℤ} (g : Table t) where
 
   -- EXPORTING WHAT WAS IMPORTED: the file that was built is sound, and its export is the text again, needless quotes and cut zeros aside
   pub import-again : (def s : List ℕ) (rs : List (List ℕ)) → importSays def t s ≡ accepts rs
-      → (fileVerdict t (fileBytes rs) ≡ soundWith (length rs)) × (recordsOf (fileBytes rs) ≡ before rs over) × AllSound t (lengthOf t) rs × IsExport def t (fileBytes rs) s
+      → (fileVerdict t (fileBytes rs) ≡ soundWith (length rs)) × (recordsOf (fileBytes rs) ≡ before rs over) × AllSound t (lengthOf t) rs
+      × IsExport def t (fileBytes rs) s
   unfolding importSays nameLine
   import-again def s rs e =
       let x = texted t (each (nameAt def t) 0 (rowsOf t)) s rs e in
@@ -177,7 +184,8 @@ module _ {t : List ℤ} (g : Table t) where
       )
 
   -- ---- and the other way: what is left of a sound record's line builds a record
-  left-value : (r : List ℕ) (i : ℕ) (f : List ℕ) (x : Value) → readingAt t i r ≡ holds x → Left (decimalsOf (rowAt t i .kind)) (rowField t r i) f
+  left-value : (r : List ℕ) (i : ℕ) (f : List ℕ) (x : Value) → readingAt t i r ≡ holds x
+      → Left (decimalsOf (rowAt t i .kind)) (rowField t r i) f
       → IsValue t (rowsOf t) (rowAt t i) f x
   unfolding rowField fieldText
   left-value r i f x e l = record { accepted = read-fits t (rowsOf t) (rowAt t i) x r e; written = rw e at l }
@@ -186,7 +194,8 @@ module _ {t : List ℤ} (g : Table t) where
     pub bytes : List ℕ
     pub is : says ≡ builds bytes
 
-  left-built : (r : List ℕ) → ((i : ℕ) → i < rowsOf t → isIllegal (readingAt t i r) ≡ false) → (n i : ℕ) (fs : List (List ℕ)) (s : List ℕ) → i + n ≡ rowsOf t
+  left-built : (r : List ℕ) → ((i : ℕ) → i < rowsOf t → isIllegal (readingAt t i r) ≡ false) → (n i : ℕ) (fs : List (List ℕ)) (s : List ℕ)
+      → i + n ≡ rowsOf t
       → FieldsLeft t i (each (rowField t r) i n) fs → Some (recordFrom t (rowsOf t) i fs s)
   unfolding each recordFrom onField
   left-built r legal zero i [] s h no-field = record { bytes = s; is = refl }
@@ -210,7 +219,8 @@ module _ {t : List ℤ} (g : Table t) where
   unfolding rows.recordLine lineSays
   line-some r e fs k =
       let n : length fs ≡ rowsOf t = sym (left-many k) ∙ length-each (rowField t r) (rowsOf t) 0 in
-      rw (eq-eqb (length fs) (rowsOf t) n) (left-built r (sound-passes t (g .formed) r e .legal-rows) (rowsOf t) 0 fs (spaces (lengthOf t)) (omega arith) k)
+      rw (eq-eqb (length fs) (rowsOf t) n) (left-built r (sound-passes t (g .formed) r e .legal-rows) (rowsOf t) 0 fs (spaces (lengthOf t))
+      (omega arith) k)
 
   record Taken (says : TextSays) : Type 0 where
     pub records : List (List ℕ)
@@ -225,9 +235,14 @@ module _ {t : List ℤ} (g : Table t) where
       let w = lines-taken rs a ms (k + 1) y in
       record { records = b .bytes ∷ w .records; is = rw (b .is, w .is) }
 
-  text-taken : (names : List (List ℕ)) (s : List ℕ) (ms : List (List (List ℕ))) → IsText (names ∷ ms) s → Taken (linesSay t 2 (allOf ms)) → Taken (textSays t names s)
+  text-taken : (names : List (List ℕ)) (s : List ℕ) (ms : List (List (List ℕ))) → IsText (names ∷ ms) s → Taken (linesSay t 2 (allOf ms))
+      → Taken (textSays t names s)
   unfolding textSays namesSay namesThen
-  text-taken names s ms x w = record { records = w .records; is = ap (namesSay t names) (text-read-fresh x) ∙ rw (none-differ 1 names) (w .is) }
+  text-taken names s ms x w = record {
+    records = w .records;
+    is = ap (namesSay t names) (text-read-fresh x)
+        ∙ rw (none-differ 1 names) (w .is);
+  }
 
   left-text : {names : List (List ℕ)} {es ls : List (List (List ℕ))} {A : Type 0} → TextLeft t (names ∷ es) ls
       → ((ms : List (List (List ℕ))) → ls ≡ names ∷ ms → LinesLeft t es ms → A) → A

@@ -60,7 +60,8 @@ module _ {t : List ℤ} (g : Table t) where
     pub reads : (j : ℕ) → j < i → readingAt t j s ≡ readingAt t j s₀
 
   kept-by : (i : ℕ) (s₀ s : List ℕ) (fs : List (List ℕ)) → i < rowsOf t → (y : Field)
-      → ((x : Value) → recordFrom t (rowsOf t) (i + 1) fs (writtenOf t (rowsOf t) (rowAt t i) x s₀) ≡ builds s → Kept (i + 1) (writtenOf t (rowsOf t) (rowAt t i) x s₀) s)
+      → ((x : Value) → recordFrom t (rowsOf t) (i + 1) fs (writtenOf t (rowsOf t) (rowAt t i) x s₀) ≡ builds s
+      → Kept (i + 1) (writtenOf t (rowsOf t) (rowAt t i) x s₀) s)
       → onField y (λ x. recordFrom t (rowsOf t) (i + 1) fs (writtenOf t (rowsOf t) (rowAt t i) x s₀)) (i + 1) ≡ builds s → Kept i s₀ s
   unfolding onField
   kept-by i s₀ s fs h (holds x) rec w =
@@ -75,28 +76,35 @@ module _ {t : List ℤ} (g : Table t) where
   unfolding recordFrom
   kept [] i s₀ s h e = let q = same-builds e in record { size = ap length (sym q); reads = λ j l. ap (readingAt t j) (sym q) }
   kept (f ∷ fs) i s₀ s h e =
-      kept-by i s₀ s fs (omega arith) (valueFrom t (rowsOf t) (rowAt t i) f) (λ x w. kept fs (i + 1) (writtenOf t (rowsOf t) (rowAt t i) x s₀) s (omega arith) w) e
+      kept-by i s₀ s fs (omega arith) (valueFrom t (rowsOf t) (rowAt t i) f)
+      (λ x w. kept fs (i + 1) (writtenOf t (rowsOf t) (rowAt t i) x s₀) s (omega arith) w) e
 
   -- each field is the value that its row reads as
-  read-by : (f : List ℕ) (fs : List (List ℕ)) (i : ℕ) (s₀ s : List ℕ) → length s₀ ≡ lengthOf t → i + suc (length fs) ≤ rowsOf t → (y : Field)
+  read-by : (f : List ℕ) (fs : List (List ℕ)) (i : ℕ) (s₀ s : List ℕ) → length s₀ ≡ lengthOf t → i + suc (length fs) ≤ rowsOf t
+      → (y : Field)
       → valueFrom t (rowsOf t) (rowAt t i) f ≡ y
       → ((x : Value) → recordFrom t (rowsOf t) (i + 1) fs (writtenOf t (rowsOf t) (rowAt t i) x s₀) ≡ builds s → AllRead t s (i + 1) fs)
-      → onField y (λ x. recordFrom t (rowsOf t) (i + 1) fs (writtenOf t (rowsOf t) (rowAt t i) x s₀)) (i + 1) ≡ builds s → AllRead t s i (f ∷ fs)
+      → onField y (λ x. recordFrom t (rowsOf t) (i + 1) fs (writtenOf t (rowsOf t) (rowAt t i) x s₀)) (i + 1) ≡ builds s
+      → AllRead t s i (f ∷ fs)
   unfolding onField
   read-by f fs i s₀ s l h (holds x) q rec w =
       let b : i < rowsOf t = omega arith in
       let v = value-exactly (row-facts t (g .formed) i b) f x .0 q in
       let k = kept fs (i + 1) (writtenOf t (rowsOf t) (rowAt t i) x s₀) s (omega arith) w in
-      AllRead.one-more x (k .reads i (omega arith) ∙ reads-back (rowAt t i) (row-facts t (g .formed) i b) s₀ (row-topped t (g .formed) i b) x (omega (arith, l)) (v .accepted)) v (rec x w)
+      AllRead.one-more x (k .reads i (omega arith)
+      ∙ reads-back (rowAt t i) (row-facts t (g .formed) i b) s₀ (row-topped t (g .formed) i b) x (omega (arith, l)) (v .accepted)) v
+      (rec x w)
   read-by f fs i s₀ s l h illegal q rec w = no-builds w
 
-  all-read : (fs : List (List ℕ)) (i : ℕ) (s₀ s : List ℕ) → length s₀ ≡ lengthOf t → i + length fs ≤ rowsOf t → recordFrom t (rowsOf t) i fs s₀ ≡ builds s
+  all-read : (fs : List (List ℕ)) (i : ℕ) (s₀ s : List ℕ) → length s₀ ≡ lengthOf t → i + length fs ≤ rowsOf t
+      → recordFrom t (rowsOf t) i fs s₀ ≡ builds s
       → AllRead t s i fs
   unfolding recordFrom
   all-read [] i s₀ s l h e = AllRead.none-more
   all-read (f ∷ fs) i s₀ s l h e =
       read-by f fs i s₀ s l h (valueFrom t (rowsOf t) (rowAt t i) f) refl
-      (λ x w. all-read fs (i + 1) (writtenOf t (rowsOf t) (rowAt t i) x s₀) s (written-length t (rowsOf t) (rowAt t i) x s₀ ∙ l) (omega arith) w) e
+      (λ x w. all-read fs (i + 1) (writtenOf t (rowsOf t) (rowAt t i) x s₀) s (written-length t (rowsOf t) (rowAt t i) x s₀ ∙ l)
+      (omega arith) w) e
 
   -- A LINE THAT BUILDS A RECORD has a field for each row, the record has L bytes, and each row reads as the value that its field is
   pub record Again (fs : List (List ℕ)) (s : List ℕ) : Type 0 where

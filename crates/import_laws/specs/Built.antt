@@ -44,7 +44,8 @@ field-taken : (t : List ℤ) → Table t → (i : ℕ) → i < rowsOf t → (f :
 field-taken t g i h f x k = value-exactly (row-facts t (g .formed) i h) f x .1 k
 
 -- the field that export writes for a row is the row's value
-pub own-field : (t : List ℤ) (r : List ℕ) (i : ℕ) (x : Value) → readingAt t i r ≡ holds x → IsValue t (rowsOf t) (rowAt t i) (rowField t r i) x
+pub own-field : (t : List ℤ) (r : List ℕ) (i : ℕ) (x : Value) → readingAt t i r ≡ holds x
+    → IsValue t (rowsOf t) (rowAt t i) (rowField t r i) x
 unfolding rowField fieldText
 own-field t r i x e = record {
   accepted = read-fits t (rowsOf t) (rowAt t i) x r e;
@@ -73,7 +74,8 @@ module _ {t : List ℤ} (g : Table t) where
   }
     where
       here : (j : ℕ) → j ≡ i → readingAt t j (writtenOf t (rowsOf t) (rowAt t i) x s) ≡ values j
-      here j q = rw q (reads-back (rowAt t i) (row-facts t (g .formed) i h) s (row-topped t (g .formed) i h) x (omega (arith, r .size)) f ∙ sym e)
+      here j q = rw q (reads-back (rowAt t i) (row-facts t (g .formed) i h) s (row-topped t (g .formed) i h) x (omega (arith, r .size)) f
+          ∙ sym e)
 
       there : (j : ℕ) → j < i + 1 → (j ≡ i → ⊥) → readingAt t j (writtenOf t (rowsOf t) (rowAt t i) x s) ≡ values j
       there j l q =

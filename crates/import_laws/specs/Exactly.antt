@@ -23,11 +23,13 @@ use Rattle.csv_fields.specs.rule.Page.{fresh, page, Lines, done, broken, line, 
 use Rattle.field_values.specs.rule.Read.{valueFrom}
 use Rattle.field_values.specs.Exactly.{value-exactly, value-none}
 use Rattle.import_rule.specs.rule.Line.{LineSays, builds, faulty, onField, recordFrom, lineSays}
-use Rattle.import_rule.specs.rule.Text.{TextSays, accepts, refuses, andRecord, onLine, linesSay, sameBytes, differAt, namesThen, namesSay, textSays, fileBytes, dataOf}
+use Rattle.import_rule.specs.rule.Text.{TextSays, accepts, refuses, andRecord, onLine, linesSay, sameBytes, differAt, namesThen, namesSay}
+use Rattle.import_rule.specs.rule.Text.{textSays, fileBytes, dataOf}
 use Rattle.imports.specs.rule.Import.{ImportVerdict, refused, written, roomed, importSays, importVerdict, outputAfter, Imported}
 use Rattle.import_laws.specs.rule.Exactly.{Written, all-written, one-written, no-value, LineOutcome, other-count, its-fields}
 use Rattle.import_laws.specs.rule.Exactly.{LinesOutcome, no-line, malformed, refused-line, built-line, later-line}
-use Rattle.import_laws.specs.rule.Exactly.{FirstOther, more-fields, more-names, here, later, TextOutcome, no-names, torn-names, other-names, same-names}
+use Rattle.import_laws.specs.rule.Exactly.{FirstOther, more-fields, more-names, here, later, TextOutcome, no-names, torn-names}
+use Rattle.import_laws.specs.rule.Exactly.{other-names, same-names}
 use Rattle.import_laws.specs.Round.{same-same, none-differ}
 use Rattle.import_laws.specs.Accepted.{same-is, differ-none}
 use Rattle.import_laws.specs.rule.Exactly.{ImportOutcome, bad-table, other-table, shared-place, refused-text, short-room, all-built}
@@ -44,12 +46,14 @@ module _ (t : List ℤ) (g : wellFormed t ≡ true) where
   fields-named [] i s h = all-written
   fields-named (f ∷ fs) i s h = go (valueFrom t (rowsOf t) (rowAt t i) f) refl (λ u. fields-named fs (i + 1) u (omega arith))
     where
-      go : (y : Field) → valueFrom t (rowsOf t) (rowAt t i) f ≡ y → ((u : List ℕ) → Written t (i + 1) fs u (recordFrom t (rowsOf t) (i + 1) fs u))
+      go : (y : Field) → valueFrom t (rowsOf t) (rowAt t i) f ≡ y
+          → ((u : List ℕ) → Written t (i + 1) fs u (recordFrom t (rowsOf t) (i + 1) fs u))
           → Written t i (f ∷ fs) s (onField y (λ x. recordFrom t (rowsOf t) (i + 1) fs (writtenOf t (rowsOf t) (rowAt t i) x s)) (i + 1))
       go (holds x) e k = one-written x (value-exactly (row-facts t g i (omega arith)) f x .0 e) (k (writtenOf t (rowsOf t) (rowAt t i) x s))
       go illegal e k = no-value (value-none (row-facts t g i (omega arith)) f .0 e)
 
-  fields-only : {i : ℕ} {fs : List (List ℕ)} {s : List ℕ} {u : LineSays} → i + length fs ≤ rowsOf t → Written t i fs s u → recordFrom t (rowsOf t) i fs s ≡ u
+  fields-only : {i : ℕ} {fs : List (List ℕ)} {s : List ℕ} {u : LineSays} → i + length fs ≤ rowsOf t → Written t i fs s u
+      → recordFrom t (rowsOf t) i fs s ≡ u
   unfolding recordFrom onField
   fields-only h all-written = refl
   fields-only {i} h (one-written {f = f} x v k) = rw (value-exactly (row-facts t g i (omega arith)) f x .1 v) (fields-only (omega arith) k)
@@ -123,7 +127,8 @@ first-named c (m ∷ ms) [] n = more-names
 first-named c (m ∷ ms) (f ∷ fs) n = go (sameBytes m f) refl n (λ w. first-named (c + 1) ms fs w)
   where
     go : (q : Bool) → sameBytes m f ≡ q → (cond q (differAt (c + 1) ms fs) c ≡ 0 → ⊥)
-        → ((differAt (c + 1) ms fs ≡ 0 → ⊥) → FirstOther (c + 1) ms fs (differAt (c + 1) ms fs)) → FirstOther c (m ∷ ms) (f ∷ fs) (cond q (differAt (c + 1) ms fs) c)
+        → ((differAt (c + 1) ms fs ≡ 0 → ⊥) → FirstOther (c + 1) ms fs (differAt (c + 1) ms fs))
+        → FirstOther c (m ∷ ms) (f ∷ fs) (cond q (differAt (c + 1) ms fs) c)
     go true e w k = later (same-is m f e) (k w)
     go false e w k = here (λ x. holds-not (same-of m f x) e)
 
@@ -170,7 +175,8 @@ module _ (def : List ℕ) (t : List ℤ) (s : List ℕ) (room : ℕ) where
           fit false w = short-room p q r e (leb-false (length (fileBytes rs)) room w)
 
       go : (x y z : Bool) → wellFormed t ≡ x → yields def t ≡ y → sharesNone t (rowsOf t) ≡ z
-          → ImportOutcome def t s room (cond x (cond y (cond z (roomed (importSays def t s) room) (refused 90 0 0)) (refused 40 0 0)) (refused 20 0 0))
+          → ImportOutcome def t s room (cond x (cond y (cond z (roomed (importSays def t s) room) (refused 90 0 0)) (refused 40 0 0))
+          (refused 20 0 0))
       go false y z p q r = bad-table p
       go true false z p q r = other-table p q
       go true true false p q r = shared-place p q r

@@ -71,14 +71,18 @@ module _ {t : List ℤ} (g : Table t) where
       let v = value-exactly (row-facts t (g .formed) i h) f x .0 e in
       high-put (placesOf t (rowsOf t) (rowAt t i)) k (high-bytes (rowAt t i .kind) t (rowsOf t) (rowAt t i) x (v .accepted))
 
-  high-from : (fs : List (List ℕ)) (i : ℕ) (s u : List ℕ) → i + length fs ≤ rowsOf t → High s → recordFrom t (rowsOf t) i fs s ≡ builds u → High u
+  high-from : (fs : List (List ℕ)) (i : ℕ) (s u : List ℕ) → i + length fs ≤ rowsOf t → High s → recordFrom t (rowsOf t) i fs s ≡ builds u
+      → High u
   unfolding recordFrom onField
   high-from [] i s u h k e = rw (← same-builds e) k
   high-from (f ∷ fs) i s u h k e =
-      go (valueFrom t (rowsOf t) (rowAt t i) f) refl e (λ x q w. high-from fs (i + 1) (writtenOf t (rowsOf t) (rowAt t i) x s) u (omega arith) (high-written i (omega arith) f x q k) w)
+      go (valueFrom t (rowsOf t) (rowAt t i) f) refl e
+      (λ x q w. high-from fs (i + 1) (writtenOf t (rowsOf t) (rowAt t i) x s) u (omega arith) (high-written i (omega arith) f x q k) w)
     where
-      go : (y : Field) → valueFrom t (rowsOf t) (rowAt t i) f ≡ y → onField y (λ x. recordFrom t (rowsOf t) (i + 1) fs (writtenOf t (rowsOf t) (rowAt t i) x s)) (i + 1) ≡ builds u
-          → ((x : Value) → valueFrom t (rowsOf t) (rowAt t i) f ≡ holds x → recordFrom t (rowsOf t) (i + 1) fs (writtenOf t (rowsOf t) (rowAt t i) x s) ≡ builds u → High u) → High u
+      go : (y : Field) → valueFrom t (rowsOf t) (rowAt t i) f ≡ y
+          → onField y (λ x. recordFrom t (rowsOf t) (i + 1) fs (writtenOf t (rowsOf t) (rowAt t i) x s)) (i + 1) ≡ builds u
+          → ((x : Value) → valueFrom t (rowsOf t) (rowAt t i) f ≡ holds x
+          → recordFrom t (rowsOf t) (i + 1) fs (writtenOf t (rowsOf t) (rowAt t i) x s) ≡ builds u → High u) → High u
       go (holds x) q w rec = rec x q w
       go illegal q w rec = no-builds w
 
@@ -96,10 +100,12 @@ module _ {t : List ℤ} (g : Table t) where
   unfolding isIllegal
   held-legal x e = rw e
 
-  all-legal : {s : List ℕ} {i : ℕ} {fs : List (List ℕ)} → AllRead t s i fs → (j : ℕ) → i ≤ j → j < i + length fs → isIllegal (readingAt t j s) ≡ false
+  all-legal : {s : List ℕ} {i : ℕ} {fs : List (List ℕ)} → AllRead t s i fs → (j : ℕ) → i ≤ j → j < i + length fs
+      → isIllegal (readingAt t j s) ≡ false
   all-legal again.AllRead.none-more j h l = absurd (omega arith)
   all-legal {s} {i} (again.AllRead.one-more x e k r) j h l =
-      ⊎-elim (λ m. all-legal r j (omega arith) (omega arith)) (λ m. let q : j ≡ i = omega arith in rw q (held-legal (readingAt t i s) e)) (lt-or-le i j)
+      ⊎-elim (λ m. all-legal r j (omega arith) (omega arith)) (λ m. let q : j ≡ i = omega arith in rw q (held-legal (readingAt t i s) e))
+      (lt-or-le i j)
 
   pub record SoundLine (s : List ℕ) : Type 0 where
     pub size : length s ≡ lengthOf t
@@ -114,7 +120,12 @@ module _ {t : List ℤ} (g : Table t) where
       record {
         size = a .size;
         judged = passes-sound t (g .formed) s
-            (record { long = omega (arith, a .size); plain = high-get h; legal-rows = λ i l. all-legal (a .reads) i (omega arith) (omega (arith, a .many)) });
+            (record {
+              long = omega (arith, a .size);
+              plain = high-get h;
+              legal-rows = λ i l. all-legal (a .reads) i (omega arith)
+                  (omega (arith, a .many));
+            });
         high = h;
       }
 
@@ -140,7 +151,8 @@ cut-one : {r : List ℕ} → High r → (a u : List ℕ) → cut (pair 13 10) 0 
 unfolding cut beginsAt wholeAt beginsWith
 cut-one none a u = rw (append-nil a)
 cut-one (more b {s = s} h g) a u =
-    rw (high-not b 13 h (omega arith)) (cut-one g (a ++ (b ∷ [])) u ∙ ap (λ (x : List ℕ). record-and x (cut (pair 13 10) 0 [] u)) (append-assoc a (b ∷ []) s))
+    rw (high-not b 13 h (omega arith)) (cut-one g (a ++ (b ∷ [])) u
+    ∙ ap (λ (x : List ℕ). record-and x (cut (pair 13 10) 0 [] u)) (append-assoc a (b ∷ []) s))
 
 module _ {t : List ℤ} (g : Table t) where
   cut-all : {rs : List (List ℕ)} → AllLines g rs → cut (pair 13 10) 0 [] (fileBytes rs) ≡ before rs over

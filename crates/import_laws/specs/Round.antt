@@ -22,7 +22,8 @@ use Rattle.csv_fields.specs.rule.Page as csv
 use Rattle.csv_laws.specs.rule.Grammar.{allOf}
 use Rattle.csv_laws.specs.Complete.{text-read-fresh, written-text, Filled, no-more, and-filled}
 use Rattle.import_rule.specs.rule.Line.{LineSays, builds, faulty, lineSays}
-use Rattle.import_rule.specs.rule.Text.{TextSays, accepts, refuses, andRecord, onLine, linesSay, sameBytes, differAt, namesThen, namesSay, textSays}
+use Rattle.import_rule.specs.rule.Text.{TextSays, accepts, refuses, andRecord, onLine, linesSay, sameBytes, differAt, namesThen, namesSay}
+use Rattle.import_rule.specs.rule.Text.{textSays}
 use Rattle.import_laws.specs.rule.Trip.{Table, ReadAs, none-left, one-by-one, ReadBack}
 use Rattle.import_laws.specs.Built.{Reads, Built, line-built}
 
@@ -51,7 +52,8 @@ module _ {t : List ℤ} (g : Table t) where
       let w = lines-imported rs a n (k + 1) (omega arith) in
       record {
         records = b .bytes ∷ w .records;
-        is = ap (λ (x : LineSays). onLine k x (linesSay t (k + 1) (allOf (linesOf t n (before rs over))))) (b .is) ∙ line-accepted k (b .bytes) (w .is);
+        is = ap (λ (x : LineSays). onLine k x (linesSay t (k + 1) (allOf (linesOf t n (before rs over))))) (b .is)
+            ∙ line-accepted k (b .bytes) (w .is);
         reads = one-by-one (b .reads .size) (b .reads .reads) (w .reads);
       }
 
@@ -82,4 +84,9 @@ round-trip {t} g some names rs a =
     let ls = linesOf t (length rs) (before rs over) in
     let e = text-read-fresh (written-text (one-filled names (rowsOf t) some (filled g some (length rs) (before rs over)))) in
     let w = lines-imported g rs a (length rs) 2 refl in
-    record { records = w .records; is = ap (namesSay t (each names 0 (rowsOf t))) e ∙ rw (none-differ 1 (each names 0 (rowsOf t))) (w .is); reads = w .reads }
+    record {
+      records = w .records;
+      is = ap (namesSay t (each names 0 (rowsOf t))) e
+          ∙ rw (none-differ 1 (each names 0 (rowsOf t))) (w .is);
+      reads = w .reads;
+    }

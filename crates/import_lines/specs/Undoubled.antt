@@ -46,10 +46,12 @@ byte-next s i b u e = ap (λ (x : List ℕ). b ∷ x) (go (eqb b 34))
     two = omega arith
 
     go : (q : Bool) → undoubled q u ≡ undoubled false (drop (i + cond q 2 1) s)
-    go true = skipped u ∙ ap (λ (x : List ℕ). undoubled false (drop 1 x)) (sym e) ∙ ap (undoubled false) (drop-drop 1 (suc i) s ∙ ap (λ (k : ℕ). drop k s) two)
+    go true = skipped u ∙ ap (λ (x : List ℕ). undoubled false (drop 1 x)) (sym e)
+        ∙ ap (undoubled false) (drop-drop 1 (suc i) s ∙ ap (λ (k : ℕ). drop k s) two)
     go false = ap (undoubled false) (sym e ∙ ap (λ (k : ℕ). drop k s) one)
 
-pub undoubled-next : (s : List ℕ) (i : ℕ) → i < length s → undoubled false (drop i s) ≡ getD s i 0 ∷ undoubled false (drop (i + stride (getD s i 0)) s)
+pub undoubled-next : (s : List ℕ) (i : ℕ) → i < length s → undoubled false (drop i s) ≡ getD s i 0
+    ∷ undoubled false (drop (i + stride (getD s i 0)) s)
 undoubled-next s i h = rw (drop-cons s i 0 h) (by (getD s i 0) (drop (suc i) s) refl)
   where
     by : (b : ℕ) (u : List ℕ) → drop (suc i) s ≡ u → undoubled false (b ∷ u) ≡ b ∷ undoubled false (drop (i + stride b) s)

@@ -77,7 +77,8 @@ step-first : (t : List ℤ) (v j : ℕ) (f s : List ℕ) → j < v → step t v 
 unfolding step
 step-first t v j f s h = rw (lt-ltb j v h)
 
-pub walk-says : (t : List ℤ) (v j : ℕ) (fs : List (List ℕ)) (s : List ℕ) → j + length fs ≤ v → recordFrom t v j fs s ≡ walkSays (walk t v j fs 0 s)
+pub walk-says : (t : List ℤ) (v j : ℕ) (fs : List (List ℕ)) (s : List ℕ) → j + length fs ≤ v → recordFrom t v j fs s
+    ≡ walkSays (walk t v j fs 0 s)
 unfolding walk recordFrom walkSays
 walk-says t v j [] s h = refl
 walk-says t v j (f ∷ fs) s h =
@@ -97,7 +98,8 @@ fields-more (g ∷ fs) f ls = ap (withField g) (fields-more fs f ls)
 pub fields-broken : (fs : List (List ℕ)) (c : ℕ) → withFields fs (broken c) ≡ broken (length fs + c)
 unfolding withFields withField
 fields-broken [] c = let z : c ≡ 0 + c = omega arith in ap broken z
-fields-broken (f ∷ fs) c = let z : length fs + c + 1 ≡ suc (length fs) + c = omega arith in ap (withField f) (fields-broken fs c) ∙ ap broken z
+fields-broken (f ∷ fs) c = let z : length fs + c + 1 ≡ suc (length fs) + c = omega arith in
+    ap (withField f) (fields-broken fs c) ∙ ap broken z
 
 pub fields-line : (fs gs : List (List ℕ)) (ls : Lines) → withFields fs (line gs ls) ≡ line (fs ++ gs) ls
 unfolding withFields withField
@@ -156,16 +158,19 @@ raw-bare {raw} {b} r e = let q = not-quoted (hasQuote (r .f)) (sym (r .plain) �
     not-quoted true w = holds-not w refl
     not-quoted false w = refl
 
-pub stands-field : {d : List ℕ} {from to : ℕ} {b : Bool} {f : List ℕ} → Stands d from to b f → undoubled false (take (to - from) (drop from d)) ≡ f
+pub stands-field : {d : List ℕ} {from to : ℕ} {b : Bool} {f : List ℕ} → Stands d from to b f
+    → undoubled false (take (to - from) (drop from d)) ≡ f
 stands-field {f = f} s = ap (undoubled false) (s .raw) ∙ undoubled-back f
 
 -- ---- one field
-good-by : (t : List ℤ) (v j : ℕ) (s u : List ℕ) (x : Field) → true ≡ isHeld x → u ≡ tookBy t v (rowAt t j) x s → walk-of 0 u ≡ stepBy t v j x s
+good-by : (t : List ℤ) (v j : ℕ) (s u : List ℕ) (x : Field) → true ≡ isHeld x → u ≡ tookBy t v (rowAt t j) x s → walk-of 0 u
+    ≡ stepBy t v j x s
 unfolding isHeld tookBy stepBy
 good-by t v j s u (holds y) e k = ap (walk-of 0) k
 good-by t v j s u illegal e k = holds-not refl e
 
-wrong-by : (t : List ℤ) (v j : ℕ) (s u : List ℕ) (x : Field) → false ≡ isHeld x → u ≡ tookBy t v (rowAt t j) x s → walk-of (j + 1) u ≡ stepBy t v j x s
+wrong-by : (t : List ℤ) (v j : ℕ) (s u : List ℕ) (x : Field) → false ≡ isHeld x → u ≡ tookBy t v (rowAt t j) x s → walk-of (j + 1) u
+    ≡ stepBy t v j x s
 unfolding isHeld tookBy stepBy
 wrong-by t v j s u (holds y) e k = holds-not refl (sym e)
 wrong-by t v j s u illegal e k = ap (walk-of (j + 1)) k
@@ -191,12 +196,14 @@ module _ (t : List ℤ) (v j : ℕ) (f : List ℕ) (s : List ℕ) where
 
 -- ---- the fields one by one
 module _ {t : List ℤ} {v : ℕ} {d : List ℕ} {from at j bad : ℕ} {blank s : List ℕ} (w : Walking t v d from at j bad blank s) where
-  walked-more : (f : List ℕ) {b : ℕ} {u : List ℕ} → walk-of b u ≡ step t v j f bad s → walk t v 0 (w .fields ++ (f ∷ [])) 0 blank ≡ walk-of b u
+  walked-more : (f : List ℕ) {b : ℕ} {u : List ℕ} → walk-of b u ≡ step t v j f bad s → walk t v 0 (w .fields ++ (f ∷ [])) 0 blank
+      ≡ walk-of b u
   walked-more f {b} {u} e =
       let z : 0 + length (w .fields) ≡ j = omega (arith, w .count) in
       walk-more t v 0 (w .fields) f 0 blank (w .walked) ∙ ap (λ (i : ℕ). step t v i f bad s) z ∙ sym e
 
-  pub walking-more : {p q next b : ℕ} {c : Bool} {u : List ℕ} → Found d (page fresh (drop at d)) p q c next (λ f. more f (page fresh (drop next d)))
+  pub walking-more : {p q next b : ℕ} {c : Bool} {u : List ℕ}
+      → Found d (page fresh (drop at d)) p q c next (λ f. more f (page fresh (drop next d)))
       → walk-of b u ≡ step t v j (undoubled false (take (q - p) (drop p d))) bad s → at < next → Walking t v d from next (j + 1) b blank u
   unfolding linesOf
   walking-more {p} {q} {next} {b} {c} {u} k e l = record {
@@ -204,13 +211,15 @@ module _ {t : List ℤ} {v : ℕ} {d : List ℕ} {from at j bad : ℕ} {blank s 
     count = omega (arith, w .count, length-append (w .fields) (k .f ∷ []));
     on = omega (arith, w .on);
     within = k .inside′;
-    reads = w .reads ∙ ap (λ (x : Page). withFields (w .fields) (linesOf x)) (k .reads) ∙ sym (fields-more (w .fields) (k .f) (linesOf (page fresh (drop next d))));
+    reads = w .reads ∙ ap (λ (x : Page). withFields (w .fields) (linesOf x)) (k .reads)
+        ∙ sym (fields-more (w .fields) (k .f) (linesOf (page fresh (drop next d))));
     walked = walked-more (k .f) (e ∙ ap (λ (x : List ℕ). step t v j x bad s) (stands-field (k .stands)));
   }
 
   pub walking-torn : page fresh (drop at d) ≡ torn → linesOf (page fresh (drop from d)) ≡ broken (j + 1)
   unfolding linesOf
-  walking-torn e = w .reads ∙ ap (λ (x : Page). withFields (w .fields) (linesOf x)) e ∙ fields-broken (w .fields) 1 ∙ ap (λ (i : ℕ). broken (i + 1)) (sym (w .count))
+  walking-torn e = w .reads ∙ ap (λ (x : Page). withFields (w .fields) (linesOf x)) e ∙ fields-broken (w .fields) 1
+      ∙ ap (λ (i : ℕ). broken (i + 1)) (sym (w .count))
 
   -- the whole line
   pub record Whole (next b : ℕ) (u : List ℕ) : Type 0 where
@@ -219,13 +228,15 @@ module _ {t : List ℤ} {v : ℕ} {d : List ℕ} {from at j bad : ℕ} {blank s 
     pub reads : linesOf (page fresh (drop from d)) ≡ line fields (linesOf (page start (drop next d)))
     pub walked : walk t v 0 fields 0 blank ≡ walk-of b u
 
-  pub walking-last : {p q next b : ℕ} {c : Bool} {u : List ℕ} → Found d (page fresh (drop at d)) p q c next (λ f. last f (page start (drop next d)))
+  pub walking-last : {p q next b : ℕ} {c : Bool} {u : List ℕ}
+      → Found d (page fresh (drop at d)) p q c next (λ f. last f (page start (drop next d)))
       → walk-of b u ≡ step t v j (undoubled false (take (q - p) (drop p d))) bad s → Whole next b u
   unfolding linesOf
   walking-last {p} {q} {next} {b} {c} {u} k e = record {
     fields = w .fields ++ (k .f ∷ []);
     count = omega (arith, w .count, length-append (w .fields) (k .f ∷ []));
-    reads = w .reads ∙ ap (λ (x : Page). withFields (w .fields) (linesOf x)) (k .reads) ∙ fields-line (w .fields) (k .f ∷ []) (linesOf (page start (drop next d)));
+    reads = w .reads ∙ ap (λ (x : Page). withFields (w .fields) (linesOf x)) (k .reads)
+        ∙ fields-line (w .fields) (k .f ∷ []) (linesOf (page start (drop next d)));
     walked = walked-more (k .f) (e ∙ ap (λ (x : List ℕ). step t v j x bad s) (stands-field (k .stands)));
   }
 
@@ -239,7 +250,8 @@ module _ (t : List ℤ) (fields : List (List ℕ)) (count : ℕ) (b : ℕ) (u : 
   unfolding lineSays
   said =
       let e = eqb-true count (rowsOf t) x in
-      rw (eq-eqb (length fields) (rowsOf t) (n ∙ e)) (walk-says t (rowsOf t) 0 fields (spaces (lengthOf t)) (omega (arith, n, e)) ∙ ap walkSays w)
+      rw (eq-eqb (length fields) (rowsOf t) (n ∙ e))
+      (walk-says t (rowsOf t) 0 fields (spaces (lengthOf t)) (omega (arith, n, e)) ∙ ap walkSays w)
 
   said-good : eqb b 0 ≡ true → lineSays t fields ≡ builds u
   unfolding walkSays
@@ -249,20 +261,28 @@ module _ (t : List ℤ) (fields : List (List ℕ)) (count : ℕ) (b : ℕ) (u : 
   unfolding walkSays
   said-wrong y = said ∙ rw y
 
-said-count : (t : List ℤ) (fields : List (List ℕ)) (count : ℕ) → length fields ≡ count → eqb count (rowsOf t) ≡ false → lineSays t fields ≡ faulty 63 (min count (rowsOf t) + 1)
+said-count : (t : List ℤ) (fields : List (List ℕ)) (count : ℕ) → length fields ≡ count → eqb count (rowsOf t) ≡ false → lineSays t fields
+    ≡ faulty 63 (min count (rowsOf t) + 1)
 unfolding lineSays
 said-count t fields count n x = rw (n, x)
 
 pub line-taken : (t : List ℤ) (d : List ℕ) {from next count b : ℕ} {fields : List (List ℕ)} {u : List ℕ} → length fields ≡ count
     → linesOf (page fresh (drop from d)) ≡ line fields (linesOf (page start (drop next d)))
-    → walk t (rowsOf t) 0 fields 0 (spaces (lengthOf t)) ≡ walk-of b u → from < next → next ≤ length d → LineTaken t d from u (endOf (rowsOf t) count b next)
+    → walk t (rowsOf t) 0 fields 0 (spaces (lengthOf t)) ≡ walk-of b u → from < next → next ≤ length d
+    → LineTaken t d from u (endOf (rowsOf t) count b next)
 unfolding endOf
 line-taken t d {from} {next} {count} {b} {fields} {u} n e w h l = go (eqb count (rowsOf t)) (eqb b 0) refl refl
   where
     go : (p q : Bool) → eqb count (rowsOf t) ≡ p → eqb b 0 ≡ q
         → LineTaken t d from u (cond p (cond q (Good next) (Refused 64 b)) (Refused 63 (min count (rowsOf t) + 1)))
     go true true x y = record { fields = fields; reads = e; says = said-good t fields count b u n w x y; ahead = h; within = l }
-    go true false x y = record { fields = fields; rest = linesOf (page start (drop next d)); reads = e; says = said-wrong t fields count b u n w x y }
+    go true false x y = record {
+      fields = fields;
+      rest = linesOf (page start (drop next d));
+      reads = e;
+      says = said-wrong t fields count b u
+          n w x y;
+    }
     go false q x y = record { fields = fields; rest = linesOf (page start (drop next d)); reads = e; says = said-count t fields count n x }
 
 -- ---- a value taken, said otherwise
@@ -280,5 +300,6 @@ pub whole-taken : {t : List ℤ} {rows len : ℕ} {d : List ℕ} {from at j bad 
     → LineTaken t d from u (endOf rows (j + 1) b next)
 whole-taken {t} {rows} {len} {d} {from} {at} {j} p q w {next} {b} {u} k h l =
     let e : walk t (rowsOf t) 0 (k .fields) 0 (spaces (lengthOf t)) ≡ walk-of b u =
-    ap (λ (i : ℕ). walk t i 0 (k .fields) 0 (spaces (lengthOf t))) (sym p) ∙ ap (λ (i : ℕ). walk t rows 0 (k .fields) 0 (spaces i)) (sym q) ∙ k .walked in
+    ap (λ (i : ℕ). walk t i 0 (k .fields) 0 (spaces (lengthOf t))) (sym p) ∙ ap (λ (i : ℕ). walk t rows 0 (k .fields) 0 (spaces i)) (sym q)
+    ∙ k .walked in
     rw p (line-taken t d (k .count) (k .reads) e h l)

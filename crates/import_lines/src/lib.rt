@@ -97,7 +97,8 @@ fn take_one(
     requires { ⌜ TableKnown (now t) rows len × (len ≤ length (now bytes)) ⌝ }
     requires { ⌜ RawOf (now raw) bare ⌝ }
     requires { ⌜ (length (now list) ≡ 9999) × (length (now room) ≡ 50000) × (length (now spare) ≡ 50000) ⌝ }
-    ensures { λ r. ⌜ walk-of r (now (bytes .exit)) ≡ step (now (t .entry)) rows j (undoubled false (now (raw .entry))) bad (now (bytes .entry)) ⌝ }
+    ensures { λ r. ⌜ walk-of r (now (bytes .exit))
+        ≡ step (now (t .entry)) rows j (undoubled false (now (raw .entry))) bad (now (bytes .entry)) ⌝ }
 {
     if bad != 0 {
         return bad;

@@ -35,15 +35,18 @@ module _ {l m : List Sign} {x : Sign} (e : l ≡ x ∷ m) (raw : List ℕ) (i : 
   name-short h = rw (e, undoubled-over raw i h)
 
   name-byte : i < length raw
-      → sameBytes (bytesOf l) (undoubled false (drop i raw)) ≡ (eqb (signByte x) (getD raw i 0) && sameBytes (bytesOf m) (undoubled false (drop (i + stride (getD raw i 0)) raw)))
+      → sameBytes (bytesOf l) (undoubled false (drop i raw))
+      ≡ (eqb (signByte x) (getD raw i 0) && sameBytes (bytesOf m) (undoubled false (drop (i + stride (getD raw i 0)) raw)))
   unfolding sameBytes
   name-byte h = rw (e, undoubled-next raw i h)
 
-  pub name-other : i < length raw → {b : ℕ} → b ≡ signByte x → (b ≡ getD raw i 0 → ⊥) → sameBytes (bytesOf l) (undoubled false (drop i raw)) ≡ false
+  pub name-other : i < length raw → {b : ℕ} → b ≡ signByte x → (b ≡ getD raw i 0 → ⊥) → sameBytes (bytesOf l) (undoubled false (drop i raw))
+      ≡ false
   name-other h is n = name-byte h ∙ rw (ne-eqb (signByte x) (getD raw i 0) (λ k. n (is ∙ k)))
 
   pub name-next : i < length raw → {b : ℕ} → b ≡ signByte x → b ≡ getD raw i 0
-      → sameBytes (bytesOf l) (undoubled false (drop i raw)) ≡ sameBytes (bytesOf m) (undoubled false (drop (i + stride (getD raw i 0)) raw))
+      → sameBytes (bytesOf l) (undoubled false (drop i raw))
+      ≡ sameBytes (bytesOf m) (undoubled false (drop (i + stride (getD raw i 0)) raw))
   name-next h is k = name-byte h ∙ rw (eq-eqb (signByte x) (getD raw i 0) (sym is ∙ k))
 
 module _ {l : List Sign} (e : l ≡ []) (raw : List ℕ) (i : ℕ) where
@@ -56,7 +59,8 @@ module _ {l : List Sign} (e : l ≡ []) (raw : List ℕ) (i : ℕ) where
   name-long h = rw (e, undoubled-next raw i h)
 
   pub name-ends : leb (length raw) i ≡ sameBytes (bytesOf l) (undoubled false (drop i raw))
-  name-ends = ⊎-elim (λ h. lt-leb (length raw) i h ∙ sym (name-long h)) (λ h. le-leb (length raw) i h ∙ sym (name-over h)) (lt-or-le i (length raw))
+  name-ends = ⊎-elim (λ h. lt-leb (length raw) i h ∙ sym (name-long h)) (λ h. le-leb (length raw) i h ∙ sym (name-over h))
+      (lt-or-le i (length raw))
 
 -- ---- field by field: the first column that differs, 0 while there is none
 unfoldable pub nameStep : (ℕ → List ℕ) → ℕ → ℕ → List ℕ → ℕ → ℕ
@@ -75,7 +79,8 @@ module _ (g : ℕ → List ℕ) (rows j : ℕ) (f : List ℕ) (bad : ℕ) where
   unfolding nameStep
   one-row e h k = rw (eq-eqb bad 0 e, lt-ltb j rows h, k)
 
-pub row-stands : (t : List ℤ) {rows j : ℕ} → rows ≤ mostRows → rowBase rows ≤ length t → j < rows → (j < mostRows) × (rowBase (j + 1) ≤ length t)
+pub row-stands : (t : List ℤ) {rows j : ℕ} → rows ≤ mostRows → rowBase rows ≤ length t → j < rows → (j < mostRows)
+    × (rowBase (j + 1) ≤ length t)
 row-stands t h l k = (omega arith, omega arith)
 
 -- the name of row j, whose place and length were found
@@ -83,7 +88,8 @@ module _ (def : List ℕ) (t : List ℤ) (rows j : ℕ) (f : List ℕ) {bad p n 
     (i : n ≡ longAt t j) {q : Bool} (w : q ≡ sameBytes (nameText def p n) f) where
   the-row : {b : Bool} → q ≡ b → cond b 0 (j + 1) ≡ nameStep (nameAt def t) rows j f bad
   the-row {b} x = one-row (nameAt def t) rows j f bad e h
-      (ap (λ (y : ℕ). sameBytes (nameText def y (longAt t j)) f) (sym k) ∙ ap (λ (y : ℕ). sameBytes (nameText def p y) f) (sym i) ∙ sym w ∙ x)
+      (ap (λ (y : ℕ). sameBytes (nameText def y (longAt t j)) f) (sym k) ∙ ap (λ (y : ℕ). sameBytes (nameText def p y) f) (sym i) ∙ sym w
+      ∙ x)
 
   pub one-same : q ≡ true → 0 ≡ nameStep (nameAt def t) rows j f bad
   one-same x = the-row x
@@ -209,13 +215,15 @@ module _ {g : ℕ → List ℕ} {rows : ℕ} {d : List ℕ} {at j bad : ℕ} (w 
     count = omega (arith, w .count, length-append (w .fields) (k .f ∷ []));
     on = omega (arith, w .on);
     within = k .inside′;
-    reads = w .reads ∙ ap (λ (x : Page). withFields (w .fields) (linesOf x)) (k .reads) ∙ sym (fields-more (w .fields) (k .f) (linesOf (page fresh (drop next d))));
+    reads = w .reads ∙ ap (λ (x : Page). withFields (w .fields) (linesOf x)) (k .reads)
+        ∙ sym (fields-more (w .fields) (k .f) (linesOf (page fresh (drop next d))));
     differs = λ gs. one-more (k .f) gs (e ∙ ap (λ (x : List ℕ). nameStep g rows j x bad) (stands-field (k .stands)));
   }
 
   pub naming-torn : page fresh (drop at d) ≡ torn → linesOf (page fresh d) ≡ broken (j + 1)
   unfolding linesOf
-  naming-torn e = w .reads ∙ ap (λ (x : Page). withFields (w .fields) (linesOf x)) e ∙ fields-broken (w .fields) 1 ∙ ap (λ (i : ℕ). broken (i + 1)) (sym (w .count))
+  naming-torn e = w .reads ∙ ap (λ (x : Page). withFields (w .fields) (linesOf x)) e ∙ fields-broken (w .fields) 1
+      ∙ ap (λ (i : ℕ). broken (i + 1)) (sym (w .count))
 
   pub naming-last : {p q next b : ℕ} {c : Bool} → Found d (page fresh (drop at d)) p q c next (λ f. last f (page start (drop next d)))
       → b ≡ nameStep g rows j (undoubled false (take (q - p) (drop p d))) bad → NamesTaken (each g 0 rows) d (namesEnd rows (j + 1) b next)
@@ -226,7 +234,8 @@ module _ {g : ℕ → List ℕ} {rows : ℕ} {d : List ℕ} {at j bad : ℕ} (w 
       fields = w .fields ++ (k .f ∷ [])
 
       reads : linesOf (page fresh d) ≡ line fields (linesOf (page start (drop next d)))
-      reads = w .reads ∙ ap (λ (x : Page). withFields (w .fields) (linesOf x)) (k .reads) ∙ fields-line (w .fields) (k .f ∷ []) (linesOf (page start (drop next d)))
+      reads = w .reads ∙ ap (λ (x : Page). withFields (w .fields) (linesOf x)) (k .reads)
+          ∙ fields-line (w .fields) (k .f ∷ []) (linesOf (page start (drop next d)))
 
       differs : differAt 1 (each g 0 rows) fields ≡ orLater b (differAt (j + 1 + 1) (each g (j + 1) (rows - (j + 1))) [])
       differs =

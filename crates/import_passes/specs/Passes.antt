@@ -32,16 +32,19 @@ blanked slot n h e =
 pub blank-long : (slot : List ℕ) (n : ℕ) {slot′ : List ℕ} → length slot ≡ n + 2 → slot′ ≡ put slot (run 0 n) (spaces n) → n ≤ length slot′
 blank-long slot n h e = omega (arith, h, ap length e, length-put slot (run 0 n) (spaces n))
 
-pub blank-size : (slot : List ℕ) (n : ℕ) {slot′ : List ℕ} → length slot ≡ n + 2 → slot′ ≡ put slot (run 0 n) (spaces n) → length (take n slot′) ≡ n
+pub blank-size : (slot : List ℕ) (n : ℕ) {slot′ : List ℕ} → length slot ≡ n + 2 → slot′ ≡ put slot (run 0 n) (spaces n)
+    → length (take n slot′) ≡ n
 blank-size slot n {slot′} h e = length-take-le n slot′ (blank-long slot n h e)
 
-pub behind-two : (slot : List ℕ) (n : ℕ) {slot′ : List ℕ} → length slot ≡ n + 2 → slot′ ≡ put slot (run 0 n) (spaces n) → length (drop n slot′) ≡ 2
+pub behind-two : (slot : List ℕ) (n : ℕ) {slot′ : List ℕ} → length slot ≡ n + 2 → slot′ ≡ put slot (run 0 n) (spaces n)
+    → length (drop n slot′) ≡ 2
 behind-two slot n {slot′} h e = length-drop n slot′ ∙ omega (arith, h, ap length e, length-put slot (run 0 n) (spaces n))
 
 pub end-inside : (s w : List ℕ) (n : ℕ) → length s ≡ n → length w ≡ 2 → n + 1 < length (set (s ++ w) n 13)
 end-inside s w n e h = omega (arith, length-set (s ++ w) n 13, length-append s w, e, h)
 
-pub end-size : (s w slot : List ℕ) (n : ℕ) → length s ≡ n → length w ≡ 2 → length slot ≡ n + 2 → length (set (set (s ++ w) n 13) (n + 1) 10) ≡ length slot
+pub end-size : (s w slot : List ℕ) (n : ℕ) → length s ≡ n → length w ≡ 2 → length slot ≡ n + 2 → length (set (set (s ++ w) n 13) (n + 1) 10)
+    ≡ length slot
 end-size s w slot n e h k = omega (arith, length-set (set (s ++ w) n 13) (n + 1) 10, length-set (s ++ w) n 13, length-append s w, e, h, k)
 
 -- the two bytes behind a record are stored
@@ -50,7 +53,8 @@ ended-by s [] n e h = absurd (omega arith)
 ended-by s (a ∷ []) n e h = absurd (omega arith)
 ended-by s (a ∷ b ∷ []) n e h =
     let l : n + 1 ≡ length (s ++ (13 ∷ [])) = omega (arith, length-append s (13 ∷ [])) in
-    let x : set (s ++ (a ∷ b ∷ [])) n 13 ≡ (s ++ (13 ∷ [])) ++ (b ∷ []) = rw (← e) (set-append-seam s a (b ∷ []) 13 ∙ sym (append-assoc s (13 ∷ []) (b ∷ []))) in
+    let x : set (s ++ (a ∷ b ∷ [])) n 13 ≡ (s ++ (13 ∷ []))
+    ++ (b ∷ []) = rw (← e) (set-append-seam s a (b ∷ []) 13 ∙ sym (append-assoc s (13 ∷ []) (b ∷ []))) in
     ap (λ (u : List ℕ). set u (n + 1) 10) x ∙ rw l (set-append-seam (s ++ (13 ∷ [])) b [] 10) ∙ append-assoc s (13 ∷ []) (10 ∷ [])
 ended-by s (a ∷ b ∷ x ∷ w) n e h = absurd (omega arith)
 
@@ -65,7 +69,8 @@ LineEnded t d from slot (Good next) = Ended t d from slot next
 LineEnded t d from slot (Refused k c) = FaultyLine t d from k c
 LineEnded t d from slot (Torn c) = linesOf (page fresh (drop from d)) ≡ broken c
 
-pub line-ended : (t : List ℤ) (d : List ℕ) (from : ℕ) (s : List ℕ) {slot : List ℕ} (r : LineEnd) → LineTaken t d from s r → slot ≡ s ++ (13 ∷ 10 ∷ []) → LineEnded t d from slot r
+pub line-ended : (t : List ℤ) (d : List ℕ) (from : ℕ) (s : List ℕ) {slot : List ℕ} (r : LineEnd) → LineTaken t d from s r → slot ≡ s
+    ++ (13 ∷ 10 ∷ []) → LineEnded t d from slot r
 line-ended t d from s (Good next) k e = record { bytes = s; good = k; is = e }
 line-ended t d from s (Refused n c) k e = k
 line-ended t d from s (Torn c) k e = k
@@ -119,7 +124,8 @@ abbrev pub JudgedAs : TextSays → Judged → Type 0
 JudgedAs says (judged.Done n) = Accepted says n
 JudgedAs says (judged.Refused k l c) = says ≡ refuses k l c
 
-line-says : (t : List ℤ) (d : List ℕ) (at n : ℕ) → at < length d → {fs : List (List ℕ)} {ls : Lines} → linesOf (page fresh (drop at d)) ≡ line fs ls
+line-says : (t : List ℤ) (d : List ℕ) (at n : ℕ) → at < length d → {fs : List (List ℕ)} {ls : Lines} → linesOf (page fresh (drop at d))
+    ≡ line fs ls
     → linesSay t n (linesOf (page start (drop at d))) ≡ onLine n (lineSays t fs) (linesSay t (n + 1) ls)
 unfolding linesSay
 line-says t d at n h e = ap (λ (x : Page). linesSay t n (linesOf x)) (start-fresh d at h) ∙ ap (linesSay t n) e
@@ -140,7 +146,8 @@ module _ {t : List ℤ} {d : List ℕ} {from at n : ℕ} {rs : List (List ℕ)} 
       let z : n + 2 + 1 ≡ n + 1 + 2 = omega arith in
       let x = linesSay t (n + 1 + 2) (linesOf (page start (drop next d))) in
       let e : linesSay t (n + 2) (linesOf (page start (drop at d))) ≡ andRecord s x =
-      line-says t d at (n + 2) h (g .reads) ∙ ap (λ (y : LineSays). onLine (n + 2) y (linesSay t (n + 2 + 1) (linesOf (page start (drop next d))))) (g .says)
+      line-says t d at (n + 2) h (g .reads) ∙ ap (λ (y : LineSays). onLine (n + 2) y
+      (linesSay t (n + 2 + 1) (linesOf (page start (drop next d))))) (g .says)
       ∙ ap (λ (i : ℕ). andRecord s (linesSay t i (linesOf (page start (drop next d))))) z in
       record {
         count = omega (arith, length-append rs (s ∷ []), w .count);
@@ -149,30 +156,38 @@ module _ {t : List ℤ} {d : List ℕ} {from at n : ℕ} {rs : List (List ℕ)} 
         says = w .says ∙ ap (ahead rs) e ∙ sym (ahead-more rs s x);
       }
 
-  pub passing-faulty : {k c : ℕ} → at < length d → FaultyLine t d at k c → linesSay t 2 (linesOf (page start (drop from d))) ≡ refuses k (n + 2) c
+  pub passing-faulty : {k c : ℕ} → at < length d → FaultyLine t d at k c → linesSay t 2 (linesOf (page start (drop from d)))
+      ≡ refuses k (n + 2) c
   unfolding onLine
   passing-faulty {k} {c} h g =
-      w .says ∙ ap (ahead rs) (line-says t d at (n + 2) h (g .reads) ∙ ap (λ (y : LineSays). onLine (n + 2) y (linesSay t (n + 2 + 1) (g .rest))) (g .says))
+      w .says ∙ ap (ahead rs) (line-says t d at (n + 2) h (g .reads)
+      ∙ ap (λ (y : LineSays). onLine (n + 2) y (linesSay t (n + 2 + 1) (g .rest))) (g .says))
       ∙ ahead-refuses rs k (n + 2) c
 
-  pub passing-torn : {c : ℕ} → at < length d → linesOf (page fresh (drop at d)) ≡ broken c → linesSay t 2 (linesOf (page start (drop from d))) ≡ refuses 61 (n + 2) c
+  pub passing-torn : {c : ℕ} → at < length d → linesOf (page fresh (drop at d)) ≡ broken c
+      → linesSay t 2 (linesOf (page start (drop from d))) ≡ refuses 61 (n + 2) c
   passing-torn {c} h e = w .says ∙ ap (ahead rs) (torn-says t d at (n + 2) c h e) ∙ ahead-refuses rs 61 (n + 2) c
 
   pub passing-over : length d ≤ at → linesSay t 2 (linesOf (page start (drop from d))) ≡ accepts rs
   passing-over h = w .says ∙ ap (ahead rs) (over-says t d at (n + 2) h) ∙ ahead-accepts rs [] ∙ ap accepts (append-nil rs)
 
-pub judging-more : {t : List ℤ} {d : List ℕ} {from at n next : ℕ} {slot : List ℕ} → Judging t d from at n → at < length d → Ended t d at slot next → Judging t d from next (n + 1)
+pub judging-more : {t : List ℤ} {d : List ℕ} {from at n next : ℕ} {slot : List ℕ} → Judging t d from at n → at < length d
+    → Ended t d at slot next → Judging t d from next (n + 1)
 judging-more w h g = record { records = w .records ++ (g .bytes ∷ []); passing = passing-more (w .passing) h (g .good) }
 
-pub judging-over : {t : List ℤ} {d : List ℕ} {from at n : ℕ} → Judging t d from at n → length d ≤ at → Accepted (linesSay t 2 (linesOf (page start (drop from d)))) n
+pub judging-over : {t : List ℤ} {d : List ℕ} {from at n : ℕ} → Judging t d from at n → length d ≤ at
+    → Accepted (linesSay t 2 (linesOf (page start (drop from d)))) n
 judging-over w h = record { records = w .records; is = passing-over (w .passing) h; count = w .passing .count }
 
 -- the case that was met
-pub ended-good : (t : List ℤ) (d : List ℕ) (at : ℕ) (s : List ℕ) (r : LineEnd) {next : ℕ} → LineEnded t d at s r → r ≡ Good next → Ended t d at s next
+pub ended-good : (t : List ℤ) (d : List ℕ) (at : ℕ) (s : List ℕ) (r : LineEnd) {next : ℕ} → LineEnded t d at s r → r ≡ Good next
+    → Ended t d at s next
 ended-good t d at s r k e = rw e at k
 
-pub ended-faulty : (t : List ℤ) (d : List ℕ) (at : ℕ) (s : List ℕ) (r : LineEnd) {n c : ℕ} → LineEnded t d at s r → r ≡ Refused n c → FaultyLine t d at n c
+pub ended-faulty : (t : List ℤ) (d : List ℕ) (at : ℕ) (s : List ℕ) (r : LineEnd) {n c : ℕ} → LineEnded t d at s r → r ≡ Refused n c
+    → FaultyLine t d at n c
 ended-faulty t d at s r k e = rw e at k
 
-pub ended-torn : (t : List ℤ) (d : List ℕ) (at : ℕ) (s : List ℕ) (r : LineEnd) {c : ℕ} → LineEnded t d at s r → r ≡ Torn c → linesOf (page fresh (drop at d)) ≡ broken c
+pub ended-torn : (t : List ℤ) (d : List ℕ) (at : ℕ) (s : List ℕ) (r : LineEnd) {c : ℕ} → LineEnded t d at s r → r ≡ Torn c
+    → linesOf (page fresh (drop at d)) ≡ broken c
 ended-torn t d at s r k e = rw e at k

@@ -124,7 +124,8 @@ pub fn build_lines(
     requires { ⌜ (from ≤ length (now d)) × (n * (len + 2) ≤ length (now out)) × (len ≤ 16384) ⌝ }
     requires { ⌜ Accepted (linesSay (now t) 2 (linesOf (page start (drop from (now d))))) n ⌝ }
     requires { ⌜ (length (now list) ≡ 9999) × (length (now room) ≡ 50000) × (length (now spare) ≡ 50000) ⌝ }
-    ensures { λ _. ⌜ now (out .exit) ≡ dataOf (linesSay (now (t .entry)) 2 (linesOf (page start (drop from (now (d .entry)))))) ++ drop (length (dataOf (linesSay (now (t .entry)) 2 (linesOf (page start (drop from (now (d .entry)))))))) (now (out .entry)) ⌝ }
+    ensures { λ _. ⌜ now (out .exit) ≡ dataOf (linesSay (now (t .entry)) 2 (linesOf (page start (drop from (now (d .entry))))))
+        ++ drop (length (dataOf (linesSay (now (t .entry)) 2 (linesOf (page start (drop from (now (d .entry)))))))) (now (out .entry)) ⌝ }
 {
     let size = len + 2;
     let mut at = from;

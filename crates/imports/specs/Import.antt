@@ -45,23 +45,29 @@ module _ {says : TextSays} {n m : ℕ} (a : Accepted says n) (s : length (fileBy
   unfolding roomed outputAfter
   roomed-short h =
       let x : leb (length (fileBytes (a .records))) (length out) ≡ false =
-      ⊎-elim (λ y. lt-leb (length (fileBytes (a .records))) (length out) y) (λ y. absurd (omega (arith, h, le-div-iff-mul-le {k = m} {x = n} {y = length out} p .1 (rw s at y)))) (lt-or-le (length out) (length (fileBytes (a .records)))) in
+      ⊎-elim (λ y. lt-leb (length (fileBytes (a .records))) (length out) y)
+      (λ y. absurd (omega (arith, h, le-div-iff-mul-le {k = m} {x = n} {y = length out} p .1 (rw s at y))))
+      (lt-or-le (length out) (length (fileBytes (a .records)))) in
       record { verdict = rw (a .is, x); leaves = rw (a .is, x) }
 
   pub roomed-fits : n ≤ length out / m → n * m ≤ length out
   roomed-fits h = le-div-iff-mul-le {k = m} {x = n} {y = length out} p .0 h
 
-  pub roomed-written : n ≤ length out / m → {out′ : List ℕ} → out′ ≡ dataOf says ++ drop (length (dataOf says)) out → Roomed says out out′ (written n (n * m))
+  pub roomed-written : n ≤ length out / m → {out′ : List ℕ} → out′ ≡ dataOf says ++ drop (length (dataOf says)) out
+      → Roomed says out out′ (written n (n * m))
   unfolding roomed outputAfter
   roomed-written h {out′} e =
-      let x : leb (length (fileBytes (a .records))) (length out) ≡ true = le-leb (length (fileBytes (a .records))) (length out) (rw s (roomed-fits h)) in
+      let x : leb (length (fileBytes (a .records))) (length out)
+      ≡ true = le-leb (length (fileBytes (a .records))) (length out) (rw s (roomed-fits h)) in
       record { verdict = rw (a .is, x, a .count, s); leaves = rw (a .is, x) (rw (a .is) at e) }
 
-pub roomed-as : {says says′ : TextSays} {out out′ : List ℕ} {v : ImportVerdict} → says ≡ says′ → Roomed says′ out out′ v → Roomed says out out′ v
+pub roomed-as : {says says′ : TextSays} {out out′ : List ℕ} {v : ImportVerdict} → says ≡ says′ → Roomed says′ out out′ v
+    → Roomed says out out′ v
 roomed-as e k = rw e k
 
 -- the records of lines that are accepted, so many, have L bytes each, and CR LF
-pub accepted-sized : (t : List ℤ) (ls : Lines) {n len : ℕ} (a : Accepted (linesSay t 2 ls) n) → len ≡ lengthOf t → length (fileBytes (a .records)) ≡ n * (len + 2)
+pub accepted-sized : (t : List ℤ) (ls : Lines) {n len : ℕ} (a : Accepted (linesSay t 2 ls) n) → len ≡ lengthOf t
+    → length (fileBytes (a .records)) ≡ n * (len + 2)
 accepted-sized t ls a e = rw (e, ← (a .count)) (lines-sized t 2 ls (a .is))
 
 -- the case that was met
@@ -71,13 +77,15 @@ judged-refused says r k e = rw e at k
 pub judged-done : (says : TextSays) (r : Judged) {n : ℕ} → JudgedAs says r → r ≡ judged.Done n → Accepted says n
 judged-done says r k e = rw e at k
 
-pub names-good : (names : List (List ℕ)) (d : List ℕ) (r : NamesEnd) {next : ℕ} → NamesTaken names d r → r ≡ Same next → SameNames names d next
+pub names-good : (names : List (List ℕ)) (d : List ℕ) (r : NamesEnd) {next : ℕ} → NamesTaken names d r → r ≡ Same next
+    → SameNames names d next
 names-good names d r k e = rw e at k
 
 pub names-bad : (names : List (List ℕ)) (d : List ℕ) (r : NamesEnd) {c : ℕ} → NamesTaken names d r → r ≡ Differs c → OtherNames names d c
 names-bad names d r k e = rw e at k
 
-pub names-broken : (names : List (List ℕ)) (d : List ℕ) (r : NamesEnd) {c : ℕ} → NamesTaken names d r → r ≡ Torn c → linesOf (page fresh d) ≡ broken c
+pub names-broken : (names : List (List ℕ)) (d : List ℕ) (r : NamesEnd) {c : ℕ} → NamesTaken names d r → r ≡ Torn c → linesOf (page fresh d)
+    ≡ broken c
 names-broken names d r k e = rw e at k
 
 -- ---- the name line
@@ -100,7 +108,8 @@ module _ (def : List ℕ) (t : List ℤ) (d : List ℕ) {rows : ℕ} (e : rows �
   unfolding importSays
   as-due = rw e
 
-  pub import-same : {next : ℕ} → SameNames (nameLine def t rows) d next → importSays def t d ≡ linesSay t 2 (linesOf (page start (drop next d)))
+  pub import-same : {next : ℕ} → SameNames (nameLine def t rows) d next → importSays def t d
+      ≡ linesSay t 2 (linesOf (page start (drop next d)))
   import-same k = as-due ∙ names-same t (nameLine def t rows) d k
 
   pub import-other : {c : ℕ} → OtherNames (nameLine def t rows) d c → importSays def t d ≡ refuses 62 1 c

@@ -51,7 +51,8 @@ fn build_records(
     requires { ⌜ (from ≤ length (now d)) × (len ≤ 16384) ⌝ }
     requires { ⌜ Accepted (linesSay (now t) 2 (linesOf (page start (drop from (now d))))) n ⌝ }
     requires { ⌜ (length (now list) ≡ 9999) × (length (now room) ≡ 50000) × (length (now spare) ≡ 50000) ⌝ }
-    ensures { λ r. ⌜ Roomed (linesSay (now (t .entry)) 2 (linesOf (page start (drop from (now (d .entry)))))) (now (out .entry)) (now (out .exit)) (importSaid r) ⌝ }
+    ensures { λ r. ⌜ Roomed (linesSay (now (t .entry)) 2 (linesOf (page start (drop from (now (d .entry)))))) (now (out .entry))
+        (now (out .exit)) (importSaid r) ⌝ }
 {
     let size = len + 2;
     if out.len() / size < n {
@@ -109,7 +110,8 @@ fn import_records(
 ) -> Import
     requires { ⌜ TableKnown (now t) rows len × (rows ≡ rowsOf (now t)) × (len ≡ lengthOf (now t)) ⌝ }
     requires { ⌜ (from ≤ length (now d)) × (len ≤ 16384) ⌝ }
-    ensures { λ r. ⌜ Roomed (linesSay (now (t .entry)) 2 (linesOf (page start (drop from (now (d .entry)))))) (now (out .entry)) (now (out .exit)) (importSaid r) ⌝ }
+    ensures { λ r. ⌜ Roomed (linesSay (now (t .entry)) 2 (linesOf (page start (drop from (now (d .entry)))))) (now (out .entry))
+        (now (out .exit)) (importSaid r) ⌝ }
 {
     let powers = ascii::powers();
     let mut list = [0i64; 9999];
@@ -158,7 +160,8 @@ fn import_records(
 fn import_tested(def: &[u8], t: &[i64], rows: usize, len: usize, d: &[u8], out: &mut [u8]) -> Import
     requires { ⌜ TableKnown (now t) rows len × (rows ≡ rowsOf (now t)) × (len ≡ lengthOf (now t)) ⌝ }
     requires { ⌜ len ≤ 16384 ⌝ }
-    ensures { λ r. ⌜ Roomed (importSays (now (def .entry)) (now (t .entry)) (now (d .entry))) (now (out .entry)) (now (out .exit)) (importSaid r) ⌝ }
+    ensures { λ r. ⌜ Roomed (importSays (now (def .entry)) (now (t .entry)) (now (d .entry))) (now (out .entry)) (now (out .exit))
+        (importSaid r) ⌝ }
 {
     let classes = ascii::classes();
     match import_names::judge_names(&classes, def, t, rows, d) {

@@ -1,4 +1,5 @@
--- The first fourteen columns of a row, and the values of its lines, are of what a variable says: not of texts, places, SPECIAL, use and filter.
+-- The first fourteen columns of a row, and the values of its lines, are of what a variable says: not of texts, places, SPECIAL, use and
+-- filter.
 use mathlib.Core.Path.{_≡_, refl, sym, ap, _∙_}
 use mathlib.Core.Bool.{Bool}
 use mathlib.Core.List.{List, [], _∷_, _++_, map}
@@ -10,8 +11,10 @@ use Rattle.layout.specs.rule.Row.{spreadOf}
 use Rattle.layout.specs.declared.Columns.{Columns}
 use Rattle.layout.specs.declared.Kind.{Kind}
 use Rattle.widths.specs.rule.Width.{need}
-use Rattle.survey.specs.rule.Survey.{Figure, Amount, Range, Line, Block, Spread, Content, single, multiple, quantity, character, logical, Variable}
-use Rattle.survey.specs.rule.Width.{someOf, eachOf, rangeEnds, amounts, scaled, decimalsIn, bare, pointIn, blockIn, finishIn, roomIn, partsOf, subwidthOf}
+use Rattle.survey.specs.rule.Survey.{Figure, Amount, Range, Line, Block, Spread, Content, single, multiple, quantity, character, logical}
+use Rattle.survey.specs.rule.Survey.{Variable}
+use Rattle.survey.specs.rule.Width.{someOf, eachOf, rangeEnds, amounts, scaled, decimalsIn, bare, pointIn, blockIn, finishIn, roomIn}
+use Rattle.survey.specs.rule.Width.{partsOf, subwidthOf}
 use Rattle.survey.specs.rule.Width.{kindIn, widest, widthIn}
 use Rattle.survey.specs.rule.Table.{typeOf, spreadIn, ranged, fromOf, toOf, columnsOf, linesOf}
 use Rattle.kind_laws.specs.rule.Meet.{amountSaid, rangeSaid, lineSaid, blockSaid, spreadSaid, contentSaid, saidBy}
@@ -46,7 +49,8 @@ values-said : (l : List Line) → map (λ x. x .value) (map lineSaid l) ≡ map 
 values-said [] = refl
 values-said (x ∷ l) = ap (λ (r : List Amount). amountSaid (x .value) ∷ r) (values-said l)
 
-amounts-said : (r : Option Range) (l : List Line) → amounts (record { range = rangeSaid r; lines = map lineSaid l }) ≡ map amountSaid (amounts (record { range = r; lines = l }))
+amounts-said : (r : Option Range) (l : List Line) → amounts (record { range = rangeSaid r; lines = map lineSaid l })
+    ≡ map amountSaid (amounts (record { range = r; lines = l }))
 unfolding amounts
 amounts-said none l = values-said l
 amounts-said (some r) l = ap (λ (m : List Amount). amountSaid (r .from) ∷ amountSaid (r .to) ∷ m) (values-said l)
@@ -93,7 +97,8 @@ parts-said (some s) = refl
 subwidth-said : (room : ℕ) (s : Option Spread) → subwidthOf room (spreadSaid s) ≡ subwidthOf room s
 subwidth-said room none = refl
 subwidth-said room (some s) = by (s .width) where
-  by : (w : Option Figure) → subwidthOf room (spreadSaid (some (record { count = s .count; width = w }))) ≡ subwidthOf room (some (record { count = s .count; width = w }))
+  by : (w : Option Figure) → subwidthOf room (spreadSaid (some (record { count = s .count; width = w })))
+      ≡ subwidthOf room (some (record { count = s .count; width = w }))
   by none = refl
   by (some x) = refl
 

@@ -39,11 +39,13 @@ use Rattle.contents.specs.declared.Step.{Step}
 use Rattle.contents.specs.declared.Step.the-variants as step
 use Rattle.contents.specs.rule.Grammar.{br, text, lang}
 use Rattle.contents.specs.rule.Step.{onChar, onNote, onPair, onBreak, onLanguage, onOther, onOut, onEnd, onAngle, knowing, modeIn, kindOf}
-use Rattle.contents.specs.rule.Step.{bracketAt, returnAt, referAt, noteAt, pairAt, breakAt, languageAt, otherAt, startAt, closeAt, markAt, stepOf}
+use Rattle.contents.specs.rule.Step.{bracketAt, returnAt, referAt, noteAt, pairAt, breakAt, languageAt, otherAt, startAt, closeAt, markAt}
+use Rattle.contents.specs.rule.Step.{stepOf}
 use Rattle.contents.specs.rule.Content.{onStep, contentFrom, contentOf}
 use Rattle.prologs.specs.rule.Form.{Form, done, white, room, word, value, encoding, literal, root, bracket, perhaps, which}
 use Rattle.prologs.specs.rule.Form.{XML, DOCTYPE, UTF-8, ISO-8859-1, sss, declaration, doctype}
-use Rattle.prologs.specs.rule.Told.{startOf, amongOf, alikeOf, quotedOf, missOf, blanks, onSkip, tellOf, declarationOf, gapTo, gapOn, headOf, endOf, behindRoot, tailOf}
+use Rattle.prologs.specs.rule.Told.{startOf, amongOf, alikeOf, quotedOf, missOf, blanks, onSkip, tellOf, declarationOf, gapTo, gapOn}
+use Rattle.prologs.specs.rule.Told.{headOf, endOf, behindRoot, tailOf}
 use Rattle.prologs.specs.declared.Prolog.{Prolog}
 use Rattle.prologs.specs.declared.Prolog.the-variants as prolog
 use Rattle.prologs.specs.declared.Tail.{Tail}
@@ -98,7 +100,8 @@ pub tag-free : (bad : Bool) (d : List ℕ) (opened at : ℕ) (x y z : List ℕ) 
     → TagFree (tagOf bad d opened at x y z f g k required)
 unfolding turnsOf turnOf
 tag-free bad d opened at x y z f g k required =
-    loop-holds TagFree _ (tag.Fault 0 0) refl (λ h. on-turn (turnOf bad d opened x y z f g k required h) (turned-free d x y z f g k required h (attributeOf bad d opened (h .next)))) _ _
+    loop-holds TagFree _ (tag.Fault 0 0) refl (λ h. on-turn (turnOf bad d opened x y z f g k required h)
+    (turned-free d x y z f g k required h (attributeOf bad d opened (h .next)))) _ _
 
 pub bare-free : (bad : Bool) (d : List ℕ) (p e : ℕ) → TagFree (bareOf bad d p e)
 bare-free bad d p e = tag-free bad d p e [] [] [] 0 0 0 0
@@ -153,7 +156,8 @@ module _ (bad : Bool) (d : List ℕ) (g : Going) where
 
   break-free : (t : Tag) → TagFree t → StepFree (onBreak bad d g t)
   unfolding pairAt
-  break-free (tag.Read h empty p n) k = either StepFree empty tt (broken-free (knowing g (h .unknown)) (pairOf bad d n br) (pair-free bad d n br))
+  break-free (tag.Read h empty p n) k = either StepFree empty tt
+      (broken-free (knowing g (h .unknown)) (pairOf bad d n br) (pair-free bad d n br))
   break-free (tag.Fault number p) k = k
 
   language-free : (t : Tag) → TagFree t → StepFree (onLanguage g t)
@@ -175,14 +179,17 @@ module _ (bad : Bool) (d : List ℕ) (g : Going) where
   start-free : (m e : ℕ) → StepFree (startAt bad d m g e)
   unfolding startAt breakAt languageAt otherAt
   start-free m e =
-      either StepFree (eqb (kindOf d (modeIn m (g .inside)) (g .next + 1) e) 1) (break-free (bareOf bad d (g .next) e) (bare-free bad d (g .next) e))
-      (either StepFree (eqb (kindOf d (modeIn m (g .inside)) (g .next + 1) e) 2) (language-free (tagOf bad d (g .next) e lang [] [] 0 0 0 1) (tag-free bad d (g .next) e lang [] [] 0 0 0 1))
+      either StepFree (eqb (kindOf d (modeIn m (g .inside)) (g .next + 1) e) 1)
+      (break-free (bareOf bad d (g .next) e) (bare-free bad d (g .next) e))
+      (either StepFree (eqb (kindOf d (modeIn m (g .inside)) (g .next + 1) e) 2)
+      (language-free (tagOf bad d (g .next) e lang [] [] 0 0 0 1) (tag-free bad d (g .next) e lang [] [] 0 0 0 1))
       (other-free (bareOf bad d (g .next) e) (bare-free bad d (g .next) e)))
 
   angle-free : (m : ℕ) (w : List ℕ) (a : Angle) → StepFree (onAngle bad d m w g a)
   unfolding closeAt
   angle-free m w (angle.Start e) = start-free m e
-  angle-free m w (angle.Close e) = either StepFree (g .inside) (out-free (stands.shutOf bad d (g .next) e text)) (end-free (stands.shutOf bad d (g .next) e w))
+  angle-free m w (angle.Close e) = either StepFree (g .inside) (out-free (stands.shutOf bad d (g .next) e text))
+      (end-free (stands.shutOf bad d (g .next) e w))
   angle-free m w angle.Foreign = tt
   angle-free m w (angle.Broken p) = refl
 
@@ -191,7 +198,8 @@ module _ (bad : Bool) (d : List ℕ) (g : Going) where
   step-free m w =
       either StepFree (leb (length d) (g .next)) refl
       (either StepFree (eqb (getD d (g .next) 0) 60)
-      (either StepFree (bytes.stands (60 ∷ 33 ∷ 45 ∷ 45 ∷ []) (drop (g .next) d)) (note-free (commentOf bad (g .next) (g .next + 4) (drop (g .next + 4) d)))
+      (either StepFree (bytes.stands (60 ∷ 33 ∷ 45 ∷ 45 ∷ []) (drop (g .next) d))
+      (note-free (commentOf bad (g .next) (g .next + 4) (drop (g .next + 4) d)))
       (angle-free m w (angleOf bad d (g .next))))
       (either StepFree (eqb (getD d (g .next) 0) 38) (refer-free (referenceOf (g .next) (drop (g .next + 1) d)))
       (either StepFree (eqb (getD d (g .next) 0) 93) (either StepFree (bytes.stands (93 ∷ 93 ∷ 62 ∷ []) (drop (g .next) d)) refl tt)
@@ -203,7 +211,8 @@ on-step (step.Over c) k = k
 
 pub content-free : (bad : Bool) (d : List ℕ) (m : ℕ) (w : List ℕ) (at : ℕ) → ContentFree (contentOf bad d m w at)
 unfolding contentFrom
-content-free bad d m w at = loop-holds ContentFree _ (content.Fault 0 0) refl (λ g. on-step (stepOf bad d m w g) (step-free bad d g m w)) _ _
+content-free bad d m w at = loop-holds ContentFree _ (content.Fault 0 0) refl (λ g. on-step (stepOf bad d m w g) (step-free bad d g m w)) _
+    _
 
 -- ---- the declaration and the DOCTYPE
 abbrev pub PrologFree : Prolog → Type 0
@@ -221,7 +230,8 @@ module _ (bad : Bool) (d : List ℕ) (o : ℕ) where
   tell-free (white f) latin p = either PrologFree (eqb (blanks d p) p) refl (tell-free f latin (blanks d p))
   tell-free (room f) latin p = tell-free f latin (blanks d p)
   tell-free (word w f) latin p = either PrologFree (bytes.stands w (drop p d)) (tell-free f latin (p + length w)) refl
-  tell-free (value ws f) latin p = skip-free (quotedOf true false bad d o p) _ (λ k. either PrologFree (amongOf d (p + 1) k ws) (tell-free f latin (k + 1)) refl)
+  tell-free (value ws f) latin p = skip-free (quotedOf true false bad d o p) _
+      (λ k. either PrologFree (amongOf d (p + 1) k ws) (tell-free f latin (k + 1)) refl)
   tell-free (encoding marked f) latin p =
       skip-free (quotedOf true false bad d o p) _
       (λ k. either PrologFree (alikeOf d (p + 1) k UTF-8) (tell-free f false (k + 1))
@@ -239,7 +249,8 @@ module _ (bad : Bool) (d : List ℕ) (o : ℕ) where
 pub declaration-free : (d : List ℕ) → PrologFree (declarationOf d)
 unfolding declarationOf
 declaration-free d =
-    either PrologFree (bytes.stands XML (drop (startOf d) d)) (tell-free false d (startOf d) (declaration (ltb 0 (startOf d))) false (startOf d)) tt
+    either PrologFree (bytes.stands XML (drop (startOf d) d))
+    (tell-free false d (startOf d) (declaration (ltb 0 (startOf d))) false (startOf d)) tt
 
 gap-free : (bad : Bool) (d : List ℕ) (x : Prolog) → PrologFree x → PrologFree (gapOn bad d x)
 unfolding gapTo
@@ -248,7 +259,9 @@ gap-free bad d (prolog.Fault number p) k = k
 
 pub head-free : (bad latin : Bool) (d : List ℕ) (p : ℕ) → PrologFree (headOf bad latin d p)
 unfolding headOf
-head-free bad latin d p = skip-free (gapOf bad d p) _ (λ n. either PrologFree (bytes.stands DOCTYPE (drop n d)) (gap-free bad d (tellOf bad d n doctype latin n) (tell-free bad d n doctype latin n)) tt)
+head-free bad latin d p = skip-free (gapOf bad d p) _
+    (λ n. either PrologFree (bytes.stands DOCTYPE (drop n d))
+    (gap-free bad d (tellOf bad d n doctype latin n) (tell-free bad d n doctype latin n)) tt)
 
 -- ---- behind the root
 abbrev pub TailFree : Tail → Type 0

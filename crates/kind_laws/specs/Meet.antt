@@ -1,4 +1,5 @@
--- ROADS MEET: the tables of a definition in XML and of one of 1.1 that say the same are alike, whatever their marks, texts, SPECIAL, use and filter: so
+-- ROADS MEET: the tables of a definition in XML and of one of 1.1 that say the same are alike, whatever their marks, texts, SPECIAL, use
+-- and filter: so
 -- every record is read, judged and written by the one as by the other (crate blind_laws).
 use mathlib.Core.Path.{_≡_, refl, sym, ap, _∙_}
 use mathlib.Core.Bool.{Bool, true}
@@ -26,7 +27,8 @@ use Rattle.kind_laws.specs.Columns.{firsts, lasts, firsts-same, finish-s
 
 -- ---- lines
 -- every fourth number is a value
-cells-alike : (l m : List Line) (s t : List ℤ) → map lineSaid l ≡ map lineSaid m → ((k : ℕ) → cell s (lineSize * k) ≡ cell t (lineSize * k)) → (j : ℕ)
+cells-alike : (l m : List Line) (s t : List ℤ) → map lineSaid l ≡ map lineSaid m → ((k : ℕ) → cell s (lineSize * k) ≡ cell t (lineSize * k))
+    → (j : ℕ)
     → cell (cellsOf l ++ s) (lineSize * j) ≡ cell (cellsOf m ++ t) (lineSize * j)
 unfolding cellsOf lineCells
 cells-alike [] [] s t e h j = h j
@@ -92,7 +94,8 @@ rows-alike (more {v = v} {u = u} {l = l} {m = m} e r) before s t zero k h g =
     let o = rowsFrom (before + length (linesOf u)) m in
     let z : rowSize * zero + k ≡ k = omega arith in
     rw (z, append-assoc (rowCells c) n s, append-assoc (rowCells f) o t)
-    (row-front c (n ++ s) k g ∙ ap (λ (x : List ℤ). cell x k) (columns-for before v ∙ firsts-same (v .variable) u e before) ∙ sym (row-front f (o ++ t) k g))
+    (row-front c (n ++ s) k g ∙ ap (λ (x : List ℤ). cell x k) (columns-for before v ∙ firsts-same (v .variable) u e before)
+    ∙ sym (row-front f (o ++ t) k g))
 rows-alike (more {v = v} {u = u} {l = l} {m = m} e r) before s t (suc i) k h g =
     let c = xml.columnsFor before v in
     let f = columnsOf before u in
@@ -133,7 +136,8 @@ header-front : (a b c d e f : ℤ) (s : List ℤ) (k : ℕ) → k < headerSize
 header-front a b c d e f s k h = List·getD-append (a ∷ b ∷ c ∷ d ∷ e ∷ f ∷ []) s (pos 0) k h
 
 five-same : {v w e f n o : ℕ} → v ≡ w → e ≡ f → n ≡ o → (k : ℕ)
-    → cell (pos v ∷ pos e ∷ pos n ∷ pos headerSize ∷ pos (linesBase v) ∷ []) k ≡ cell (pos w ∷ pos f ∷ pos o ∷ pos headerSize ∷ pos (linesBase w) ∷ []) k
+    → cell (pos v ∷ pos e ∷ pos n ∷ pos headerSize ∷ pos (linesBase v) ∷ []) k
+    ≡ cell (pos w ∷ pos f ∷ pos o ∷ pos headerSize ∷ pos (linesBase w) ∷ []) k
 five-same p q s k = rw (p, q, s)
 
 rows-are : (l : List Entry) → rowsOf (xml.tableOf l) ≡ length l
@@ -152,9 +156,11 @@ module _ {l : List Entry} {m : List Variable} (r : Meet l m) where
   unfolding xml.tableOf tableOf xml.headerFor headerFor headerCells
   header-alike zero a b = absurd (omega arith)
   header-alike (suc k) a b =
-      header-front (pos markXml) (pos (length l)) (pos (linesAll (variablesOf l))) (pos (highestIn (variablesOf l))) (pos headerSize) (pos (linesBase (length l))) x (suc k) b
+      header-front (pos markXml) (pos (length l)) (pos (linesAll (variablesOf l))) (pos (highestIn (variablesOf l))) (pos headerSize)
+      (pos (linesBase (length l))) x (suc k) b
       ∙ five-same (rows-same r) (all-same r) (highest-same r) k
-      ∙ sym (header-front (pos mark) (pos (length m)) (pos (linesAll m)) (pos (highestIn m)) (pos headerSize) (pos (linesBase (length m))) y (suc k) b)
+      ∙ sym (header-front (pos mark) (pos (length m)) (pos (linesAll m)) (pos (highestIn m)) (pos headerSize) (pos (linesBase (length m))) y
+      (suc k) b)
 
   xml-behind : (n : ℕ) → cell (xml.tableOf l) (headerSize + n) ≡ cell x n
   unfolding xml.tableOf xml.headerFor headerCells
@@ -168,7 +174,8 @@ module _ {l : List Entry} {m : List Variable} (r : Meet l m) where
   row-alike i k h g =
       let z : rowBase i + k ≡ headerSize + (rowSize * i + k) = omega arith in
       let j : i < length l = rw (rows-are l) at h in
-      rw z (xml-behind (rowSize * i + k) ∙ rows-alike r 0 (allLines (variablesOf l)) (allLines m) i k j g ∙ sym (sss-behind (rowSize * i + k)))
+      rw z (xml-behind (rowSize * i + k) ∙ rows-alike r 0 (allLines (variablesOf l)) (allLines m) i k j g
+      ∙ sym (sss-behind (rowSize * i + k)))
 
   value-alike : (j : ℕ) → cell (xml.tableOf l) (lineBase (length l) j) ≡ cell (tableOf m) (lineBase (length l) j)
   value-alike j =

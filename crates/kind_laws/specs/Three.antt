@@ -41,19 +41,23 @@ use Rattle.reading.specs.rule.Least.{Charge, _when_, named, before, Finding, cl
 use Rattle.reading.specs.rule.Statement.{Position, positionCharges, spreadCharges, sizeCharges}
 use Rattle.reading.specs.rule.Values.{lineCharges}
 use Rattle.reading.specs.rule.Variable.{identCharges, room, variableOf, held}
-use Rattle.xml_reading.specs.rule.Word.{SSS, VERSION, OPTIONS, LANGUAGES, DATE, TIME, ORIGIN, USER, SURVEY, NAME, TITLE, RECORD, IDENT, HREF}
+use Rattle.xml_reading.specs.rule.Word.{SSS, VERSION, OPTIONS, LANGUAGES, DATE, TIME, ORIGIN, USER, SURVEY, NAME, TITLE, RECORD, IDENT}
+use Rattle.xml_reading.specs.rule.Word.{HREF}
 use Rattle.xml_reading.specs.rule.Word.{VARIABLE, TYPE, USE, LABEL, POSITION, FILTER, SPREAD, VALUES, SIZE, START, FINISH, SUBFIELDS, WIDTH}
 use Rattle.xml_reading.specs.rule.Word.{RANGE, VALUE, FROM, TO, CODE}
-use Rattle.xml_reading.specs.rule.Open.{Open, start, shut, onShut, unknownAt, opened, within, onBare, misplaced, refuse, due, over, onTag, onPair, nothing, entered}
+use Rattle.xml_reading.specs.rule.Open.{Open, start, shut, onShut, unknownAt, opened, within, onBare, misplaced, refuse, due, over, onTag}
+use Rattle.xml_reading.specs.rule.Open.{onPair, nothing, entered}
 use Rattle.xml_reading.specs.rule.Open as opens
 use Rattle.xml_reading.specs.rule.Element.{Body, onContent, body, text, position, spread, sizeIn, size}
 use Rattle.xml_reading.specs.rule.Block as block
 use Rattle.xml_reading.specs.rule.Role.{Entry, variablesOf, title, naming, filter}
 use Rattle.xml_reading.specs.rule.Variable.{Manner, Then, filtered, spreading, ended}
 use Rattle.xml_reading.specs.rule.Variable as variable
-use Rattle.xml_reading.specs.rule.Sheet.{noRoot, rooted, headed, root, manner, perhaps, heading, survey, titles, record-tag, preface, variables, cleared, closing}
+use Rattle.xml_reading.specs.rule.Sheet.{noRoot, rooted, headed, root, manner, perhaps, heading, survey, titles, record-tag, preface}
+use Rattle.xml_reading.specs.rule.Sheet.{variables, cleared, closing}
 use Rattle.xml_reading.specs.rule.Sheet as sheet
-use Rattle.xml_reading.specs.rule.Whole.{Outcome, Built, Refusal, tableOf, namesOf, fitting, judgeNames, settled, sheetOf, declared, outcomeOf}
+use Rattle.xml_reading.specs.rule.Whole.{Outcome, Built, Refusal, tableOf, namesOf, fitting, judgeNames, settled, sheetOf, declared}
+use Rattle.xml_reading.specs.rule.Whole.{outcomeOf}
 use Rattle.refusals.specs.Scanned.{either}
 use Rattle.kind_laws.specs.Leaves.{Free, TagFree, tag-free, bare-free, PairFree, pair-free, ContentFree, content-free}
 use Rattle.kind_laws.specs.Leaves.{PrologFree, declaration-free, head-free, TailFree, tail-free}
@@ -67,7 +71,8 @@ abbrev Fine : {A : Type 0} → Result A → Type 0
 Fine (Is a n) = Unit
 Fine (Not f) = Free (f .number)
 
-bind-having : {A B : Type 0} (P : A → Type 0) (r : Result A) (k : A → Reader B) → Having P r → ((a : A) (n : ℕ) → P a → Fine (k a n)) → Fine (bind r k)
+bind-having : {A B : Type 0} (P : A → Type 0) (r : Result A) (k : A → Reader B) → Having P r → ((a : A) (n : ℕ) → P a → Fine (k a n))
+    → Fine (bind r k)
 bind-having P (Is a n) k h w = w a n h
 bind-having P (Not f) k h w = h
 
@@ -132,7 +137,8 @@ unfolding identCharges
 ident-frees l n = (refl, (refl, (refl, (refl, tt))))
 
 -- ---- again and again
-repeat-fine : {S A : Type 0} (go : S → Reader (Next S A)) → ((s : S) (n : ℕ) → Fine (go s n)) → (f : ℕ) (s : S) (n : ℕ) → Fine (repeat f go s n)
+repeat-fine : {S A : Type 0} (go : S → Reader (Next S A)) → ((s : S) (n : ℕ) → Fine (go s n)) → (f : ℕ) (s : S) (n : ℕ)
+    → Fine (repeat f go s n)
 unfolding repeat
 repeat-fine go h zero s n = refl
 repeat-fine {S} {A} go h (suc f) s n = bind-fine (go s n) _ (h s n) (by (λ r m. repeat-fine go h f r m)) where
@@ -178,7 +184,8 @@ module _ (bad : Bool) (d : List ℕ) where
   over-fine (start p) n = misplaced-fine Unit p n
   over-fine (shut p) n = tt
 
-  tag-fine : {A : Type 0} (t : Tag) (k : Held → Bool → ℕ → Reader A) → TagFree t → ((h : Held) (empty : Bool) (q n : ℕ) → Fine (k h empty q n))
+  tag-fine : {A : Type 0} (t : Tag) (k : Held → Bool → ℕ → Reader A) → TagFree t
+      → ((h : Held) (empty : Bool) (q n : ℕ) → Fine (k h empty q n))
       → Fine (onTag bad d t k)
   tag-fine (tag.Read h empty p n) k g w = w h empty p n
   tag-fine (tag.Fault number p) k g w = g
@@ -210,7 +217,8 @@ module _ (bad : Bool) (d : List ℕ) where
   unfolding text
   text-fine w m p e =
       tag-fine (bareOf bad d p e) _ (bare-free bad d p e) λ h empty q n.
-      bind-having Charged (body bad d w m empty n) _ (body-fine w m empty n) λ b k f. judged-fine (unknownAt (h .unknown) ∷ b .charges) (b .text) k (refl, f)
+      bind-having Charged (body bad d w m empty n) _ (body-fine w m empty n) λ b k f. judged-fine (unknownAt (h .unknown) ∷ b .charges)
+      (b .text) k (refl, f)
 
   position-fine : (p e : ℕ) → Fine (position bad d p e)
   unfolding position
@@ -249,11 +257,13 @@ module _ (bad : Bool) (d : List ℕ) where
   line-fine languages quantity before b p e =
       tag-fine (tagOf bad d p e CODE [] [] 2 0 0 1) _ (tag-free bad d p e CODE [] [] 2 0 0 1) λ h empty q n.
       bind-having Charged (body bad d VALUE (block.rich languages) empty n) _ (body-fine VALUE (block.rich languages) empty n) λ t k f.
-      judged-fine _ _ k (frees-both (lineCharges quantity before b _) (unknownAt (h .unknown) ∷ t .charges) (line-frees quantity before b _) (refl, f))
+      judged-fine _ _ k (frees-both (lineCharges quantity before b _) (unknownAt (h .unknown) ∷ t .charges) (line-frees quantity before b _)
+      (refl, f))
 
   module _ (languages quantity : Bool) (before : ℕ) where
     lined-fine : (b : Block) (p n : ℕ) → Fine (block.lined bad d languages quantity before b p n)
-    lined-fine b p n = bind-fine (block.line bad d languages quantity before b p n) _ (line-fine languages quantity before b p n) (λ l m. tt)
+    lined-fine b p n = bind-fine (block.line bad d languages quantity before b p n) _ (line-fine languages quantity before b p n)
+        (λ l m. tt)
 
     on-open : (b : Block) (o : Open) (n : ℕ) → Fine (block.onOpen bad d languages quantity before b o n)
     on-open b (start p) n =
@@ -276,7 +286,8 @@ module _ (bad : Bool) (d : List ℕ) where
     unfolding block.values
     values-fine p e =
         tag-fine (bareOf bad d p e) _ (bare-free bad d p e) λ h empty q n.
-        bind-fine (entered bad d (unknownAt (h .unknown) ∷ []) tt empty q n) _ (entered-fine (unknownAt (h .unknown) ∷ []) tt empty q n (refl, tt)) λ u m.
+        bind-fine (entered bad d (unknownAt (h .unknown) ∷ []) tt empty q n) _
+        (entered-fine (unknownAt (h .unknown) ∷ []) tt empty q n (refl, tt)) λ u m.
         bind-fine (block.first bad d languages quantity before m) _ (first-fine m) λ b k.
         repeat-fine (block.another bad d languages quantity before) another-fine _ b k
 
@@ -284,7 +295,8 @@ module _ (bad : Bool) (d : List ℕ) where
   title-fine : (old : Bool) (earlier : List Entry) (p e : ℕ) → Fine (title bad d old earlier p e)
   unfolding title
   title-fine old earlier p e =
-      tag-fine (tagOf bad d p e IDENT TYPE (cond old [] USE) 1 4 (cond old 0 5) 2) _ (tag-free bad d p e IDENT TYPE (cond old [] USE) 1 4 (cond old 0 5) 2)
+      tag-fine (tagOf bad d p e IDENT TYPE (cond old [] USE) 1 4 (cond old 0 5) 2) _
+      (tag-free bad d p e IDENT TYPE (cond old [] USE) 1 4 (cond old 0 5) 2)
       λ h empty q n. entered-fine _ _ empty q n (frees-both (identCharges _ _) _ (ident-frees _ _) (refl, (refl, tt)))
 
   module _ (latin standard : Bool) (earlier : List Entry) where
@@ -305,7 +317,8 @@ module _ (bad : Bool) (d : List ℕ) where
     filtered-fine earlier name usage o n =
         either (λ (r : Reader (Then ℕ)). Fine (r n)) (m .old) tt
         (either-fine FILTER o _ _ n
-        (λ p. bind-fine (filter bad d (m .latin) (m .standard) earlier name usage p n) _ (filter-fine (m .latin) (m .standard) earlier name usage p n)
+        (λ p. bind-fine (filter bad d (m .latin) (m .standard) earlier name usage p n) _
+        (filter-fine (m .latin) (m .standard) earlier name usage p n)
         λ f k. bind-fine (within bad d VARIABLE k) _ (inside-fine k) (λ o i. tt))
         tt)
 
@@ -313,7 +326,8 @@ module _ (bad : Bool) (d : List ℕ) where
     unfolding spreading
     spreading-fine room o n =
         either-fine SPREAD o _ _ n
-        (λ p. bind-fine (spread bad d room p n) _ (spread-fine room p n) λ s k. bind-fine (within bad d VARIABLE k) _ (inside-fine k) (λ o i. tt))
+        (λ p. bind-fine (spread bad d room p n) _ (spread-fine room p n) λ s k. bind-fine (within bad d VARIABLE k) _ (inside-fine k)
+        (λ o i. tt))
         tt
 
     block-fine : (quantity : Bool) (before : ℕ) (o : Open) (n : ℕ) → Fine (variable.block bad d m quantity before o n)
@@ -330,7 +344,8 @@ module _ (bad : Bool) (d : List ℕ) where
       content-fine : (t : ℕ) → Fine (variable.content bad d m p before t o n)
       unfolding variable.content
       content-fine t =
-          either Here (eqb t 1) (bind-fine (variable.block bad d m false before o n) _ (block-fine false before o n) (λ b k. ended-fine _ k))
+          either Here (eqb t 1) (bind-fine (variable.block bad d m false before o n) _ (block-fine false before o n)
+          (λ b k. ended-fine _ k))
           (either Here (eqb t 2)
           (bind-fine (spreading bad d m (room p) o n) _ (spreading-fine (room p) o n) λ s k.
           bind-fine (variable.block bad d m false before (s .behind) k) _ (block-fine false before (s .behind) k) (λ b i. ended-fine _ i))
@@ -411,7 +426,8 @@ module _ (bad : Bool) (d : List ℕ) where
   record-fine : (m : Manner) (p e : ℕ) → Fine (record-tag bad d m p e)
   unfolding record-tag
   record-fine m p e =
-      tag-fine (tagOf bad d p e IDENT (cond (m .old) [] HREF) [] 3 0 0 1) _ (tag-free bad d p e IDENT (cond (m .old) [] HREF) [] 3 0 0 1) λ h empty q n.
+      tag-fine (tagOf bad d p e IDENT (cond (m .old) [] HREF) [] 3 0 0 1) _ (tag-free bad d p e IDENT (cond (m .old) [] HREF) [] 3 0 0 1)
+      λ h empty q n.
       entered-fine _ _ empty q n (refl, tt)
 
   preface-fine : (latin : Bool) (n : ℕ) → Fine (preface bad d latin n)
@@ -472,11 +488,14 @@ fitting-free n l = either OutcomeFree (ltb n (length (tableOf l))) refl tt
 
 sheet-free : (latin : Bool) (d : List ℕ) (at n : ℕ) → OutcomeFree (sheetOf latin d at n)
 unfolding sheetOf judgeNames
-sheet-free latin d at n = by (sheet.sheet (ltb (firstBad latin d at) (length d)) (take (firstBad latin d at) d) latin at) (sheet-fine _ _ latin at) where
-  by : (r : Result sheet.Survey) → Fine r → OutcomeFree (settled latin (take (firstBad latin d at) d) n r)
-  by (Is s m) h =
-      either OutcomeFree (s .manner .standard) (either OutcomeFree (ltb (nameFault (namesOf latin (take (firstBad latin d at) d) (s .entries))) (length (s .entries))) refl (fitting-free n (s .entries))) (fitting-free n (s .entries))
-  by (Not f) h = h
+sheet-free latin d at n = by (sheet.sheet (ltb (firstBad latin d at) (length d)) (take (firstBad latin d at) d) latin at)
+    (sheet-fine _ _ latin at) where
+      by : (r : Result sheet.Survey) → Fine r → OutcomeFree (settled latin (take (firstBad latin d at) d) n r)
+      by (Is s m) h =
+          either OutcomeFree (s .manner .standard) (either OutcomeFree
+          (ltb (nameFault (namesOf latin (take (firstBad latin d at) d) (s .entries))) (length (s .entries))) refl
+          (fitting-free n (s .entries))) (fitting-free n (s .entries))
+      by (Not f) h = h
 
 pub outcome-free : (d : List ℕ) (n : ℕ) → OutcomeFree (outcomeOf d n)
 unfolding outcomeOf

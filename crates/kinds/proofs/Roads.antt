@@ -51,7 +51,8 @@ module _ (d : List ℕ) (long : length d ≤ 1048576) (plain : isXml d ≡ false
     fits-same y l h n =
         rw (cells-are d y rows lines l h, count-is d y rows lines l h, lines-is d y rows lines l h) (by (ltb n (length (kept.tableOf l))))
       where
-        by : (b : Bool) → ofBooks (cond b (books.Refusal 10 0) (books.Built l)) ≡ cond b (Refusal 10 0) (Built (length l) (kept.linesAll l) (kept.tableOf l))
+        by : (b : Bool) → ofBooks (cond b (books.Refusal 10 0) (books.Built l))
+            ≡ cond b (Refusal 10 0) (Built (length l) (kept.linesAll l) (kept.tableOf l))
         by true = refl
         by false = refl
 
@@ -59,7 +60,11 @@ module _ (d : List ℕ) (long : length d ≤ 1048576) (plain : isXml d ≡ false
     sss-ready r w = record {
       stands = λ {y} e.
           let s = w .stands e in
-          record { few = s .few; outcome = λ n. outcome-is n (books.fitting n (s .read)) (s .outcome n) ∙ fits-same y (s .read) (s .held) n };
+          record {
+            few = s .few;
+            outcome = λ n. outcome-is n (books.fitting n (s .read)) (s .outcome n)
+                ∙ fits-same y (s .read) (s .held) n;
+          };
       refuses = λ {k} {p} e n. outcome-is n (books.Refusal k p) (w .refuses e n);
     }
 
@@ -69,7 +74,8 @@ module _ (d : List ℕ) (long : length d ≤ 1048576) (plain : isXml d ≡ false
 
 -- ---- XML
 module _ (d : List ℕ) (rows lines : List ℤ) where
-  xml-fits : (y : Tally) (s : sheet.Standing (xml.outcomeOf d) rows lines y) (n : ℕ) → ofXml (xml.fitting n (s .read)) ≡ fitting n (y .rows) (y .lines) (cellsIn markXml y rows lines)
+  xml-fits : (y : Tally) (s : sheet.Standing (xml.outcomeOf d) rows lines y) (n : ℕ) → ofXml (xml.fitting n (s .read))
+      ≡ fitting n (y .rows) (y .lines) (cellsIn markXml y rows lines)
   unfolding xml.fitting fitting
   xml-fits y s n = rw (s .cells, s .count, s .many) (by (ltb n (length (xml.tableOf (s .read))))) where
     by : (b : Bool) → ofXml (cond b (xml.Refusal 10 0) (xml.Built (s .read)))
@@ -81,7 +87,8 @@ module _ (d : List ℕ) (rows lines : List ℤ) where
   unfolding outcomeOf
   xml-is e n o q = rw e (ap ofXml q)
 
-  pub xml-ready : (x : Bool) (r : Rooms) → x ≡ true → isXml d ≡ true → sheet.RoomsRead (xml.outcomeOf d) rows lines r → Ready (markOf x) (outcomeOf d) rows lines r
+  pub xml-ready : (x : Bool) (r : Rooms) → x ≡ true → isXml d ≡ true → sheet.RoomsRead (xml.outcomeOf d) rows lines r
+      → Ready (markOf x) (outcomeOf d) rows lines r
   unfolding markOf
   xml-ready x r i e w = rw i (record {
     stands = λ {y} h.

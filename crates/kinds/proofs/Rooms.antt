@@ -46,14 +46,16 @@ module _ (m : ℕ) (o : ℕ → Outcome) (rows lines : List ℤ) (y : Tally) (s 
   pub filled-says : (t : List ℤ) → fillSays y (length t) ≡ answerOf (o (length t))
   unfolding fillSays fitting answerOf
   filled-says t = rw (s .outcome (length t), size-is) (by (ltb (length t) (lineBase (y .rows) (y .lines)))) where
-    by : (b : Bool) → cond b (answer.Refused 10 0) (answer.Read (y .rows) (y .lines)) ≡ answerOf (cond b (Refusal 10 0) (Built (y .rows) (y .lines) (cellsIn m y rows lines)))
+    by : (b : Bool) → cond b (answer.Refused 10 0) (answer.Read (y .rows) (y .lines))
+        ≡ answerOf (cond b (Refusal 10 0) (Built (y .rows) (y .lines) (cellsIn m y rows lines)))
     by true = refl
     by false = refl
 
   pub filled-leaves : (t : List ℤ) → filledOver m y rows lines t ≡ tableAfter (o (length t)) t
   unfolding filledOver fitting tableAfter
   filled-leaves t = rw (s .outcome (length t), size-is) (by (ltb (length t) (lineBase (y .rows) (y .lines)))) where
-    by : (b : Bool) → cond b t (pasted t 0 (cellsIn m y rows lines)) ≡ tableAfter (cond b (Refusal 10 0) (Built (y .rows) (y .lines) (cellsIn m y rows lines))) t
+    by : (b : Bool) → cond b t (pasted t 0 (cellsIn m y rows lines))
+        ≡ tableAfter (cond b (Refusal 10 0) (Built (y .rows) (y .lines) (cellsIn m y rows lines))) t
     by true = refl
     by false = refl
 

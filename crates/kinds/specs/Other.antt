@@ -1,4 +1,5 @@
--- NO FILE IS OF BOTH KINDS: "An XML definition is read as 1.1, so 2": where it begins, for no 1.1 definition begins with `<` or a byte order mark. So
+-- NO FILE IS OF BOTH KINDS: "An XML definition is read as 1.1, so 2": where it begins, for no 1.1 definition begins with `<` or a byte
+-- order mark. So
 -- whatever the reader of 1.1 accepts is read by it, and every law of accepted 1.1 definitions is one of the call for both kinds.
 use mathlib.Core.Path.{_≡_, refl, sym, ap, _∙_}
 use mathlib.Core.Bool.{Bool, true, false, cond, _&&_, _||_}

@@ -1,4 +1,5 @@
--- WHAT 1.1 SAYS DOESN'T CHANGE: of a definition that is not XML the calls for both kinds promise just what those of 1.1 do, so that every law of
+-- WHAT 1.1 SAYS DOESN'T CHANGE: of a definition that is not XML the calls for both kinds promise just what those of 1.1 do, so that every
+-- law of
 -- these is one of those. And a table's mark tells which kind of definition it is held against.
 use mathlib.Core.Path.{_≡_, refl, sym, ap, _∙_}
 use mathlib.Core.Logic.{_↔_}
@@ -92,7 +93,8 @@ xml-mark (xml.Refusal k p) t h = holds-not h refl
 pub mark-pairs : (d : List ℕ) (t : List ℤ) → yields d t ≡ true → cell t 0 ≡ pos (markOf (isXml d))
 unfolding yields againstOf outcomeOf markOf
 mark-pairs d t = by (isXml d) where
-  by : (b : Bool) → isSame (held (cond b (ofXml (xml.outcomeOf d (lineBase mostRows mostLines))) (ofSss (sss.outcomeOf d (lineBase mostRows mostLines)))) t) ≡ true
+  by : (b : Bool) → isSame (held (cond b (ofXml (xml.outcomeOf d (lineBase mostRows mostLines)))
+      (ofSss (sss.outcomeOf d (lineBase mostRows mostLines)))) t) ≡ true
       → cell t 0 ≡ pos (cond b markXml mark)
   by true = xml-mark (xml.outcomeOf d (lineBase mostRows mostLines)) t
   by false = sss-mark (sss.outcomeOf d (lineBase mostRows mostLines)) t

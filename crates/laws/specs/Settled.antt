@@ -90,7 +90,8 @@ module _ {d : List ℕ} {t t′ : List ℤ} {v e : ℕ} where
     go : (o : xml.Outcome) → xml.outcomeOf d (length t) ≡ o → definition.Read v e ≡ answerOf (ofXml (xml.outcomeOf d (length t)))
         → t′ ≡ tableAfter (ofXml (xml.outcomeOf d (length t))) t → wellFormed t′ ≡ true
     go (xml.Built l) q f k = rw (k, q) (few.xml-well-formed d t l q)
-    go (xml.Refusal m at) q f k = let g : definition.Read v e ≡ answerOf (ofXml (xml.Refusal m at)) = f ∙ rw q in let z : _≡_ {A = ℕ} 0 1 = cc in absurd (omega arith)
+    go (xml.Refusal m at) q f k = let g : definition.Read v e ≡ answerOf (ofXml (xml.Refusal m at)) = f ∙ rw q in
+        let z : _≡_ {A = ℕ} 0 1 = cc in absurd (omega arith)
 
   -- of both kinds
   pub definition-well-formed : DefinitionRead d t t′ (definition.Read v e) → wellFormed t′ ≡ true

@@ -34,6 +34,7 @@ module _ (m : ℕ) (y : Tally) (rows lines : List ℤ) (r : rowSize * y .rows �
       → pasted (pasted (pasted t 0 head) headerSize middle) (linesBase (y .rows)) back ≡ pasted t 0 (cellsIn m y rows lines)
   unfolding cellsIn
   laid-over t h =
-      ap (λ (s : List ℤ). pasted s (linesBase (y .rows)) back) (at-start t head middle headerSize (sym (six (headerBy m y))) (omega (arith, six (headerBy m y))))
+      ap (λ (s : List ℤ). pasted s (linesBase (y .rows)) back)
+      (at-start t head middle headerSize (sym (six (headerBy m y))) (omega (arith, six (headerBy m y))))
       ∙ at-start t (head ++ middle) back (linesBase (y .rows)) (sym front) (omega (arith, front))
       ∙ ap (pasted t 0) (append-assoc head middle back)

@@ -28,7 +28,10 @@ module _ (c : Columns) where
       let b = eqb (c .kind) 2 || eqb (c .subfields) 0 && eqb (c .subwidth) 0 in
       let e : b ≡ true = and-right a b (and-left (a && b) (leb (c .kind) 3 || eqb (c .range) 0 && eqb (c .lines) 0) (n3 .1)) in
       ⊎-elim (λ x. inl (eqb-true (c .kind) 2 x))
-      (λ x. inr (eqb-true (c .subfields) 0 (and-left (eqb (c .subfields) 0) (eqb (c .subwidth) 0) x), eqb-true (c .subwidth) 0 (and-right (eqb (c .subfields) 0) (eqb (c .subwidth) 0) x)))
+      (λ x. inr (
+        eqb-true (c .subfields) 0 (and-left (eqb (c .subfields) 0) (eqb (c .subwidth) 0) x),
+        eqb-true (c .subwidth) 0 (and-right (eqb (c .subfields) 0) (eqb (c .subwidth) 0) x),
+      ))
       (either-true (eqb (c .kind) 2) (eqb (c .subfields) 0 && eqb (c .subwidth) 0) e)
 
   record Few : Type 0 where
@@ -45,16 +48,19 @@ module _ (c : Columns) where
     plain-few z r = record { width = wide r; subfields = omega (arith, z .0); subwidth = omega (arith, z .1) }
       where
         wide : roomGood (kindOf c) (rowOf c) ≡ true → c .width ≤ 16385
-        wide = kind-cases c (λ k. roomGood k (rowOf c) ≡ true → c .width ≤ 16385) (λ e. narrow) (λ e f. narrow) (λ e f. absurd (f (z .0))) (λ e. narrow) (λ e. narrow) narrow
+        wide = kind-cases c (λ k. roomGood k (rowOf c) ≡ true → c .width ≤ 16385) (λ e. narrow) (λ e f. narrow) (λ e f. absurd (f (z .0)))
+            (λ e. narrow) (λ e. narrow) narrow
 
     two-kind : c .kind ≡ 2 → kindOf c ≡ Multiple (spreadOf (c .subfields) (c .subwidth))
     unfolding kindOf
     two-kind k = rw k
 
-    spread-few : (c .subwidth ≡ 0 → c .subfields ≡ 0) → (c .subfields ≡ 0 → c .subwidth ≡ 0) → c .kind ≡ 2 → roomGood (kindOf c) (rowOf c) ≡ true → Few
+    spread-few : (c .subwidth ≡ 0 → c .subfields ≡ 0) → (c .subfields ≡ 0 → c .subwidth ≡ 0) → c .kind ≡ 2 → roomGood (kindOf c) (rowOf c)
+        ≡ true → Few
     unfolding spreadOf roomGood rowOf
     spread-few f g k r = by (eqb (c .subfields) 0) refl (sym (ap (λ (q : Kind). roomGood q (rowOf c)) (two-kind k)) ∙ r) where
-      by : (b : Bool) → eqb (c .subfields) 0 ≡ b → roomGood (Multiple (cond b Bits (Fields (c .subfields) (c .subwidth)))) (rowOf c) ≡ true → Few
+      by : (b : Bool) → eqb (c .subfields) 0 ≡ b → roomGood (Multiple (cond b Bits (Fields (c .subfields) (c .subwidth)))) (rowOf c) ≡ true
+          → Few
       by true e i =
           let z = eqb-true (c .subfields) 0 e in
           record { width = narrow i; subfields = omega arith; subwidth = omega (arith, g z) }
@@ -89,10 +95,12 @@ module _ (c : Columns) (counts : countsGood c ≡ true) (places : placesGood c �
   p2 = and-both places .0
 
   pub finish-low : c .finish ≤ 16384
-  finish-low = leb-true (c .finish) 16384 (and-right (leb 1 (c .start) && leb (c .start) (c .finish)) (leb (c .finish) 16384) (and-both (and-both p2 .0) .1))
+  finish-low = leb-true (c .finish) 16384 (and-right (leb 1 (c .start) && leb (c .start) (c .finish)) (leb (c .finish) 16384)
+      (and-both (and-both p2 .0) .1))
 
   start-low : c .start ≤ c .finish
-  start-low = leb-true (c .start) (c .finish) (and-right (leb 1 (c .start)) (leb (c .start) (c .finish)) (and-left (leb 1 (c .start) && leb (c .start) (c .finish)) (leb (c .finish) 16384) (and-both (and-both p2 .0) .1)))
+  start-low = leb-true (c .start) (c .finish) (and-right (leb 1 (c .start)) (leb (c .start) (c .finish))
+      (and-left (leb 1 (c .start) && leb (c .start) (c .finish)) (leb (c .finish) 16384) (and-both (and-both p2 .0) .1)))
 
   pub ident-low : c .ident ≤ 9999
   ident-low = leb-true (c .ident) 9999 (and-right (leb 1 (c .ident)) (leb (c .ident) 9999) (and-both (and-both p2 .0) .0))
@@ -101,7 +109,8 @@ module _ (c : Columns) (counts : countsGood c ≡ true) (places : placesGood c �
   few =
       ⊎-elim
       (λ k. spread-few c finish-low
-      (λ z. eqb-true (c .subfields) 0 (beq-zero (eqb (c .subwidth) 0) (eqb (c .subfields) 0) (beq-sym (eqb (c .subfields) 0) (eqb (c .subwidth) 0) (and-both p2 .1)) (eq-eqb (c .subwidth) 0 z)))
+      (λ z. eqb-true (c .subfields) 0 (beq-zero (eqb (c .subwidth) 0) (eqb (c .subfields) 0)
+      (beq-sym (eqb (c .subfields) 0) (eqb (c .subwidth) 0) (and-both p2 .1)) (eq-eqb (c .subwidth) 0 z)))
       (λ z. eqb-true (c .subwidth) 0 (beq-zero (eqb (c .subfields) 0) (eqb (c .subwidth) 0) (and-both p2 .1) (eq-eqb (c .subfields) 0 z)))
       k room)
       (λ z. plain-few c finish-low z room)

@@ -27,7 +27,8 @@ pub begins-append : (a b t : List ℤ) → begins (a ++ b) t ≡ (begins a t && 
 unfolding begins
 begins-append [] b t = refl
 begins-append (x ∷ a) b [] = refl
-begins-append (x ∷ a) b (y ∷ t) = ap (λ (q : Bool). eqZ x y && q) (begins-append a b t) ∙ sym (and-apart (eqZ x y) (begins a t) (begins b (drop (length a) t)))
+begins-append (x ∷ a) b (y ∷ t) = ap (λ (q : Bool). eqZ x y && q) (begins-append a b t)
+    ∙ sym (and-apart (eqZ x y) (begins a t) (begins b (drop (length a) t)))
 
 -- too few numbers
 pub begins-short : (l t : List ℤ) → length t < length l → begins l t ≡ false

@@ -63,7 +63,8 @@ fn header_by(mark: usize, y: Tally) -> Header
 fn lay(mark: usize, table: &mut [i64], rows: &[i64], lines: &[i64], y: Tally)
     requires { ⌜ mark ≤ markXml ⌝ }
     requires { ⌜ (y .rows ≤ mostRows) × (y .lines ≤ mostLines) × (y .length ≤ 16384) ⌝ }
-    requires { ⌜ (length (now rows) ≡ rowSize * mostRows) × (length (now lines) ≡ lineSize * mostLines) × (lineBase (y .rows) (y .lines) ≤ length (now table)) ⌝ }
+    requires { ⌜ (length (now rows) ≡ rowSize * mostRows) × (length (now lines) ≡ lineSize * mostLines)
+        × (lineBase (y .rows) (y .lines) ≤ length (now table)) ⌝ }
     ensures { λ _. ⌜ now (table .exit) ≡ pasted (now (table .entry)) 0 (cellsIn mark y (now (rows .entry)) (now (lines .entry))) ⌝ }
 {
     rows::put_header(table, header_by(mark, y));

@@ -24,7 +24,8 @@ pub enum Truth {
 
 // How many bytes are left without the spaces at the end.
 fn kept_bytes(s: &[u8]) -> usize
-    ensures { λ r. ⌜ (r ≤ length (now (s .entry))) × (unended (now (s .entry)) ≡ take r (now (s .entry))) × (allSpaces (now (s .entry)) ≡ eqb r 0) ⌝ }
+    ensures { λ r. ⌜ (r ≤ length (now (s .entry))) × (unended (now (s .entry)) ≡ take r (now (s .entry)))
+        × (allSpaces (now (s .entry)) ≡ eqb r 0) ⌝ }
 {
     let mut n = s.len();
     while 0 < n {

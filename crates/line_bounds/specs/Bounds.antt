@@ -1,4 +1,5 @@
--- How long a record's line can get, by the table alone: a number takes at most 27 bytes, a code 4 and its semicolon, a text its width, each byte
+-- How long a record's line can get, by the table alone: a number takes at most 27 bytes, a code 4 and its semicolon, a text its width, each
+-- byte
 -- doubled, and two quotes. Used to leave out a measuring where there is room for the longest lines.
 -- Assumes nothing.
 use mathlib.Core.Path.{_≡_, refl, sym, ap, _∙_}
@@ -24,7 +25,8 @@ use Rattle.widths.specs.rule.Width.{lowest, highest}
 use Rattle.places.specs.rule.Places.{pick}
 use Rattle.fields.specs.rule.Legal.{legal}
 use Rattle.fields.specs.rule.Number.{padded, allSpaces}
-use Rattle.fields.specs.rule.Field.{Value, missing, number, members, text, truth, Field, holds, illegal, allBits, setBits, bitsField, setFits, textFits}
+use Rattle.fields.specs.rule.Field.{Value, missing, number, members, text, truth, Field, holds, illegal, allBits, setBits, bitsField}
+use Rattle.fields.specs.rule.Field.{setFits, textFits}
 use Rattle.fields.specs.rule.Row.{defined, categories, fitsBy, fits, otherType, readingOf, fieldBy, placesBy}
 use Rattle.fields.specs.Facts.{RowFacts, KindFacts}
 use Rattle.fieldlaws.specs.NumberLaws.{length-padded}
@@ -174,7 +176,8 @@ bits-members : (cs s : List ℕ) (ms : List ℤ) → bitsField cs s ≡ holds (m
 unfolding bitsField
 bits-members cs s ms e = go (allSpaces s) (allBits s) e
   where
-    go : (p q : Bool) → cond p (holds missing) (cond q (holds (members (setBits cs s))) illegal) ≡ holds (members ms) → length ms ≤ length cs
+    go : (p q : Bool) → cond p (holds missing) (cond q (holds (members (setBits cs s))) illegal) ≡ holds (members ms) → length ms
+        ≤ length cs
     go true q e = let z : _≡_ {A = ℕ} 0 1 = cc in absurd (omega arith)
     go false true e = let m : setBits cs s ≡ ms = cc in rw (← m) (bits-few cs s)
     go false false e = let z : _≡_ {A = ℕ} 0 1 = cc in absurd (omega arith)
@@ -258,7 +261,8 @@ module _ (t : List ℤ) (good : wellFormed t ≡ true) where
   unfolding rowField
   field-most bytes i h =
       let f = row-facts t good i h in
-      value-most t (rowsOf t) (lengthOf t) (rowAt t i) f bytes (decimalsOf (rowAt t i .kind)) (kind-decimals (rowAt t i .kind) (rowAt t i) (f .kind)) (readingAt t i bytes) refl
+      value-most t (rowsOf t) (lengthOf t) (rowAt t i) f bytes (decimalsOf (rowAt t i .kind))
+      (kind-decimals (rowAt t i .kind) (rowAt t i) (f .kind)) (readingAt t i bytes) refl
 
   comma-most : (i : ℕ) → length (commaBefore i) ≤ 1
   unfolding commaBefore

@@ -1,4 +1,5 @@
-// How long a record's line can get, by the table alone: so that an export need not measure its text where there is room for the longest lines.
+// How long a record's line can get, by the table alone: so that an export need not measure its text where there is room for the longest
+// lines.
 // Above it stands the export of a file.
 ghost use mathlib.Core.Path.{_≡_};
 ghost use Prim.Native.Nat.{_≤_};

@@ -127,7 +127,11 @@ copied-text out at bytes p n h m e =
     let d : length (drop p bytes) ≡ length bytes - p = length-drop p bytes in
     let q : take (length bytes - p) (drop p bytes) ≡ drop p bytes = take-all (length bytes - p) (drop p bytes) (omega arith) in
     let l : length (take n (drop p bytes)) ≡ n = length-take-le n (drop p bytes) (omega arith) in
-    record { leaves = e ∙ rw (q, l); ends = rw l; inside = rw (e, length-put out (run at n) (take n (take (length bytes - p) (drop p bytes)))) m }
+    record {
+      leaves = e ∙ rw (q, l);
+      ends = rw l;
+      inside = rw (e, length-put out (run at n) (take n (take (length bytes - p) (drop p bytes)))) m;
+    }
 
 -- ---- the room that is left behind a text
 module _ {out : List ℕ} {at : ℕ} {s out′ : List ℕ} {r : ℕ} (a : Appended out at s out′ r) where

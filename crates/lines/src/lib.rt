@@ -178,7 +178,8 @@ pub fn append_line(
     requires { ⌜ Tens (now powers) ⌝ }
     requires { ⌜ (n < 10 ^ 16) × (ident < 10 ^ 16) ⌝ }
     requires { ⌜ Listable a (now list) (now bytes) × (at + lineRoom ≤ length (now out)) ⌝ }
-    ensures { λ r. ⌜ Appended (now (out .entry)) at (lineText n ident (valueOf a (now (list .entry)) (now (bytes .entry)))) (now (out .exit)) r ⌝ }
+    ensures { λ r. ⌜ Appended (now (out .entry)) at (lineText n ident (valueOf a (now (list .entry)) (now (bytes .entry))))
+        (now (out .exit)) r ⌝ }
 {
     let mut end = append_count(powers, out, at, n as u64);
     end = append_spaced(powers, out, end, ident as u64);

@@ -183,7 +183,8 @@ fn list_by(powers: &[u64; 16], t: &[i64], d: &[u8], out: &mut [u8])
     write(&out[..end]);
 }
 
-// A refusal's number or place as it is printed, which a line has room for: 0 for one of 10^16 or more. There is none, since a number is at most
+// A refusal's number or place as it is printed, which a line has room for: 0 for one of 10^16 or more. There is none, since a number is at
+// most
 // 52 and a place at most the file's length; but that is proved of 1.1 definitions alone (crate `refusals`), and this holds without it.
 fn printed(n: usize) -> usize
     ensures { λ r. ⌜ r < 10 ^ 16 ⌝ }

@@ -26,7 +26,9 @@ rows-split t n r zero b i = rw (add-zero i, zero-plus b)
   where
     zero-plus : (m : ℕ) → zero + m ≡ m
     zero-plus m = omega arith
-rows-split t n r (suc a) b i = rw (suc-add a b, add-suc i a, ← suc-add i a) (ap (λ (l : List ℕ). rowText t n r i ++ l) (rows-split t n r a b (suc i)) ∙ sym (append-assoc (rowText t n r i) (rowsText t n r (suc i) a) _))
+rows-split t n r (suc a) b i = rw (suc-add a b, add-suc i a, ← suc-add i a)
+    (ap (λ (l : List ℕ). rowText t n r i ++ l) (rows-split t n r a b (suc i))
+    ∙ sym (append-assoc (rowText t n r i) (rowsText t n r (suc i) a) _))
 
 pub rows-none : (t : List ℤ) (n : ℕ) (r : List ℕ) (i k : ℕ) → k ≡ 0 → rowsText t n r i k ≡ []
 unfolding rowsText
@@ -40,7 +42,8 @@ module _ (t : List ℤ) (n first : ℕ) (r : List ℕ) (rs : Records) where
   record-sound e = rw e
 
   pub record-fault : isSound (recordVerdict t (firstLength n first (length r)) r) ≡ false
-      → recordsText t n first (record-and r rs) ≡ lastText t (goOn (recordVerdict t (firstLength n first (length r)) r) n (soundWith (n + 1)))
+      → recordsText t n first (record-and r rs) ≡ lastText t
+      (goOn (recordVerdict t (firstLength n first (length r)) r) n (soundWith (n + 1)))
   unfolding recordsText
   record-fault e = rw e
 

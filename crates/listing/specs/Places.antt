@@ -100,7 +100,8 @@ module _ (t : List ℤ) (w : Terminator) (d : List ℕ) (p : Place) (good : Plac
   }
 
 -- ---- what a turn gives whoever goes on
-module _ {t : List ℤ} {w : Terminator} {d : List ℕ} {p : Place} {out : List ℕ} {at : ℕ} {out′ : List ℕ} {a : Turn} (l : ListedOn t w d p out at out′ a) where
+module _ {t : List ℤ} {w : Terminator} {d : List ℕ} {p : Place} {out : List ℕ} {at : ℕ} {out′ : List ℕ} {a : Turn}
+    (l : ListedOn t w d p out at out′ a) where
   pub turn-room : length out′ ≡ length out
   turn-room = keeps-room (l .stands)
 

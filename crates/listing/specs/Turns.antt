@@ -67,7 +67,8 @@ pub record TakenRows (t : List ℤ) (n first row : ℕ) (r : List ℕ) (out : Li
   pub further : Further (rowsOf t) row a
 
 -- ---- laws: rows of a record that is sound
-module _ (t : List ℤ) (n first row : ℕ) (r : List ℕ) (long : lengthOf t ≤ length r) {out : List ℕ} {at : ℕ} {out′ : List ℕ} {l : Listed} (a : Rows t (n + 1) r row out at out′ l) where
+module _ (t : List ℤ) (n first row : ℕ) (r : List ℕ) (long : lengthOf t ≤ length r) {out : List ℕ} {at : ℕ} {out′ : List ℕ} {l : Listed}
+    (a : Rows t (n + 1) r row out at out′ l) where
   rows-left : (k : ℕ) → l .row - row + k ≡ rowsOf t - row
       → rowsText t (n + 1) r row (rowsOf t - row) ≡ rowsText t (n + 1) r row (l .row - row) ++ rowsText t (n + 1) r (l .row) k
   rows-left k e =
@@ -84,8 +85,13 @@ module _ (t : List ℤ) (n first row : ℕ) (r : List ℕ) (long : lengthOf t �
         text = rowsText t (n + 1) r row (l .row - row);
         stands = a .stands;
         goes-on = λ rs.
-            rw (rows-left (rowsOf t - l .row) (omega arith), append-assoc (rowsText t (n + 1) r row (l .row - row)) (rowsText t (n + 1) r (l .row) (rowsOf t - l .row)) (recordsText t (n + 1) first rs))
-            (ap (λ (x : List ℕ). rowsText t (n + 1) r row (l .row - row) ++ x) (sym (rest-long t n first r rs (l .row) (omega arith) long)));
+            rw (
+              rows-left (rowsOf t - l .row) (omega arith),
+              append-assoc (rowsText t (n + 1) r row (l .row - row)) (rowsText t (n + 1) r (l .row) (rowsOf t - l .row))
+                  (recordsText t (n + 1) first rs),
+            )
+            (ap (λ (x : List ℕ). rowsText t (n + 1) r row (l .row - row) ++ x)
+            (sym (rest-long t n first r rs (l .row) (omega arith) long)));
         further = (g, h);
       }
 
@@ -117,7 +123,9 @@ module _ (t : List ℤ) (n first : ℕ) (r : List ℕ) {out : List ℕ} {at : �
   first-taken e b = record {
     text = b .text;
     stands = b .stands;
-    goes-on = λ rs. record-sound t n first r rs e ∙ ap (λ (k : ℕ). rowsText t (n + 1) r 0 k ++ recordsText t (n + 1) (firstLength n first (length r)) rs) (sym (sub-zero (rowsOf t))) ∙ b .goes-on rs;
+    goes-on = λ rs. record-sound t n first r rs e
+        ∙ ap (λ (k : ℕ). rowsText t (n + 1) r 0 k ++ recordsText t (n + 1) (firstLength n first (length r)) rs) (sym (sub-zero (rowsOf t)))
+        ∙ b .goes-on rs;
     further = b .further;
   }
 
@@ -129,7 +137,8 @@ module _ (t : List ℤ) (n first : ℕ) (r : List ℕ) {out : List ℕ} {at : �
   fault-taken i b = record {
     text = _;
     stands = b;
-    goes-on = λ rs. record-fault t n first r rs i ∙ sym (append-nil (lastText t (goOn (recordVerdict t (firstLength n first (length r)) r) n (soundWith (n + 1)))));
+    goes-on = λ rs. record-fault t n first r rs i
+        ∙ sym (append-nil (lastText t (goOn (recordVerdict t (firstLength n first (length r)) r) n (soundWith (n + 1)))));
     further = tt;
   }
 

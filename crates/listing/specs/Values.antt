@@ -144,7 +144,8 @@ pub record Shown (v : Value) (a : Answer) (list : List ℤ) (bytes : List ℕ) :
 character-width : (k : Kind) (r : Row) → k ≡ Character → KindFacts k r → WidthFacts 4096 r
 character-width k r e f = rw e at f
 
-module _ (t : List ℤ) (v len : ℕ) (r : Row) (facts : RowFacts t v len r) (bytes : List ℕ) (long : len ≤ length bytes) (list : List ℤ) (room : length list ≡ 9999) where
+module _ (t : List ℤ) (v len : ℕ) (r : Row) (facts : RowFacts t v len r) (bytes : List ℕ) (long : len ≤ length bytes) (list : List ℤ)
+    (room : length list ≡ 9999) where
   set-rising : (k : Kind) (ms : List ℤ) → r .kind ≡ k → SetRow t v r ms k → Rising 1 9999 ms
   unfolding lowest highest
   set-rising (Multiple s) ms e (set-row f) =
@@ -172,7 +173,8 @@ module _ (t : List ℤ) (v len : ℕ) (r : Row) (facts : RowFacts t v len r) (by
       let s = size-small (r .kind) z (facts .least z l) (facts .most z l) in
       record { listable = rw (q .answer) (omega arith); value = rw (q .answer) }
   shown (members ms) a list′ e q =
-      set-shown ms a list′ (r .start - 1) (set-rising (r .kind) ms refl (set-legal t v r (r .kind) ms (read-fits t v r (members ms) bytes e))) (q .answer) (q .leaves)
+      set-shown ms a list′ (r .start - 1) (set-rising (r .kind) ms refl
+      (set-legal t v r (r .kind) ms (read-fits t v r (members ms) bytes e))) (q .answer) (q .leaves)
   shown (text s) a list′ e q =
       let f = text-legal t v r (r .kind) s (read-fits t v r (text s) bytes e) in
       let w = character-width (r .kind) r (f .0) (facts .kind) in

@@ -15,7 +15,8 @@ unfolding putAt
 length-putAt r a xs = length-put r (run a (length xs)) xs
 
 -- what is put right behind what was put is one put
-pub put-next : (r : List ℕ) (a : ℕ) (xs : List ℕ) (b : ℕ) (ys : List ℕ) → a + length xs ≡ b → putAt (putAt r a xs) b ys ≡ putAt r a (xs ++ ys)
+pub put-next : (r : List ℕ) (a : ℕ) (xs : List ℕ) (b : ℕ) (ys : List ℕ) → a + length xs ≡ b → putAt (putAt r a xs) b ys
+    ≡ putAt r a (xs ++ ys)
 unfolding putAt
 put-next r a xs b ys e = rw (← e, length-append) (put-run-append xs r a (length ys) ys)
 

@@ -33,7 +33,11 @@ record Starts (o : ℕ) (s : Inside) : Type 0 where
 
 opened : (o : ℕ) → Starts o (Opened o)
 unfolding insideOf givesOf
-opened o = record { moves = λ a p h. let n = others a h in rw (n .0, n .1, n .2, h); gives = λ x a h. let n = others a h in rw (n .0, n .1) }
+opened o = record {
+  moves = λ a p h. let n = others a h in rw (n .0, n .1, n .2, h);
+  gives = λ x a h. let n = others a h in
+      rw (n .0, n .1);
+}
 
 paired : (o : ℕ) → Starts o (Pair o)
 unfolding insideOf givesOf

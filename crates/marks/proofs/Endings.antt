@@ -16,7 +16,8 @@ use Rattle.marks.specs.declared.Move.the-variants.{Go, Closed, Wrong}
 use Rattle.marks.specs.declared.Skip.{Skip}
 use Rattle.marks.specs.declared.Skip.the-variants.{Past, Unclosed, Bad}
 use Rattle.marks.specs.rule.Marks.{isHex, insideOf, moved, stringOf}
-use Rattle.marks.specs.Spelling.{Pairs, last, more, Piece, plain, quote, brace, line, bytes, Spelt, Braced, here, after-piece, Broken, breaks, breaks-after, joined}
+use Rattle.marks.specs.Spelling.{Pairs, last, more, Piece, plain, quote, brace, line, bytes, Spelt, Braced, here, after-piece, Broken}
+use Rattle.marks.specs.Spelling.{breaks, breaks-after, joined}
 use Rattle.marks.proofs.Complete.{string-complete, skip-piece}
 use Rattle.marks.proofs.Sound.{String, says, string-sound, bad-place}
 
@@ -31,7 +32,8 @@ settled : (v t : Text) (s : Inside) {r : Skip} → (r ≡ Unclosed → ⊥) → 
 unfolding stringOf joined
 settled v (stop p) s f e = absurd (f (sym e))
 settled v (sign p b t) s {r} f e = by (λ s. settled v t s f) (insideOf s b p) e where
-  by : ((s : Inside) → stringOf s t ≡ r → stringOf s (joined t v) ≡ r) → (m : Move) → moved m (λ s. stringOf s t) (Past (p + 1)) ≡ r → moved m (λ s. stringOf s (joined t v)) (Past (p + 1)) ≡ r
+  by : ((s : Inside) → stringOf s t ≡ r → stringOf s (joined t v) ≡ r) → (m : Move) → moved m (λ s. stringOf s t) (Past (p + 1)) ≡ r
+      → moved m (λ s. stringOf s (joined t v)) (Past (p + 1)) ≡ r
   by on (Go s) e = on s e
   by on Closed e = e
   by on (Wrong o) e = e
@@ -50,7 +52,8 @@ closable (stop p) (Ell o) e = closes (sign 0 76 (sign 0 125 (sign 0 34 (stop 0))
 closable (stop p) (Pair o) e = closes (sign 0 125 (sign 0 34 (stop 0))) 1 refl
 closable (stop p) (Low o) e = closes (sign 0 48 (sign 0 125 (sign 0 34 (stop 0)))) 1 refl
 closable (sign p b t) s e = by (closable t) (insideOf s b p) refl e where
-  by : ((s : Inside) → stringOf s t ≡ Unclosed → Closes s t) → (m : Move) → insideOf s b p ≡ m → moved m (λ s. stringOf s t) (Past (p + 1)) ≡ Unclosed → Closes s (sign p b t)
+  by : ((s : Inside) → stringOf s t ≡ Unclosed → Closes s t) → (m : Move) → insideOf s b p ≡ m → moved m (λ s. stringOf s t) (Past (p + 1))
+      ≡ Unclosed → Closes s (sign p b t)
   by on (Go s′) q e = one (on s′ e) where
     one : Closes s′ t → Closes s (sign p b t)
     one (closes v n h) = closes v n (rw q h)
@@ -65,7 +68,10 @@ no-string {n} h (says {m = m} s) = h m n s
 
 -- BAD: a text is bad exactly when no text that starts with it is a string
 pub bad-exactly : (t : Text) → ((o : ℕ) × (stringOf Plain t ≡ Bad o)) ↔ ((v : Text) → Never (joined t v))
-bad-exactly t = (λ b v m n s. let z : _≡_ {A = ℕ} 0 1 = cc (string-complete s, settled v t Plain never-bad (b .1)) in omega arith, λ h. by h (stringOf Plain t) refl) where
+bad-exactly t = (
+  λ b v m n s. let z : _≡_ {A = ℕ} 0 1 = cc (string-complete s, settled v t Plain never-bad (b .1)) in omega arith,
+  λ h. by h (stringOf Plain t) refl,
+) where
   by : ((v : Text) → Never (joined t v)) → (r : Skip) → stringOf Plain t ≡ r → (o : ℕ) × (stringOf Plain t ≡ Bad o)
   by h (Bad o) e = (o, e)
   by h (Past n) e = absurd (no-string (h (stop 0)) (string-sound (settled (stop 0) t Plain never e)))
@@ -123,11 +129,16 @@ one-brace (breaks-after q r) b e = skip-piece q ∙ one-brace r (bad-place (sym 
 
 -- BAD AT: a string of a file is bad at o exactly when nothing that could follow makes it a string, and o is the first open brace
 -- where no piece stands
-pub bad-at-exactly : (d : List ℕ) (at o : ℕ) → (stringOf Plain (text d at) ≡ Bad o) ↔ (((v : Text) → Never (joined (text d at) v)) × Broken o (text d at))
-bad-at-exactly d at o = (λ e. (bad-exactly (text d at) .0 (o, e), broken-at d (bad-place e) (from-text d at) e), λ b. let e = bad-exactly (text d at) .1 (b .0) in one-brace (b .1) (bad-place (e .1)) (e .1))
+pub bad-at-exactly : (d : List ℕ) (at o : ℕ) → (stringOf Plain (text d at) ≡ Bad o) ↔
+    (((v : Text) → Never (joined (text d at) v)) × Broken o (text d at))
+bad-at-exactly d at o = (
+  λ e. (bad-exactly (text d at) .0 (o, e), broken-at d (bad-place e) (from-text d at) e),
+  λ b. let e = bad-exactly (text d at) .1 (b .0) in one-brace (b .1) (bad-place (e .1)) (e .1),
+)
 
 -- UNCLOSED: a string is unclosed exactly when it is none, and something that could follow makes it one
-pub unclosed-exactly : (t : Text) → (stringOf Plain t ≡ Unclosed) ↔ (Never t × ((v : Text) × (m : List Sign) × (n : ℕ) × Spelt (joined t v) m n))
+pub unclosed-exactly : (t : Text) → (stringOf Plain t ≡ Unclosed) ↔
+    (Never t × ((v : Text) × (m : List Sign) × (n : ℕ) × Spelt (joined t v) m n))
 unclosed-exactly t = (λ e. (λ m n s. never (sym (string-complete s) ∙ e), on (closable t Plain e)), λ h. by h (stringOf Plain t) refl) where
   spelt : {n : ℕ} {u : Text} → String n u → (m : List Sign) × Spelt u m n
   spelt (says {m = m} s) = (m, s)
@@ -135,7 +146,8 @@ unclosed-exactly t = (λ e. (λ m n s. never (sym (string-complete s) ∙ e), on
   on : Closes Plain t → (v : Text) × (m : List Sign) × (n : ℕ) × Spelt (joined t v) m n
   on (closes v n q) = let s = spelt (string-sound q) in (v, s .0, n, s .1)
 
-  by : Never t × ((v : Text) × (m : List Sign) × (n : ℕ) × Spelt (joined t v) m n) → (r : Skip) → stringOf Plain t ≡ r → stringOf Plain t ≡ Unclosed
+  by : Never t × ((v : Text) × (m : List Sign) × (n : ℕ) × Spelt (joined t v) m n) → (r : Skip) → stringOf Plain t ≡ r → stringOf Plain t
+      ≡ Unclosed
   by h Unclosed e = e
   by h (Past n) e = absurd (no-string (h .0) (string-sound e))
   by h (Bad o) e = absurd (bad-exactly t .0 (o, e) (h .1 .0) (h .1 .1) (h .1 .2) (h .1 .3))

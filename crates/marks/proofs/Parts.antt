@@ -35,7 +35,8 @@ not e = let z : _≡_ {A = ℕ} 0 1 = cc in absurd (omega arith)
 pub hex-letter : (b : ℕ) → isDigit b ≡ false → isHex b ≡ true → (65 ≤ upperOf b) × (upperOf b ≤ 70)
 unfolding isHex
 hex-letter b = by (isDigit b) (ltb (upperOf b) 65) (leb (upperOf b) 70) refl refl where
-  by : (x y z : Bool) → ltb (upperOf b) 65 ≡ y → leb (upperOf b) 70 ≡ z → x ≡ false → cond x true (cond y false z) ≡ true → (65 ≤ upperOf b) × (upperOf b ≤ 70)
+  by : (x y z : Bool) → ltb (upperOf b) 65 ≡ y → leb (upperOf b) 70 ≡ z → x ≡ false → cond x true (cond y false z) ≡ true → (65 ≤ upperOf b)
+      × (upperOf b ≤ 70)
   by true y z f g h e = let z : _≡_ {A = ℕ} 0 1 = cc in absurd (omega arith)
   by false true z f g h e = let z : _≡_ {A = ℕ} 0 1 = cc in absurd (omega arith)
   by false false true f g h e = (ltb-false (upperOf b) 65 f, leb-true (upperOf b) 70 g)
@@ -80,7 +81,8 @@ module _ (b p : ℕ) where
     by false true e = to-go {s = Opened p} refl e
     by false false e = to-go {s = Plain} refl e
   go-half (Opened o) {t} = by (eqb b 34) (eqb b 123) (eqb b 78) (isHex b) refl where
-    by : (x y z k : Bool) → isHex b ≡ k → cond x (Go (Shut o)) (cond y (Go (Shut o)) (cond z (Go (Ell o)) (cond k (Go (Low o)) (Wrong o)))) ≡ Go t → half t b ≡ true
+    by : (x y z k : Bool) → isHex b ≡ k → cond x (Go (Shut o)) (cond y (Go (Shut o)) (cond z (Go (Ell o)) (cond k (Go (Low o)) (Wrong o))))
+        ≡ Go t → half t b ≡ true
     by true y z k f e = to-go {s = Shut o} refl e
     by false true z k f e = to-go {s = Shut o} refl e
     by false false true k f e = to-go {s = Ell o} refl e
@@ -125,7 +127,8 @@ module _ (b p : ℕ) where
   nothing : {A : Type 0} {x : Sign} {m : List Sign} → [] ≡ x ∷ m → A
   nothing e = let z : _≡_ {A = ℕ} 0 1 = cc in absurd (omega arith)
 
-  pub said-idle : (s : Inside) (a : ℕ) {t : Inside} {x : Sign} {m : List Sign} → insideOf s b p ≡ Go t → givesOf s a b ≡ x ∷ m → idle t ≡ true
+  pub said-idle : (s : Inside) (a : ℕ) {t : Inside} {x : Sign} {m : List Sign} → insideOf s b p ≡ Go t → givesOf s a b ≡ x ∷ m → idle t
+      ≡ true
   unfolding insideOf givesOf idle
   said-idle Plain a {t} {x} {m} = by (eqb b 34) (eqb b 123) where
     by : (y z : Bool) → cond y Closed (cond z (Go (Opened p)) (Go Plain)) ≡ Go t → cond z [] (Byte b ∷ []) ≡ x ∷ m → idle t ≡ true
@@ -133,7 +136,8 @@ module _ (b p : ℕ) where
     by false true e f = nothing f
     by false false e f = to-idle {s = Plain} refl e
   said-idle (Opened o) a {t} {x} {m} = by (eqb b 34) (eqb b 123) (eqb b 78) (isHex b) where
-    by : (u v w k : Bool) → cond u (Go (Shut o)) (cond v (Go (Shut o)) (cond w (Go (Ell o)) (cond k (Go (Low o)) (Wrong o)))) ≡ Go t → cond u (Byte b ∷ []) (cond v (Byte b ∷ []) []) ≡ x ∷ m → idle t ≡ true
+    by : (u v w k : Bool) → cond u (Go (Shut o)) (cond v (Go (Shut o)) (cond w (Go (Ell o)) (cond k (Go (Low o)) (Wrong o)))) ≡ Go t
+        → cond u (Byte b ∷ []) (cond v (Byte b ∷ []) []) ≡ x ∷ m → idle t ≡ true
     by true v w k e f = to-idle {s = Shut o} refl e
     by false true w k e f = to-idle {s = Shut o} refl e
     by false false w k e f = nothing f
@@ -187,26 +191,35 @@ module _ (d : List ℕ) (x : Sign) (n : ℕ) (r : Inside) where
   unfolding partFrom decodeOf
   told at-stop s a e = let z : _≡_ {A = ℕ} 0 1 = cc in absurd (omega arith)
   told {at} (at-sign {p = p} {b = b} {u = u} h w q f) s a e = by (λ s. told f s b) (insideOf s b p) (givesOf s a b) refl refl e where
-    by : ((s : Inside) → partFrom s b u ≡ Said x n r → Told d (p + 1) (decodeOf s b u) x n r) → (m : Move) (g : List Sign) → insideOf s b p ≡ m → givesOf s a b ≡ g → parted m g (p + 1) (λ s. partFrom s b u) ≡ Said x n r → Told d at (gone m g (λ s. decodeOf s b u)) x n r
+    by : ((s : Inside) → partFrom s b u ≡ Said x n r → Told d (p + 1) (decodeOf s b u) x n r) → (m : Move) (g : List Sign) → insideOf s b p
+        ≡ m → givesOf s a b ≡ g → parted m g (p + 1) (λ s. partFrom s b u) ≡ Said x n r → Told d at (gone m g (λ s. decodeOf s b u)) x n r
     by ih (Go t) [] i j e = let k = ih t e in record { split = k .split; rests = k .rests; ahead = omega arith; within = k .within }
     by ih (Go t) (y ∷ l) i j e =
         let v : y ≡ x = cc in
         let k : p + 1 ≡ n = cc in
         let o : t ≡ r = cc in
         let c = said-idle b p s a i j in
-        record { split = rw (gives-one s a b j, v, decode-idle t b 0 u c, o, q, k); rests = rw o at c; ahead = omega arith; within = omega arith }
+        record {
+          split = rw (gives-one s a b j, v, decode-idle t b 0 u c, o, q, k);
+          rests = rw o at c;
+          ahead = omega arith;
+          within = omega
+              arith;
+        }
     by ih Closed g i j e = let z : _≡_ {A = ℕ} 0 1 = cc in absurd (omega arith)
     by ih (Wrong o) g i j e = let z : _≡_ {A = ℕ} 0 1 = cc in absurd (omega arith)
 
   -- SAID: the next sign of what a string says
-  pub part-said : (at : ℕ) (s : Inside) {v : Part} → v ≡ partFrom s 0 (text d at) → v ≡ Said x n r → Told d at (decodeOf s 0 (text d at)) x n r
+  pub part-said : (at : ℕ) (s : Inside) {v : Part} → v ≡ partFrom s 0 (text d at) → v ≡ Said x n r
+      → Told d at (decodeOf s 0 (text d at)) x n r
   part-said at s e f = told (from-text d at) s 0 (sym e ∙ f)
 
 over : (t : Text) (s : Inside) (a : ℕ) → partFrom s a t ≡ Over → decodeOf s a t ≡ []
 unfolding partFrom decodeOf
 over (stop p) s a e = refl
 over (sign p b t) s a e = by (λ s. over t s b) (insideOf s b p) (givesOf s a b) e where
-  by : ((s : Inside) → partFrom s b t ≡ Over → decodeOf s b t ≡ []) → (m : Move) (g : List Sign) → parted m g (p + 1) (λ s. partFrom s b t) ≡ Over → gone m g (λ s. decodeOf s b t) ≡ []
+  by : ((s : Inside) → partFrom s b t ≡ Over → decodeOf s b t ≡ []) → (m : Move) (g : List Sign) → parted m g (p + 1) (λ s. partFrom s b t)
+      ≡ Over → gone m g (λ s. decodeOf s b t) ≡ []
   by ih (Go s) [] e = ih s e
   by ih (Go s) (y ∷ l) e = let z : _≡_ {A = ℕ} 0 1 = cc in absurd (omega arith)
   by ih Closed g e = refl
@@ -218,11 +231,13 @@ part-over d at s e f = over (text d at) s 0 (sym e ∙ f)
 
 -- ---- steps of the decoder's loop
 module _ (s : Inside) (a : ℕ) {t : Text} where
-  pub part-gives : {p b : ℕ} {x : Sign} {u : Text} {m : Move} {v : Inside} → t ≡ sign p b u → m ≡ insideOf s b p → m ≡ Go v → givesOf s a b ≡ x ∷ [] → partFrom s a t ≡ Said x (p + 1) v
+  pub part-gives : {p b : ℕ} {x : Sign} {u : Text} {m : Move} {v : Inside} → t ≡ sign p b u → m ≡ insideOf s b p → m ≡ Go v → givesOf s a b
+      ≡ x ∷ [] → partFrom s a t ≡ Said x (p + 1) v
   unfolding partFrom
   part-gives e f g h = rw (e, sym f ∙ g, h)
 
-  pub part-on : {p b : ℕ} {u : Text} {m : Move} {v : Inside} → t ≡ sign p b u → m ≡ insideOf s b p → m ≡ Go v → givesOf s a b ≡ [] → partFrom s a t ≡ partFrom v b u
+  pub part-on : {p b : ℕ} {u : Text} {m : Move} {v : Inside} → t ≡ sign p b u → m ≡ insideOf s b p → m ≡ Go v → givesOf s a b ≡ []
+      → partFrom s a t ≡ partFrom v b u
   unfolding partFrom
   part-on e f g h = rw (e, sym f ∙ g, h)
 

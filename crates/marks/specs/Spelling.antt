@@ -19,7 +19,8 @@ use Rattle.marks.specs.rule.Spelling.{pairOf, givesOf}
 
 -- a text is hex pairs, one or more, and a closing brace, which say the signs m, and then u
 pub data Pairs : Text → List Sign → Text → Type 0 where
-  last : {p q r a b : ℕ} {u : Text} → isHex a ≡ true → isHex b ≡ true → Pairs (sign p a (sign q b (sign r 125 u))) (Byte (pairOf a b) ∷ []) u
+  last : {p q r a b : ℕ} {u : Text} → isHex a ≡ true → isHex b ≡ true
+      → Pairs (sign p a (sign q b (sign r 125 u))) (Byte (pairOf a b) ∷ []) u
   more : {p q a b : ℕ} {m : List Sign} {t u : Text} → isHex a ≡ true → isHex b ≡ true → Pairs t m u
       → Pairs (sign p a (sign q b t)) (Byte (pairOf a b) ∷ m) u
 

@@ -171,7 +171,8 @@ fn pieces(classes: &[u8; 256], d: &[u8], at: usize) -> Skip
 
 // Whether a quote or an opening brace stands in braces at a place, with no dropped byte inside: {"} or {{}.
 fn form_at(d: &[u8], n: usize) -> bool
-    ensures { λ r. ⌜ (r ≡ true → (n + 3 ≤ length (now (d .entry))) × (stringOf Inside.Plain (text (now (d .entry)) n) ≡ stringOf Inside.Plain (text (now (d .entry)) (n + 3)))) ⌝ }
+    ensures { λ r. ⌜ (r ≡ true → (n + 3 ≤ length (now (d .entry)))
+        × (stringOf Inside.Plain (text (now (d .entry)) n) ≡ stringOf Inside.Plain (text (now (d .entry)) (n + 3)))) ⌝ }
 {
     if d.len() < 3 {
         return false;

@@ -23,20 +23,23 @@ use Rattle.markup.specs.declared.Move.the-variants.{Go, Stop}
 use Rattle.markup.proofs.Runs.{onward}
 
 module _ (bad : Bool) (opened : ℕ) (d : List ℕ) (p : ℕ) where
-  pub comment-next : p < length d → stands (45 ∷ 45 ∷ []) (drop p d) ≡ false → commentOf bad opened p (drop p d) ≡ commentOf bad opened (p + 1) (drop (p + 1) d)
+  pub comment-next : p < length d → stands (45 ∷ 45 ∷ []) (drop p d) ≡ false → commentOf bad opened p (drop p d)
+      ≡ commentOf bad opened (p + 1) (drop (p + 1) d)
   unfolding commentOf
   comment-next h e =
       let f = rw (drop-1 d p h) at e in
       rw (drop-1 d p h, f)
 
-  pub comment-closed : p < length d → stands (45 ∷ 45 ∷ []) (drop p d) ≡ true → stands (45 ∷ 45 ∷ 62 ∷ []) (drop p d) ≡ true → commentOf bad opened p (drop p d) ≡ Past (p + 3)
+  pub comment-closed : p < length d → stands (45 ∷ 45 ∷ []) (drop p d) ≡ true → stands (45 ∷ 45 ∷ 62 ∷ []) (drop p d) ≡ true
+      → commentOf bad opened p (drop p d) ≡ Past (p + 3)
   unfolding commentOf
   comment-closed h e k =
       let f = rw (drop-1 d p h) at e in
       let g = rw (drop-1 d p h) at k in
       rw (drop-1 d p h, f, g)
 
-  pub comment-broken : p < length d → stands (45 ∷ 45 ∷ []) (drop p d) ≡ true → stands (45 ∷ 45 ∷ 62 ∷ []) (drop p d) ≡ false → commentOf bad opened p (drop p d) ≡ Broken p
+  pub comment-broken : p < length d → stands (45 ∷ 45 ∷ []) (drop p d) ≡ true → stands (45 ∷ 45 ∷ 62 ∷ []) (drop p d) ≡ false
+      → commentOf bad opened p (drop p d) ≡ Broken p
   unfolding commentOf
   comment-broken h e k =
       let f = rw (drop-1 d p h) at e in
@@ -125,7 +128,8 @@ unfolding commentOf
 comment-sound bad o p n [] e = let z : _≡_ {A = ℕ} 0 1 = cc in absurd (omega arith)
 comment-sound bad o p n (b ∷ s) e =
     by (stands (45 ∷ 45 ∷ []) (b ∷ s)) (stands (45 ∷ 45 ∷ 62 ∷ []) (b ∷ s)) refl refl (comment-sound bad o (p + 1) n s) e where
-      by : (q r : Bool) → stands (45 ∷ 45 ∷ []) (b ∷ s) ≡ q → stands (45 ∷ 45 ∷ 62 ∷ []) (b ∷ s) ≡ r → (commentOf bad o (p + 1) s ≡ Past n → Noted s (p + 1) n)
+      by : (q r : Bool) → stands (45 ∷ 45 ∷ []) (b ∷ s) ≡ q → stands (45 ∷ 45 ∷ 62 ∷ []) (b ∷ s) ≡ r
+          → (commentOf bad o (p + 1) s ≡ Past n → Noted s (p + 1) n)
           → cond q (cond r (Past (p + 3)) (Broken p)) (commentOf bad o (p + 1) s) ≡ Past n → Noted (b ∷ s) p n
       by true true f g ih e =
           let x = stands-split (45 ∷ 45 ∷ 62 ∷ []) (b ∷ s) g in
@@ -133,7 +137,8 @@ comment-sound bad o p n (b ∷ s) e =
       by true false f g ih e = let z : _≡_ {A = ℕ} 0 1 = cc in absurd (omega arith)
       by false r f g ih e =
           let i = ih e in
-          let f′ : stands (45 ∷ 45 ∷ []) (b ∷ i .bytes ++ i .rest) ≡ false = ap (λ (t : List ℕ). stands (45 ∷ 45 ∷ []) (b ∷ t)) (sym (i .split)) ∙ f in
+          let f′ : stands (45 ∷ 45 ∷ []) (b ∷ i .bytes ++ i .rest)
+          ≡ false = ap (λ (t : List ℕ). stands (45 ∷ 45 ∷ []) (b ∷ t)) (sym (i .split)) ∙ f in
           let k = i .place in
           record {
             bytes = b ∷ i .bytes;
@@ -174,7 +179,8 @@ pub move-go : (bad : Bool) (p m : ℕ) (s : List ℕ) → moveOf bad p s ≡ Go 
 unfolding moveOf
 move-go bad p m [] e = let z : _≡_ {A = ℕ} 0 1 = cc in absurd (omega arith)
 move-go bad p m (b ∷ s) e = by (isWhite b) (stands (60 ∷ 33 ∷ 45 ∷ 45 ∷ []) (b ∷ s)) refl refl e where
-  skip : (r : Skip) → commentOf bad p (p + 4) (drop 3 s) ≡ r → stands (60 ∷ 33 ∷ 45 ∷ 45 ∷ []) (b ∷ s) ≡ true → onSkip r ≡ Go m → Moved (b ∷ s) p m
+  skip : (r : Skip) → commentOf bad p (p + 4) (drop 3 s) ≡ r → stands (60 ∷ 33 ∷ 45 ∷ 45 ∷ []) (b ∷ s) ≡ true → onSkip r ≡ Go m
+      → Moved (b ∷ s) p m
   skip (Past n) f g e =
       let x = stands-split (60 ∷ 33 ∷ 45 ∷ 45 ∷ []) (b ∷ s) g in
       let k : n ≡ m = cc in
@@ -255,7 +261,8 @@ pub record Gapped (d : List ℕ) (p n : ℕ) : Type 0 where
   pub over : NoGap (drop n d)
 
 module _ (bad : Bool) (d : List ℕ) where
-  gap-complete : (n : ℕ) {g : List ℕ} → Gap g → (p : ℕ) → drop p d ≡ g ++ drop n d → n ≡ p + length g → NoGap (drop n d) → gapOf bad d p ≡ Past n
+  gap-complete : (n : ℕ) {g : List ℕ} → Gap g → (p : ℕ) → drop p d ≡ g ++ drop n d → n ≡ p + length g → NoGap (drop n d) → gapOf bad d p
+      ≡ Past n
   unfolding moveOf isWhite stands
   gap-complete n none p e f o =
       let k : n ≡ p = omega arith in
@@ -267,7 +274,8 @@ module _ (bad : Bool) (d : List ℕ) where
       let m : p + 4 + length u ≡ p + suc (suc (suc (suc (length u)))) = omega arith in
       let f′ : n ≡ p + 4 + length u + length s = omega (arith, length-append u s) in
       gap-next bad d p (p + 4 + length u) (rw (a, comment-complete bad p (p + 4) k (s ++ drop n d)))
-      ∙ gap-complete n g (p + 4 + length u) (rw m (onward d p (suc (suc (suc (suc (length u))))) (60 ∷ 33 ∷ 45 ∷ 45 ∷ u) (s ++ drop n d) a refl)) f′ o
+      ∙ gap-complete n g (p + 4 + length u) (rw m
+      (onward d p (suc (suc (suc (suc (length u))))) (60 ∷ 33 ∷ 45 ∷ 45 ∷ u) (s ++ drop n d) a refl)) f′ o
 
   then : (p m n : ℕ) → Moved (drop p d) p m → Gapped d m n → Gapped d p n
   then p m n r g =

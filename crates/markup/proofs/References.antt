@@ -33,7 +33,14 @@ run-rest f x t (each {b} {s} e r) h = rw (e, run-rest f x t r h)
 legal-not : (c : ℕ) → 2000000 < c → legal c ≡ false
 unfolding legal
 legal-not c h =
-    rw (le-leb 32 c (omega arith), lt-leb c 55295 (omega arith), le-leb 57344 c (omega arith), lt-leb c 65533 (omega arith), le-leb 65536 c (omega arith), lt-leb c 1114111 (omega arith))
+    rw (
+      le-leb 32 c (omega arith),
+      lt-leb c 55295 (omega arith),
+      le-leb 57344 c (omega arith),
+      lt-leb c 65533 (omega arith),
+      le-leb 65536 c (omega arith),
+      lt-leb c 1114111 (omega arith),
+    )
     (rw (ne-eqb c 9 (λ e. omega arith), ne-eqb c 10 (λ e. omega arith), ne-eqb c 13 (λ e. omega arith)))
 
 legal-small : (c : ℕ) → legal c ≡ true → capped c ≡ c
@@ -60,7 +67,8 @@ unfolding ofKind isHex isDigit
 no-semicolon true = refl
 no-semicolon false = refl
 
-numbered-complete : (h : Bool) (n : ℕ) {s : List ℕ} {c : ℕ} (t : List ℕ) → Each (ofKind (digitKind h)) s → c ≡ numberOf h 0 s → legal c ≡ true
+numbered-complete : (h : Bool) (n : ℕ) {s : List ℕ} {c : ℕ} (t : List ℕ) → Each (ofKind (digitKind h)) s → c ≡ numberOf h 0 s → legal c
+    ≡ true
     → numberedOf h n (s ++ 59 ∷ t) ≡ Is c (n + length s + 1)
 unfolding numberedOf closedOf
 numbered-complete h n {s} {c} t e q k =
@@ -167,37 +175,39 @@ record Which (s : List ℕ) : Type 0 where
 
 named-which : (s : List ℕ) → legal (namedOf s) ≡ true → Which s
 unfolding namedOf
-named-which s e = by (stands lt-is s) (stands gt-is s) (stands amp-is s) (stands apos-is s) (stands quot-is s) refl refl refl refl refl e where
-  lt-is : List ℕ
-  lt-is = 108 ∷ 116 ∷ 59 ∷ []
+named-which s e = by (stands lt-is s) (stands gt-is s) (stands amp-is s) (stands apos-is s) (stands quot-is s) refl refl refl refl refl e
+  where
+    lt-is : List ℕ
+    lt-is = 108 ∷ 116 ∷ 59 ∷ []
 
-  gt-is : List ℕ
-  gt-is = 103 ∷ 116 ∷ 59 ∷ []
+    gt-is : List ℕ
+    gt-is = 103 ∷ 116 ∷ 59 ∷ []
 
-  amp-is : List ℕ
-  amp-is = 97 ∷ 109 ∷ 112 ∷ 59 ∷ []
+    amp-is : List ℕ
+    amp-is = 97 ∷ 109 ∷ 112 ∷ 59 ∷ []
 
-  apos-is : List ℕ
-  apos-is = 97 ∷ 112 ∷ 111 ∷ 115 ∷ 59 ∷ []
+    apos-is : List ℕ
+    apos-is = 97 ∷ 112 ∷ 111 ∷ 115 ∷ 59 ∷ []
 
-  quot-is : List ℕ
-  quot-is = 113 ∷ 117 ∷ 111 ∷ 116 ∷ 59 ∷ []
+    quot-is : List ℕ
+    quot-is = 113 ∷ 117 ∷ 111 ∷ 116 ∷ 59 ∷ []
 
-  found : (w : List ℕ) (c : ℕ) → Ref w c → stands w s ≡ true → Which s
-  found w c r f = let x = stands-split w s f in record { name = w; code = c; after = x .0; ref = r; split = x .1 }
+    found : (w : List ℕ) (c : ℕ) → Ref w c → stands w s ≡ true → Which s
+    found w c r f = let x = stands-split w s f in record { name = w; code = c; after = x .0; ref = r; split = x .1 }
 
-  by : (q r t u v : Bool) → stands lt-is s ≡ q → stands gt-is s ≡ r → stands amp-is s ≡ t → stands apos-is s ≡ u → stands quot-is s ≡ v
-      → legal (cond q 60 (cond r 62 (cond t 38 (cond u 39 (cond v 34 0))))) ≡ true → Which s
-  by true r t u v a b c d e g = found lt-is 60 lt a
-  by false true t u v a b c d e g = found gt-is 62 gt b
-  by false false true u v a b c d e g = found amp-is 38 amp c
-  by false false false true v a b c d e g = found apos-is 39 apos d
-  by false false false false true a b c d e g = found quot-is 34 quot e
-  by false false false false false a b c d e g = no-zero g
+    by : (q r t u v : Bool) → stands lt-is s ≡ q → stands gt-is s ≡ r → stands amp-is s ≡ t → stands apos-is s ≡ u → stands quot-is s ≡ v
+        → legal (cond q 60 (cond r 62 (cond t 38 (cond u 39 (cond v 34 0))))) ≡ true → Which s
+    by true r t u v a b c d e g = found lt-is 60 lt a
+    by false true t u v a b c d e g = found gt-is 62 gt b
+    by false false true u v a b c d e g = found amp-is 38 amp c
+    by false false false true v a b c d e g = found apos-is 39 apos d
+    by false false false false true a b c d e g = found quot-is 34 quot e
+    by false false false false false a b c d e g = no-zero g
 
 name-sound : (p c n : ℕ) (s : List ℕ) → referenceOf p s ≡ Is c n → Which s → Referred s p c n
 name-sound p c n s e w =
-    let x : Is (w .code) (p + 1 + length (w .name)) ≡ Is c n = sym (reference-complete p (w .ref) (w .after)) ∙ ap (referenceOf p) (sym (w .split)) ∙ e in
+    let x : Is (w .code) (p + 1 + length (w .name)) ≡ Is c n = sym (reference-complete p (w .ref) (w .after))
+    ∙ ap (referenceOf p) (sym (w .split)) ∙ e in
     let y : w .code ≡ c = cc in
     record { bytes = w .name; rest = w .after; ref = rw (← y) (w .ref); split = w .split; place = cc }
 
@@ -227,10 +237,14 @@ reference-sound p c n s e = by (stands (35 ∷ 120 ∷ []) s) (stands (35 ∷ []
       }
 
   by : (q r : Bool) → stands (35 ∷ 120 ∷ []) s ≡ q → stands (35 ∷ []) s ≡ r
-      → cond q (numberedOf true (p + 3) (drop 2 s)) (cond r (numberedOf false (p + 2) (drop 1 s)) (closedOf (runOf (ofKind 1) (p + 1) s) (namedOf s) (restOf (ofKind 1) s))) ≡ Is c n
+      → cond q (numberedOf true (p + 3) (drop 2 s))
+      (cond r (numberedOf false (p + 2) (drop 1 s)) (closedOf (runOf (ofKind 1) (p + 1) s) (namedOf s) (restOf (ofKind 1) s))) ≡ Is c n
       → Referred s p c n
-  by true r f g e = let x = stands-split (35 ∷ 120 ∷ []) s f in with-hex (drop 2 s) (x .1 ∙ ap (λ (t : List ℕ). 35 ∷ 120 ∷ t) (sym (ap (drop 2) (x .1)))) (numbered-sound true (p + 3) c n (drop 2 s) e)
-  by false true f g e = let x = stands-split (35 ∷ []) s g in with-digits (drop 1 s) (x .1 ∙ ap (λ (t : List ℕ). 35 ∷ t) (sym (ap (drop 1) (x .1)))) (numbered-sound false (p + 2) c n (drop 1 s) e)
+  by true r f g e = let x = stands-split (35 ∷ 120 ∷ []) s f in
+      with-hex (drop 2 s) (x .1 ∙ ap (λ (t : List ℕ). 35 ∷ 120 ∷ t) (sym (ap (drop 2) (x .1))))
+      (numbered-sound true (p + 3) c n (drop 2 s) e)
+  by false true f g e = let x = stands-split (35 ∷ []) s g in
+      with-digits (drop 1 s) (x .1 ∙ ap (λ (t : List ℕ). 35 ∷ t) (sym (ap (drop 1) (x .1)))) (numbered-sound false (p + 2) c n (drop 1 s) e)
   by false false f g d =
       name-sound p c n s e (named-which s (closed-is (runOf (ofKind 1) (p + 1) s) (namedOf s) c n (restOf (ofKind 1) s) d .good))
 

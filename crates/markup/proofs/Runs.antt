@@ -77,13 +77,15 @@ pub run-long : (f : ℕ → Bool) (p : ℕ) (s : List ℕ) → runOf f p s ≡ p
 unfolding runOf bytesOf
 run-long f p [] = omega arith
 run-long f p (b ∷ s) = by (f b) (run-long f (p + 1) s) where
-  by : (q : Bool) → runOf f (p + 1) s ≡ p + 1 + length (bytesOf f s) → cond q (runOf f (p + 1) s) p ≡ p + length (cond q (b ∷ bytesOf f s) [])
+  by : (q : Bool) → runOf f (p + 1) s ≡ p + 1 + length (bytesOf f s) → cond q (runOf f (p + 1) s) p ≡ p
+      + length (cond q (b ∷ bytesOf f s) [])
   by true i = i ∙ omega arith
   by false i = omega arith
 
 -- ---- given bytes
 module _ (d : List ℕ) (at : ℕ) (w : List ℕ) (i : ℕ) where
-  pub stands-next : at + i < length d → i < length w → getD d (at + i) 0 ≡ getD w i 0 → stands (drop i w) (drop (at + i) d) ≡ stands (drop (i + 1) w) (drop (at + (i + 1)) d)
+  pub stands-next : at + i < length d → i < length w → getD d (at + i) 0 ≡ getD w i 0 → stands (drop i w) (drop (at + i) d)
+      ≡ stands (drop (i + 1) w) (drop (at + (i + 1)) d)
   unfolding stands
   stands-next h k e =
       let n : at + i + 1 ≡ at + (i + 1) = omega arith in
@@ -139,7 +141,8 @@ module _ (hex : Bool) (v : ℕ) (d : List ℕ) (p : ℕ) where
   unfolding figureOf runOf bytesOf numberOf
   figure-next h e = rw (drop-1 d p h, e) (rw (held hex (pushOf hex v (getD d p 0)) (bytesOf (ofKind (digitKind hex)) (drop (p + 1) d))))
 
-  pub figure-over : p < length d → ofKind (digitKind hex) (getD d p 0) ≡ false → v ≤ 2000000 → figureOf hex v p (drop p d) ≡ record { value = v; next = p }
+  pub figure-over : p < length d → ofKind (digitKind hex) (getD d p 0) ≡ false → v ≤ 2000000 → figureOf hex v p (drop p d)
+      ≡ record { value = v; next = p }
   unfolding figureOf runOf bytesOf numberOf
   figure-over h e k = rw (drop-1 d p h, e, small v k)
 

@@ -25,7 +25,8 @@ run-stretch f d p = record {
 }
 
 -- a run goes to the end of a stretch behind which a byte stands that doesn't pass
-run-to : (f : ℕ → Bool) (d : List ℕ) (q : ℕ) → f (getD d q 0) ≡ false → q < length d → {u : List ℕ} → Each f u → (p : ℕ) → drop p d ≡ u ++ drop q d → q ≡ p + length u → runOf f p (drop p d) ≡ q
+run-to : (f : ℕ → Bool) (d : List ℕ) (q : ℕ) → f (getD d q 0) ≡ false → q < length d → {u : List ℕ} → Each f u → (p : ℕ) → drop p d ≡ u
+    ++ drop q d → q ≡ p + length u → runOf f p (drop p d) ≡ q
 run-to f d q h l no-more p e k =
     let g : q ≡ p = omega arith in
     run-over f d p (omega arith) (rw (← g) h) ∙ sym g

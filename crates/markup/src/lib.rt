@@ -5,7 +5,8 @@ ghost use mathlib.Core.List.{[], _∷_};
 ghost use Prim.Native.Nat.{_+_, _-_, _≤_, _<_};
 ghost use lib.ListN.{length, drop};
 ghost use Rattle.markup.specs.rule.Bytes.{isWhite, isDigit, isHex, startsName, isName, ofKind, runOf, stands, endFault};
-ghost use Rattle.markup.specs.rule.Reference.{digitOf, pushOf, capped, figureOf, closedOf, namedOf, numberedOf, referenceOf, digitKind};
+ghost use Rattle.markup.specs.rule.Reference.{digitOf, pushOf, capped, figureOf, closedOf, namedOf, numberedOf, referenceOf};
+ghost use Rattle.markup.specs.rule.Reference.{digitKind};
 ghost use Rattle.markup.specs.rule.Gap.{commentOf, moveOf, gapOf};
 
 pub fn is_white(b: u8) -> bool

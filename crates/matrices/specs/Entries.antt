@@ -49,7 +49,8 @@ module _ (t : List ℤ) (v : ℕ) (cs : List Column) where
       ∙ all-at rs n k (omega arith) l
 
   -- the places of a column lie among the entries
-  pub strides : (rs : List (List ℕ)) (k j : ℕ) (len : ℕ) → k < length cs → j + length rs * length cs ≤ len → InStride len (length cs) (j + k) (length rs)
+  pub strides : (rs : List (List ℕ)) (k j : ℕ) (len : ℕ) → k < length cs → j + length rs * length cs ≤ len
+      → InStride len (length cs) (j + k) (length rs)
   unfolding InStride
   strides [] k j len h l = tt
   strides (r ∷ rs) k j len h l =
@@ -73,5 +74,10 @@ module _ (t : List ℤ) (v : ℕ) (cs : List Column) where
   column-picked (r ∷ rs) k h =
       let m = length-entries t v r cs in
       let e : k + length cs ≡ length (entriesOf t v r cs) + k = omega arith in
-      rw (List·getD-append (entriesOf t v r cs) (allEntries t v cs rs) Absent k (rw m h), entry-at r cs k h, e, picked-on (entriesOf t v r cs) (allEntries t v cs rs) (length cs) (length rs) k)
+      rw (
+        List·getD-append (entriesOf t v r cs) (allEntries t v cs rs) Absent k (rw m h),
+        entry-at r cs k h,
+        e,
+        picked-on (entriesOf t v r cs) (allEntries t v cs rs) (length cs) (length rs) k,
+      )
       (ap (λ (l : List Entry). entryOf t v r (columnAt cs k) ∷ l) (column-picked rs k h))

@@ -19,7 +19,8 @@ use Rattle.matrix.specs.declared.Entry.{Entry}
 use Rattle.matrix.specs.declared.Entry.the-variants.{Scaled}
 use Rattle.matrix.specs.Entry.{EntryGood}
 use Rattle.matrix.specs.Stride.{AllGood}
-use Rattle.columns.specs.rule.Columns.{Column, ofRow, ofCategory, ofCategories, columnsBy, rowColumns, columnsFrom, decimalsBy, numberEntry, memberEntry}
+use Rattle.columns.specs.rule.Columns.{Column, ofRow, ofCategory, ofCategories, columnsBy, rowColumns, columnsFrom, decimalsBy, numberEntry}
+use Rattle.columns.specs.rule.Columns.{memberEntry}
 use Rattle.columns.specs.rule.Columns.{entryOf, entriesOf}
 use Rattle.columns.specs.Reach.{row-readable, entry-good, power-good}
 use Rattle.columns.specs.Columns.{entries-append}
@@ -52,7 +53,8 @@ members-good t v r i (c ∷ cs) = (member-good c (readingOf t v (rowAt t i) r), 
 module _ {t : List ℤ} {h : Header} (g : Tested t h) (r : List ℕ) (long : h .length ≤ length r) where
   row-good : (i : ℕ) → i < h .rows → AllGood (entriesOf t (h .rows) r (rowColumns t (h .rows) i))
   unfolding AllGood entriesOf columnsBy entryOf
-  row-good i l = let q = row-readable g l (length r) long in go (rowAt t i .kind) (entry-good q r (10 ^ decimalsBy (rowAt t i .kind)) (power-good q .1))
+  row-good i l = let q = row-readable g l (length r) long in
+      go (rowAt t i .kind) (entry-good q r (10 ^ decimalsBy (rowAt t i .kind)) (power-good q .1))
     where
       go : (k : Kind) → EntryGood (numberEntry (10 ^ decimalsBy (rowAt t i .kind)) (readingOf t (h .rows) (rowAt t i) r))
           → AllGood (entriesOf t (h .rows) r (columnsBy k t (h .rows) i))
@@ -67,7 +69,8 @@ module _ {t : List ℤ} {h : Header} (g : Tested t h) (r : List ℕ) (long : h .
   record-good zero i l = tt
   record-good (suc n) i l =
       subst AllGood (sym (entries-append t (h .rows) r (rowColumns t (h .rows) i) (columnsFrom t (h .rows) (suc i) n)))
-      (good-append (entriesOf t (h .rows) r (rowColumns t (h .rows) i)) (entriesOf t (h .rows) r (columnsFrom t (h .rows) (suc i) n)) (row-good i (omega arith)) (record-good n (suc i) (omega arith)))
+      (good-append (entriesOf t (h .rows) r (rowColumns t (h .rows) i)) (entriesOf t (h .rows) r (columnsFrom t (h .rows) (suc i) n))
+      (row-good i (omega arith)) (record-good n (suc i) (omega arith)))
 
 pub all-good : {t : List ℤ} {h : Header} → Tested t h → (rs : List (List ℕ)) → AllLong (h .length) rs
     → AllGood (allEntries t (h .rows) (columnsFrom t (h .rows) 0 (h .rows)) rs)
@@ -75,4 +78,5 @@ unfolding AllGood AllLong allEntries
 all-good g [] l = tt
 all-good {t} {h} g (r ∷ rs) l =
     let cs = columnsFrom t (h .rows) 0 (h .rows) in
-    good-append (entriesOf t (h .rows) r cs) (allEntries t (h .rows) cs rs) (record-good g r (l .0) (h .rows) 0 (omega arith)) (all-good g rs (l .1))
+    good-append (entriesOf t (h .rows) r cs) (allEntries t (h .rows) cs rs) (record-good g r (l .0) (h .rows) 0 (omega arith))
+    (all-good g rs (l .1))

@@ -15,7 +15,8 @@ use Rattle.cuts.specs.rule.Records.{Records, over, unended, record-and, records
 use Rattle.sound.specs.rule.Sound.{wellFormed}
 use Rattle.sound.specs.rule.Rows.{rowsOf, lengthOf}
 use Rattle.records.specs.rule.Verdict.{Verdict, sound, refused, lowByte, badField, rowsVerdict}
-use Rattle.files.specs.rule.File.{FileVerdict, soundWith, badTable, faultIn, recordVerdict, goOn, firstLength, recordsVerdict, fileVerdict, isSound}
+use Rattle.files.specs.rule.File.{FileVerdict, soundWith, badTable, faultIn, recordVerdict, goOn, firstLength, recordsVerdict, fileVerdict}
+use Rattle.files.specs.rule.File.{isSound}
 use Rattle.files.specs.File.{soundSoFar}
 use Rattle.columns.specs.rule.Columns.{Column, entriesOf}
 use Rattle.columns.specs.Columns.{length-entries}
@@ -85,11 +86,18 @@ length-all t v cs [] = z (length cs)
     z : (n : ℕ) → 0 ≡ 0 * n
     z n = omega arith
 length-all t v cs (r ∷ rs) =
-    omega (arith, length-append (entriesOf t v r cs) (allEntries t v cs rs), length-entries t v r cs, length-all t v cs rs, suc-mul (length rs) (length cs))
+    omega (
+      arith,
+      length-append (entriesOf t v r cs) (allEntries t v cs rs),
+      length-entries t v r cs,
+      length-all t v cs rs,
+      suc-mul (length rs) (length cs),
+    )
 
 -- ---- record by record
 module _ {rs rest : Records} {r : List ℕ} (e : rs ≡ record-and r rest) where
-  pub left-next : (t : List ℤ) (v : ℕ) (cs : List Column) → allEntries t v cs (endedOf rs) ≡ entriesOf t v r cs ++ allEntries t v cs (endedOf rest)
+  pub left-next : (t : List ℤ) (v : ℕ) (cs : List Column) → allEntries t v cs (endedOf rs) ≡ entriesOf t v r cs
+      ++ allEntries t v cs (endedOf rest)
   unfolding allEntries endedOf
   left-next t v cs = rw e
 
@@ -101,6 +109,7 @@ pub left-over : {rs : Records} → rs ≡ over → (t : List ℤ) (v : ℕ) (cs 
 unfolding allEntries endedOf
 left-over e t v cs = rw e
 
-pub left-unended : {rs : Records} {r : List ℕ} → rs ≡ unended r → (t : List ℤ) (v : ℕ) (cs : List Column) → allEntries t v cs (endedOf rs) ≡ []
+pub left-unended : {rs : Records} {r : List ℕ} → rs ≡ unended r → (t : List ℤ) (v : ℕ) (cs : List Column) → allEntries t v cs (endedOf rs)
+    ≡ []
 unfolding allEntries endedOf
 left-unended e t v cs = rw e

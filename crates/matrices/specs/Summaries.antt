@@ -38,7 +38,8 @@ pub record Same (a : ℕ) (s s′ : List ℕ) : Type 0 where
 -- what is counted of the columns from k to before another: so many records have them, and so many ones each
 pub record Known (s : List ℕ) (step flags values records k until n : ℕ) (ones : List ℕ) : Type 0 where
   pub near : until ≤ k + 16
-  pub at : (j : ℕ) → k ≤ j → j < until → toldOf n (getD ones (16 - (until - j)) 0) ≡ summaryOf (columnIn s step (flags + j) (values + 8 * j) records)
+  pub at : (j : ℕ) → k ≤ j → j < until → toldOf n (getD ones (16 - (until - j)) 0)
+      ≡ summaryOf (columnIn s step (flags + j) (values + 8 * j) records)
 
 pub same-of : {a : ℕ} {s s′ : List ℕ} → length s′ ≡ length s → drop a s′ ≡ drop a s → Same a s s′
 same-of l d = record { long = sym l; from = sym d }
@@ -56,12 +57,17 @@ module _ {a : ℕ} {s s′ : List ℕ} (q : Same a s s′) where
   number-same v h =
       let e : a + (v - a) ≡ v = omega arith in
       ap (λ (l : List ℕ). numberOf (take 8 l))
-      (ap (λ (i : ℕ). drop i s) (sym e) ∙ sym (drop-drop (v - a) a s) ∙ ap (drop (v - a)) (q .from) ∙ drop-drop (v - a) a s′ ∙ ap (λ (i : ℕ). drop i s′) e)
+      (ap (λ (i : ℕ). drop i s) (sym e) ∙ sym (drop-drop (v - a) a s) ∙ ap (drop (v - a)) (q .from) ∙ drop-drop (v - a) a s′
+      ∙ ap (λ (i : ℕ). drop i s′) e)
 
   pub column-same : (step n f v : ℕ) → a ≤ f → a ≤ v → columnIn s step f v n ≡ columnIn s′ step f v n
   unfolding columnIn
   column-same step zero f v h g = refl
-  column-same step (suc n) f v h g = rw (byte-same f h, number-same v g, column-same step n (f + step) (v + 8 * step) (omega arith) (omega arith))
+  column-same step (suc n) f v h g = rw (
+    byte-same f h,
+    number-same v g,
+    column-same step n (f + step) (v + 8 * step) (omega arith) (omega arith),
+  )
 
   pub there-same : (step n f v : ℕ) → a ≤ f → a ≤ v → ColumnThere s step f v n → ColumnThere s′ step f v n
   unfolding ColumnThere
@@ -76,7 +82,10 @@ module _ {a : ℕ} {s s′ : List ℕ} (q : Same a s s′) where
   pub columns-same : (step n m f v : ℕ) → a ≤ f → a ≤ v → ColumnsThere s step f v n m → ColumnsThere s′ step f v n m
   unfolding ColumnsThere
   columns-same step n zero f v h g c = tt
-  columns-same step n (suc m) f v h g c = (there-same step n f v h g (c .0), columns-same step n m (f + 1) (v + 8) (omega arith) (omega arith) (c .1))
+  columns-same step n (suc m) f v h g c = (
+    there-same step n f v h g (c .0),
+    columns-same step n m (f + 1) (v + 8) (omega arith) (omega arith) (c .1),
+  )
 
   pub known-same : {step flags values records k until n : ℕ} {ones : List ℕ} → a ≤ flags → a ≤ values
       → Known s step flags values records k until n ones → Known s′ step flags values records k until n ones
@@ -135,7 +144,8 @@ module _ (s : List ℕ) (step f v n c k : ℕ) (low : k < c) where
   left = omega arith
 
   pub summaries-on : summariesIn s step (f + k) (v + 8 * k) n (c - k)
-      ≡ summaryBytes (summaryOf (columnIn s step (f + k) (v + 8 * k) n)) ++ summariesIn s step (f + (k + 1)) (v + 8 * (k + 1)) n (c - (k + 1))
+      ≡ summaryBytes (summaryOf (columnIn s step (f + k) (v + 8 * k) n))
+      ++ summariesIn s step (f + (k + 1)) (v + 8 * (k + 1)) n (c - (k + 1))
   unfolding summariesIn
   summaries-on =
       let x : f + k + 1 ≡ f + (k + 1) = omega arith in
@@ -173,7 +183,8 @@ column-real s step (suc n) f v c =
     go (eqb (getD s f 0) 1) (rw (nanBits-is binary64 (numberAt 8 v s)) at (c .2)) (column-real s step n (f + step) (v + 8 * step) (c .3))
   where
     go : (b : Bool) → Real (ofBits binary64 (numberAt 8 v s)) → EachReal (columnIn s step (f + step) (v + 8 * step) n)
-        → EachReal (cond b (ofBits binary64 (numberAt 8 v s) ∷ columnIn s step (f + step) (v + 8 * step) n) (columnIn s step (f + step) (v + 8 * step) n))
+        → EachReal (cond b (ofBits binary64 (numberAt 8 v s) ∷ columnIn s step (f + step) (v + 8 * step) n)
+        (columnIn s step (f + step) (v + 8 * step) n))
     go true x rest = (x, rest)
     go false x rest = rest
 

@@ -35,7 +35,8 @@ use Rattle.matrix.specs.Column.{ColumnThere, columnIn}
 use Rattle.matrix.specs.Stride.{AllGood, InStride, column-is, column-there}
 use Rattle.columns.specs.rule.Columns.{Column, ofRow, columnsFrom}
 use Rattle.matrices.specs.rule.Matrix.{endedOf, tableColumns, allEntries, columnEntries, summariesOf, matrixOf}
-use Rattle.matrices.specs.rule.Matrix.{MatrixVerdict, refusedAs, refused, written, sizeVerdict, verdictAfter, matrixVerdict, outputAfter, MatrixWritten}
+use Rattle.matrices.specs.rule.Matrix.{MatrixVerdict, refusedAs, refused, written, sizeVerdict, verdictAfter, matrixVerdict}
+use Rattle.matrices.specs.rule.Matrix.{outputAfter, MatrixWritten}
 use Rattle.matrices.specs.Records.{AllLong, length-all, file-sound}
 use Rattle.matrices.specs.Entries.{columnAt, strides, column-picked}
 use Rattle.matrices.specs.Summaries.{ColumnsThere, summariesIn}
@@ -65,13 +66,15 @@ module _ (t : List ℤ) (v : ℕ) (cs : List Column) (rs : List (List ℕ)) (r :
       let z : 0 + k ≡ k = omega arith in
       rw z at (strides t v cs rs k 0 (length es) h (omega (arith, length-all t v cs rs)))
 
-  one-column : (k : ℕ) → k < length cs → columnIn out (length cs) (fl + k) (vl + 8 * k) (length rs) ≡ presentOf (columnEntries t v (columnAt cs k) rs)
+  one-column : (k : ℕ) → k < length cs → columnIn out (length cs) (fl + k) (vl + 8 * k) (length rs)
+      ≡ presentOf (columnEntries t v (columnAt cs k) rs)
   one-column k h =
       column-is r fl vl es behind-es inside-es (length cs) (length rs) k
       (in-stride k h)
       ∙ ap presentOf (column-picked t v cs rs k h)
 
-  columns-from : (n k : ℕ) → n + k ≡ length cs → summariesIn out (length cs) (fl + k) (vl + 8 * k) (length rs) n ≡ summariesOf t v rs (drop k cs)
+  columns-from : (n k : ℕ) → n + k ≡ length cs → summariesIn out (length cs) (fl + k) (vl + 8 * k) (length rs) n
+      ≡ summariesOf t v rs (drop k cs)
   unfolding summariesIn summariesOf
   columns-from zero k e = let h : length cs ≤ k = omega arith in rw (drop-of-length-le cs h)
   columns-from (suc n) k e =
@@ -138,9 +141,11 @@ whole-put t rs out n c en ec =
     ∙ put-next out 0 h 24 (s ++ (f ++ w)) (omega (arith, lh)))
 
 -- ---- filled from start to end
-module _ {t : List ℤ} {h : Header} (g : Tested t h) (d out : List ℕ) (n c : ℕ) {out1 out2 : List ℕ} (sound : SoundFile t d n) (ec : c ≡ length (tableColumns t))
+module _ {t : List ℤ} {h : Header} (g : Tested t h) (d out : List ℕ) (n c : ℕ) {out1 out2 : List ℕ} (sound : SoundFile t d n)
+    (ec : c ≡ length (tableColumns t))
     (inside : totalOf n c ≤ length out) (e1 : out1 ≡ putAt out 0 (headerBytes n c))
-    (e2 : out2 ≡ putEntries out1 (presenceAt c) (valuesAt n c) (allEntries t (h .rows) (columnsFrom t (h .rows) 0 (h .rows)) (endedOf (recordsOf d)))) where
+    (e2 : out2 ≡ putEntries out1 (presenceAt c) (valuesAt n c)
+    (allEntries t (h .rows) (columnsFrom t (h .rows) 0 (h .rows)) (endedOf (recordsOf d)))) where
   abbrev rs : List (List ℕ)
   rs = endedOf (recordsOf d)
 
@@ -169,28 +174,34 @@ module _ {t : List ℤ} {h : Header} (g : Tested t h) (d out : List ℕ) (n c : 
       let w = columns-there t (rowsOf t) (tableColumns t) rs out1 (presenceAt c) (valuesAt n c) behind within a in
       subst (λ (x : ℕ). ColumnsThere out2 x (presenceAt c) (valuesAt n c) n x) (sym ec)
       (subst (λ (x : ℕ). ColumnsThere out2 (length (tableColumns t)) (presenceAt c) (valuesAt n c) x (length (tableColumns t))) (sym many)
-      (subst (λ (x : List ℕ). ColumnsThere x (length (tableColumns t)) (presenceAt c) (valuesAt n c) (length rs) (length (tableColumns t))) (sym two) w))
+      (subst (λ (x : List ℕ). ColumnsThere x (length (tableColumns t)) (presenceAt c) (valuesAt n c) (length rs) (length (tableColumns t)))
+      (sym two) w))
 
   stand : summariesIn out2 c (presenceAt c) (valuesAt n c) n c ≡ summariesOf t (rowsOf t) rs (tableColumns t)
   stand =
       let w = columns-stand t (rowsOf t) (tableColumns t) rs out1 (presenceAt c) (valuesAt n c) behind within in
       ap (λ (x : List ℕ). summariesIn x c (presenceAt c) (valuesAt n c) n c) two
-      ∙ ap (λ (x : ℕ). summariesIn (putEntries out1 (presenceAt c) (valuesAt n c) (allEntries t (rowsOf t) (tableColumns t) rs)) x (presenceAt c) (valuesAt n c) n x) ec
-      ∙ ap (λ (x : ℕ). summariesIn (putEntries out1 (presenceAt c) (valuesAt n c) (allEntries t (rowsOf t) (tableColumns t) rs)) (length (tableColumns t)) (presenceAt c) (valuesAt n c) x (length (tableColumns t))) many
+      ∙ ap (λ (x : ℕ). summariesIn (putEntries out1 (presenceAt c) (valuesAt n c) (allEntries t (rowsOf t) (tableColumns t) rs)) x
+      (presenceAt c) (valuesAt n c) n x) ec
+      ∙ ap (λ (x : ℕ). summariesIn (putEntries out1 (presenceAt c) (valuesAt n c) (allEntries t (rowsOf t) (tableColumns t) rs))
+      (length (tableColumns t)) (presenceAt c) (valuesAt n c) x (length (tableColumns t))) many
       ∙ w
 
-  pub filled : {out3 : List ℕ} → out3 ≡ putAt out2 24 (summariesIn out2 c (presenceAt c) (valuesAt n c) n c) → out3 ≡ putAt out 0 (matrixOf t rs)
+  pub filled : {out3 : List ℕ} → out3 ≡ putAt out2 24 (summariesIn out2 c (presenceAt c) (valuesAt n c) n c) → out3
+      ≡ putAt out 0 (matrixOf t rs)
   filled e3 =
       e3 ∙ ap (λ (x : List ℕ). putAt out2 24 x) stand
       ∙ ap (λ (x : List ℕ). putAt x 24 (summariesOf t (rowsOf t) rs (tableColumns t))) two
-      ∙ ap (λ (x : List ℕ). putAt (putEntries x (presenceAt c) (valuesAt n c) (allEntries t (rowsOf t) (tableColumns t) rs)) 24 (summariesOf t (rowsOf t) rs (tableColumns t))) e1
+      ∙ ap (λ (x : List ℕ). putAt (putEntries x (presenceAt c) (valuesAt n c) (allEntries t (rowsOf t) (tableColumns t) rs)) 24
+      (summariesOf t (rowsOf t) rs (tableColumns t))) e1
       ∙ whole-put t rs out n c many ec
 
 -- ---- sizes
 pub large-columns : (n c : ℕ) → 699049 < c → ltb 16777216 (totalOf n c) ≡ true
 large-columns n c h = lt-ltb 16777216 (totalOf n c) (omega arith)
 
-pub large-records : (n c : ℕ) → 1 ≤ c → c ≤ 699049 → (b : Bool) → b ≡ ltb ((16777216 - 24 - 24 * c) / (9 * c)) n → b ≡ ltb 16777216 (totalOf n c)
+pub large-records : (n c : ℕ) → 1 ≤ c → c ≤ 699049 → (b : Bool) → b ≡ ltb ((16777216 - 24 - 24 * c) / (9 * c)) n → b
+    ≡ ltb 16777216 (totalOf n c)
 large-records n c some few b e = e ∙ go (ltb ((16777216 - 24 - 24 * c) / (9 * c)) n) refl
   where
     m : n * (9 * c) ≡ 9 * (n * c)
@@ -211,14 +222,19 @@ large-records n c some few b e = e ∙ go (ltb ((16777216 - 24 - 24 * c) / (9 * 
 module _ (t : List ℤ) (d out : List ℕ) where
   pub refused-file : {v : FileVerdict} → v ≡ fileVerdict t d → soundSoFar v ≡ false → MatrixWritten t d out out (refusedAs v)
   unfolding matrixVerdict verdictAfter outputAfter soundSoFar
-  refused-file {v} e s = record { says = go v s ∙ ap (verdictAfter t (length out)) e; leaves = gone v s ∙ ap (λ (x : FileVerdict). outputAfter (verdictAfter t (length out) x) (matrixOf t (endedOf (recordsOf d))) out) e }
+  refused-file {v} e s = record {
+    says = go v s ∙ ap (verdictAfter t (length out)) e;
+    leaves = gone v s
+        ∙ ap (λ (x : FileVerdict). outputAfter (verdictAfter t (length out) x) (matrixOf t (endedOf (recordsOf d))) out) e;
+  }
     where
       go : (w : FileVerdict) → soundSoFar w ≡ false → refusedAs w ≡ verdictAfter t (length out) w
       go (soundWith n) q = holds-not refl q
       go badTable q = refl
       go (faultIn n x) q = refl
 
-      gone : (w : FileVerdict) → soundSoFar w ≡ false → out ≡ outputAfter (verdictAfter t (length out) w) (matrixOf t (endedOf (recordsOf d))) out
+      gone : (w : FileVerdict) → soundSoFar w ≡ false → out
+          ≡ outputAfter (verdictAfter t (length out) w) (matrixOf t (endedOf (recordsOf d))) out
       gone (soundWith n) q = holds-not refl q
       gone badTable q = refl
       gone (faultIn n x) q = refl
@@ -230,13 +246,18 @@ module _ (t : List ℤ) (d out : List ℕ) where
 
     as-sized : {w : MatrixVerdict} {out′ : List ℕ} → sizeVerdict n (length (tableColumns t)) (length out) ≡ w
         → out′ ≡ outputAfter w (matrixOf t (endedOf (recordsOf d))) out → MatrixWritten t d out out′ w
-    as-sized e o = record { says = sym (sized ∙ e); leaves = o ∙ ap (λ (x : MatrixVerdict). outputAfter x (matrixOf t (endedOf (recordsOf d))) out) (sym (sized ∙ e)) }
+    as-sized e o = record {
+      says = sym (sized ∙ e);
+      leaves = o
+          ∙ ap (λ (x : MatrixVerdict). outputAfter x (matrixOf t (endedOf (recordsOf d))) out) (sym (sized ∙ e));
+    }
 
     pub no-column : {c : ℕ} → c ≡ length (tableColumns t) → c ≡ 0 → MatrixWritten t d out out (refused 80)
     unfolding sizeVerdict outputAfter
     no-column e z = as-sized (rw (eq-eqb (length (tableColumns t)) 0 (sym e ∙ z))) refl
 
-    pub too-large : {c : ℕ} → c ≡ length (tableColumns t) → (c ≡ 0 → ⊥) → ltb 16777216 (totalOf n c) ≡ true → MatrixWritten t d out out (refused 81)
+    pub too-large : {c : ℕ} → c ≡ length (tableColumns t) → (c ≡ 0 → ⊥) → ltb 16777216 (totalOf n c) ≡ true
+        → MatrixWritten t d out out (refused 81)
     unfolding sizeVerdict outputAfter
     too-large {c} e z l = as-sized (rw (← e, ne-eqb c 0 z, l)) refl
 
@@ -245,7 +266,8 @@ module _ (t : List ℤ) (d out : List ℕ) where
     unfolding sizeVerdict outputAfter
     short-room {c} e z l s = as-sized (rw (← e, ne-eqb c 0 z, l, lt-ltb (length out) (totalOf n c) s)) refl
 
-    pub all-written : {c : ℕ} {out′ : List ℕ} → c ≡ length (tableColumns t) → (c ≡ 0 → ⊥) → ltb 16777216 (totalOf n c) ≡ false → totalOf n c ≤ length out
+    pub all-written : {c : ℕ} {out′ : List ℕ} → c ≡ length (tableColumns t) → (c ≡ 0 → ⊥) → ltb 16777216 (totalOf n c) ≡ false → totalOf n c
+        ≤ length out
         → out′ ≡ putAt out 0 (matrixOf t (endedOf (recordsOf d))) → MatrixWritten t d out out′ (written (totalOf n c) n c)
     unfolding sizeVerdict outputAfter
     all-written {c} e z l s o = as-sized (rw (← e, ne-eqb c 0 z, l, le-ltb (length out) (totalOf n c) s)) o

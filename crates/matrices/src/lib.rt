@@ -56,8 +56,11 @@ fn put_records(
     requires { ⌜ Ready (now powers) (now t) h (length (now list)) (length (now allowed)) (length (now present)) ⌝ }
     requires { ⌜ columns ≡ length (columnsFrom (now t) (h .rows) 0 (h .rows)) ⌝ }
     requires { ⌜ AllLong (h .length) (endedOf (recordsOf (now d))) ⌝ }
-    requires { ⌜ Room flags values (length (now out)) (length (allEntries (now t) (h .rows) (columnsFrom (now t) (h .rows) 0 (h .rows)) (endedOf (recordsOf (now d))))) ⌝ }
-    ensures { λ _. ⌜ now (out .exit) ≡ putEntries (now (out .entry)) flags values (allEntries (now (t .entry)) (h .rows) (columnsFrom (now (t .entry)) (h .rows) 0 (h .rows)) (endedOf (recordsOf (now (d .entry))))) ⌝ }
+    requires { ⌜ Room flags values (length (now out))
+        (length (allEntries (now t) (h .rows) (columnsFrom (now t) (h .rows) 0 (h .rows)) (endedOf (recordsOf (now d))))) ⌝ }
+    ensures { λ _. ⌜ now (out .exit) ≡ putEntries (now (out .entry)) flags values
+        (allEntries (now (t .entry)) (h .rows) (columnsFrom (now (t .entry)) (h .rows) 0 (h .rows))
+        (endedOf (recordsOf (now (d .entry))))) ⌝ }
 {
     let w = cuts::find_terminator(d);
     let mut k: usize = 0;
@@ -156,7 +159,8 @@ fn summary_at(
 
 // The summaries of all columns, from what stands in the output behind them.
 fn put_summaries(out: &mut [u8], records: usize, columns: usize, flags: usize, values: usize)
-    requires { ⌜ (columns ≤ 16777216) × (flags ≡ 24 + 24 * columns) × (flags ≤ values) × (flags ≤ length (now out)) × (values ≤ 16777216) ⌝ }
+    requires { ⌜ (columns ≤ 16777216) × (flags ≡ 24 + 24 * columns) × (flags ≤ values) × (flags ≤ length (now out))
+        × (values ≤ 16777216) ⌝ }
     requires { ⌜ ColumnsThere (now out) columns flags values records columns ⌝ }
     ensures { λ _. ⌜ now (out .exit) ≡ putAt (now (out .entry)) 24 (summariesIn (now (out .entry)) columns flags values records columns) ⌝ }
 {
@@ -189,7 +193,8 @@ fn too_large(records: usize, columns: usize) -> bool
 // The whole matrix, where there is room for it.
 fn fill(t: &[i64], h: Header, d: &[u8], records: usize, columns: usize, out: &mut [u8])
     requires { ⌜ Tested (now t) h × SoundFile (now t) (now d) records ⌝ }
-    requires { ⌜ (columns ≡ length (tableColumns (now t))) × (1 ≤ columns) × (totalOf records columns ≤ 16777216) × (totalOf records columns ≤ length (now out)) ⌝ }
+    requires { ⌜ (columns ≡ length (tableColumns (now t))) × (1 ≤ columns) × (totalOf records columns ≤ 16777216)
+        × (totalOf records columns ≤ length (now out)) ⌝ }
     ensures { λ _. ⌜ now (out .exit) ≡ putAt (now (out .entry)) 0 (matrixOf (now (t .entry)) (endedOf (recordsOf (now (d .entry))))) ⌝ }
 {
     let powers = ascii::powers();

@@ -41,7 +41,8 @@ unfolding headerBytes
 length-header n c = simp (length-append, bytes-count)
 
 pub summary-put : (r : List ℕ) (at : ℕ) (s : Summary)
-    → putAt (putAt (putAt r at (bytesOf 8 (s .count))) (at + 8) (bytesOf 8 (toBits binary64 (s .least)))) (at + 16) (bytesOf 8 (toBits binary64 (s .most)))
+    → putAt (putAt (putAt r at (bytesOf 8 (s .count))) (at + 8) (bytesOf 8 (toBits binary64 (s .least)))) (at + 16)
+    (bytesOf 8 (toBits binary64 (s .most)))
     ≡ putAt r at (summaryBytes s)
 unfolding summaryBytes
 summary-put r at s =

@@ -15,7 +15,8 @@ use Rattle.little.specs.Bytes.{numberAt}
 unfoldable pub ColumnThere : List ℕ → ℕ → ℕ → ℕ → ℕ → Type 0
 ColumnThere s step flag value zero = Unit {0}
 ColumnThere s step flag value (suc n) =
-    (flag < length s) × (value + 8 ≤ length s) × T (not (nanBits binary64 (numberAt 8 value s))) × ColumnThere s step (flag + step) (value + 8 * step) n
+    (flag < length s) × (value + 8 ≤ length s) × T (not (nanBits binary64 (numberAt 8 value s)))
+    × ColumnThere s step (flag + step) (value + 8 * step) n
 
 -- the values whose presence byte is 1
 unfoldable pub columnIn : List ℕ → ℕ → ℕ → ℕ → ℕ → List Float

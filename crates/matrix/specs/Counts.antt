@@ -13,7 +13,8 @@ use Rattle.below.specs.Below.{holds-not, lt-or-le}
 use Rattle.little.specs.Bytes.{numberAt}
 use Rattle.matrix.specs.Column.{ColumnThere, there-here}
 use Rattle.matrix.specs.Noughts.{allAre, are-at}
-use Rattle.matrix.specs.Ones.{Counted, AllThere, AllFew, AllCounted, AllTold, Held, held-none, held-on, held-off, held-done, zeros-counted}
+use Rattle.matrix.specs.Ones.{Counted, AllThere, AllFew, AllCounted, AllTold, Held, held-none, held-on, held-off, held-done}
+use Rattle.matrix.specs.Ones.{zeros-counted}
 
 -- ---- the values before j are counted, the others not yet
 pub record Partly (s : List ℕ) (value : ℕ) (before after : List ℕ) (j : ℕ) : Type 0 where
@@ -35,7 +36,8 @@ module _ {s : List ℕ} {value : ℕ} {before after : List ℕ} {j : ℕ} (p : P
     rest = λ i l. p .rest i (omega arith);
   }
 
-  pub partly-unit : j < length after → numberAt 8 (value + 8 * j) s ≡ 4607182418800017408 → Partly s value before (set after j (getD after j 0 + 1)) (j + 1)
+  pub partly-unit : j < length after → numberAt 8 (value + 8 * j) s ≡ 4607182418800017408
+      → Partly s value before (set after j (getD after j 0 + 1)) (j + 1)
   partly-unit h e = record {
     long = length-set after j (getD after j 0 + 1) ∙ p .long;
     done = λ i l. ⊎-elim
@@ -48,7 +50,8 @@ module _ {s : List ℕ} {value : ℕ} {before after : List ℕ} {j : ℕ} (p : P
   pub partly-all : 16 ≤ j → AllCounted s value before after true
   partly-all h = record { long = p .long; at = λ e i l. p .done i (omega arith) }
 
-pub none-counted : {s : List ℕ} {value : ℕ} {before after : List ℕ} {j : ℕ} → Partly s value before after j → AllCounted s value before after false
+pub none-counted : {s : List ℕ} {value : ℕ} {before after : List ℕ} {j : ℕ} → Partly s value before after j
+    → AllCounted s value before after false
 none-counted p = record { long = p .long; at = λ e. holds-not e refl }
 
 pub all-zeros : (s : List ℕ) (value : ℕ) (ones : List ℕ) → allAre s value 128 0 ≡ true → AllCounted s value ones ones true
@@ -62,7 +65,11 @@ pub record AllHeld (s : List ℕ) (step flags values records flag value left n :
 pub all-none : (s : List ℕ) (step flags values records : ℕ) → AllThere s step flags values records
     → AllHeld s step flags values records flags values records 0 (replicate 16 0)
 all-none s step flags values records a =
-    record { long = length-replicate {A = ℕ} 16 0; at = λ j h. rw (getD-replicate {A = ℕ} 16 j 0 0 h) (held-none s step (flags + j) (values + 8 * j) records (a .at j h)) }
+    record {
+      long = length-replicate {A = ℕ} 16 0;
+      at = λ j h. rw (getD-replicate {A = ℕ} 16 j 0 0 h)
+          (held-none s step (flags + j) (values + 8 * j) records (a .at j h));
+    }
 
 module _ {s : List ℕ} {step flags values records flag value left n : ℕ} {ones : List ℕ} (some : 0 < left)
     (a : AllHeld s step flags values records flag value left n ones) where

@@ -63,7 +63,8 @@ values-are true = refl
 values-are false = refl
 
 pub noughts-put : (r : List ℕ) (f v : ℕ) (there : Bool)
-    → putAt (putAt (putAt r f (bytesOf 8 (presences there))) (f + 8) (bytesOf 8 (presences there))) v (bytesOf 128 0) ≡ putEntries r f v (noughts there 16)
+    → putAt (putAt (putAt r f (bytesOf 8 (presences there))) (f + 8) (bytesOf 8 (presences there))) v (bytesOf 128 0)
+    ≡ putEntries r f v (noughts there 16)
 noughts-put r f v there =
     let p = bytesOf 8 (presences there) in
     ap (λ (x : List ℕ). putAt x v (bytesOf 128 0)) (put-next r f p (f + 8) p (ap (λ (n : ℕ). f + n) (bytes-count 8 (presences there))))

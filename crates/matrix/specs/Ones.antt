@@ -86,11 +86,13 @@ parts-same n {a} {b} {c} {d} e f = ap (λ (x : Float). parts n x b) e ∙ ap (pa
 told-some : (n o : ℕ) → 0 < n → toldOf n o ≡ parts n (cond (eqb o n) unit nought) (cond (eqb o 0) nought unit)
 unfolding toldOf
 told-some n o h =
-    ap (λ (b : Bool). cond b none (parts n (cond (eqb o n) unit nought) (cond (eqb o 0) nought unit))) (ne-eqb n 0 (λ z. absurd (omega arith)))
+    ap (λ (b : Bool). cond b none (parts n (cond (eqb o n) unit nought) (cond (eqb o 0) nought unit)))
+    (ne-eqb n 0 (λ z. absurd (omega arith)))
 
 extend-some : (n : ℕ) (a b x : Float) → 0 < n → extendOf (parts n a b) x ≡ parts (n + 1) (lowerOf a x) (higherOf b x)
 unfolding extendOf
-extend-some n a b x h = ap (λ (t : Bool). cond t (parts 1 x x) (parts (n + 1) (lowerOf a x) (higherOf b x))) (ne-eqb n 0 (λ z. absurd (omega arith)))
+extend-some n a b x h = ap (λ (t : Bool). cond t (parts 1 x x) (parts (n + 1) (lowerOf a x) (higherOf b x)))
+    (ne-eqb n 0 (λ z. absurd (omega arith)))
 
 -- one value more
 pub told-nought : (n o : ℕ) → o ≤ n → extendOf (toldOf n o) nought ≡ toldOf (n + 1) o
@@ -99,7 +101,8 @@ told-nought zero o h = let z : o ≡ 0 = omega arith in rw z
 told-nought (suc n) o h =
     ap (λ (s : Summary). extendOf s nought) (told-some (suc n) o (omega arith))
     ∙ extend-some (suc n) (cond (eqb o (suc n)) unit nought) (cond (eqb o 0) nought unit) nought (omega arith)
-    ∙ parts-same (suc n + 1) (low-nought (eqb o (suc n)) ∙ sym (ap (λ (b : Bool). cond b unit nought) (ne-eqb o (suc n + 1) (λ z. absurd (omega arith))))) (high-nought (eqb o 0))
+    ∙ parts-same (suc n + 1) (low-nought (eqb o (suc n))
+    ∙ sym (ap (λ (b : Bool). cond b unit nought) (ne-eqb o (suc n + 1) (λ z. absurd (omega arith))))) (high-nought (eqb o 0))
     ∙ sym (told-some (suc n + 1) o (omega arith))
 
 pub told-unit : (n o : ℕ) → o ≤ n → extendOf (toldOf n o) unit ≡ toldOf (n + 1) (o + 1)
@@ -129,13 +132,16 @@ module _ (n o : ℕ) (some : n ≡ 0 → ⊥) where
   pub told-zeros : o ≡ 0 → toldOf n o ≡ parts n (ofBits binary64 0) (ofBits binary64 0)
   told-zeros e =
       told-here
-      ∙ parts-same n (ap (λ (b : Bool). cond b unit nought) (ne-eqb o n (λ z. some (sym z ∙ e))) ∙ bits-nought) (ap (λ (b : Bool). cond b nought unit) (eq-eqb o 0 e) ∙ bits-nought)
+      ∙ parts-same n (ap (λ (b : Bool). cond b unit nought) (ne-eqb o n (λ z. some (sym z ∙ e))) ∙ bits-nought)
+      (ap (λ (b : Bool). cond b nought unit) (eq-eqb o 0 e) ∙ bits-nought)
 
   pub told-units : (o ≡ 0 → ⊥) → o ≡ n → toldOf n o ≡ parts n unit unit
-  told-units z e = told-here ∙ parts-same n (ap (λ (b : Bool). cond b unit nought) (eq-eqb o n e)) (ap (λ (b : Bool). cond b nought unit) (ne-eqb o 0 z))
+  told-units z e = told-here ∙ parts-same n (ap (λ (b : Bool). cond b unit nought) (eq-eqb o n e))
+      (ap (λ (b : Bool). cond b nought unit) (ne-eqb o 0 z))
 
   pub told-both : (o ≡ 0 → ⊥) → (o ≡ n → ⊥) → toldOf n o ≡ parts n (ofBits binary64 0) unit
-  told-both z e = told-here ∙ parts-same n (ap (λ (b : Bool). cond b unit nought) (ne-eqb o n e) ∙ bits-nought) (ap (λ (b : Bool). cond b nought unit) (ne-eqb o 0 z))
+  told-both z e = told-here ∙ parts-same n (ap (λ (b : Bool). cond b unit nought) (ne-eqb o n e) ∙ bits-nought)
+      (ap (λ (b : Bool). cond b nought unit) (ne-eqb o 0 z))
 
 -- ---- record by record: what is counted so far, extended by what is left of the column, is the whole's
 pub record Held (s : List ℕ) (step flags values records flag value left n ones : ℕ) : Type 0 where
@@ -143,12 +149,14 @@ pub record Held (s : List ℕ) (step flags values records flag value left n ones
   pub there : ColumnThere s step flag value left
   pub whole : extendedBy (toldOf n ones) (columnIn s step flag value left) ≡ summaryOf (columnIn s step flags values records)
 
-pub held-none : (s : List ℕ) (step flags values records : ℕ) → ColumnThere s step flags values records → Held s step flags values records flags values records 0 0
+pub held-none : (s : List ℕ) (step flags values records : ℕ) → ColumnThere s step flags values records
+    → Held s step flags values records flags values records 0 0
 unfolding summaryOf
 held-none s step flags values records c =
     record { few = omega arith; there = c; whole = ap (λ (x : Summary). extendedBy x (columnIn s step flags values records)) told-none }
 
-module _ {s : List ℕ} {step flags values records flag value left n ones : ℕ} (some : 0 < left) (h : Held s step flags values records flag value left n ones) where
+module _ {s : List ℕ} {step flags values records flag value left n ones : ℕ} (some : 0 < left)
+    (h : Held s step flags values records flag value left n ones) where
   -- the record has none
   pub held-off : (getD s flag 0 ≡ 1 → ⊥) → Held s step flags values records (flag + step) (value + 8 * step) (left - 1) n ones
   held-off e = record {
@@ -170,17 +178,20 @@ module _ {s : List ℕ} {step flags values records flag value left n ones : ℕ}
       rest : List Float
       rest = columnIn s step (flag + step) (value + 8 * step) (left - 1)
 
-      zeroed : (numberAt 8 value s ≡ 0) × (after ≡ ones) → extendedBy (toldOf (n + 1) after) rest ≡ extendedBy (toldOf n ones) (columnIn s step flag value left)
+      zeroed : (numberAt 8 value s ≡ 0) × (after ≡ ones) → extendedBy (toldOf (n + 1) after) rest
+          ≡ extendedBy (toldOf n ones) (columnIn s step flag value left)
       zeroed x =
           rw (x .1, column-on s step flag value left some e, x .0)
           (ap (λ (t : Summary). extendedBy t rest) (sym (told-nought n ones (h .few)) ∙ ap (extendOf (toldOf n ones)) bits-nought))
 
-      unitary : (numberAt 8 value s ≡ 4607182418800017408) × (after ≡ ones + 1) → extendedBy (toldOf (n + 1) after) rest ≡ extendedBy (toldOf n ones) (columnIn s step flag value left)
+      unitary : (numberAt 8 value s ≡ 4607182418800017408) × (after ≡ ones + 1) → extendedBy (toldOf (n + 1) after) rest
+          ≡ extendedBy (toldOf n ones) (columnIn s step flag value left)
       unitary x =
           rw (x .1, column-on s step flag value left some e, x .0)
           (ap (λ (t : Summary). extendedBy t rest) (sym (told-unit n ones (h .few))))
 
-pub held-done : {s : List ℕ} {step flags values records flag value left n ones : ℕ} → left ≤ 0 → Held s step flags values records flag value left n ones
+pub held-done : {s : List ℕ} {step flags values records flag value left n ones : ℕ} → left ≤ 0
+    → Held s step flags values records flag value left n ones
     → toldOf n ones ≡ summaryOf (columnIn s step flags values records)
 unfolding extendedBy
 held-done {s} {step} {flag = flag} {value} {left} {n} {ones} z h = rw (column-none s step flag value left z) at (h .whole)
@@ -198,4 +209,8 @@ number-zero (suc k) (b ∷ s) h =
 pub zeros-counted : (s : List ℕ) (value j o : ℕ) → j < 16 → allAre s value 128 0 ≡ true → Counted (numberAt 8 (value + 8 * j) s) o o
 unfolding numberAt
 zeros-counted s value j o h e =
-    inl (number-zero 8 (drop (value + 8 * j) s) (λ i l. getD-drop (value + 8 * j) s i 0 ∙ (let q : value + 8 * j + i ≡ value + (8 * j + i) = omega arith in rw q (are-at s value 128 0 e (8 * j + i) (omega arith)))), refl)
+    inl (
+      number-zero 8 (drop (value + 8 * j) s) (λ i l. getD-drop (value + 8 * j) s i 0
+          ∙ (let q : value + 8 * j + i ≡ value + (8 * j + i) = omega arith in rw q (are-at s value 128 0 e (8 * j + i) (omega arith)))),
+      refl,
+    )

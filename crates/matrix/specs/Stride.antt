@@ -1,4 +1,5 @@
--- Entries that were put are read back: the presence byte and the eight bytes of each stand at its place, so that every so many of them are a
+-- Entries that were put are read back: the presence byte and the eight bytes of each stand at its place, so that every so many of them are
+-- a
 -- column.
 -- Assumes nothing.
 use mathlib.Core.Path.{_≡_, refl, sym, ap, _∙_, subst}
@@ -101,13 +102,16 @@ module _ (r : List ℕ) (fl vl : ℕ) (es : List Entry) (behind : fl + length es
   unfolding numberAt
   bits-there j h =
       ap numberOf (bytes-there j h)
-      ∙ bytes-back 8 (toBits binary64 (floatOf (getD es j Absent))) (toBits-lt binary64 (floatOf (getD es j Absent)) (entry-fits (getD es j Absent)))
+      ∙ bytes-back 8 (toBits binary64 (floatOf (getD es j Absent)))
+      (toBits-lt binary64 (floatOf (getD es j Absent)) (entry-fits (getD es j Absent)))
 
   pub float-there : (j : ℕ) → j < length es → ofBits binary64 (numberAt 8 (vl + 8 * j) whole) ≡ floatOf (getD es j Absent)
-  float-there j h = ap (ofBits binary64) (bits-there j h) ∙ ofBits-toBits binary64 (floatOf (getD es j Absent)) (entry-fits (getD es j Absent))
+  float-there j h = ap (ofBits binary64) (bits-there j h)
+      ∙ ofBits-toBits binary64 (floatOf (getD es j Absent)) (entry-fits (getD es j Absent))
 
   -- a column as it stands is that of the entries
-  pub column-is : (step n j : ℕ) → InStride (length es) step j n → columnIn whole step (fl + j) (vl + 8 * j) n ≡ presentOf (picked es step j n)
+  pub column-is : (step n j : ℕ) → InStride (length es) step j n → columnIn whole step (fl + j) (vl + 8 * j) n
+      ≡ presentOf (picked es step j n)
   unfolding columnIn picked presentOf InStride presenceOf floatOf
   column-is step zero j s = refl
   column-is step (suc n) j s =
@@ -115,7 +119,8 @@ module _ (r : List ℕ) (fl vl : ℕ) (es : List Entry) (behind : fl + length es
       let v : vl + 8 * j + 8 * step ≡ vl + 8 * (j + step) = omega arith in
       rw (presence-there j (s .0), float-there j (s .0), f, v, column-is step n (j + step) (s .1)) (go (getD es j Absent))
     where
-      go : (e : Entry) → cond (eqb (presenceOf e) 1) (floatOf e ∷ presentOf (picked es step (j + step) n)) (presentOf (picked es step (j + step) n))
+      go : (e : Entry) → cond (eqb (presenceOf e) 1) (floatOf e ∷ presentOf (picked es step (j + step) n))
+          (presentOf (picked es step (j + step) n))
           ≡ presentOf (e ∷ picked es step (j + step) n)
       go Absent = refl
       go (Scaled z p) = refl

@@ -39,7 +39,8 @@ module _ (t : List ℤ) (d : List ℕ) (room n : ℕ) (sound : fileVerdict t d �
   sized = ap (verdictAfter t room) sound
 
   pub matrix-named : SizeOutcome n (length (tableColumns t)) room (matrixVerdict t d room)
-  matrix-named = subst (λ (v : MatrixVerdict). SizeOutcome n (length (tableColumns t)) room v) (sym sized) (size-named n (length (tableColumns t)) room)
+  matrix-named = subst (λ (v : MatrixVerdict). SizeOutcome n (length (tableColumns t)) room v) (sym sized)
+      (size-named n (length (tableColumns t)) room)
 
   pub matrix-only : {v : MatrixVerdict} → SizeOutcome n (length (tableColumns t)) room v → matrixVerdict t d room ≡ v
   matrix-only o = sized ∙ size-only n (length (tableColumns t)) room o

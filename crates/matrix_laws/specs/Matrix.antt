@@ -29,7 +29,8 @@ use Rattle.matrix.specs.Entry.{length-flags, length-values, length-entries}
 use Rattle.matrix.specs.Bytes.{length-header, length-summary}
 use Rattle.matrix.specs.Stride.{presence-there, bytes-there}
 use Rattle.columns.specs.rule.Columns.{Column, entryOf, memberEntry, numberEntry}
-use Rattle.matrices.specs.rule.Matrix.{endedOf, tableColumns, allEntries, columnEntries, summariesOf, matrixOf, MatrixVerdict, refusedAs, refused, written}
+use Rattle.matrices.specs.rule.Matrix.{endedOf, tableColumns, allEntries, columnEntries, summariesOf, matrixOf, MatrixVerdict, refusedAs}
+use Rattle.matrices.specs.rule.Matrix.{refused, written}
 use Rattle.matrices.specs.rule.Matrix.{sizeVerdict, verdictAfter, matrixVerdict, outputAfter, MatrixWritten}
 use Rattle.matrices.specs.Records.{length-all, file-sound}
 use Rattle.matrices.specs.Entries.{columnAt, recordAt, all-at}
@@ -62,7 +63,8 @@ matrix-length t rs =
     )
 
 -- the file's own refusal, where it has one
-pub refused-as : (t : List ℤ) (d : List ℕ) (room n : ℕ) {v : Verdict} → fileVerdict t d ≡ faultIn n v → matrixVerdict t d room ≡ refusedAs (faultIn n v)
+pub refused-as : (t : List ℤ) (d : List ℕ) (room n : ℕ) {v : Verdict} → fileVerdict t d ≡ faultIn n v → matrixVerdict t d room
+    ≡ refusedAs (faultIn n v)
 unfolding matrixVerdict verdictAfter
 refused-as t d room n e = ap (verdictAfter t room) e
 
@@ -77,7 +79,8 @@ unfolding summariesOf
 summary-at t v rs [] k rest h = absurd (omega arith)
 summary-at t v rs (c ∷ cs) zero rest h =
     let s = summaryOf (presentOf (columnEntries t v c rs)) in
-    ap (take 24) (append-assoc (summaryBytes s) (summariesOf t v rs cs) rest) ∙ take-at (summaryBytes s) (summariesOf t v rs cs ++ rest) 24 (length-summary s)
+    ap (take 24) (append-assoc (summaryBytes s) (summariesOf t v rs cs) rest)
+    ∙ take-at (summaryBytes s) (summariesOf t v rs cs ++ rest) 24 (length-summary s)
 summary-at t v rs (c ∷ cs) (suc k) rest h =
     let s = summaryOf (presentOf (columnEntries t v c rs)) in
     let b = summaryBytes s in
@@ -116,7 +119,8 @@ module _ (t : List ℤ) (rs : List (List ℕ)) (out : List ℕ) (inside : totalO
       ≡ drop (presenceAt (length cs)) (putEntries first (presenceAt (length cs)) (valuesAt (length rs) (length cs)) es)
   kept =
       ap (drop (presenceAt (length cs))) whole
-      ∙ same-put (putEntries first (presenceAt (length cs)) (valuesAt (length rs) (length cs)) es) (presenceAt (length cs)) 24 (summariesOf t (rowsOf t) rs cs)
+      ∙ same-put (putEntries first (presenceAt (length cs)) (valuesAt (length rs) (length cs)) es) (presenceAt (length cs)) 24
+      (summariesOf t (rowsOf t) rs cs)
       (omega (arith, length-summaries t (rowsOf t) rs cs))
 
   -- THE SUMMARY of column k, 24 bytes
@@ -135,7 +139,12 @@ module _ (t : List ℤ) (rs : List (List ℕ)) (out : List ℕ) (inside : totalO
 
   module _ (n k : ℕ) (low : n < length rs) (col : k < length cs) where
     cell-low : n * length cs + k < length es
-    cell-low = omega (arith, length-all t (rowsOf t) cs rs, suc-mul n (length cs), mul-le-mul-right {m = suc n} {n = length rs} (length cs) low)
+    cell-low = omega (
+      arith,
+      length-all t (rowsOf t) cs rs,
+      suc-mul n (length cs),
+      mul-le-mul-right {m = suc n} {n = length rs} (length cs) low,
+    )
 
     -- THE PRESENCE BYTE of record n, column k
     pub presence-is : getD (putAt out 0 (matrixOf t rs)) (presenceAt (length cs) + (n * length cs + k)) 0

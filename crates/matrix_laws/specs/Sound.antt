@@ -59,9 +59,11 @@ length-values p (n ∷ ns) = ap suc (length-values p ns)
 
 extremes : (p : ℕ) (ns : List ℤ) (s : Summary) → Says p ns s → Extremes (valuesOf p ns) s
 extremes p ns s q = record {
-  smallest = subst (λ (x : Float). Present x (valuesOf p ns)) (sym (q .smallest .value)) (value-present p (q .smallest .number) ns (q .smallest .among));
+  smallest = subst (λ (x : Float). Present x (valuesOf p ns)) (sym (q .smallest .value))
+      (value-present p (q .smallest .number) ns (q .smallest .among));
   none-below = λ x w. let i = present-number p ns x w in rw (i .value) (q .smallest .none-below (i .number) (i .among));
-  largest = subst (λ (x : Float). Present x (valuesOf p ns)) (sym (q .largest .value)) (value-present p (q .largest .number) ns (q .largest .among));
+  largest = subst (λ (x : Float). Present x (valuesOf p ns)) (sym (q .largest .value))
+      (value-present p (q .largest .number) ns (q .largest .among));
   none-above = λ x w. let i = present-number p ns x w in rw (i .value) (q .largest .none-above (i .number) (i .among));
 }
 
@@ -88,7 +90,8 @@ each-scaled (Scaled z p ∷ es) g = (g .0 .0, each-scaled es (g .1))
 
 module _ (t : List ℤ) (v : ℕ) (c : Column) where
   -- a column with a number has a power of ten that is converted exactly
-  column-power : (rs : List (List ℕ)) → AllGood (columnEntries t v c rs) → (n : ℤ) (ns : List ℤ) → numbersOf (columnEntries t v c rs) ≡ n ∷ ns
+  column-power : (rs : List (List ℕ)) → AllGood (columnEntries t v c rs) → (n : ℤ) (ns : List ℤ) → numbersOf (columnEntries t v c rs) ≡ n
+      ∷ ns
       → limits.Power (powerOf t c)
   unfolding AllGood EntryGood Over columnEntries numbersOf
   column-power [] g n ns e = let z : _≡_ {A = ℕ} 0 1 = cc in absurd (omega arith)
@@ -109,12 +112,17 @@ module _ (t : List ℤ) (v : ℕ) (c : Column) where
       go [] e = rw (column-values t v c rs, e) summary-none
       go (n ∷ ns) e =
           let p = powerOf t c in
-          let q = summary-says p (column-power rs g n ns e) n ns (subst (λ (l : List ℤ). Each l) e (each-scaled (columnEntries t v c rs) g)) in
-          rw (column-values t v c rs, e) (q .counted ∙ sym (length-values p (n ∷ ns)), extremes p (n ∷ ns) (summaryOf (valuesOf p (n ∷ ns))) q)
+          let q = summary-says p (column-power rs g n ns e) n ns
+          (subst (λ (l : List ℤ). Each l) e (each-scaled (columnEntries t v c rs) g)) in
+          rw (column-values t v c rs, e) (
+            q .counted ∙ sym (length-values p (n ∷ ns)),
+            extremes p (n ∷ ns) (summaryOf (valuesOf p (n ∷ ns))) q,
+          )
 
 -- THE LAW, for every column of a sound file
 pub sound-summary : (t : List ℤ) (d : List ℕ) (n k : ℕ) → fileVerdict t d ≡ soundWith n → k < length (tableColumns t)
-    → let xs = presentOf (columnEntries t (rowsOf t) (getD (tableColumns t) k (ofRow 0)) (endedOf (recordsOf d))) in Summarises xs (summaryOf xs)
+    → let xs = presentOf (columnEntries t (rowsOf t) (getD (tableColumns t) k (ofRow 0)) (endedOf (recordsOf d))) in
+    Summarises xs (summaryOf xs)
 sound-summary t d n k e h =
     let s = file-sound t d n e in
     let g : Tested t (headerOf t) = record { good = s .0; head = refl } in

@@ -52,7 +52,8 @@ unfolding entryOf powerOf
 entry-over t v r (ofRow i) = number-over (10 ^ decimalsBy (rowAt t i .kind)) (readingOf t v (rowAt t i) r)
 entry-over t v r (ofCategory i c) = member-over c (readingOf t v (rowAt t i) r)
 
-one-more : (p : ℕ) (e : Entry) (es : List Entry) → Over p e → presentOf es ≡ valuesOf p (numbersOf es) → presentOf (e ∷ es) ≡ valuesOf p (numbersOf (e ∷ es))
+one-more : (p : ℕ) (e : Entry) (es : List Entry) → Over p e → presentOf es ≡ valuesOf p (numbersOf es) → presentOf (e ∷ es)
+    ≡ valuesOf p (numbersOf (e ∷ es))
 unfolding Over presentOf numbersOf valuesOf
 one-more p Absent es o h = h
 one-more p (Scaled z q) es o h = rw (o, h)
@@ -62,14 +63,17 @@ pub column-values : (t : List ℤ) (v : ℕ) (c : Column) (rs : List (List ℕ))
     → presentOf (columnEntries t v c rs) ≡ valuesOf (powerOf t c) (numbersOf (columnEntries t v c rs))
 unfolding columnEntries presentOf numbersOf valuesOf
 column-values t v c [] = refl
-column-values t v c (r ∷ rs) = one-more (powerOf t c) (entryOf t v r c) (columnEntries t v c rs) (entry-over t v r c) (column-values t v c rs)
+column-values t v c (r ∷ rs) = one-more (powerOf t c) (entryOf t v r c) (columnEntries t v c rs) (entry-over t v r c)
+    (column-values t v c rs)
 
 -- THE LAW: where a number is present, the count, a smallest and a largest value
 pub summary-column : (t : List ℤ) (v : ℕ) (c : Column) (rs : List (List ℕ)) (n : ℤ) (ns : List ℤ) → limits.Power (powerOf t c)
-    → numbersOf (columnEntries t v c rs) ≡ n ∷ ns → Each (n ∷ ns) → Says (powerOf t c) (n ∷ ns) (summaryOf (presentOf (columnEntries t v c rs)))
+    → numbersOf (columnEntries t v c rs) ≡ n ∷ ns → Each (n ∷ ns)
+    → Says (powerOf t c) (n ∷ ns) (summaryOf (presentOf (columnEntries t v c rs)))
 summary-column t v c rs n ns p e g = rw (column-values t v c rs, e) (summary-says (powerOf t c) p n ns g)
 
 -- none present: count 0, both zero
-pub summary-empty : (t : List ℤ) (v : ℕ) (c : Column) (rs : List (List ℕ)) → numbersOf (columnEntries t v c rs) ≡ [] → summaryOf (presentOf (columnEntries t v c rs)) ≡ none
+pub summary-empty : (t : List ℤ) (v : ℕ) (c : Column) (rs : List (List ℕ)) → numbersOf (columnEntries t v c rs) ≡ []
+    → summaryOf (presentOf (columnEntries t v c rs)) ≡ none
 unfolding valuesOf
 summary-empty t v c rs e = rw (column-values t v c rs, e) summary-none

@@ -28,7 +28,8 @@ lines-few : (k : Kind) (f : ℕ → ℤ) (n : ℕ) → FewDecimals k → valuesF
 unfolding linesWidth valuesFit
 lines-few k f n d e = max-least (λ i. need k (f i)) n 9999 (λ i l. need-few k (f i) d (all-at (λ j. fitsKind k (f j)) n i l e))
 
-pub widest-few : (r : Row) (f : ℕ → ℤ) → FewDecimals (r .kind) → rangeGood r ≡ true → valuesFit (r .kind) f (r .lines) ≡ true → widestOf r f ≤ 9999
+pub widest-few : (r : Row) (f : ℕ → ℤ) → FewDecimals (r .kind) → rangeGood r ≡ true → valuesFit (r .kind) f (r .lines) ≡ true → widestOf r f
+    ≤ 9999
 unfolding widestOf
 widest-few r f d g e = omega (arith, range-few r d g, lines-few (r .kind) f (r .lines) d e)
 
@@ -61,7 +62,8 @@ module _ (room : List ℤ) (h : Head) (r : Rest) (before : ℕ) (m : Measurable 
       (widest-few (rowOf (plainColumns h r before)) (numberIn room before) (m .ready .decimals) (m .range) (m .ready .fits)) (m .size)
 
   -- what the call of `width_of` answers
-  pub width-plain : (c : Columns) (o : Row) (w : ℕ) → c ≡ plainColumns h r before → o ≡ rowOf c → w ≡ widthOf (o .kind) o (numberIn room (o .before)) (r .size) → w ≡ plainWidth h r before (numberIn room before)
+  pub width-plain : (c : Columns) (o : Row) (w : ℕ) → c ≡ plainColumns h r before → o ≡ rowOf c → w
+      ≡ widthOf (o .kind) o (numberIn room (o .before)) (r .size) → w ≡ plainWidth h r before (numberIn room before)
   unfolding plainColumns rowOf
   width-plain c o w p q e = e ∙ rw (q, p)
 

@@ -45,7 +45,8 @@ nil-right : (s : List ℤ) → s ++ [] ≡ s
 nil-right [] = refl
 nil-right (x ∷ s) = ap (x ∷_) (nil-right s)
 
-pub rows-with : (b : ℕ) (l : List Variable) (v : Variable) → rowsFrom b (added l v) ≡ rowsFrom b l ++ rowCells (columnsIn (b + linesAll l) v)
+pub rows-with : (b : ℕ) (l : List Variable) (v : Variable) → rowsFrom b (added l v) ≡ rowsFrom b l
+    ++ rowCells (columnsIn (b + linesAll l) v)
 unfolding rowsFrom linesAll
 rows-with b [] v =
     let e : b + 0 ≡ b = omega arith in
@@ -59,7 +60,8 @@ rows-with b (w ∷ l) v =
 pub cells-with : (l : List Variable) (v : Variable) → allLines (added l v) ≡ allLines l ++ cellsOf (linesIn v)
 unfolding allLines
 cells-with [] v = nil-right (cellsOf (linesIn v))
-cells-with (w ∷ l) v = ap (λ (s : List ℤ). cellsOf (linesIn w) ++ s) (cells-with l v) ∙ sym (append-assoc (cellsOf (linesIn w)) (allLines l) (cellsOf (linesIn v)))
+cells-with (w ∷ l) v = ap (λ (s : List ℤ). cellsOf (linesIn w) ++ s) (cells-with l v)
+    ∙ sym (append-assoc (cellsOf (linesIn w)) (allLines l) (cellsOf (linesIn v)))
 
 -- ---- lengths
 pub row-length : (b : ℕ) (v : Variable) → length (rowCells (columnsIn b v)) ≡ rowSize

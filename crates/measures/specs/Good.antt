@@ -23,7 +23,8 @@ pub record GoodVariable (before : ℕ) (v : Variable) : Type 0 where
   pub plain : allBelow (length (linesIn v)) (λ k. linePlain (lineAt (cellsOf (linesIn v)) (lineSize * k))) ≡ true
   pub fits : valuesFit (kindOf (columnsIn before v)) (numberAt (linesIn v)) (length (linesIn v)) ≡ true
   pub differ : allDiffer (numberAt (linesIn v)) (length (linesIn v)) ≡ true
-  pub width : widthGood (kindOf (columnsIn before v)) (columnsIn before v .width) (widestOf (rowOf (columnsIn before v)) (numberAt (linesIn v))) ≡ true
+  pub width : widthGood (kindOf (columnsIn before v)) (columnsIn before v .width)
+      (widestOf (rowOf (columnsIn before v)) (numberAt (linesIn v))) ≡ true
   pub holds : holdsIn before v ≡ true
   pub few : before + length (linesIn v) ≤ mostLines
 

@@ -22,7 +22,8 @@ use Rattle.records.specs.declared.Found.the-variants.{At, Nothing}
 use Rattle.files.specs.rule.File.{FileVerdict, badTable, recordVerdict, goOn, firstLength, recordsVerdict, fileVerdict}
 use Rattle.file_laws.specs.rule.Files.{firstOf}
 use Rattle.mends.specs.rule.Mend.{bytesIn}
-use Rattle.mend_laws.specs.rule.Mended.{Plain, nothing, plain, Shaped, all-ended, ended, SoundLines, noneOfThree, NoneOfFour, no-more-records, judged-by-fields, ByFields, sound-with, by-no-table, in-a-field}
+use Rattle.mend_laws.specs.rule.Mended.{Plain, nothing, plain, Shaped, all-ended, ended, SoundLines, noneOfThree, NoneOfFour}
+use Rattle.mend_laws.specs.rule.Mended.{no-more-records, judged-by-fields, ByFields, sound-with, by-no-table, in-a-field}
 use Rattle.mend_laws.specs.Sound.{mended-sound}
 
 plain-at : {r : List ℕ} → Plain r → (j : ℕ) → j < length r → lowAt r j ≡ false
@@ -48,7 +49,11 @@ by-rows fault Nothing = is-sound
 fielded : (t : List ℤ) (n : ℕ) {r : List ℕ} → length r ≡ n → lengthOf t ≤ n → Plain r → Fielded (recordVerdict t n r)
 unfolding recordVerdict rowsVerdict byteVerdict
 fielded t n {r} l h p =
-    rw (eq-eqb (length r) n l, le-leb (lengthOf t) (length r) (omega arith), none-found (lowAt r) (length r) 0 (λ j a b. plain-at p j (omega arith)))
+    rw (
+      eq-eqb (length r) n l,
+      le-leb (lengthOf t) (length r) (omega arith),
+      none-found (lowAt r) (length r) 0 (λ j a b. plain-at p j (omega arith)),
+    )
     (by-rows (rowFault t (rowsOf t) r) (firstFrom (badRow t (rowsOf t) r) 0 (rowsOf t)))
 
 go-fielded : {v : Verdict} → Fielded v → (n : ℕ) {rest : FileVerdict} → ByFields rest → ByFields (goOn v n rest)
@@ -111,7 +116,8 @@ unfolding firstFrom isAt
 none-at f zero i e j a b = absurd (omega arith)
 none-at f (suc n) i e j a b = go (f i) refl e (λ z g. none-at f n (suc i) z j g (omega arith))
   where
-    go : (q : Bool) → f i ≡ q → cond q (At i) (firstFrom f (suc i) n) ≡ Nothing → (firstFrom f (suc i) n ≡ Nothing → suc i ≤ j → f j ≡ false)
+    go : (q : Bool) → f i ≡ q → cond q (At i) (firstFrom f (suc i) n) ≡ Nothing
+        → (firstFrom f (suc i) n ≡ Nothing → suc i ≤ j → f j ≡ false)
         → f j ≡ false
     go true h z rest = holds-not {b = true} refl (ap isAt z)
     go false h z rest = ⊎-elim (λ g. ap f (sym g) ∙ h) (rest z) (from-on i j a)

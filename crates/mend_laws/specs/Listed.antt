@@ -12,10 +12,12 @@ use Rattle.below.specs.Below.{holds-not}
 use Rattle.cuts.specs.declared.Terminator.{Terminator}
 use Rattle.sound.specs.rule.Rows.{lengthOf}
 use Rattle.pieces.specs.rule.Pieces.{boundaryAt, Piece, piece, firstOf, behind, onto, cutFrom, piecesOf}
-use Rattle.mends.specs.rule.Mend.{endingOf, isEmpty, Entry, entry, listedIf, byteEntries, sameBoundary, pieceEntries, entriesOf, widthIn, listIn}
+use Rattle.mends.specs.rule.Mend.{endingOf, isEmpty, Entry, entry, listedIf, byteEntries, sameBoundary, pieceEntries, entriesOf, widthIn}
+use Rattle.mends.specs.rule.Mend.{listIn}
 use Rattle.mends.specs.Whole.{same-is}
 use Rattle.mend_laws.specs.Laid.{same-self}
-use Rattle.mend_laws.specs.rule.Mended.{orderOf, Rising, no-more, one-later, Due, dropped, low-byte, too-short, other-end, DueIn, of-this, of-later, In, first, later}
+use Rattle.mend_laws.specs.rule.Mended.{orderOf, Rising, no-more, one-later, Due, dropped, low-byte, too-short, other-end, DueIn}
+use Rattle.mend_laws.specs.rule.Mended.{of-this, of-later, In, first, later}
 
 -- ---- IN ORDER
 -- rising above n, up to m at most
@@ -55,20 +57,23 @@ bytes-rise : (n at : ℕ) (r : List ℕ) (m : ℕ) → m ≡ 5 * (at + length r)
 unfolding byteEntries
 bytes-rise n at [] m h = done {n = 5 * at} {m = m} (omega arith)
 bytes-rise n at (b ∷ r) m h =
-    span-append (span-if {n = 5 * at} {m = 5 * (at + 1)} (ltb b 32) (entry 2 n at) (omega arith) (omega arith)) (bytes-rise n (at + 1) r m (omega arith))
+    span-append (span-if {n = 5 * at} {m = 5 * (at + 1)} (ltb b 32) (entry 2 n at) (omega arith) (omega arith))
+    (bytes-rise n (at + 1) r m (omega arith))
 
 piece-rises : (w : ℕ) (e : Terminator) (n at : ℕ) (p : Piece) → Span (5 * at) (5 * (at + length (p .bytes)) + 4) (pieceEntries w e n at p)
 unfolding pieceEntries
 piece-rises w e n at p = go (isEmpty p)
   where
     go : (q : Bool) → Span (5 * at) (5 * (at + length (p .bytes)) + 4)
-        (cond q (entry 1 n at ∷ []) (byteEntries n at (p .bytes) ++ listedIf (ltb (length (p .bytes)) w) (entry 3 n (at + length (p .bytes)))
+        (cond q (entry 1 n at ∷ []) (byteEntries n at (p .bytes)
+        ++ listedIf (ltb (length (p .bytes)) w) (entry 3 n (at + length (p .bytes)))
         ++ cond (sameBoundary e (p .boundary)) [] (entry 4 n (at + length (p .bytes)) ∷ [])))
     go true = span-one (entry 1 n at) (omega arith) (omega arith)
     go false =
         span-append
         (span-append (bytes-rise n at (p .bytes) (5 * (at + length (p .bytes))) refl)
-        (span-if {n = 5 * (at + length (p .bytes))} {m = 5 * (at + length (p .bytes)) + 3} (ltb (length (p .bytes)) w) (entry 3 n (at + length (p .bytes))) (omega arith) (omega arith)))
+        (span-if {n = 5 * (at + length (p .bytes))} {m = 5 * (at + length (p .bytes)) + 3} (ltb (length (p .bytes)) w)
+        (entry 3 n (at + length (p .bytes))) (omega arith) (omega arith)))
         (span-unless (sameBoundary e (p .boundary)) (entry 4 n (at + length (p .bytes))) (omega arith) (omega arith))
 
 -- every piece but the last has a boundary
@@ -149,7 +154,8 @@ piece-listed w e n at p (low-byte j h l) =
 piece-listed w e n at p (too-short h l) =
     rw (ne-eqb (length (p .bytes)) 0 (λ z. omega arith))
     (in-left (cond (sameBoundary e (p .boundary)) [] (entry 4 n (at + length (p .bytes)) ∷ []))
-    (in-right (byteEntries n at (p .bytes)) (if-listed (ltb (length (p .bytes)) w) (entry 3 n (at + length (p .bytes))) (lt-ltb (length (p .bytes)) w l))))
+    (in-right (byteEntries n at (p .bytes)) (if-listed (ltb (length (p .bytes)) w) (entry 3 n (at + length (p .bytes)))
+    (lt-ltb (length (p .bytes)) w l))))
 piece-listed w e n at p (other-end h d) =
     rw (ne-eqb (length (p .bytes)) 0 (λ z. omega arith), not-same e (p .boundary) d)
     (in-right (byteEntries n at (p .bytes) ++ listedIf (ltb (length (p .bytes)) w) (entry 3 n (at + length (p .bytes)))) first)
@@ -223,15 +229,18 @@ unfolding pieceEntries
 piece-due w e n at p = go (isEmpty p) refl
   where
     go : (q : Bool) → isEmpty p ≡ q → Each (Due w e n at p)
-        (cond q (entry 1 n at ∷ []) (byteEntries n at (p .bytes) ++ listedIf (ltb (length (p .bytes)) w) (entry 3 n (at + length (p .bytes)))
+        (cond q (entry 1 n at ∷ []) (byteEntries n at (p .bytes)
+        ++ listedIf (ltb (length (p .bytes)) w) (entry 3 n (at + length (p .bytes)))
         ++ cond (sameBoundary e (p .boundary)) [] (entry 4 n (at + length (p .bytes)) ∷ [])))
     go true q = each-one (dropped (eqb-true (length (p .bytes)) 0 q)) each-none
     go false q =
         let s : 1 ≤ length (p .bytes) = some-of (length (p .bytes)) (eqb-false (length (p .bytes)) 0 q) in
         each-append
         (each-append (each-map (low-due w e n at p) (bytes-due n at (p .bytes)))
-        (each-if (Due w e n at p) (ltb (length (p .bytes)) w) (entry 3 n (at + length (p .bytes))) (λ l. too-short s (ltb-true (length (p .bytes)) w l))))
-        (each-unless (Due w e n at p) (sameBoundary e (p .boundary)) (entry 4 n (at + length (p .bytes))) (λ l. other-end s (not-same-of e (p .boundary) l)))
+        (each-if (Due w e n at p) (ltb (length (p .bytes)) w) (entry 3 n (at + length (p .bytes)))
+        (λ l. too-short s (ltb-true (length (p .bytes)) w l))))
+        (each-unless (Due w e n at p) (sameBoundary e (p .boundary)) (entry 4 n (at + length (p .bytes)))
+        (λ l. other-end s (not-same-of e (p .boundary) l)))
 
 module _ (w : ℕ) (e : Terminator) (n at : ℕ) (p : Piece) (ps : List Piece) where
   this-due : (x : Entry) → Due w e n at p x → DueIn w e n at (p ∷ ps) x

@@ -18,7 +18,8 @@ use Rattle.sound.specs.rule.Sound.{wellFormed}
 use Rattle.sound.specs.rule.Rows.{lengthOf}
 use Rattle.pieces.specs.rule.Pieces.{Piece, cutFrom, piecesOf}
 use Rattle.mends.specs.declared.Mended.{Mended}
-use Rattle.mends.specs.rule.Mend.{endingOf, plainByte, widthOf, isEmpty, widthIn, bytesIn, listIn, numbersOf, Outcome, done, refused, said, mendedAs, after, Mends}
+use Rattle.mends.specs.rule.Mend.{endingOf, plainByte, widthOf, isEmpty, widthIn, bytesIn, listIn, numbersOf, Outcome, done, refused, said}
+use Rattle.mends.specs.rule.Mend.{mendedAs, after, Mends}
 use Rattle.mends.specs.Sizes.{Sized, length-ending, length-plain, width-rest}
 use Rattle.mend_laws.specs.rule.Mended.{keptOf, MendOutcome, bad-table, no-room, is-mended}
 use Rattle.mend_laws.specs.Laid.{four-sized, four-ending, laidAll}
@@ -44,7 +45,8 @@ unfolding mendedAs
 mend-named t d room cells =
     go (wellFormed t) refl (ltb room (length (bytesIn t d))) refl (ltb cells (3 * length (listIn t d))) refl
   where
-    go : (g : Bool) → wellFormed t ≡ g → (p : Bool) → ltb room (length (bytesIn t d)) ≡ p → (q : Bool) → ltb cells (3 * length (listIn t d)) ≡ q
+    go : (g : Bool) → wellFormed t ≡ g → (p : Bool) → ltb room (length (bytesIn t d)) ≡ p → (q : Bool) → ltb cells (3 * length (listIn t d))
+        ≡ q
         → MendOutcome t d room cells
         (cond g (cond (p || q) (refused 70) (done (length (bytesIn t d)) (length (listIn t d)))) (refused 20))
     go false e p h q k = bad-table e
@@ -121,7 +123,8 @@ stands {w} e s (one-in {r} {rs} l a) (suc k) h =
     (stands e s a k (omega arith))
 
 pub record-stands : (t : List ℤ) (d : List ℕ) (k : ℕ) → k < length (keptOf (piecesOf d))
-    → take (widthIn t d) (drop (k * (widthIn t d + endingOf d .size)) (bytesIn t d)) ≡ padded (widthIn t d) (getD (keptOf (piecesOf d)) k [])
+    → take (widthIn t d) (drop (k * (widthIn t d + endingOf d .size)) (bytesIn t d))
+    ≡ padded (widthIn t d) (getD (keptOf (piecesOf d)) k [])
 unfolding bytesIn widthIn piecesOf
 record-stands t d k h =
     let w : ℕ = widthOf (lengthOf t) (cutFrom 0 d) in

@@ -43,7 +43,8 @@ cut-unbroken [] k = no-pieces
 cut-unbroken (b ∷ s) (suc k) = cut-unbroken s k
 cut-unbroken (b ∷ s) zero = go (eqb (boundaryAt (b ∷ s) .size) 0) refl (cut-unbroken s 0) (cut-unbroken s (boundaryAt (b ∷ s) .size - 1))
   where
-    go : (q : Bool) → eqb (boundaryAt (b ∷ s) .size) 0 ≡ q → AllUnbroken (cutFrom 0 s) → AllUnbroken (cutFrom (boundaryAt (b ∷ s) .size - 1) s)
+    go : (q : Bool) → eqb (boundaryAt (b ∷ s) .size) 0 ≡ q → AllUnbroken (cutFrom 0 s)
+        → AllUnbroken (cutFrom (boundaryAt (b ∷ s) .size - 1) s)
         → AllUnbroken (cond q (onto b (cutFrom 0 s)) (piece [] (boundaryAt (b ∷ s)) ∷ cutFrom (boundaryAt (b ∷ s) .size - 1) s))
     go true e a c = let z = eqb-true (boundaryAt (b ∷ s) .size) 0 e in unbroken-onto b (not-cr b s z) (not-lf b s z) a
     go false e a c = one-piece no-bytes c

@@ -35,14 +35,16 @@ pub record Cases : Type 0 where
   -- CR LF if there is none
   pub default-ending : Mends (97 ∷ 98 ∷ 99 ∷ []) (97 ∷ 98 ∷ 99 ∷ 13 ∷ 10 ∷ []) (entry 4 1 3 ∷ [])
   -- order by place, then kind; one 2 a byte; dropped records are counted
-  pub in-order : Mends (97 ∷ 9 ∷ 98 ∷ 0 ∷ 99 ∷ 10 ∷ 10 ∷ 100 ∷ []) (97 ∷ 32 ∷ 98 ∷ 32 ∷ 99 ∷ 10 ∷ 100 ∷ 32 ∷ 32 ∷ 32 ∷ 32 ∷ 10 ∷ []) (entry 2 1 1 ∷ entry 2 1 3 ∷ entry 1 2 6 ∷ entry 3 3 8 ∷ entry 4 3 8 ∷ [])
+  pub in-order : Mends (97 ∷ 9 ∷ 98 ∷ 0 ∷ 99 ∷ 10 ∷ 10 ∷ 100 ∷ []) (97 ∷ 32 ∷ 98 ∷ 32 ∷ 99 ∷ 10 ∷ 100 ∷ 32 ∷ 32 ∷ 32 ∷ 32 ∷ 10 ∷ [])
+      (entry 2 1 1 ∷ entry 2 1 3 ∷ entry 1 2 6 ∷ entry 3 3 8 ∷ entry 4 3 8 ∷ [])
   -- a record of spaces is not empty; at least L
   pub spaces-kept : Mends (32 ∷ 10 ∷ []) (32 ∷ 32 ∷ 32 ∷ 10 ∷ []) (entry 3 1 1 ∷ [])
   -- a file of terminators only
   pub ends-alone : Mends (13 ∷ 10 ∷ 13 ∷ 10 ∷ 13 ∷ []) [] (entry 1 1 0 ∷ entry 1 2 2 ∷ entry 1 3 4 ∷ [])
 
 pub cases : Cases
-unfolding mendedOf widthOf endingOf piecesOf cutFrom boundaryAt terminatorAt beginsWith onto firstOf behind terminatorOf mendedRecord plainByte
+unfolding mendedOf widthOf endingOf piecesOf cutFrom boundaryAt terminatorAt beginsWith onto firstOf behind terminatorOf mendedRecord
+    plainByte
     spaces terminatorBytes entriesOf pieceEntries byteEntries listedIf sameBoundary
 cases = record {
   sound-stays = record { bytes = refl; entries = refl };

@@ -26,7 +26,8 @@ use Rattle.mends.specs.rule.Mend.{endingOf, plainByte, widthOf, isEmpty, mended
 use Rattle.mends.specs.Sizes.{width-rest, width-above, length-entries, length-plain, length-spaces}
 use Rattle.mends.specs.Whole.{unlisted}
 use Rattle.mend_laws.specs.rule.Mended.{Plain, nothing, plain, Shaped, all-ended, ended, SoundLines, keptOf}
-use Rattle.mend_laws.specs.Laid.{Four, four-sized, met, four-met, four-ending, plain-append, laidAll, AllWhole, no-records, whole, whole-unlisted, records-of-laid}
+use Rattle.mend_laws.specs.Laid.{Four, four-sized, met, four-met, four-ending, plain-append, laidAll, AllWhole, no-records, whole}
+use Rattle.mend_laws.specs.Laid.{whole-unlisted, records-of-laid}
 
 -- a well-formed table has a row, so L is at least 1
 pub length-some : (t : List ℤ) → wellFormed t ≡ true → 1 ≤ lengthOf t
@@ -91,7 +92,8 @@ unfolding before
 shaped-all no-records least h = all-ended
 shaped-all (whole l p a) least h = ended l h p (shaped-all a least h)
 
-shaped-before : {w : ℕ} {rs : List (List ℕ)} → AllWhole w rs → (least : ℕ) → least ≤ w → Shaped least (firstOf (before rs over)) (before rs over)
+shaped-before : {w : ℕ} {rs : List (List ℕ)} → AllWhole w rs → (least : ℕ) → least ≤ w
+    → Shaped least (firstOf (before rs over)) (before rs over)
 unfolding before firstOf
 shaped-before no-records least h = all-ended
 shaped-before (whole l p a) least h = rw l (ended l h p (shaped-all a least h))

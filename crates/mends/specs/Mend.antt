@@ -173,7 +173,8 @@ module _ (d : List ℕ) (e : Terminator) (w i : ℕ) (p : Span) (u : Spans d i p
 
   pub mended-length : length (mendedOf w e (cutFrom 0 (drop i d)))
       ≡ length (recordOf w e (pieceAt d i p)) + length (mendedOf w e (cutFrom 0 (drop (p .stop + p .boundary .size) d)))
-  mended-length = ap length mended-next ∙ length-append (recordOf w e (pieceAt d i p)) (mendedOf w e (cutFrom 0 (drop (p .stop + p .boundary .size) d)))
+  mended-length = ap length mended-next ∙ length-append (recordOf w e (pieceAt d i p))
+      (mendedOf w e (cutFrom 0 (drop (p .stop + p .boundary .size) d)))
 
   pub entries-next : (n : ℕ) → numbersOf (entriesOf w e n i (cutFrom 0 (drop i d)))
       ≡ numbersOf (pieceEntries w e n i (pieceAt d i p))
@@ -309,17 +310,20 @@ module _ (d : List ℕ) (e : Terminator) (w i : ℕ) (p : Span) (u : Spans d i p
       ++ cond (sameBoundary e (p .boundary)) [] (entry 4 n a ∷ []))) k
       ∙ ap (λ (a : ℕ). numbersOf (x ++ listedIf (ltb a w) (entry 3 n (p .stop))
       ++ cond (sameBoundary e (p .boundary)) [] (entry 4 n (p .stop) ∷ []))) long
-      ∙ ap numbersOf (append-assoc x (listedIf (ltb (p .stop - i) w) (entry 3 n (p .stop))) (cond (sameBoundary e (p .boundary)) [] (entry 4 n (p .stop) ∷ [])))
+      ∙ ap numbersOf (append-assoc x (listedIf (ltb (p .stop - i) w) (entry 3 n (p .stop)))
+      (cond (sameBoundary e (p .boundary)) [] (entry 4 n (p .stop) ∷ [])))
       ∙ numbers-append x (endEntries n)
 
   pub piece-length : (n : ℕ) → (p .stop ≡ i → ⊥) → length (numbersOf (pieceEntries w e n i (pieceAt d i p)))
       ≡ length (numbersOf (byteEntries n i (part d i (p .stop)))) + length (numbersOf (endEntries n))
-  piece-length n h = ap length (piece-full n h) ∙ length-append (numbersOf (byteEntries n i (part d i (p .stop)))) (numbersOf (endEntries n))
+  piece-length n h = ap length (piece-full n h) ∙ length-append (numbersOf (byteEntries n i (part d i (p .stop))))
+      (numbersOf (endEntries n))
 
   pub piece-plain : (n : ℕ) → (p .stop ≡ i → ⊥) → p .lows ≡ 0 → numbersOf (pieceEntries w e n i (pieceAt d i p)) ≡ numbersOf (endEntries n)
   unfolding numbersOf
   piece-plain n h z =
-      piece-full n h ∙ ap (λ (x : List Entry). numbersOf x ++ numbersOf (endEntries n)) (bytes-none n i (part d i (p .stop)) (sym (u .counted) ∙ z))
+      piece-full n h ∙ ap (λ (x : List Entry). numbersOf x ++ numbersOf (endEntries n))
+      (bytes-none n i (part d i (p .stop)) (sym (u .counted) ∙ z))
 
   pub record-empty : p .stop ≡ i → recordOf w e (pieceAt d i p) ≡ []
   record-empty h = let z : length (part d i (p .stop)) ≡ 0 = long ∙ omega arith in rw (eq-eqb (length (part d i (p .stop))) 0 z)

@@ -16,7 +16,8 @@ use Rattle.fields.specs.rule.Field.{spaces}
 use Rattle.pieces.specs.rule.Pieces.{Piece}
 use Rattle.pieces.specs.Pieces.{lowCount}
 use Rattle.mends.specs.declared.Sizes.{Sizes}
-use Rattle.mends.specs.rule.Mend.{plainByte, widthOf, isEmpty, mendedRecord, mendedOf, Entry, entry, listedIf, byteEntries, sameBoundary}
+use Rattle.mends.specs.rule.Mend.{plainByte, widthOf, isEmpty, mendedRecord, mendedOf, Entry, entry, listedIf, byteEntries}
+use Rattle.mends.specs.rule.Mend.{sameBoundary}
 use Rattle.mends.specs.rule.Mend.{pieceEntries, entriesOf, numbersOf}
 
 abbrev pub one : Bool → ℕ
@@ -87,7 +88,8 @@ larger-mono v w n h = go (ltb v n) refl
 width-mono : (v w : ℕ) (ps : List Piece) → v ≤ w → widthOf v ps ≤ widthOf w ps
 unfolding widthOf
 width-mono v w [] h = h
-width-mono v w (p ∷ ps) h = width-mono (larger v (length (p .bytes))) (larger w (length (p .bytes))) ps (larger-mono v w (length (p .bytes)) h)
+width-mono v w (p ∷ ps) h = width-mono (larger v (length (p .bytes))) (larger w (length (p .bytes))) ps
+    (larger-mono v w (length (p .bytes)) h)
 
 pub width-least : (w : ℕ) (ps : List Piece) → widthOf 0 ps ≤ widthOf w ps
 width-least w ps = width-mono 0 w ps (omega arith)
@@ -159,7 +161,8 @@ module _ (e : Terminator) where
           + shortIn (widthOf (talliedBy e z p .width) ps) ps
           ≡ cond (ltb (z .width) (widthOf (z .width) (p ∷ ps))) (z .kept) (z .short)
           + (cond (isEmpty p) 0 (one (ltb (length (p .bytes)) (widthOf (z .width) (p ∷ ps)))) + shortIn (widthOf (z .width) (p ∷ ps)) ps)
-      go true q = let k : length (p .bytes) ≡ 0 = eqb-true (length (p .bytes)) 0 q in rw (q, k, le-ltb (z .width) 0 (omega arith)) (omega arith)
+      go true q = let k : length (p .bytes) ≡ 0 = eqb-true (length (p .bytes)) 0 q in
+          rw (q, k, le-ltb (z .width) 0 (omega arith)) (omega arith)
       go false q =
           rw q
           (short-step (z .width) (length (p .bytes)) (widthOf (larger (z .width) (length (p .bytes))) ps) (z .kept) (z .short)
@@ -174,7 +177,8 @@ length-listed false x = refl
 pub length-bytes : (n at : ℕ) (r : List ℕ) → length (byteEntries n at r) ≡ lowCount r
 unfolding byteEntries lowCount
 length-bytes n at [] = refl
-length-bytes n at (b ∷ r) = length-append (listedIf (ltb b 32) (entry 2 n at)) (byteEntries n (at + 1) r) ∙ rw (length-listed (ltb b 32) (entry 2 n at), length-bytes n (at + 1) r)
+length-bytes n at (b ∷ r) = length-append (listedIf (ltb b 32) (entry 2 n at)) (byteEntries n (at + 1) r)
+    ∙ rw (length-listed (ltb b 32) (entry 2 n at), length-bytes n (at + 1) r)
 
 length-unended : (q : Bool) (x : Entry) → length (cond q [] (x ∷ [])) ≡ cond q 0 1
 length-unended true x = refl
@@ -204,7 +208,8 @@ length-entries w e n at (p ∷ ps) =
     length-append (pieceEntries w e n at p) (entriesOf w e (n + 1) (at + length (p .bytes) + p .boundary .size) ps)
     ∙ rw (length-piece w e n at p, length-entries w e (n + 1) (at + length (p .bytes) + p .boundary .size) ps) (go (isEmpty p))
   where
-    go : (q : Bool) → cond q 1 (lowCount (p .bytes) + (one (ltb (length (p .bytes)) w) + cond (sameBoundary e (p .boundary)) 0 1)) + (othersIn e ps + shortIn w ps)
+    go : (q : Bool) → cond q 1 (lowCount (p .bytes) + (one (ltb (length (p .bytes)) w) + cond (sameBoundary e (p .boundary)) 0 1))
+        + (othersIn e ps + shortIn w ps)
         ≡ cond q 1 (lowCount (p .bytes) + cond (sameBoundary e (p .boundary)) 0 1) + othersIn e ps
         + (cond q 0 (one (ltb (length (p .bytes)) w)) + shortIn w ps)
     go true = omega arith
@@ -255,7 +260,8 @@ length-mended w v e (p ∷ ps) s h =
     length-append (cond (isEmpty p) [] (mendedRecord w e (p .bytes))) (mendedOf w e ps)
     ∙ rw (length-mended w (larger v (length (p .bytes))) e ps s h) (go (isEmpty p))
   where
-    go : (q : Bool) → length (cond q [] (mendedRecord w e (p .bytes))) + keptIn ps * (w + e .size) ≡ (cond q 0 1 + keptIn ps) * (w + e .size)
+    go : (q : Bool) → length (cond q [] (mendedRecord w e (p .bytes))) + keptIn ps * (w + e .size)
+        ≡ (cond q 0 1 + keptIn ps) * (w + e .size)
     go true = sym (add-mul 0 (keptIn ps) (w + e .size) ∙ ap (λ (k : ℕ). k + keptIn ps * (w + e .size)) (zero-mul (w + e .size)))
     go false =
         rw (

@@ -22,10 +22,12 @@ use Rattle.pieces.specs.Laid.{pieces-laid}
 use Rattle.mends.specs.declared.Sizes.{Sizes}
 use Rattle.mends.specs.declared.Mended.{Mended}
 use Rattle.mends.specs.declared.Mended.the-variants as M
-use Rattle.mends.specs.rule.Mend.{endingOf, plainByte, widthOf, isEmpty, mendedRecord, recordOf, mendedOf, Entry, sameBoundary, entriesOf, numbersOf}
+use Rattle.mends.specs.rule.Mend.{endingOf, plainByte, widthOf, isEmpty, mendedRecord, recordOf, mendedOf, Entry, sameBoundary}
+use Rattle.mends.specs.rule.Mend.{entriesOf, numbersOf}
 use Rattle.mends.specs.rule.Mend.{widthIn, bytesIn, listIn, Outcome, done, refused, said, mendedAs, after, Mends}
 use Rattle.mends.specs.Stores.{sets-front, put-sets}
-use Rattle.mends.specs.Sizes.{one, larger, sizesOf, keptIn, shortIn, othersIn, sizes-width, sizes-kept, sizes-others, sizes-short, length-entries, length-numbers, length-mended, Sized, width-rest, width-least}
+use Rattle.mends.specs.Sizes.{one, larger, sizesOf, keptIn, shortIn, othersIn, sizes-width, sizes-kept, sizes-others, sizes-short}
+use Rattle.mends.specs.Sizes.{length-entries, length-numbers, length-mended, Sized, width-rest, width-least}
 use Rattle.mends.specs.Mend.{Ends, Measured, start}
 
 -- ---- a boundary that is the same is the same
@@ -93,7 +95,8 @@ pub record Counts (t : List ℤ) (d : List ℕ) (e : Terminator) (z : Sizes) : T
   pub entries : z .others + z .short ≡ length (listIn t d)
 
 -- what the code mends and lists is what the call says
-pub said-bytes : {t : List ℤ} {d : List ℕ} {e : Terminator} {z : Sizes} → Ends d e → Counts t d e z → mendedOf (z .width) e (cutFrom 0 d) ≡ bytesIn t d
+pub said-bytes : {t : List ℤ} {d : List ℕ} {e : Terminator} {z : Sizes} → Ends d e → Counts t d e z → mendedOf (z .width) e (cutFrom 0 d)
+    ≡ bytesIn t d
 unfolding bytesIn piecesOf
 said-bytes f c = rw (c .width, f .is)
 
@@ -137,7 +140,8 @@ room-both a b c d r = (leb-true a b (and-left (leb a b) (leb c d) r), leb-true c
 room-says : (room cells b n : ℕ) (q : Bool) → leb n cells && leb b room ≡ q → (ltb room b || ltb cells n) ≡ cond q false true
 room-says room cells b n q h = go (leb n cells) refl (leb b room) refl q h
   where
-    go : (x : Bool) → leb n cells ≡ x → (y : Bool) → leb b room ≡ y → (q : Bool) → x && y ≡ q → (ltb room b || ltb cells n) ≡ cond q false true
+    go : (x : Bool) → leb n cells ≡ x → (y : Bool) → leb b room ≡ y → (q : Bool) → x && y ≡ q → (ltb room b || ltb cells n)
+        ≡ cond q false true
     go true x true y q h = rw (sym h, le-ltb room b (leb-true b room y), le-ltb cells n (leb-true n cells x))
     go true x false y q h = rw (sym h, lt-ltb room b (leb-false b room y))
     go false x y z q h = rw (sym h, lt-ltb cells n (leb-false n cells x)) (or-true (ltb room b))
@@ -170,7 +174,8 @@ module _ (t : List ℤ) (d out : List ℕ) (list : List ℤ) where
       room-out = rw (← (c .bytes)) (leb-true _ _ (and-right (leb (3 * (z .others + z .short)) (length list)) _ r))
 
       pub room-list : length (numbersOf (listIn t d)) ≤ length list
-      room-list = rw (length-numbers (listIn t d), ← (c .entries)) (leb-true _ _ (and-left (leb (3 * (z .others + z .short)) (length list)) _ r))
+      room-list = rw (length-numbers (listIn t d), ← (c .entries))
+          (leb-true _ _ (and-left (leb (3 * (z .others + z .short)) (length list)) _ r))
 
       pub mends-done : (out′ : List ℕ) (list′ : List ℤ) → out′ ≡ sets out 0 (bytesIn t d) → list′ ≡ sets list 0 (numbersOf (listIn t d))
           → Mends t d out out′ list list′ (M.Done (z .kept * (z .width + e .size)) (z .others + z .short))
@@ -191,7 +196,8 @@ module _ (t : List ℤ) (d out : List ℕ) (list : List ℤ) where
       bytes-same f n =
           let k : othersIn (endingOf d) (cutFrom 0 d) + shortIn (widthOf (lengthOf t) (cutFrom 0 d)) (cutFrom 0 d) ≡ 0 =
           sym (length-entries (widthOf (lengthOf t) (cutFrom 0 d)) (endingOf d) 1 0 (cutFrom 0 d)) ∙ sym (c .entries) ∙ n in
-          unlisted (widthOf (lengthOf t) (cutFrom 0 d)) (lengthOf t) (endingOf d) (cutFrom 0 d) (rw (f .is) at (f .sized)) (omega arith) k ∙ pieces-laid d
+          unlisted (widthOf (lengthOf t) (cutFrom 0 d)) (lengthOf t) (endingOf d) (cutFrom 0 d) (rw (f .is) at (f .sized)) (omega arith) k
+          ∙ pieces-laid d
 
       pub room-copy : Ends d e → z .others + z .short ≡ 0 → length d ≤ length out
       room-copy f n = let b : length (bytesIn t d) ≡ length d = ap length (bytes-same f n) in omega (arith, b, room-out)

@@ -178,7 +178,8 @@ fn note_bytes(
 ) -> usize
     requires { ⌜ (from ≤ stop) × (stop ≤ length (now d)) × (number < 9223372036854775808) ⌝ }
     requires { ⌜ k + length (numbersOf (byteEntries number from (part (now d) from stop))) ≤ length (now list) ⌝ }
-    ensures { λ r. ⌜ Stored (now (list .entry)) (now (list .exit)) k (numbersOf (byteEntries number from (part (now (d .entry)) from stop))) r ⌝ }
+    ensures { λ r. ⌜ Stored (now (list .entry)) (now (list .exit)) k (numbersOf (byteEntries number from (part (now (d .entry)) from stop)))
+        r ⌝ }
 {
     let mut j = pieces::low_from(d, from);
     let mut m = k;
@@ -200,8 +201,10 @@ fn note_end(
     stop: usize,
 ) -> usize
     requires { ⌜ (number < 9223372036854775808) × (stop < 9223372036854775808) ⌝ }
-    requires { ⌜ k + length (numbersOf (listedIf padded (entry 3 number stop) ++ cond ended [] (entry 4 number stop ∷ []))) ≤ length (now list) ⌝ }
-    ensures { λ r. ⌜ Stored (now (list .entry)) (now (list .exit)) k (numbersOf (listedIf padded (entry 3 number stop) ++ cond ended [] (entry 4 number stop ∷ []))) r ⌝ }
+    requires { ⌜ k + length (numbersOf (listedIf padded (entry 3 number stop) ++ cond ended [] (entry 4 number stop ∷ [])))
+        ≤ length (now list) ⌝ }
+    ensures { λ r. ⌜ Stored (now (list .entry)) (now (list .exit)) k
+        (numbersOf (listedIf padded (entry 3 number stop) ++ cond ended [] (entry 4 number stop ∷ []))) r ⌝ }
 {
     if padded {
         note(list, k, 3, number, stop);
@@ -229,7 +232,8 @@ fn plain(b: u8) -> u8
 // A record's bytes into the output from `at` on, a space for each that is below 32.
 fn lay_bytes(d: &[u8], from: usize, stop: usize, out: &mut [u8], at: usize)
     requires { ⌜ (from ≤ stop) × (stop ≤ length (now d)) × (at + (stop - from) ≤ length (now out)) ⌝ }
-    ensures { λ _. ⌜ Stored (now (out .entry)) (now (out .exit)) at (map plainByte (part (now (d .entry)) from stop)) (at + (stop - from)) ⌝ }
+    ensures { λ _. ⌜ Stored (now (out .entry)) (now (out .exit)) at (map plainByte (part (now (d .entry)) from stop))
+        (at + (stop - from)) ⌝ }
 {
     let mut j = from;
     let mut o = at;
@@ -267,7 +271,8 @@ fn note_piece(
     requires { ⌜ Spans (now d) from p ⌝ }
     requires { ⌜ number < 9223372036854775808 ⌝ }
     requires { ⌜ k + length (numbersOf (pieceEntries width e number from (pieceAt (now d) from p))) ≤ length (now list) ⌝ }
-    ensures { λ r. ⌜ Stored (now (list .entry)) (now (list .exit)) k (numbersOf (pieceEntries width e number from (pieceAt (now (d .entry)) from p))) r ⌝ }
+    ensures { λ r. ⌜ Stored (now (list .entry)) (now (list .exit)) k
+        (numbersOf (pieceEntries width e number from (pieceAt (now (d .entry)) from p))) r ⌝ }
 {
     let stop = p.stop;
     let boundary = p.boundary;
@@ -335,7 +340,8 @@ fn mend_into(d: &[u8], e: Terminator, width: usize, out: &mut [u8], list: &mut [
 
 // Mends a data file into the output, and lists what was changed.
 pub fn mend(t: &[i64], d: &[u8], out: &mut [u8], list: &mut [i64]) -> Mended
-    ensures { λ r. ⌜ Mends (now (t .entry)) (now (d .entry)) (now (out .entry)) (now (out .exit)) (now (list .entry)) (now (list .exit)) r ⌝ }
+    ensures { λ r. ⌜ Mends (now (t .entry)) (now (d .entry)) (now (out .entry)) (now (out .exit)) (now (list .entry)) (now (list .exit))
+        r ⌝ }
 {
     if !sound::well_formed(t) {
         return Mended::BadTable;

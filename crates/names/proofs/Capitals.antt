@@ -18,7 +18,8 @@ within-of x y b h g = rw (le-leb x b h, le-leb b y g)
 of-within : (x y b : ℕ) → within x y b ≡ true → (x ≤ b) × (b ≤ y)
 of-within x y b e = (leb-true x b (and-left (leb x b) (leb b y) e), leb-true b y (and-right (leb x b) (leb b y) e))
 
-class-three : (x y w l q br an : Bool) → eqb (cond x 0 (cond y 1 (cond w 2 (cond l 3 (cond q 4 (cond br 5 (cond an 6 7))))))) 3 ≡ true → l ≡ true
+class-three : (x y w l q br an : Bool) → eqb (cond x 0 (cond y 1 (cond w 2 (cond l 3 (cond q 4 (cond br 5 (cond an 6 7))))))) 3 ≡ true → l
+    ≡ true
 class-three true y w l q br an e = holds-not e refl
 class-three false true w l q br an e = holds-not e refl
 class-three false false true l q br an e = holds-not e refl
@@ -56,7 +57,8 @@ module _ (b : ℕ) where
 
   letter-ranges : isLetter b ≡ true → (within 65 90 b || within 97 122 b) ≡ true
   unfolding isLetter classOf
-  letter-ranges e = class-three (ltb b 32) (eqb b 32) (within 48 57 b) (within 65 90 b || within 97 122 b) (eqb b 34) (eqb b 123 || eqb b 125) (eqb b 60 || eqb b 62) e
+  letter-ranges e = class-three (ltb b 32) (eqb b 32) (within 48 57 b) (within 65 90 b || within 97 122 b) (eqb b 34)
+      (eqb b 123 || eqb b 125) (eqb b 60 || eqb b 62) e
 
   -- a letter is a byte whose capital is one of `A` to `Z`, a digit one whose capital is one of `0` to `9`
   pub letter-upper : isLetter b ≡ within 65 90 (upperOf b)
@@ -65,7 +67,8 @@ module _ (b : ℕ) where
     to e =
         ⊎-elim
         (λ w. let h = of-within 65 90 b w in let u = upper-low (omega arith) in within-of 65 90 (upperOf b) (omega arith) (omega arith))
-        (λ w. let h = of-within 97 122 b w in let u = upper-small (omega arith) (omega arith) in within-of 65 90 (upperOf b) (omega arith) (omega arith))
+        (λ w. let h = of-within 97 122 b w in let u = upper-small (omega arith) (omega arith) in
+        within-of 65 90 (upperOf b) (omega arith) (omega arith))
         (either-true (within 65 90 b) (within 97 122 b) (letter-ranges e))
 
     from : within 65 90 (upperOf b) ≡ true → isLetter b ≡ true

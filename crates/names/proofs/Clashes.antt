@@ -39,14 +39,16 @@ module _ (keys : List ℕ) (j : ℕ) where
   pub wrong-pair : (i : ℕ) → i < j → getD keys i 0 ≡ getD keys j 0 → wrongAt keys j ≡ true
   unfolding wrongAt
   wrong-pair i h e =
-      rw (any-holds (λ i. eqb (getD keys i 0) (getD keys j 0)) j i h (eq-eqb (getD keys i 0) (getD keys j 0) e)) (or-true (eqb (getD keys j 0) 0))
+      rw (any-holds (λ i. eqb (getD keys i 0) (getD keys j 0)) j i h (eq-eqb (getD keys i 0) (getD keys j 0) e))
+      (or-true (eqb (getD keys j 0) 0))
 
   pub wrong-not : (getD keys j 0 ≡ 0 → ⊥) → anyBelow j (λ i. eqb (getD keys i 0) (getD keys j 0)) ≡ false → wrongAt keys j ≡ false
   unfolding wrongAt
   wrong-not f e = rw (ne-eqb (getD keys j 0) 0 f, e)
 
 module _ (keys : List ℕ) (key : ℕ) where
-  pub none-more : (i : ℕ) → anyBelow i (λ i. eqb (getD keys i 0) key) ≡ false → (getD keys i 0 ≡ key → ⊥) → anyBelow (i + 1) (λ i. eqb (getD keys i 0) key) ≡ false
+  pub none-more : (i : ℕ) → anyBelow i (λ i. eqb (getD keys i 0) key) ≡ false → (getD keys i 0 ≡ key → ⊥)
+      → anyBelow (i + 1) (λ i. eqb (getD keys i 0) key) ≡ false
   none-more i e f = any-next (λ i. eqb (getD keys i 0) key) i ∙ rw (e, ne-eqb (getD keys i 0) key f)
 
 -- ---- marks

@@ -45,7 +45,8 @@ module _ (d : List ℕ) (n : ℕ) (h : n < length d) where
   unfolding decodeOf givesOf insideOf
   plain-over e = rw (text-kept d n h (kept-byte (getD d n 0) (omega arith)), e)
 
-  pub plain-sign : (c : ℕ) → fits c (getD d n 0) ≡ true → (getD d n 0 ≡ 34 → ⊥) → decodeOf Plain 0 (text d n) ≡ Byte (getD d n 0) ∷ decodeOf Plain 0 (text d (n + 1))
+  pub plain-sign : (c : ℕ) → fits c (getD d n 0) ≡ true → (getD d n 0 ≡ 34 → ⊥) → decodeOf Plain 0 (text d n) ≡ Byte (getD d n 0)
+      ∷ decodeOf Plain 0 (text d (n + 1))
   unfolding decodeOf givesOf insideOf
   plain-sign c f q =
       rw (text-kept d n h (not-dropped c (getD d n 0) f), ne-eqb (getD d n 0) 34 q, ne-eqb (getD d n 0) 123 (not-brace c (getD d n 0) f))

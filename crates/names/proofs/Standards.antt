@@ -1,4 +1,5 @@
--- The numbers of names keep STANDARD NAMES: a name's number is 0 exactly where it is not well named, two names have one number exactly where
+-- The numbers of names keep STANDARD NAMES: a name's number is 0 exactly where it is not well named, two names have one number exactly
+-- where
 -- they agree, and so the first wrong number belongs to the first name that breaks the rule.
 use mathlib.Core.Path.{_≡_, refl, _∙_, sym, ap}
 use mathlib.Core.Logic.{_↔_, ⊎-elim}
@@ -44,11 +45,16 @@ key-rest : (s : List Sign) (c k : ℕ) → 0 < c → c ≤ 8 → keyOf c k s ≡
 unfolding keyOf lettersOrDigits said
 key-rest [] c k h g = let e : c + 0 ≤ 8 = omega arith in rw (le-leb (c + 0) 8 e)
 key-rest (Break ∷ s) c k h g = refl
-key-rest (Byte b ∷ s) c k h g = rw (fits-on c b h) (by (isLetter b || isDigit b) (ltb c 8) refl (key-rest s (c + 1) (k * 256 + upperOf b) (omega arith))) where
-  by : (x y : Bool) → ltb c 8 ≡ y → (c + 1 ≤ 8 → keyOf (c + 1) (k * 256 + upperOf b) s ≡ cond (lettersOrDigits s && leb (c + 1 + length s) 8) (said (k * 256 + upperOf b) s) 0) → cond x (cond y (keyOf (c + 1) (k * 256 + upperOf b) s) 0) 0 ≡ cond ((x && lettersOrDigits s) && leb (c + suc (length s)) 8) (said (k * 256 + upperOf b) s) 0
-  by false y f ih = refl
-  by true true f ih = let l = ltb-true c 8 f in let e : c + suc (length s) ≡ c + 1 + length s = omega arith in rw e (ih (omega arith))
-  by true false f ih = let l = ltb-false c 8 f in let e : 8 < c + suc (length s) = omega arith in rw (lt-leb (c + suc (length s)) 8 e, and-false (lettersOrDigits s))
+key-rest (Byte b ∷ s) c k h g = rw (fits-on c b h)
+    (by (isLetter b || isDigit b) (ltb c 8) refl (key-rest s (c + 1) (k * 256 + upperOf b) (omega arith))) where
+      by : (x y : Bool) → ltb c 8 ≡ y → (c + 1 ≤ 8 → keyOf (c + 1) (k * 256 + upperOf b) s
+          ≡ cond (lettersOrDigits s && leb (c + 1 + length s) 8) (said (k * 256 + upperOf b) s) 0)
+          → cond x (cond y (keyOf (c + 1) (k * 256 + upperOf b) s) 0) 0
+          ≡ cond ((x && lettersOrDigits s) && leb (c + suc (length s)) 8) (said (k * 256 + upperOf b) s) 0
+      by false y f ih = refl
+      by true true f ih = let l = ltb-true c 8 f in let e : c + suc (length s) ≡ c + 1 + length s = omega arith in rw e (ih (omega arith))
+      by true false f ih = let l = ltb-false c 8 f in let e : 8 < c + suc (length s) = omega arith in
+          rw (lt-leb (c + suc (length s)) 8 e, and-false (lettersOrDigits s))
 
 -- a name's number
 key-name : (s : List Sign) → keyOf 0 0 s ≡ cond (wellNamed s) (said 0 s) 0
@@ -121,7 +127,8 @@ pub key-well : (s : List Sign) → wellNamed s ≡ true → 0 < keyOf 0 0 s
 key-well s e = let k : keyOf 0 0 s ≡ said 0 s = key-name s ∙ rw e in omega (arith, said-some s (named s e))
 
 -- equally many letters or digits that say one number agree
-said-same : (s t : List Sign) (k m : ℕ) → length s ≡ length t → lettersOrDigits s ≡ true → lettersOrDigits t ≡ true → said k s ≡ said m t → (k ≡ m) × (agree s t ≡ true)
+said-same : (s t : List Sign) (k m : ℕ) → length s ≡ length t → lettersOrDigits s ≡ true → lettersOrDigits t ≡ true → said k s ≡ said m t
+    → (k ≡ m) × (agree s t ≡ true)
 unfolding said agree
 said-same [] [] k m h e f g = (g, refl)
 said-same [] (y ∷ t) k m h e f g = absurd (omega arith)
@@ -136,7 +143,8 @@ said-same (Byte b ∷ s) (Byte c ∷ t) k m h e f g =
     (omega arith, and-true (eqb (upperOf b) (upperOf c)) (agree s t) (eq-eqb (upperOf b) (upperOf c) u) (r .1))
 
 -- a number that more bytes say, behind one above 0, has something above 0 behind it
-said-longer : (t s : List Sign) (k m : ℕ) → 1 ≤ m → length s ≤ length t → lettersOrDigits s ≡ true → lettersOrDigits t ≡ true → said k s ≡ said m t → 1 ≤ k
+said-longer : (t s : List Sign) (k m : ℕ) → 1 ≤ m → length s ≤ length t → lettersOrDigits s ≡ true → lettersOrDigits t ≡ true → said k s
+    ≡ said m t → 1 ≤ k
 unfolding said
 said-longer [] s k m h l e f g = let n : length s ≡ 0 = omega arith in let r = said-same s [] k m n e f g .0 in omega arith
 said-longer (Break ∷ t) s k m h l e f g = no-break t f
@@ -219,7 +227,8 @@ module _ (keys : List ℕ) (names : List (List Sign)) (told : (i : ℕ) → i < 
   key-wrong : (j : ℕ) → j < length names → wrongAt keys j ≡ nameWrong names j
   unfolding wrongAt nameWrong
   key-wrong j h = by (wellNamed (nameAt names j)) refl where
-    by : (x : Bool) → wellNamed (nameAt names j) ≡ x → (eqb (getD keys j 0) 0 || anyBelow j (λ i. eqb (getD keys i 0) (getD keys j 0))) ≡ (not x || anyBelow j (λ i. agree (nameAt names i) (nameAt names j)))
+    by : (x : Bool) → wellNamed (nameAt names j) ≡ x → (eqb (getD keys j 0) 0 || anyBelow j (λ i. eqb (getD keys i 0) (getD keys j 0)))
+        ≡ (not x || anyBelow j (λ i. agree (nameAt names i) (nameAt names j)))
     by false e = rw (eq-eqb (getD keys j 0) 0 (told j h ∙ key-formed (nameAt names j) .1 e))
     by true e =
         let n : (getD keys j 0 ≡ 0 → ⊥) = λ z. let p = key-well (nameAt names j) e in let q = told j h in omega arith in

@@ -37,7 +37,8 @@ unfolding agree upperOf
 case-aside = refl
 
 -- of `AB`, `a1`, `aB` and `1a` the third is the first at fault; of `AB` and `a1` none is
-third-at-fault : nameFault ((Byte 65 ∷ Byte 66 ∷ []) ∷ (Byte 97 ∷ Byte 49 ∷ []) ∷ (Byte 97 ∷ Byte 66 ∷ []) ∷ (Byte 49 ∷ Byte 97 ∷ []) ∷ []) ≡ 2
+third-at-fault : nameFault ((Byte 65 ∷ Byte 66 ∷ []) ∷ (Byte 97 ∷ Byte 49 ∷ []) ∷ (Byte 97 ∷ Byte 66 ∷ []) ∷ (Byte 49 ∷ Byte 97 ∷ []) ∷ [])
+    ≡ 2
 unfolding nameFault nameFaultFrom nameWrong anyBelow agree upperOf wellNamed lettersOrDigits beginsWithLetter isLetter isDigit classOf
 third-at-fault = refl
 

@@ -75,7 +75,8 @@ module _ (t : List ℤ) (v : ℕ) (r : Row) (s : List ℕ) where
   no-truth Logical b y e = holds-not refl y
 
   -- ---- what was read
-  pub held-as : {size : ℕ} {list list′ : List ℤ} {p : ℕ} {a : Answer} {b : Bool} → Settles t v r size (length list) → b ≡ stays (r .kind) → b ≡ false
+  pub held-as : {size : ℕ} {list list′ : List ℤ} {p : ℕ} {a : Answer} {b : Bool} → Settles t v r size (length list) → b ≡ stays (r .kind)
+      → b ≡ false
       → RowRead p (readingOf t v r s) list list′ a → HeldAs t v r s list′ a
   unfolding fieldBack answerOf listAfter filledOf
   held-as {size} {list} {list′} {p} {a} st y z d = go (readingOf t v r s) refl (d .answer) (d .leaves)
@@ -106,7 +107,8 @@ module _ (t : List ℤ) (v : ℕ) (r : Row) (s : List ℕ) where
   written-back h q e w = w .leaves ∙ rw (e, read-fits t v r h s q, q)
 
 -- what was read, once its case is known
-pub held : (t : List ℤ) (v : ℕ) (r : Row) (s : List ℕ) (list : List ℤ) {a b : Answer} → a ≡ b → HeldAs t v r s list a → HeldAs t v r s list b
+pub held : (t : List ℤ) (v : ℕ) (r : Row) (s : List ℕ) (list : List ℤ) {a b : Answer} → a ≡ b → HeldAs t v r s list a
+    → HeldAs t v r s list b
 held t v r s list e h = subst (λ (x : Answer). HeldAs t v r s list x) e h
 
 -- ---- rows one after the other
@@ -169,7 +171,8 @@ module _ (t : List ℤ) (old : List ℕ) (good : wellFormed t ≡ true) (h : Hea
     module _ (y : b ≡ true) where
       pub short-as : length old < h .length → Normalised t old old (refused 22)
       unfolding verdictOf isSound
-      short-as l = let k : length old < lengthOf t = rw head at l in refused-as t old good (here y) (rw (good, lt-leb (lengthOf t) (length old) k)) refl
+      short-as l = let k : length old < lengthOf t = rw head at l in
+          refused-as t old good (here y) (rw (good, lt-leb (lengthOf t) (length old) k)) refl
 
       module _ (l : h .length ≤ length old) {v : Verdict} (j : v ≡ rowsVerdict t (h .rows) old) {c : Bool} (s : c ≡ isSound v) where
         judged : v ≡ verdictOf t old

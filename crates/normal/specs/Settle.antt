@@ -100,7 +100,8 @@ settles-of {t} {v} {len} {r} size room f h m = record {
   write = ready size f h;
   few = λ s ms y e.
       let a = f .position .ordered in
-      let b = few-by (r .kind) t v len r (limits f) (omega arith) (f .position .inside) (f .position .from-one) ms y (read-fits t v r (members ms) s e) in
+      let b = few-by (r .kind) t v len r (limits f) (omega arith) (f .position .inside) (f .position .from-one) ms y
+      (read-fits t v r (members ms) s e) in
       ⊎-elim (λ l. let c = b .0 in omega arith) (λ l. let c = b .1 in omega arith) m;
 }
 

@@ -66,10 +66,12 @@ module _ {t : List ℤ} {old new : List ℕ} {v : Verdict} (p : Normalised t old
   normal-named =
       by-cases (wellFormed t)
       (λ w. by-cases (sharesNone t (rowsOf t))
-      (λ a. let e : normalVerdict t old ≡ verdictOf t old = rw (w, a) in as-judged w (apart-rows t (rowsOf t) a) (record { says = p .says ∙ e }))
+      (λ a. let e : normalVerdict t old ≡ verdictOf t old = rw (w, a) in
+      as-judged w (apart-rows t (rowsOf t) a) (record { says = p .says ∙ e }))
       (λ a. let e : normalVerdict t old ≡ refused 90 = rw (w, a) in
       subst (λ (x : Verdict). NormalOutcome t old x) (sym (p .says ∙ e)) (two-share w (share-some t a))))
-      (λ w. let e : normalVerdict t old ≡ refused 20 = rw w in subst (λ (x : Verdict). NormalOutcome t old x) (sym (p .says ∙ e)) (not-formed w))
+      (λ w. let e : normalVerdict t old ≡ refused 20 = rw w in
+      subst (λ (x : Verdict). NormalOutcome t old x) (sym (p .says ∙ e)) (not-formed w))
 
   pub normal-only : {x : Verdict} → NormalOutcome t old x → v ≡ x
   unfolding normalVerdict

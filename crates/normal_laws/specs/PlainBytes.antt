@@ -17,7 +17,8 @@ use Rattle.layout.specs.declared.Kind.the-variants.{Single, Multiple, Quantity,
 use Rattle.layout.specs.declared.Spread.the-variants.{Bits, Fields}
 use Rattle.widths.specs.rule.Width.{tailOf}
 use Rattle.fields.specs.rule.Number.{padded, amountBytes, quantityBytes, codeBytes}
-use Rattle.fields.specs.rule.Field.{Value, missing, number, members, text, truth, spaces, bitBytes, spreadBytes, textBytes, truthBytes, isMember, allPlain, textFits}
+use Rattle.fields.specs.rule.Field.{Value, missing, number, members, text, truth, spaces, bitBytes, spreadBytes, textBytes, truthBytes}
+use Rattle.fields.specs.rule.Field.{isMember, allPlain, textFits}
 use Rattle.fields.specs.rule.Row.{fits, fitsBy, bytesBy, placesBy, categories}
 use Rattle.fieldlaws.specs.BackLaws.{fit-legal}
 use Rattle.fieldlaws.specs.TextLaws.{fitting}

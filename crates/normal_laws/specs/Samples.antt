@@ -1,6 +1,7 @@
 -- The readings of C-21, by computation: rows written back as they read, and rows that share a value place or none. `row` gives a row's
 -- kind, start and finish, w, and its range; it has no lines. The names that compute (`rowsBack`) were found by: tools/unfolds rowsBack
--- below.Below:anyBelow cells.Cell:signedOf+numberOf+eqZ widths.Width:leastWhole+tailOf fields sharing.Sharing:isOut+areApart normal.Normal:fieldBack
+-- below.Below:anyBelow cells.Cell:signedOf+numberOf+eqZ widths.Width:leastWhole+tailOf fields sharing.Sharing:isOut+areApart
+-- normal.Normal:fieldBack
 use mathlib.Core.Path.{_≡_, refl}
 use mathlib.Core.Bool.{true, false}
 use mathlib.Core.List.{List, [], _∷_}
@@ -59,7 +60,8 @@ abbrev amount : Row
 amount = row (Quantity (record { decimals = 1; point = 1 })) 1 5 5 (negsuc 998) (pos 9999)
 
 unfoldable rowsBack : Unit {0}
-unfolding anyBelow signedOf numberOf eqZ leastWhole tailOf inRange onLine legal allSpaces unspaced digitsOnly decimalFrom codeAfter codeOf amountForm
+unfolding anyBelow signedOf numberOf eqZ leastWhole tailOf inRange onLine legal allSpaces unspaced digitsOnly decimalFrom codeAfter codeOf
+    amountForm
     amountSize amountOf quantityAfter quantityOf padded amountBytes quantityBytes codeBytes numberField singleSays quantitySays allBits
     setBits bitsField entryGood entryIs allEntries someEntry passing spreadField allPlain unended textField truthField spaces isMember
     bitBytes spreadBytes textBytes truthBytes defined bitPlaces spreadPlaces placesBy fieldBy readingOf bytesBy writtenOf isOut areApart

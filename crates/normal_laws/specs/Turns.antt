@@ -59,7 +59,8 @@ pub turned-none : (t : List ℤ) (s : List ℕ) → Turned t s s (λ i. false)
 turned-none t s = record { size = refl; kept = λ q o. refl; reads = λ i h. refl; bytes = λ i h e x q. holds-not e refl }
 
 -- done may be said otherwise
-pub turned-as : {t : List ℤ} {old new : List ℕ} {done : ℕ → Bool} (done′ : ℕ → Bool) → ((i : ℕ) → i < rowsOf t → done′ i ≡ true → done i ≡ true)
+pub turned-as : {t : List ℤ} {old new : List ℕ} {done : ℕ → Bool} (done′ : ℕ → Bool)
+    → ((i : ℕ) → i < rowsOf t → done′ i ≡ true → done i ≡ true)
     → Turned t old new done → Turned t old new done′
 turned-as done′ f d = record { size = d .size; kept = d .kept; reads = d .reads; bytes = λ i h e. d .bytes i h (f i h e) }
 
@@ -94,7 +95,8 @@ module _ {t : List ℤ} {old : List ℕ} (g : Given t old) where
     turn-reads : (i : ℕ) → i < rowsOf t → readingAt t i (writtenOf t (rowsOf t) (rowAt t n) x new) ≡ readingAt t i old
     turn-reads i l =
         by-cases (eqb i n)
-        (λ e. rw (eqb-true i n e) (reads-back (rowAt t n) (row-facts t (g .formed) n h) new (row-topped t (g .formed) n h) x long-now fit-now ∙ sym q))
+        (λ e. rw (eqb-true i n e) (reads-back (rowAt t n) (row-facts t (g .formed) n h) new (row-topped t (g .formed) n h) x long-now
+        fit-now ∙ sym q))
         (λ e. others-read t (rowsOf t) (rowAt t n) x new (rowAt t i) (rows-apart i n l h (eqb-false i n e)) ∙ d .reads i l)
 
     here-bytes : (y : Value) → readingAt t n old ≡ holds y
@@ -160,10 +162,12 @@ module _ {t : List ℤ} {old : List ℕ} (g : Given t old) where
       again false false z e = e
 
 -- a place is one of some row's, or of none
-pub out-all : (t : List ℤ) (q : ℕ) {A : Type 0} → ((i : ℕ) → i < rowsOf t → isOut q (placesAt t (rowsOf t) i) ≡ false → A) → (OutAll t q → A) → A
+pub out-all : (t : List ℤ) (q : ℕ) {A : Type 0} → ((i : ℕ) → i < rowsOf t → isOut q (placesAt t (rowsOf t) i) ≡ false → A)
+    → (OutAll t q → A) → A
 out-all t q f g =
     by-cases (anyBelow (rowsOf t) (λ i. not (isOut q (placesAt t (rowsOf t) i))))
-    (λ e. any-some (λ i. not (isOut q (placesAt t (rowsOf t) i))) (rowsOf t) e (λ i h x. f i h (turned (isOut q (placesAt t (rowsOf t) i)) x)))
+    (λ e. any-some (λ i. not (isOut q (placesAt t (rowsOf t) i))) (rowsOf t) e
+    (λ i h x. f i h (turned (isOut q (placesAt t (rowsOf t) i)) x)))
     (λ e. g (λ i h. out-is q (placesAt t (rowsOf t) i) (decided (isOut q (placesAt t (rowsOf t) i)) (λ x.
     holds-not (any-holds (λ i. not (isOut q (placesAt t (rowsOf t) i))) (rowsOf t) i h (rw x)) e))))
   where
@@ -175,7 +179,8 @@ out-all t q f g =
 pub pick-at : (a b ps : List ℕ) → pick a ps ≡ pick b ps → (q : ℕ) → isOut q ps ≡ false → getD a q 0 ≡ getD b q 0
 pick-at a b [] e q o = none-out q o
 pick-at a b (p ∷ ps) e q o =
-    out-cases q p ps o (λ z. let x : getD a p 0 ≡ getD b p 0 = cc in rw z x) (λ z. let x : pick a ps ≡ pick b ps = cc in pick-at a b ps x q z)
+    out-cases q p ps o (λ z. let x : getD a p 0 ≡ getD b p 0 = cc in rw z x)
+    (λ z. let x : pick a ps ≡ pick b ps = cc in pick-at a b ps x q z)
 
 -- THE BYTES IN THE END: two records of one length that agree outside the value places and read equal
 pub same-bytes : {t : List ℤ} {a b a′ b′ : List ℕ} {done done′ : ℕ → Bool} → Given t a → Turned t a a′ done → Turned t b b′ done′

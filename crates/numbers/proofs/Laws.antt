@@ -70,7 +70,8 @@ decimals-room s k n h l e =
     let d : length (take (length s - (k + 1)) (drop (k + 1) s)) ≡ length s - (k + 1) = rw (rest-is s (k + 1) h) (length-drop (k + 1) s) in
     let v : n + 1 ≤ 10 ^ k = rw (length-take-le k s (omega arith), one-mul) at (value-room 0 (take k s) n e) in
     let q : k + (length s - (k + 1)) ≤ 18 = omega arith in
-    rw d (le-trans (mul-le-mul-right (10 ^ (length s - (k + 1))) v) (rw (← pow-add 10 k (length s - (k + 1))) (pow-le-pow-right {n = 10} (omega arith) q)))
+    rw d (le-trans (mul-le-mul-right (10 ^ (length s - (k + 1))) v)
+    (rw (← pow-add 10 k (length s - (k + 1))) (pow-le-pow-right {n = 10} (omega arith) q)))
 
 -- ---- a code
 pub code-nonempty : (x : List ℕ) → 0 < length x → codeAfter x ≡ cond (digitsOnly x) (says (pos (decimal x))) wrong

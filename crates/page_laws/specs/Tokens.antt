@@ -48,7 +48,8 @@ module _ (d : List ℕ) where
         rw (statement-past d c o s, string-past d y, string-end y)
         (ap (λ (l : List ℕ). page l m)
         (append-assoc w (32 ∷ 34 ∷ []) (spanOf d (t .place) (t .place + t .length) ++ 34 ∷ 13 ∷ 10 ∷ [])
-        ∙ ap (λ (l : List ℕ). w ++ (32 ∷ 34 ∷ l)) (sym (append-assoc (spanOf d (t .place) (t .place + t .length)) (34 ∷ []) (13 ∷ 10 ∷ [])))))
+        ∙ ap (λ (l : List ℕ). w ++ (32 ∷ 34 ∷ l))
+        (sym (append-assoc (spanOf d (t .place) (t .place + t .length)) (34 ∷ []) (13 ∷ 10 ∷ [])))))
 
   end-not : differ END NOTE ≡ true
   unfolding differ

@@ -20,7 +20,8 @@ use Rattle.clean_text.specs.rule.Span.{spanOf}
 use Rattle.clean_text.specs.rule.Clean.{Token, lineOf, textOf, amount, quoted, valueLine, rangeLine, valuesLines, marked, someLine}
 use Rattle.steps.specs.declared.Span.{Span}
 use Rattle.steps.specs.Step.{span, valueSpan, stringSpan, wordFound, statementFound, statementPast, keywordPast, notesPast}
-use Rattle.steps.specs.Law.{notes-past, notes-before, gap-past, statement-past, keyword-past, statement-found, statement-missed, whether-past, given-past, absent-past, value-past, string-past}
+use Rattle.steps.specs.Law.{notes-past, notes-before, gap-past, statement-past, keyword-past, statement-found, statement-missed}
+use Rattle.steps.specs.Law.{whether-past, given-past, absent-past, value-past, string-past}
 use Rattle.pages.specs.declared.RangeParts.{RangeParts}
 use Rattle.pages.specs.Page.{Page, page, before, framed, lineAt, lineText, linesPage, rangeParts, rangeAt, rangeText, blockPage, valuesPage}
 use Rattle.page_laws.specs.Tokens.{string-end, end-page}
@@ -69,7 +70,8 @@ module _ (d : List ℕ) where
   more-found (says.last (says.line r v x w) e) = rw (statement-missed d {w = END} refl r (value-not-note v) (value-not-end v))
   more-found (says.more (says.line r v x w) y) = rw (statement-missed d {w = END} refl r (value-not-note v) (value-not-end v))
 
-  pub lines-page : (k : ℕ) {n m : ℕ} {l : List Line} → says.Lines d n l m → length l ≤ k → linesPage k d n ≡ page (textOf (map (valueLine d) l)) m
+  pub lines-page : (k : ℕ) {n m : ℕ} {l : List Line} → says.Lines d n l m → length l ≤ k → linesPage k d n
+      ≡ page (textOf (map (valueLine d) l)) m
   unfolding linesPage textOf capitals differ
   lines-page zero (says.last x e) h = absurd (not-suc-le-zero h)
   lines-page zero (says.more x y) h = absurd (not-suc-le-zero h)
@@ -101,7 +103,14 @@ module _ (d : List ℕ) where
       → Whether d WITH g w m → rangeAt d n ≡ rangeParts true (span (a .place) (a .end) j 0) (span (b .place) (b .end) g 0) w m
   unfolding rangeAt capitals
   range-there r v t g u w =
-      rw (notes-past d r (value-not-note v), value-past d v, given-past d {w = TO} refl t, gap-past d g, value-past d u, whether-past d {w = WITH} refl w)
+      rw (
+        notes-past d r (value-not-note v),
+        value-past d v,
+        given-past d {w = TO} refl t,
+        gap-past d g,
+        value-past d u,
+        whether-past d {w = WITH} refl w,
+      )
 
   pub range-page : {n k m : ℕ} {r : Range} {w : Bool} → says.Bounds d n r k → Whether d WITH k w m → Bounded n r w m
   unfolding rangeText framed
@@ -154,16 +163,21 @@ module _ (d : List ℕ) where
   unfolding capitals differ
   end-past (token.end s y) = rw (statement-past d {w = END} refl refl s, keyword-past d {w = VALUES} refl y)
 
-  pub values-page : {n m : ℕ} {b : Block} → says.Values d n b m → length (b .lines) ≤ 4096 → valuesPage d n ≡ page (textOf (valuesLines d b)) m
+  pub values-page : {n m : ℕ} {b : Block} → says.Values d n b m → length (b .lines) ≤ 4096 → valuesPage d n
+      ≡ page (textOf (valuesLines d b)) m
   unfolding valuesPage valuesLines blockPage textOf capitals differ
   values-page {m = m} (says.listed {l = l} s x) h =
       let r = range-none x in
-      rw (statement-past d {w = VALUES} refl refl s, r .2, r .0, r .1, lines-page 4096 x h) (ap (λ (t : List ℕ). page t m) (sym (block-text [] (map (valueLine d) l))))
+      rw (statement-past d {w = VALUES} refl refl s, r .2, r .0, r .1, lines-page 4096 x h)
+      (ap (λ (t : List ℕ). page t m) (sym (block-text [] (map (valueLine d) l))))
   values-page {m = m} (says.ranged {r = r} s b w e) h =
       let q = range-page b w in
       rw (statement-past d {w = VALUES} refl refl s, q .line, q .there, q .with, q .stands, end-past e)
-      (ap (λ (t : List ℕ). page t m) (sym (block-text ((amount d (r .from) ∷ TO ∷ amount d (r .to) ∷ []) ∷ []) [] ∙ rw (one-line (amount d (r .from) ∷ TO ∷ amount d (r .to) ∷ [])))))
+      (ap (λ (t : List ℕ). page t m) (sym (block-text ((amount d (r .from) ∷ TO ∷ amount d (r .to) ∷ []) ∷ []) []
+      ∙ rw (one-line (amount d (r .from) ∷ TO ∷ amount d (r .to) ∷ [])))))
   values-page {m = m} (says.both {r = r} {l = l} s b w x) h =
       let q = range-page b w in
       rw (statement-past d {w = VALUES} refl refl s, q .line, q .there, q .with, q .stands, lines-page 4096 x h)
-      (ap (λ (t : List ℕ). page t m) (sym (rw (some-lines x) (block-text ((amount d (r .from) ∷ TO ∷ amount d (r .to) ∷ WITH ∷ []) ∷ []) (map (valueLine d) l) ∙ rw (one-line (amount d (r .from) ∷ TO ∷ amount d (r .to) ∷ WITH ∷ []))))))
+      (ap (λ (t : List ℕ). page t m) (sym (rw (some-lines x)
+      (block-text ((amount d (r .from) ∷ TO ∷ amount d (r .to) ∷ WITH ∷ []) ∷ []) (map (valueLine d) l)
+      ∙ rw (one-line (amount d (r .from) ∷ TO ∷ amount d (r .to) ∷ WITH ∷ []))))))

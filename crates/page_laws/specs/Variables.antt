@@ -23,11 +23,13 @@ use Rattle.grammar.specs.Grammar as says
 use Rattle.grammar_laws.specs.Places.{differ, other-word}
 use Rattle.grammar_laws.specs.Notes.{note-capitals}
 use Rattle.clean_text.specs.rule.Span.{spanOf}
-use Rattle.clean_text.specs.rule.Clean.{Token, lineOf, textOf, figure, quoted, plainDigits, positions, spreadLine, contentLines, variableLines, eachVariable}
+use Rattle.clean_text.specs.rule.Clean.{Token, lineOf, textOf, figure, quoted, plainDigits, positions, spreadLine, contentLines}
+use Rattle.clean_text.specs.rule.Clean.{variableLines, eachVariable}
 use Rattle.clean_text.specs.rule.Clean as clean
 use Rattle.steps.specs.Step.{span, numberSpan, statementFound}
 use Rattle.steps.specs.Law.{statement-past, statement-found, statement-missed, number-past, given-past, absent-past}
-use Rattle.pages.specs.Page.{Page, page, before, then, framed, numberPage, roomOf, evenOf, spreadAt, spreadText, restPage, valuesPage, titlesPage, bodyPage, variablePage, variablesPage}
+use Rattle.pages.specs.Page.{Page, page, before, then, framed, numberPage, roomOf, evenOf, spreadAt, spreadText, restPage, valuesPage}
+use Rattle.pages.specs.Page.{titlesPage, bodyPage, variablePage, variablesPage}
 use Rattle.page_laws.specs.Tokens.{number-page, phrase-page, end-page, kindOf, type-page, type-text, Placed, position-page}
 use Rattle.page_laws.specs.Values.{text-append, values-page}
 
@@ -36,7 +38,8 @@ pub record Fine (v : Variable) : Type 0 where
   pub finish : Option·getD (v .finish) (v .start) .value ≤ 16384
   pub start : v .start .value ≤ Option·getD (v .finish) (v .start) .value
   pub lines : length (linesOf v) ≤ 4096
-  pub parts : (s : Spread) (b : Block) → v .content ≡ multiple (some s) b → s .width ≡ none → (1 ≤ s .count .value) × (s .count .value ≤ 16384)
+  pub parts : (s : Spread) (b : Block) → v .content ≡ multiple (some s) b → s .width ≡ none → (1 ≤ s .count .value)
+      × (s .count .value ≤ 16384)
 
 capped-is : (v : ℕ) → v ≤ 1000000000000000 → capped v ≡ v
 capped-is v h = rw (le-ltb 1000000000000000 v h)
@@ -49,7 +52,8 @@ room-is a b h g =
 
 module _ (d : List ℕ) where
   -- ---- SPREAD
-  spread-words : (x w : List ℕ) → ((SPREAD ++ (32 ∷ [])) ++ (x ++ (32 ∷ OF ++ 32 ∷ []))) ++ (w ++ (13 ∷ 10 ∷ [])) ≡ lineOf (SPREAD ∷ x ∷ OF ∷ w ∷ [])
+  spread-words : (x w : List ℕ) → ((SPREAD ++ (32 ∷ [])) ++ (x ++ (32 ∷ OF ++ 32 ∷ []))) ++ (w ++ (13 ∷ 10 ∷ []))
+      ≡ lineOf (SPREAD ∷ x ∷ OF ∷ w ∷ [])
   unfolding lineOf
   spread-words x w = ap (λ (l : List ℕ). SPREAD ++ (32 ∷ l)) (append-assoc x (32 ∷ OF ++ 32 ∷ []) (w ++ (13 ∷ 10 ∷ [])))
 
@@ -69,9 +73,14 @@ module _ (d : List ℕ) where
       let b = number-past d y in
       let c = given-past d {w = OF} refl o in
       let e = number-past d z in
-      record { line = rw (a, b, c, e) (spread-words (figure d x) (figure d w) ∙ sym (one-line (SPREAD ∷ figure d x ∷ OF ∷ figure d w ∷ []))); stands = rw (a, b, c, e) }
+      record {
+        line = rw (a, b, c, e) (spread-words (figure d x) (figure d w)
+            ∙ sym (one-line (SPREAD ∷ figure d x ∷ OF ∷ figure d w ∷ [])));
+        stands = rw (a, b, c, e);
+      }
 
-  spread-even : {n k j m : ℕ} {x : Figure} (room : ℕ) → 1 ≤ x .value → x .value ≤ 16384 → Statement d SPREAD n k → Number d k x j → Gap d j m → NoWord d OF m
+  spread-even : {n k j m : ℕ} {x : Figure} (room : ℕ) → 1 ≤ x .value → x .value ≤ 16384 → Statement d SPREAD n k → Number d k x j
+      → Gap d j m → NoWord d OF m
       → Spreads n room (some (record { count = x; width = none })) m
   unfolding spreadAt spreadText framed evenOf capitals differ
   spread-even {x = x} room l h s y g o =
@@ -81,14 +90,16 @@ module _ (d : List ℕ) where
       let e = capped-is (x .value) (omega arith) in
       let f = ne-eqb (x .value) 0 (λ q. omega arith) in
       record {
-        line = rw (a, b, c, e, f) (spread-words (figure d x) (plainDigits (room / x .value)) ∙ sym (one-line (SPREAD ∷ figure d x ∷ OF ∷ plainDigits (room / x .value) ∷ [])));
+        line = rw (a, b, c, e, f) (spread-words (figure d x) (plainDigits (room / x .value))
+            ∙ sym (one-line (SPREAD ∷ figure d x ∷ OF ∷ plainDigits (room / x .value) ∷ [])));
         stands = rw (a, b, c);
       }
 
   spread-none : {n k : ℕ} (room : ℕ) → Statement d VALUES n k → Spreads n room none n
   unfolding spreadAt spreadText textOf capitals differ
   spread-none room (token.statement r h) =
-      let a = statement-missed d {w = SPREAD} refl r (other-word d {w = VALUES} {v = NOTE} refl note-capitals refl h) (other-word d {w = VALUES} {v = SPREAD} refl refl refl h) in
+      let a = statement-missed d {w = SPREAD} refl r (other-word d {w = VALUES} {v = NOTE} refl note-capitals refl h)
+      (other-word d {w = VALUES} {v = SPREAD} refl refl refl h) in
       record { line = rw a; stands = rw a }
 
   -- ---- what a type has behind its position
@@ -103,24 +114,33 @@ module _ (d : List ℕ) where
   unfolding restPage textOf capitals differ
   rest-page room (says.single x) h p = values-page d x h
   rest-page room (says.quantity x) h p = values-page d x h
-  rest-page {m = m} room (says.character {x = x} s y) h p = rw (number-page d {w = SIZE} refl refl s y) (ap (λ (l : List ℕ). page l m) (sym (one-line (SIZE ∷ figure d x ∷ []))))
+  rest-page {m = m} room (says.character {x = x} s y) h p = rw (number-page d {w = SIZE} refl refl s y)
+      (ap (λ (l : List ℕ). page l m) (sym (one-line (SIZE ∷ figure d x ∷ []))))
   rest-page room says.logical h p = refl
   rest-page {m = m} room (says.multiple {b = b} (says.spread {x = x} s y (token.given {a = w} o z)) v) h p =
       let q = spread-of room s y o z in
-      rw (q .line, q .stands, values-page d v h) (ap (λ (l : List ℕ). page l m) (sym (text-append (spreadLine d room (some (record { count = x; width = some w }))) (clean.valuesLines d b))))
+      rw (q .line, q .stands, values-page d v h) (ap (λ (l : List ℕ). page l m)
+      (sym (text-append (spreadLine d room (some (record { count = x; width = some w }))) (clean.valuesLines d b))))
   rest-page {m = m} room (says.multiple {b = b} (says.spread {x = x} s y (token.absent g o)) v) h p =
       let l = p _ b refl refl in
       let q = spread-even room (l .0) (l .1) s y g o in
-      rw (q .line, q .stands, values-page d v h) (ap (λ (l : List ℕ). page l m) (sym (text-append (spreadLine d room (some (record { count = x; width = none }))) (clean.valuesLines d b))))
+      rw (q .line, q .stands, values-page d v h) (ap (λ (l : List ℕ). page l m)
+      (sym (text-append (spreadLine d room (some (record { count = x; width = none }))) (clean.valuesLines d b))))
   rest-page room (says.multiple says.undivided v) h p =
       let q = values-start v (λ k s. spread-none room s) in
       rw (q .line, q .stands, values-page d v h)
 
   -- ---- a variable
-  titles-page : {n a b c m : ℕ} {x : Figure} {name label : Text} → Statement d VARIABLE n a → Number d a x b → token.Phrase d NAME b name c → token.Phrase d LABEL c label m
-      → titlesPage d n ≡ page (lineOf (VARIABLE ∷ figure d x ∷ []) ++ (lineOf (NAME ∷ quoted d name ∷ []) ++ lineOf (LABEL ∷ quoted d label ∷ []))) m
+  titles-page : {n a b c m : ℕ} {x : Figure} {name label : Text} → Statement d VARIABLE n a → Number d a x b → token.Phrase d NAME b name c
+      → token.Phrase d LABEL c label m
+      → titlesPage d n ≡ page (lineOf (VARIABLE ∷ figure d x ∷ [])
+      ++ (lineOf (NAME ∷ quoted d name ∷ []) ++ lineOf (LABEL ∷ quoted d label ∷ []))) m
   unfolding titlesPage capitals differ
-  titles-page s y p q = rw (number-page d {w = VARIABLE} refl refl s y, phrase-page d {w = NAME} refl refl p, phrase-page d {w = LABEL} refl refl q)
+  titles-page s y p q = rw (
+    number-page d {w = VARIABLE} refl refl s y,
+    phrase-page d {w = NAME} refl refl p,
+    phrase-page d {w = LABEL} refl refl q,
+  )
 
   type-same : {t : Sort} {n m : ℕ} {c : Content} → says.Rest d t n c m → typeWord t ≡ clean.typeWord d c
   type-same (says.single x) = refl
@@ -136,7 +156,8 @@ module _ (d : List ℕ) where
   body-words : (a b c e : List ℕ) → a ++ (b ++ (c ++ e)) ≡ ((a ++ b) ++ c) ++ e
   body-words a b c e = sym (append-assoc (a ++ b) c e ∙ append-assoc a b (c ++ e))
 
-  body-page : {e f g h i m : ℕ} {s : Figure} {o : Option Figure} {t : Sort} {r : Content} → Option·getD o s .value ≤ 16384 → s .value ≤ Option·getD o s .value
+  body-page : {e f g h i m : ℕ} {s : Figure} {o : Option Figure} {t : Sort} {r : Content} → Option·getD o s .value ≤ 16384 → s .value
+      ≤ Option·getD o s .value
       → length (blockIn r .lines) ≤ 4096
       → ((s : Spread) (b : Block) → r ≡ multiple (some s) b → s .width ≡ none → (1 ≤ s .count .value) × (s .count .value ≤ 16384))
       → Statement d TYPE e f → Keyword d (typeWord t) f g → says.Position d g s o h → says.Rest d t h r i → End d VARIABLE i m
@@ -148,12 +169,17 @@ module _ (d : List ℕ) where
   body-page {m = m} {s = s} {o = o} {t = t} {r = r} high low few parts x y p q e =
       let P = position-page d p in
       rw (type-page d t x y, P .line, P .start, P .finish, P .stands)
-      (rw (room-is (s .value) (Option·getD o s .value) high low, rest-page (Option·getD o s .value + 1 - s .value) q few parts, end-page d {w = VARIABLE} end-line refl e)
+      (rw (
+        room-is (s .value) (Option·getD o s .value) high low,
+        rest-page (Option·getD o s .value + 1 - s .value) q few parts,
+        end-page d {w = VARIABLE} end-line refl e,
+      )
       (rw (type-text d t, type-same q) refl))
 
   variable-text : (v : Variable)
       → textOf (variableLines d v)
-      ≡ (lineOf (VARIABLE ∷ figure d (v .ident) ∷ []) ++ (lineOf (NAME ∷ quoted d (v .name) ∷ []) ++ lineOf (LABEL ∷ quoted d (v .label) ∷ [])))
+      ≡ (lineOf (VARIABLE ∷ figure d (v .ident) ∷ [])
+      ++ (lineOf (NAME ∷ quoted d (v .name) ∷ []) ++ lineOf (LABEL ∷ quoted d (v .label) ∷ [])))
       ++ (lineOf (TYPE ∷ clean.typeWord d (v .content) ∷ [])
       ++ (lineOf (POSITION ∷ figure d (v .start) ∷ TO ∷ figure d (Option·getD (v .finish) (v .start)) ∷ [])
       ++ (textOf (contentLines d (positions d v) (v .content)) ++ end-line)))
@@ -181,11 +207,14 @@ module _ (d : List ℕ) where
       last : List (List Token)
       last = (END ∷ VARIABLE ∷ []) ∷ []
 
-      whole : textOf ((a ∷ b ∷ c ∷ e ∷ f ∷ l) ++ last) ≡ (lineOf a ++ (lineOf b ++ lineOf c)) ++ (lineOf e ++ (lineOf f ++ (textOf l ++ lineOf (END ∷ VARIABLE ∷ []))))
+      whole : textOf ((a ∷ b ∷ c ∷ e ∷ f ∷ l) ++ last) ≡ (lineOf a ++ (lineOf b ++ lineOf c))
+          ++ (lineOf e ++ (lineOf f ++ (textOf l ++ lineOf (END ∷ VARIABLE ∷ []))))
       whole =
-          ap (λ (s : List ℕ). lineOf a ++ (lineOf b ++ (lineOf c ++ (lineOf e ++ (lineOf f ++ s))))) (text-append l last ∙ ap (λ (s : List ℕ). textOf l ++ s) (one-line (END ∷ VARIABLE ∷ [])))
+          ap (λ (s : List ℕ). lineOf a ++ (lineOf b ++ (lineOf c ++ (lineOf e ++ (lineOf f ++ s)))))
+          (text-append l last ∙ ap (λ (s : List ℕ). textOf l ++ s) (one-line (END ∷ VARIABLE ∷ [])))
           ∙ sym (append-assoc (lineOf a) (lineOf b ++ lineOf c) (lineOf e ++ (lineOf f ++ (textOf l ++ lineOf (END ∷ VARIABLE ∷ []))))
-          ∙ ap (λ (s : List ℕ). lineOf a ++ s) (append-assoc (lineOf b) (lineOf c) (lineOf e ++ (lineOf f ++ (textOf l ++ lineOf (END ∷ VARIABLE ∷ []))))))
+          ∙ ap (λ (s : List ℕ). lineOf a ++ s) (append-assoc (lineOf b) (lineOf c)
+          (lineOf e ++ (lineOf f ++ (textOf l ++ lineOf (END ∷ VARIABLE ∷ []))))))
 
   pub variable-page : {n m : ℕ} {v : Variable} → says.Variable d n v m → Fine v → variablePage d n ≡ page (textOf (variableLines d v)) m
   unfolding variablePage lineOf
@@ -196,7 +225,8 @@ module _ (d : List ℕ) where
   -- ---- all of them: another VARIABLE is no END
   missed : {n k m : ℕ} → Notes d n k → Here d VARIABLE k m → statementFound d n END .there ≡ false
   unfolding capitals differ
-  missed z h = rw (statement-missed d {w = END} refl z (other-word d {w = VARIABLE} {v = NOTE} refl note-capitals refl h) (other-word d {w = VARIABLE} {v = END} refl refl refl h))
+  missed z h = rw (statement-missed d {w = END} refl z (other-word d {w = VARIABLE} {v = NOTE} refl note-capitals refl h)
+      (other-word d {w = VARIABLE} {v = END} refl refl refl h))
 
   next-found : {n m : ℕ} {l : List Variable} → says.Variables d n l m → statementFound d n END .there ≡ false
   next-found (says.one v) = by v where
@@ -216,6 +246,8 @@ module _ (d : List ℕ) where
   variables-page zero (says.one x) e f h = absurd (not-suc-le-zero h)
   variables-page zero (says.more x y) e f h = absurd (not-suc-le-zero h)
   variables-page (suc k) {m = m} (says.one {v = v} x) e (and-more f g) h =
-      rw (variable-page x f, statement-found d {w = END} refl refl e) (ap (λ (s : List ℕ). page s m) (sym (text-append (variableLines d v) [])))
+      rw (variable-page x f, statement-found d {w = END} refl refl e)
+      (ap (λ (s : List ℕ). page s m) (sym (text-append (variableLines d v) [])))
   variables-page (suc k) {m = m} (says.more {v = v} {l = l} x y) e (and-more f g) h =
-      rw (variable-page x f, next-found y, variables-page k y e g (le-of-suc-le-suc h)) (ap (λ (s : List ℕ). page s m) (sym (text-append (variableLines d v) (eachVariable d l))))
+      rw (variable-page x f, next-found y, variables-page k y e g (le-of-suc-le-suc h))
+      (ap (λ (s : List ℕ). page s m) (sym (text-append (variableLines d v) (eachVariable d l))))

@@ -18,7 +18,8 @@ use Rattle.steps.specs.declared.Found.{Found}
 use Rattle.steps.specs.Step.{keywordPast, statementFound}
 use Rattle.pages.specs.declared.Walked.{Walked}
 use Rattle.pages.specs.declared.LineParts.{LineParts}
-use Rattle.pages.specs.Page.{Page, page, before, then, Paged, roomOf, evenOf, lineAt, lineText, linesPage, variablePage, variablesPage}
+use Rattle.pages.specs.Page.{Page, page, before, then, Paged, roomOf, evenOf, lineAt, lineText, linesPage, variablePage}
+use Rattle.pages.specs.Page.{variablesPage}
 
 pub paged-before : {bound : ℕ} {out : List ℕ} {at : ℕ} {s out₁ : List ℕ} {q : ℕ} {out₂ : List ℕ} {r : Walked} {p : Page}
     → Sent bound out at s out₁ q → Paged bound out₁ q out₂ r p → Paged bound out at out₂ r (before s p)
@@ -97,6 +98,7 @@ module _ (d : List ℕ) (k n : ℕ) where
     unfolding variablesPage
     variables-done t = let q : 512 - k ≡ suc (512 - (k + 1)) = omega arith in rw (q, ← a, ← b, t)
 
-    pub variables-more : e .there ≡ false → variablesPage (512 - k) d n ≡ before (variablePage d n .text) (variablesPage (512 - (k + 1)) d m)
+    pub variables-more : e .there ≡ false → variablesPage (512 - k) d n
+        ≡ before (variablePage d n .text) (variablesPage (512 - (k + 1)) d m)
     unfolding variablesPage
     variables-more t = let q : 512 - k ≡ suc (512 - (k + 1)) = omega arith in rw (q, ← a, ← b, t)

@@ -1,4 +1,5 @@
--- THE CODE'S BOOKS of the clean lines: what is sent from a place of the definition on, and where reading stands then. Crate `page_laws` says
+-- THE CODE'S BOOKS of the clean lines: what is sent from a place of the definition on, and where reading stands then. Crate `page_laws`
+-- says
 -- that these are the lines of what the grammar derives there.
 use mathlib.Core.Path.{_≡_}
 use mathlib.Core.Bool.{Bool, true, false, cond, not, _&&_}
@@ -6,7 +7,8 @@ use mathlib.Core.List.{List, [], _∷_, _++_}
 use Prim.Native.Nat.{ℕ, zero, suc, _+_, _-_, _/_}
 use lib.Dec.{eqb, ltb}
 use Rattle.sink.specs.rule.Sent.{Sent}
-use Rattle.statements.specs.rule.Words.{VARIABLE, NAME, LABEL, TYPE, SINGLE, MULTIPLE, QUANTITY, CHARACTER, LOGICAL, POSITION, TO, SPREAD, OF}
+use Rattle.statements.specs.rule.Words.{VARIABLE, NAME, LABEL, TYPE, SINGLE, MULTIPLE, QUANTITY, CHARACTER, LOGICAL, POSITION, TO, SPREAD}
+use Rattle.statements.specs.rule.Words.{OF}
 use Rattle.statements.specs.rule.Words.{SIZE, VALUES, WITH, SPECIAL, END}
 use Rattle.clean_text.specs.rule.Span.{spanOf}
 use Rattle.clean_text.specs.rule.Clean.{plainDigits}

@@ -1,4 +1,5 @@
-// The clean lines of a definition that was read before, a statement at a time: each is walked anew, past its things, and its line is sent to
+// The clean lines of a definition that was read before, a statement at a time: each is walked anew, past its things, and its line is sent
+// to
 // be measured or stored. Above it stands the clean text as a whole.
 use scan::Step;
 use steps::Found;
@@ -16,8 +17,10 @@ ghost use Rattle.statements.specs.rule.Words.{VALUES, END};
 ghost use Rattle.steps.specs.Step.{statementFound, keywordPast};
 ghost use Rattle.clean_text.specs.rule.Span.{spanOf};
 ghost use Rattle.clean_text.specs.rule.Clean.{plainDigits};
-ghost use Rattle.pages.specs.Page.{Paged, framed, numberPage, phrasePage, typeAt, typeText, positionAt, positionText, roomOf, spreadAt, evenOf, spreadText};
-ghost use Rattle.pages.specs.Page.{lineAt, lineText, linesPage, rangeAt, rangeText, blockPage, valuesPage, restPage, endPage, titlesPage, variablePage};
+ghost use Rattle.pages.specs.Page.{Paged, framed, numberPage, phrasePage, typeAt, typeText, positionAt, positionText, roomOf};
+ghost use Rattle.pages.specs.Page.{spreadAt, evenOf, spreadText};
+ghost use Rattle.pages.specs.Page.{lineAt, lineText, linesPage, rangeAt, rangeText, blockPage, valuesPage, restPage, endPage};
+ghost use Rattle.pages.specs.Page.{titlesPage, variablePage};
 ghost use Rattle.pages.specs.Page.{variablesPage};
 
 // Where what was sent ends, and where reading stands.
@@ -70,7 +73,8 @@ pub fn send_framed(
     post: &[u8],
 ) -> usize
     requires { ⌜ Classes (now classes) ⌝ }
-    ensures { λ r. ⌜ Sent bound (now (out .entry)) at (framed (now (d .entry)) (now (pre .entry)) s (now (post .entry))) (now (out .exit)) r ⌝ }
+    ensures { λ r. ⌜ Sent bound (now (out .entry)) at (framed (now (d .entry)) (now (pre .entry)) s (now (post .entry))) (now (out .exit))
+        r ⌝ }
 {
     let a = sink::send_bytes(bound, out, at, pre);
     let b = send_span(classes, d, bound, out, a, s.from, s.end);
@@ -117,7 +121,8 @@ pub fn send_number(
     pre: &[u8],
 ) -> Walked
     requires { ⌜ Classes (now classes) ⌝ }
-    ensures { λ r. ⌜ Paged bound (now (out .entry)) at (now (out .exit)) r (numberPage (now (d .entry)) n (now (w .entry)) (now (pre .entry))) ⌝ }
+    ensures { λ r. ⌜ Paged bound (now (out .entry)) at (now (out .exit)) r
+        (numberPage (now (d .entry)) n (now (w .entry)) (now (pre .entry))) ⌝ }
 {
     let a = steps::past_statement(classes, d, n, w);
     let x = steps::number_span(classes, d, a);
@@ -139,7 +144,8 @@ pub fn send_phrase(
     pre: &[u8],
 ) -> Walked
     requires { ⌜ Classes (now classes) ⌝ }
-    ensures { λ r. ⌜ Paged bound (now (out .entry)) at (now (out .exit)) r (phrasePage (now (d .entry)) n (now (w .entry)) (now (pre .entry))) ⌝ }
+    ensures { λ r. ⌜ Paged bound (now (out .entry)) at (now (out .exit)) r
+        (phrasePage (now (d .entry)) n (now (w .entry)) (now (pre .entry))) ⌝ }
 {
     let a = steps::past_statement(classes, d, n, w);
     let x = steps::string_span(classes, d, a);
@@ -162,7 +168,8 @@ pub fn send_end(
     line: &[u8],
 ) -> Walked
     requires { ⌜ Classes (now classes) ⌝ }
-    ensures { λ r. ⌜ Paged bound (now (out .entry)) at (now (out .exit)) r (endPage (now (d .entry)) n (now (w .entry)) (now (line .entry))) ⌝ }
+    ensures { λ r. ⌜ Paged bound (now (out .entry)) at (now (out .exit)) r
+        (endPage (now (d .entry)) n (now (w .entry)) (now (line .entry))) ⌝ }
 {
     let a = steps::past_statement(classes, d, n, b"END");
     let next = steps::past_keyword(classes, d, a, w);

@@ -24,7 +24,8 @@ use Rattle.tags.specs.declared.Tag.{Tag}
 use Rattle.tags.specs.declared.Tag.the-variants as tag
 use Rattle.pairs.specs.rule.Stand.{onAngle, standAt, standOf, onEnd, shutOf, bareOf}
 use Rattle.pairs.specs.rule.Pair.{onBare, missedOf, onShut, closedOf, onStand, pairOf}
-use Rattle.pairs.specs.rule.Grammar.{White, Name, name, Ends, ends, Empties, empties, Given, given, Attributes, none, known, other, closing, Behind, behind}
+use Rattle.pairs.specs.rule.Grammar.{White, Name, name, Ends, ends, Empties, empties, Given, given, Attributes, none, known, other}
+use Rattle.pairs.specs.rule.Grammar.{closing, Behind, behind}
 use Rattle.pairs.specs.declared.Stand.{Stand}
 use Rattle.pairs.specs.declared.Stand.the-variants as stand
 use Rattle.pairs.specs.declared.Pair.{Pair}
@@ -55,10 +56,11 @@ unfolding ofKind isName startsName isDigit
 slash-no-name = refl
 
 given-edge : {d n u : List ℕ} {e o q : ℕ} → Given n o u → Lies d e q u → Edge d e
-given-edge {d} {n} {u} {e} {o} {q} (given {q = m} {u = w} {y} {z} {v} x i na wy wz qu va) l = by (n ++ (y ++ 61 ∷ (z ++ m ∷ (v ++ m ∷ [])))) x i l where
-  by : {w : List ℕ} (t : List ℕ) → White w → 0 < length w → Lies d e q (w ++ t) → Edge d e
-  by t no-more i l = absurd (omega arith)
-  by t (each {b = c} k r) i l = let f = lies-first l in record { inside = f .inside; over = rw (f .byte) (white-edge c k) }
+given-edge {d} {n} {u} {e} {o} {q} (given {q = m} {u = w} {y} {z} {v} x i na wy wz qu va) l = by (n ++ (y ++ 61 ∷ (z ++ m ∷ (v ++ m ∷ []))))
+    x i l where
+      by : {w : List ℕ} (t : List ℕ) → White w → 0 < length w → Lies d e q (w ++ t) → Edge d e
+      by t no-more i l = absurd (omega arith)
+      by t (each {b = c} k r) i l = let f = lies-first l in record { inside = f .inside; over = rw (f .byte) (white-edge c k) }
 
 -- behind the name of a start tag no name goes on
 pub behind-edge : {d k s : List ℕ} {em g : Bool} {e a n : ℕ} → Behind k em e s g a → Lies d e n s → Edge d e
@@ -67,7 +69,8 @@ behind-edge {d} {k} {em = em} {e = e} {n = n} (behind {s = s} {v} r w) l = by r 
   shut true l = edge 47 (62 ∷ []) w slash-no-name l
   shut false l = edge 62 [] w more-no-name l
 
-  by : {s : List ℕ} {g : Bool} {a : ℕ} → Attributes k e s g a → Lies d e (e + length s) s × Lies d (e + length s) n (v ++ closing em) → Edge d e
+  by : {s : List ℕ} {g : Bool} {a : ℕ} → Attributes k e s g a → Lies d e (e + length s) s × Lies d (e + length s) n (v ++ closing em)
+      → Edge d e
   by none c = let z : e + 0 ≡ e = omega arith in shut em (rw (← z) (c .1))
   by (known {u = u} {s} x r) c = given-edge x (lies-cut d e _ u s (c .0) .0)
   by (other {u = u} {s} x i r) c = given-edge x (lies-cut d e _ u s (c .0) .0)
@@ -90,7 +93,14 @@ module _ (bad : Bool) (d : List ℕ) (p : ℕ) where
       let r = lies-first l .rest in
       let s = name-starts n r in
       let m = names-mark (getD d (p + 1) 0) s in
-      rw (lt-leb (length d) (p + 1) (name-inside n r), ne-eqb (getD d (p + 1) 0) 47 (m .0), ne-eqb (getD d (p + 1) 0) 63 (m .1), ne-eqb (getD d (p + 1) 0) 33 (m .2), s, name-stretch n r i)
+      rw (
+        lt-leb (length d) (p + 1) (name-inside n r),
+        ne-eqb (getD d (p + 1) 0) 47 (m .0),
+        ne-eqb (getD d (p + 1) 0) 63 (m .1),
+        ne-eqb (getD d (p + 1) 0) 33 (m .2),
+        s,
+        name-stretch n r i,
+      )
 
   pub close-complete : {w : List ℕ} {e : ℕ} → Name w → Lies d p e (60 ∷ 47 ∷ w) → Edge d e → angleOf bad d p ≡ angle.Close e
   unfolding angleOf closeOf
@@ -98,7 +108,13 @@ module _ (bad : Bool) (d : List ℕ) (p : ℕ) where
       let f = lies-first (lies-first l .rest) in
       let t : p + 1 + 1 ≡ p + 2 = omega arith in
       let r : Lies d (p + 2) e w = rw (← t) (f .rest) in
-      rw (lt-leb (length d) (p + 1) (f .inside), eq-eqb (getD d (p + 1) 0) 47 (f .byte), lt-leb (length d) (p + 2) (name-inside n r), name-starts n r, name-stretch n r i)
+      rw (
+        lt-leb (length d) (p + 1) (f .inside),
+        eq-eqb (getD d (p + 1) 0) 47 (f .byte),
+        lt-leb (length d) (p + 2) (name-inside n r),
+        name-starts n r,
+        name-stretch n r i,
+      )
 
 -- ---- the rest of an end tag
 record EndBy (d : List ℕ) (e n : ℕ) : Type 0 where
@@ -116,11 +132,17 @@ module _ (bad : Bool) (d : List ℕ) (o : ℕ) where
     s : Stretch (ofKind 0) d e m
     s = run-stretch (ofKind 0) d e
 
-    by : (x y : Bool) → leb (length d) m ≡ x → eqb (getD d m 0) 62 ≡ y → cond x (skip.Broken (endFault bad m o)) (cond y (skip.Past (m + 1)) (skip.Broken m)) ≡ skip.Past n → EndBy d e n
+    by : (x y : Bool) → leb (length d) m ≡ x → eqb (getD d m 0) 62 ≡ y
+        → cond x (skip.Broken (endFault bad m o)) (cond y (skip.Past (m + 1)) (skip.Broken m)) ≡ skip.Past n → EndBy d e n
     by true y g h f = let z : _≡_ {A = ℕ} 0 1 = cc in absurd (omega arith)
     by false true g h f =
         let k : m + 1 ≡ n = cc in
-        record { white = s .bytes; passes = s .passes; lies = lies-join (stretch-lies s) (lies-byte d m n 62 (leb-false (length d) m g) (eqb-true (getD d m 0) 62 h) (sym k)) }
+        record {
+          white = s .bytes;
+          passes = s .passes;
+          lies = lies-join (stretch-lies s)
+              (lies-byte d m n 62 (leb-false (length d) m g) (eqb-true (getD d m 0) 62 h) (sym k));
+        }
     by false false g h f = let z : _≡_ {A = ℕ} 0 1 = cc in absurd (omega arith)
 
   more-no-white : (b : ℕ) → b ≡ 62 → ofKind 0 b ≡ false
@@ -134,7 +156,8 @@ module _ (bad : Bool) (d : List ℕ) (o : ℕ) where
       let f = lies-first (c .1) in
       let k = f .rest .place in
       let j : n ≡ e + length v + 1 = omega arith in
-      let r : runOf (ofKind 0) e (drop e d) ≡ e + length v = stretch-run (ofKind 0) d e (e + length v) (as-stretch w (c .0)) (more-no-white _ (f .byte)) (f .inside) in
+      let r : runOf (ofKind 0) e (drop e d) ≡ e + length v = stretch-run (ofKind 0) d e (e + length v) (as-stretch w (c .0))
+      (more-no-white _ (f .byte)) (f .inside) in
       rw (r, lt-leb (length d) (e + length v) (f .inside), eq-eqb (getD d (e + length v) 0) 62 (f .byte), j)
 
 -- ---- an end tag by its bytes
@@ -143,7 +166,8 @@ pub record EndAt (d w : List ℕ) (p n : ℕ) : Type 0 where
   pub ends : Ends w bytes
   pub lies : Lies d p n bytes
 
-pub ends-sound : (bad : Bool) (d w : List ℕ) (p e n : ℕ) → p < length d → getD d p 0 ≡ 60 → angleOf bad d p ≡ angle.Close e → shutOf bad d p e w ≡ skip.Past n → EndAt d w p n
+pub ends-sound : (bad : Bool) (d w : List ℕ) (p e n : ℕ) → p < length d → getD d p 0 ≡ 60 → angleOf bad d p ≡ angle.Close e
+    → shutOf bad d p e w ≡ skip.Past n → EndAt d w p n
 unfolding shutOf
 ends-sound bad d w p e n i b a f = on (endOf bad d p e) refl f where
   c : (getD d (p + 1) 0 ≡ 47) × NameAt d (p + 2) e
@@ -152,7 +176,8 @@ ends-sound bad d w p e n i b a f = on (endOf bad d p e) refl f where
   long : p + 2 < e
   long = name-long (c .1) .0
 
-  named : (m : ℕ) (x : Bool) → endOf bad d p e ≡ skip.Past m → isNamed d (p + 2) e w ≡ x → cond x (skip.Past m) (skip.Broken p) ≡ skip.Past n → EndAt d w p n
+  named : (m : ℕ) (x : Bool) → endOf bad d p e ≡ skip.Past m → isNamed d (p + 2) e w ≡ x → cond x (skip.Past m) (skip.Broken p)
+      ≡ skip.Past n → EndAt d w p n
   named m true g h f =
       let k : m ≡ n = cc in
       let t = end-sound bad d p e n (g ∙ ap skip.Past k) in
@@ -161,7 +186,9 @@ ends-sound bad d w p e n i b a f = on (endOf bad d p e) refl f where
       record {
         bytes = 60 ∷ 47 ∷ (w ++ (t .white ++ 62 ∷ []));
         ends = ends (t .passes);
-        lies = lies-join (lies-byte d p (p + 1) 60 i b refl) (lies-join (lies-byte d (p + 1) (p + 2) 47 (omega arith) (c .0) (omega arith)) (lies-join (named-lies d (p + 2) e w (omega arith) h) (t .lies)));
+        lies = lies-join (lies-byte d p (p + 1) 60 i b refl)
+            (lies-join (lies-byte d (p + 1) (p + 2) 47 (omega arith) (c .0) (omega arith))
+            (lies-join (named-lies d (p + 2) e w (omega arith) h) (t .lies)));
       }
   named m false g h f = let z : _≡_ {A = ℕ} 0 1 = cc in absurd (omega arith)
 
@@ -185,7 +212,8 @@ ends-complete bad d {w} p n na (ends {v} x) l =
     let r : Lies d (p + 2) n (w ++ (v ++ 62 ∷ [])) = rw (← t) (g .rest) in
     let c = lies-cut d (p + 2) n w (v ++ 62 ∷ []) r in
     let h : Lies d p (p + 2 + length w) (60 ∷ 47 ∷ w) =
-    lies-join (lies-byte d p (p + 1) 60 (f .inside) (f .byte) refl) (lies-join (lies-byte d (p + 1) (p + 2) 47 (g .inside) (g .byte) (omega arith)) (c .0)) in
+    lies-join (lies-byte d p (p + 1) 60 (f .inside) (f .byte) refl)
+    (lies-join (lies-byte d (p + 1) (p + 2) 47 (g .inside) (g .byte) (omega arith)) (c .0)) in
     record {
       inside = f .inside;
       less = f .byte;
@@ -240,7 +268,8 @@ module _ (bad : Bool) (d w : List ℕ) (at n : ℕ) where
       let k = ends-complete bad d p n na e (c .1) in
       let s = c .1 .split in
       let o : NoGap (drop p d) = rw s (ends-gap e (drop n d)) in
-      let y : gapOf bad d at ≡ skip.Past p = gap-exactly bad d at p .1 (record { bytes = g; gap = gg; split = c .0 .split; place = refl; over = o }) in
+      let y : gapOf bad d at ≡ skip.Past p = gap-exactly bad d at p .1
+      (record { bytes = g; gap = gg; split = c .0 .split; place = refl; over = o }) in
       rw (y, lt-leb (length d) p (k .inside), eq-eqb (getD d p 0) 60 (k .less), k .opens, k .shuts)
 
   pair-complete : {t : List ℕ} → Name w → Empties w t → Lies d at n t → pairOf bad d at w ≡ Past n

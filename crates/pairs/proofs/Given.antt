@@ -25,10 +25,12 @@ use Rattle.tags.proofs.Exactly.{puts, Placed, none, one}
 use Rattle.pairs.specs.rule.Grammar.{Name, name, Given, given, Attributes, known, other, firstOf}
 use Rattle.pairs.specs.rule.Grammar as grammar
 use Rattle.pairs.proofs.Stands.{name-kind}
-use Rattle.pairs.proofs.Lies.{Lies, lies-none, lies-join, lies-byte, lies-cut, lies-first, lies-same, stretch-lies, quoted-lies, lies-named, named-lies}
+use Rattle.pairs.proofs.Lies.{Lies, lies-none, lies-join, lies-byte, lies-cut, lies-first, lies-same, stretch-lies, quoted-lies}
+use Rattle.pairs.proofs.Lies.{lies-named, named-lies}
 
 -- bytes of names from n to e, where a name starts and behind which none goes on
-name-of : (d : List ℕ) (n e : ℕ) (u : List ℕ) → Each (ofKind 1) u → Lies d n e u → startsName (getD d n 0) ≡ true → ofKind 1 (getD d e 0) ≡ false → Name u
+name-of : (d : List ℕ) (n e : ℕ) (u : List ℕ) → Each (ofKind 1) u → Lies d n e u → startsName (getD d n 0) ≡ true → ofKind 1 (getD d e 0)
+    ≡ false → Name u
 name-of d n e [] r l s f =
     let k = l .place in
     let i : e ≡ n = omega arith in
@@ -58,10 +60,13 @@ given-sound {d} {at} {n} {e} {v} {k} {next} a =
       name = a .name .bytes;
       white = length (a .before .bytes);
       bytes = a .before .bytes ++ (a .name .bytes ++ (a .gap .bytes ++ 61 ∷ (a .gap-2 .bytes ++ q ∷ (a .value .bytes ++ q ∷ []))));
-      given = given (a .before .passes) (omega arith) (name-of d n e (a .name .bytes) (a .name .passes) (stretch-lies (a .name)) (a .starts) (g .0)) (a .gap .passes) (a .gap-2 .passes) (a .quotes) (a .value .value);
+      given = given (a .before .passes) (omega arith)
+          (name-of d n e (a .name .bytes) (a .name .passes) (stretch-lies (a .name)) (a .starts) (g .0)) (a .gap .passes) (a .gap-2 .passes)
+          (a .quotes) (a .value .value);
       lies = lies-join (stretch-lies (a .before)) (lies-join (stretch-lies (a .name)) (lies-join (stretch-lies (a .gap))
           (lies-join (lies-byte d (a .equals) (a .equals + 1) 61 (a .there) (a .sign) refl) (lies-join (stretch-lies (a .gap-2))
-          (lies-join (lies-byte d (a .quote) v q (a .inside) refl o) (lies-join (quoted-lies (a .value)) (lies-byte d k next q w f (a .behind))))))));
+          (lies-join (lies-byte d (a .quote) v q (a .inside) refl o)
+          (lies-join (quoted-lies (a .value)) (lies-byte d k next q w f (a .behind))))))));
       named = stretch-lies (a .name);
       place = i;
     }
@@ -139,14 +144,27 @@ abbrev taken : Held → ℕ → ℕ → ℕ → Held
 taken h v w next = record { a = v; ae = w; b = h .b; be = h .be; c = h .c; ce = h .ce; third = h .third; unknown = h .unknown; next = next }
 
 abbrev passed : Held → ℕ → ℕ → Held
-passed h n next = record { a = h .a; ae = h .ae; b = h .b; be = h .be; c = h .c; ce = h .ce; third = h .third; unknown = firstOf (h .unknown) n; next = next }
+passed h n next = record {
+  a = h .a;
+  ae = h .ae;
+  b = h .b;
+  be = h .be;
+  c = h .c;
+  ce = h .ce;
+  third = h .third;
+  unknown = firstOf
+      (h .unknown) n;
+  next = next;
+}
 
 module _ (d k : List ℕ) where
-  puts-known : (h : Held) (n e v w next : ℕ) → isNamed d n e k ≡ true → puts d k [] [] 0 0 0 h n e v w next ≡ placedOf (h .a) true n v (taken h v w next)
+  puts-known : (h : Held) (n e v w next : ℕ) → isNamed d n e k ≡ true → puts d k [] [] 0 0 0 h n e v w next
+      ≡ placedOf (h .a) true n v (taken h v w next)
   unfolding putOf slotOf
   puts-known h n e v w next x = rw (x, fits-any 1 d v w)
 
-  puts-other : (h : Held) (n e v w next : ℕ) → isNamed d n e k ≡ false → n < e → puts d k [] [] 0 0 0 h n e v w next ≡ More (passed h n next)
+  puts-other : (h : Held) (n e v w next : ℕ) → isNamed d n e k ≡ false → n < e → puts d k [] [] 0 0 0 h n e v w next
+      ≡ More (passed h n next)
   unfolding putOf slotOf
   puts-other h n e v w next x l = rw (x, no-empty d n e l)
 
@@ -229,7 +247,8 @@ module _ (k d : List ℕ) where
         bytes = g .bytes ++ r .bytes;
         given = true;
         first = r .first;
-        attributes = known {p = h .next} {o = g .white} {a = r .first} {u = g .bytes} {s = r .bytes} (rw (← s) (g .given)) (rw (← p, ← gf) (r .attributes));
+        attributes = known {p = h .next} {o = g .white} {a = r .first} {u = g .bytes} {s = r .bytes} (rw (← s) (g .given))
+            (rw (← p, ← gf) (r .attributes));
         lies = lies-join gl (r .lies);
         unknown = r .unknown ∙ rw un;
         filled = r .filled ∙ rw (fi, fh);
@@ -248,7 +267,8 @@ module _ (k d : List ℕ) where
         bytes = g .bytes ++ r .bytes;
         given = r .given;
         first = h .next + g .white;
-        attributes = other {p = h .next} {o = g .white} {a = r .first} {n = g .name} {u = g .bytes} {s = r .bytes} {g = r .given} (g .given) (λ s. holds-not (lies-named (rw (← s) (g .named))) x) (rw (← l) (r .attributes));
+        attributes = other {p = h .next} {o = g .white} {a = r .first} {n = g .name} {u = g .bytes} {s = r .bytes} {g = r .given} (g .given)
+            (λ s. holds-not (lies-named (rw (← s) (g .named))) x) (rw (← l) (r .attributes));
         lies = lies-join (g .lies) (r .lies);
         unknown = r .unknown ∙ first-join (h .unknown) n (r .first) ∙ ap (firstOf (h .unknown)) (u ∙ p);
         filled = r .filled;
@@ -293,7 +313,8 @@ module _ (k d : List ℕ) where
     by true f e = eqb-true (h .a) 0 f
     by false f e = let z : _≡_ {A = ℕ} 0 1 = cc in absurd (omega arith)
 
-  pub listed-placed : {p a : ℕ} {s : List ℕ} {g : Bool} → Attributes k p s g a → (h : Held) (q : ℕ) → h .next ≡ p → (full h && g) ≡ false → Lies d p q s → Led h q g a
+  pub listed-placed : {p a : ℕ} {s : List ℕ} {g : Bool} → Attributes k p s g a → (h : Held) (q : ℕ) → h .next ≡ p → (full h && g) ≡ false
+      → Lies d p q s → Led h q g a
   listed-placed {p} grammar.none h q f o l =
       let i = l .place in
       record { held = h; placed = none; next = omega arith; unknown = first-none (h .unknown); filled = or-false (full h) }
@@ -315,7 +336,8 @@ module _ (k d : List ℕ) where
   listed-placed {p} (other {o = w} {a} {n} {u} {s} {g} x not-k r) h q f o l =
       let c = lies-cut d p q u s l in
       let t = given-complete x (c .0) in
-      let m = puts-other d k h (p + w) (p + w + length n) (t .value) (t .valueend) (p + length u) (unnamed (isNamed d (p + w) (p + w + length n) k) refl (t .named)) (omega (arith, name-some (given-name x))) in
+      let m = puts-other d k h (p + w) (p + w + length n) (t .value) (t .valueend) (p + length u)
+      (unnamed (isNamed d (p + w) (p + w + length n) k) refl (t .named)) (omega (arith, name-some (given-name x))) in
       let z = given-white x in
       let e : firstOf (p + w) a ≡ p + w = rw (ne-eqb (p + w) 0 (λ y. omega arith)) in
       let th : Attributed d (h .next) (p + w) (p + w + length n) (t .value) (t .valueend) (p + length u) = rw f (t .there) in
@@ -327,6 +349,7 @@ module _ (k d : List ℕ) where
         unknown = ih .unknown ∙ first-join (h .unknown) (p + w) a ∙ ap (firstOf (h .unknown)) e;
         filled = ih .filled;
       } where
-        unnamed : (b : Bool) → isNamed d (p + w) (p + w + length n) k ≡ b → Lies d (p + w) (p + w + length n) n → isNamed d (p + w) (p + w + length n) k ≡ false
+        unnamed : (b : Bool) → isNamed d (p + w) (p + w + length n) k ≡ b → Lies d (p + w) (p + w + length n) n
+            → isNamed d (p + w) (p + w + length n) k ≡ false
         unnamed true i y = absurd (not-k (lies-same y (named-lies d (p + w) (p + w + length n) k (omega arith) i)))
         unnamed false i y = i

@@ -45,8 +45,10 @@ pub lies-cut : (d : List ℕ) (p r : ℕ) (u v : List ℕ) → Lies d p r (u ++ 
 lies-cut d p r u v x =
     let e : drop p d ≡ u ++ (v ++ drop r d) = x .split ∙ append-assoc u v (drop r d) in
     let o : drop (p + length u) d ≡ v ++ drop r d = onward d p (length u) u (v ++ drop r d) e refl in
-    let k = x .place in
-    (record { split = e ∙ ap (λ (t : List ℕ). u ++ t) (sym o); place = refl }, record { split = o; place = omega (arith, length-append u v) })
+    let k = x .place in (
+      record { split = e ∙ ap (λ (t : List ℕ). u ++ t) (sym o); place = refl },
+      record { split = o; place = omega (arith, length-append u v) },
+    )
 
 pub record Begins (d : List ℕ) (p q b : ℕ) (v : List ℕ) : Type 0 where
   pub inside : p < length d
@@ -57,7 +59,12 @@ pub lies-first : {d : List ℕ} {p q b : ℕ} {v : List ℕ} → Lies d p q (b �
 lies-first {d} {p} {q} {b} {v} x =
     let r = first-at d p b (v ++ drop q d) (x .split) in
     let k = x .place in
-    record { inside = r .0; byte = r .1; rest = record { split = onward d p 1 (b ∷ []) (v ++ drop q d) (x .split) refl; place = omega arith } }
+    record {
+      inside = r .0;
+      byte = r .1;
+      rest = record
+          { split = onward d p 1 (b ∷ []) (v ++ drop q d) (x .split) refl; place = omega arith };
+    }
 
 pub lies-within : {d : List ℕ} {p q : ℕ} {u : List ℕ} → Lies d p q u → p ≤ length d → q ≤ length d
 lies-within {d} {p} {q} {u} x h =

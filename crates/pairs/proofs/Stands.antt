@@ -48,7 +48,8 @@ module _ (bad : Bool) (d : List ℕ) (p : ℕ) where
   close-start : (e : ℕ) → closeOf bad d p ≡ angle.Start e → ⊥
   unfolding closeOf
   close-start e f = by (leb (length d) (p + 2)) (startsName (getD d (p + 2) 0)) f where
-    by : (x y : Bool) → cond x (angle.Broken (endFault bad (p + 2) p)) (cond y (angle.Close (runOf (ofKind 1) (p + 2) (drop (p + 2) d))) (angle.Broken p)) ≡ angle.Start e → ⊥
+    by : (x y : Bool) → cond x (angle.Broken (endFault bad (p + 2) p))
+        (cond y (angle.Close (runOf (ofKind 1) (p + 2) (drop (p + 2) d))) (angle.Broken p)) ≡ angle.Start e → ⊥
     by true y f = let z : _≡_ {A = ℕ} 0 1 = cc in omega arith
     by false true f = let z : _≡_ {A = ℕ} 0 1 = cc in omega arith
     by false false f = let z : _≡_ {A = ℕ} 0 1 = cc in omega arith
@@ -57,7 +58,8 @@ module _ (bad : Bool) (d : List ℕ) (p : ℕ) where
   unfolding closeOf
   close-close e f = by (leb (length d) (p + 2)) (startsName (getD d (p + 2) 0)) refl refl f where
     by : (x y : Bool) → leb (length d) (p + 2) ≡ x → startsName (getD d (p + 2) 0) ≡ y
-        → cond x (angle.Broken (endFault bad (p + 2) p)) (cond y (angle.Close (runOf (ofKind 1) (p + 2) (drop (p + 2) d))) (angle.Broken p)) ≡ angle.Close e → NameAt d (p + 2) e
+        → cond x (angle.Broken (endFault bad (p + 2) p)) (cond y (angle.Close (runOf (ofKind 1) (p + 2) (drop (p + 2) d))) (angle.Broken p))
+        ≡ angle.Close e → NameAt d (p + 2) e
     by true y g h f = let z : _≡_ {A = ℕ} 0 1 = cc in absurd (omega arith)
     by false true g h f = record { inside = leb-false (length d) (p + 2) g; starts = h; ends = cc }
     by false false g h f = let z : _≡_ {A = ℕ} 0 1 = cc in absurd (omega arith)
@@ -79,13 +81,16 @@ module _ (bad : Bool) (d : List ℕ) (p : ℕ) where
   abbrev angleBy : Bool → Bool → Bool → Bool → Bool → Angle
   angleBy v w x y z =
       cond v (angle.Broken (endFault bad (p + 1) p))
-      (cond w (closeOf bad d p) (cond x angle.Foreign (cond y (bangOf d p) (cond z (angle.Start (runOf (ofKind 1) (p + 1) (drop (p + 1) d))) (angle.Broken p)))))
+      (cond w (closeOf bad d p) (cond x angle.Foreign
+      (cond y (bangOf d p) (cond z (angle.Start (runOf (ofKind 1) (p + 1) (drop (p + 1) d))) (angle.Broken p)))))
 
   pub angle-start : (e : ℕ) → angleOf bad d p ≡ angle.Start e → NameAt d (p + 1) e
   unfolding angleOf
   angle-start e f =
-      by (leb (length d) (p + 1)) (eqb (getD d (p + 1) 0) 47) (eqb (getD d (p + 1) 0) 63) (eqb (getD d (p + 1) 0) 33) (startsName (getD d (p + 1) 0)) refl refl f where
-        by : (v w x y z : Bool) → leb (length d) (p + 1) ≡ v → startsName (getD d (p + 1) 0) ≡ z → angleBy v w x y z ≡ angle.Start e → NameAt d (p + 1) e
+      by (leb (length d) (p + 1)) (eqb (getD d (p + 1) 0) 47) (eqb (getD d (p + 1) 0) 63) (eqb (getD d (p + 1) 0) 33)
+      (startsName (getD d (p + 1) 0)) refl refl f where
+        by : (v w x y z : Bool) → leb (length d) (p + 1) ≡ v → startsName (getD d (p + 1) 0) ≡ z → angleBy v w x y z ≡ angle.Start e
+            → NameAt d (p + 1) e
         by true w x y z g h f = let t : _≡_ {A = ℕ} 0 1 = cc in absurd (omega arith)
         by false true x y z g h f = absurd (close-start e f)
         by false false true y z g h f = let t : _≡_ {A = ℕ} 0 1 = cc in absurd (omega arith)
@@ -96,8 +101,10 @@ module _ (bad : Bool) (d : List ℕ) (p : ℕ) where
   pub angle-close : (e : ℕ) → angleOf bad d p ≡ angle.Close e → (getD d (p + 1) 0 ≡ 47) × NameAt d (p + 2) e
   unfolding angleOf
   angle-close e f =
-      by (leb (length d) (p + 1)) (eqb (getD d (p + 1) 0) 47) (eqb (getD d (p + 1) 0) 63) (eqb (getD d (p + 1) 0) 33) (startsName (getD d (p + 1) 0)) refl f where
-        by : (v w x y z : Bool) → eqb (getD d (p + 1) 0) 47 ≡ w → angleBy v w x y z ≡ angle.Close e → (getD d (p + 1) 0 ≡ 47) × NameAt d (p + 2) e
+      by (leb (length d) (p + 1)) (eqb (getD d (p + 1) 0) 47) (eqb (getD d (p + 1) 0) 63) (eqb (getD d (p + 1) 0) 33)
+      (startsName (getD d (p + 1) 0)) refl f where
+        by : (v w x y z : Bool) → eqb (getD d (p + 1) 0) 47 ≡ w → angleBy v w x y z ≡ angle.Close e → (getD d (p + 1) 0 ≡ 47)
+            × NameAt d (p + 2) e
         by true w x y z g f = let t : _≡_ {A = ℕ} 0 1 = cc in absurd (omega arith)
         by false true x y z g f = (eqb-true (getD d (p + 1) 0) 47 g, close-close e f)
         by false false true y z g f = let t : _≡_ {A = ℕ} 0 1 = cc in absurd (omega arith)
@@ -135,16 +142,23 @@ module _ (bad : Bool) (d : List ℕ) (at p e : ℕ) where
     on : (g : Skip) → gapOf bad d at ≡ g → onGap bad d g ≡ Start p e → StandsAt bad d at p (angle.Start e)
     on (skip.Broken q) g f = let t : _≡_ {A = ℕ} 0 1 = cc in absurd (omega arith)
     on (skip.Past n) g f = by (leb (length d) n) (eqb (getD d n 0) 60) refl refl f where
-      opened : (a : Angle) → angleOf bad d n ≡ a → leb (length d) n ≡ false → eqb (getD d n 0) 60 ≡ true → onAngle n a ≡ Start p e → StandsAt bad d at p (angle.Start e)
+      opened : (a : Angle) → angleOf bad d n ≡ a → leb (length d) n ≡ false → eqb (getD d n 0) 60 ≡ true → onAngle n a ≡ Start p e
+          → StandsAt bad d at p (angle.Start e)
       opened (angle.Start m) o h i f =
           let j : n ≡ p = cc in
           let k : m ≡ e = cc in
-          record { gap = g ∙ rw j; inside = rw (← j) (leb-false (length d) n h); less = rw (← j) (eqb-true (getD d n 0) 60 i); opens = rw (← j) (o ∙ ap angle.Start k) }
+          record {
+            gap = g ∙ rw j;
+            inside = rw (← j) (leb-false (length d) n h);
+            less = rw (← j) (eqb-true (getD d n 0) 60 i);
+            opens = rw (← j) (o ∙ ap angle.Start k);
+          }
       opened (angle.Close m) o h i f = let t : _≡_ {A = ℕ} 0 1 = cc in absurd (omega arith)
       opened angle.Foreign o h i f = let t : _≡_ {A = ℕ} 0 1 = cc in absurd (omega arith)
       opened (angle.Broken q) o h i f = let t : _≡_ {A = ℕ} 0 1 = cc in absurd (omega arith)
 
-      by : (x y : Bool) → leb (length d) n ≡ x → eqb (getD d n 0) 60 ≡ y → cond x (Broken n) (cond y (onAngle n (angleOf bad d n)) (textOf d n)) ≡ Start p e → StandsAt bad d at p (angle.Start e)
+      by : (x y : Bool) → leb (length d) n ≡ x → eqb (getD d n 0) 60 ≡ y
+          → cond x (Broken n) (cond y (onAngle n (angleOf bad d n)) (textOf d n)) ≡ Start p e → StandsAt bad d at p (angle.Start e)
       by true y h i f = let t : _≡_ {A = ℕ} 0 1 = cc in absurd (omega arith)
       by false true h i f = opened (angleOf bad d n) refl h i f
       by false false h i f = let t = sym (text-none d n) ∙ ap isTag f in absurd (omega arith)
@@ -155,16 +169,23 @@ module _ (bad : Bool) (d : List ℕ) (at p e : ℕ) where
     on : (g : Skip) → gapOf bad d at ≡ g → onGap bad d g ≡ Close p e → StandsAt bad d at p (angle.Close e)
     on (skip.Broken q) g f = let t : _≡_ {A = ℕ} 0 1 = cc in absurd (omega arith)
     on (skip.Past n) g f = by (leb (length d) n) (eqb (getD d n 0) 60) refl refl f where
-      opened : (a : Angle) → angleOf bad d n ≡ a → leb (length d) n ≡ false → eqb (getD d n 0) 60 ≡ true → onAngle n a ≡ Close p e → StandsAt bad d at p (angle.Close e)
+      opened : (a : Angle) → angleOf bad d n ≡ a → leb (length d) n ≡ false → eqb (getD d n 0) 60 ≡ true → onAngle n a ≡ Close p e
+          → StandsAt bad d at p (angle.Close e)
       opened (angle.Start m) o h i f = let t : _≡_ {A = ℕ} 0 1 = cc in absurd (omega arith)
       opened (angle.Close m) o h i f =
           let j : n ≡ p = cc in
           let k : m ≡ e = cc in
-          record { gap = g ∙ rw j; inside = rw (← j) (leb-false (length d) n h); less = rw (← j) (eqb-true (getD d n 0) 60 i); opens = rw (← j) (o ∙ ap angle.Close k) }
+          record {
+            gap = g ∙ rw j;
+            inside = rw (← j) (leb-false (length d) n h);
+            less = rw (← j) (eqb-true (getD d n 0) 60 i);
+            opens = rw (← j) (o ∙ ap angle.Close k);
+          }
       opened angle.Foreign o h i f = let t : _≡_ {A = ℕ} 0 1 = cc in absurd (omega arith)
       opened (angle.Broken q) o h i f = let t : _≡_ {A = ℕ} 0 1 = cc in absurd (omega arith)
 
-      by : (x y : Bool) → leb (length d) n ≡ x → eqb (getD d n 0) 60 ≡ y → cond x (Broken n) (cond y (onAngle n (angleOf bad d n)) (textOf d n)) ≡ Close p e → StandsAt bad d at p (angle.Close e)
+      by : (x y : Bool) → leb (length d) n ≡ x → eqb (getD d n 0) 60 ≡ y
+          → cond x (Broken n) (cond y (onAngle n (angleOf bad d n)) (textOf d n)) ≡ Close p e → StandsAt bad d at p (angle.Close e)
       by true y h i f = let t : _≡_ {A = ℕ} 0 1 = cc in absurd (omega arith)
       by false true h i f = opened (angleOf bad d n) refl h i f
       by false false h i f = let t = sym (text-none d n) ∙ ap isTag f in absurd (omega arith)

@@ -23,7 +23,8 @@ use Rattle.tags.specs.declared.Held.{Held}
 use Rattle.tags.specs.declared.Tag.{Tag}
 use Rattle.tags.specs.declared.Tag.the-variants.{Read, Fault}
 use Rattle.tags.proofs.Exactly.{Tagged, tag-exactly}
-use Rattle.pairs.specs.rule.Grammar.{White, Name, name, Given, given, Attributes, none, known, other, closing, Behind, behind, firstOf}
+use Rattle.pairs.specs.rule.Grammar.{White, Name, name, Given, given, Attributes, none, known, other, closing, Behind, behind}
+use Rattle.pairs.specs.rule.Grammar.{firstOf}
 use Rattle.pairs.proofs.Lies.{Lies, lies-none, lies-join, lies-byte, lies-cut, lies-first, stretch-lies, lies-within}
 use Rattle.pairs.proofs.Given.{Listed, placed-listed, Led, listed-placed, name-each, name-starts, as-stretch}
 
@@ -34,21 +35,27 @@ pub record ShutBy (d : List ℕ) (p n : ℕ) (em : Bool) : Type 0 where
   pub lies : Lies d p n (white ++ closing em)
 
 module _ (bad : Bool) (d : List ℕ) (o : ℕ) where
-  slash-shut : (q : ℕ) {em : Bool} {r n : ℕ} → q < length d → getD d q 0 ≡ 47 → slashOf bad d o q ≡ Shut em r n → (em ≡ true) × Lies d q n (47 ∷ 62 ∷ [])
+  slash-shut : (q : ℕ) {em : Bool} {r n : ℕ} → q < length d → getD d q 0 ≡ 47 → slashOf bad d o q ≡ Shut em r n → (em ≡ true)
+      × Lies d q n (47 ∷ 62 ∷ [])
   unfolding slashOf
   slash-shut q {em} {r} {n} h b f = by (leb (length d) (q + 1)) (eqb (getD d (q + 1) 0) 62) refl refl f where
     by : (x y : Bool) → leb (length d) (q + 1) ≡ x → eqb (getD d (q + 1) 0) 62 ≡ y
-        → cond x (Faulty (endFault bad q o)) (cond y (Shut true q (q + 2)) (Faulty q)) ≡ Shut em r n → (em ≡ true) × Lies d q n (47 ∷ 62 ∷ [])
+        → cond x (Faulty (endFault bad q o)) (cond y (Shut true q (q + 2)) (Faulty q)) ≡ Shut em r n → (em ≡ true)
+        × Lies d q n (47 ∷ 62 ∷ [])
     by true y g i f = let z : _≡_ {A = ℕ} 0 1 = cc in absurd (omega arith)
     by false true g i f =
-        let k : q + 2 ≡ n = cc in
-        (cc, lies-join (lies-byte d q (q + 1) 47 h b refl) (lies-byte d (q + 1) n 62 (leb-false (length d) (q + 1) g) (eqb-true (getD d (q + 1) 0) 62 i) (omega arith)))
+        let k : q + 2 ≡ n = cc in (
+          cc,
+          lies-join (lies-byte d q (q + 1) 47 h b refl)
+              (lies-byte d (q + 1) n 62 (leb-false (length d) (q + 1) g) (eqb-true (getD d (q + 1) 0) 62 i) (omega arith)),
+        )
     by false false g i f = let z : _≡_ {A = ℕ} 0 1 = cc in absurd (omega arith)
 
   named-shut : (q : ℕ) {em : Bool} {r n : ℕ} → namedOf bad d o q ≡ Shut em r n → ⊥
   unfolding namedOf equalsOf valuedOf
   named-shut q {em} {r} {n} f =
-      by (leb (length d) m) (eqb (getD d m 0) 61) (leb (length d) v) (eqb (getD d v 0) 34 || eqb (getD d v 0) 39) (quotedOf bad o (getD d v 0) d (v + 1)) f where
+      by (leb (length d) m) (eqb (getD d m 0) 61) (leb (length d) v) (eqb (getD d v 0) 34 || eqb (getD d v 0) 39)
+      (quotedOf bad o (getD d v 0) d (v + 1)) f where
         e : ℕ
         e = runAt 1 d q
 
@@ -59,7 +66,8 @@ module _ (bad : Bool) (d : List ℕ) (o : ℕ) where
         v = runAt 0 d (runAt 0 d (runAt 1 d q) + 1)
 
         by : (a b c x : Bool) (k : Skip)
-            → cond a (Faulty (endFault bad m o)) (cond b (cond c (Faulty (endFault bad v o)) (cond x (onQuoted q e (v + 1) k) (Faulty v))) (Faulty m)) ≡ Shut em r n → ⊥
+            → cond a (Faulty (endFault bad m o)) (cond b (cond c (Faulty (endFault bad v o)) (cond x (onQuoted q e (v + 1) k) (Faulty v)))
+            (Faulty m)) ≡ Shut em r n → ⊥
         by true b c x k f = let z : _≡_ {A = ℕ} 0 1 = cc in omega arith
         by false true true x k f = let z : _≡_ {A = ℕ} 0 1 = cc in omega arith
         by false true false true (skip.Past i) f = let z : _≡_ {A = ℕ} 0 1 = cc in omega arith
@@ -81,13 +89,19 @@ module _ (bad : Bool) (d : List ℕ) (o : ℕ) where
         slashed r = let e = r .0 in record { white = s .bytes; passes = s .passes; lies = rw e (lies-join (stretch-lies s) (r .1)) }
 
         by : (a b c x y : Bool) → leb (length d) w ≡ a → eqb (getD d w 0) 62 ≡ b → eqb (getD d w 0) 47 ≡ c
-            → cond a (Faulty (endFault bad w o)) (cond b (Shut false w (w + 1)) (cond c (slashOf bad d o w) (cond x (Faulty w) (cond y (namedOf bad d o w) (Faulty w))))) ≡ Shut em q n
+            → cond a (Faulty (endFault bad w o)) (cond b (Shut false w (w + 1))
+            (cond c (slashOf bad d o w) (cond x (Faulty w) (cond y (namedOf bad d o w) (Faulty w))))) ≡ Shut em q n
             → ShutBy d p n em
         by true b c x y g h i f = let z : _≡_ {A = ℕ} 0 1 = cc in absurd (omega arith)
         by false true c x y g h i f =
             let k : w + 1 ≡ n = cc in
             let e : em ≡ false = cc in
-            record { white = s .bytes; passes = s .passes; lies = rw e (lies-join (stretch-lies s) (lies-byte d w n 62 (leb-false (length d) w g) (eqb-true (getD d w 0) 62 h) (sym k))) }
+            record {
+              white = s .bytes;
+              passes = s .passes;
+              lies = rw e
+                  (lies-join (stretch-lies s) (lies-byte d w n 62 (leb-false (length d) w g) (eqb-true (getD d w 0) 62 h) (sym k)));
+            }
         by false false true x y g h i f = slashed (slash-shut w (leb-false (length d) w g) (eqb-true (getD d w 0) 47 i) f)
         by false false false true y g h i f = let z : _≡_ {A = ℕ} 0 1 = cc in absurd (omega arith)
         by false false false false true g h i f = absurd (named-shut w f)
@@ -101,14 +115,16 @@ module _ (bad : Bool) (d : List ℕ) (o : ℕ) where
   unfolding ofKind isWhite
   slash-no-white b e = rw e
 
-  pub shut-complete : (p n : ℕ) (em : Bool) {v : List ℕ} → White v → Lies d p n (v ++ closing em) → attributeOf bad d o p ≡ Shut em (p + length v) n
+  pub shut-complete : (p n : ℕ) (em : Bool) {v : List ℕ} → White v → Lies d p n (v ++ closing em) → attributeOf bad d o p
+      ≡ Shut em (p + length v) n
   unfolding attributeOf behindOf slashOf
   shut-complete p n false {v} w l =
       let c = lies-cut d p n v (62 ∷ []) l in
       let f = lies-first (c .1) in
       let k = f .rest .place in
       let j : n ≡ p + length v + 1 = omega arith in
-      let r : runAt 0 d p ≡ p + length v = stretch-run (ofKind 0) d p (p + length v) (as-stretch w (c .0)) (mark-no-white _ (f .byte)) (f .inside) in
+      let r : runAt 0 d p ≡ p + length v = stretch-run (ofKind 0) d p (p + length v) (as-stretch w (c .0)) (mark-no-white _ (f .byte))
+      (f .inside) in
       rw (r, lt-leb (length d) (p + length v) (f .inside), eq-eqb (getD d (p + length v) 0) 62 (f .byte), j)
   shut-complete p n true {v} w l =
       let c = lies-cut d p n v (47 ∷ 62 ∷ []) l in
@@ -116,8 +132,16 @@ module _ (bad : Bool) (d : List ℕ) (o : ℕ) where
       let g = lies-first (f .rest) in
       let k = g .rest .place in
       let j : n ≡ p + length v + 2 = omega arith in
-      let r : runAt 0 d p ≡ p + length v = stretch-run (ofKind 0) d p (p + length v) (as-stretch w (c .0)) (slash-no-white _ (f .byte)) (f .inside) in
-      rw (r, lt-leb (length d) (p + length v) (f .inside), f .byte, lt-leb (length d) (p + length v + 1) (g .inside), eq-eqb (getD d (p + length v + 1) 0) 62 (g .byte), j)
+      let r : runAt 0 d p ≡ p + length v = stretch-run (ofKind 0) d p (p + length v) (as-stretch w (c .0)) (slash-no-white _ (f .byte))
+      (f .inside) in
+      rw (
+        r,
+        lt-leb (length d) (p + length v) (f .inside),
+        f .byte,
+        lt-leb (length d) (p + length v + 1) (g .inside),
+        eq-eqb (getD d (p + length v + 1) 0) 62 (g .byte),
+        j,
+      )
 
 -- ---- the tag
 -- from `at` to n what follows a start tag's name, whose first unknown attribute stands at a
@@ -139,14 +163,16 @@ module _ (bad : Bool) (k d : List ℕ) (o at : ℕ) where
   full-missing : (required : ℕ) (j : Held) → missesOf required j ≡ false → ltb 0 required ≡ true → not (eqb (j .a) 0) ≡ true
   unfolding missesOf
   full-missing required j m r = by (eqb (j .a) 0) refl (rw r at m) where
-    by : (b : Bool) → eqb (j .a) 0 ≡ b → ((true && eqb (j .a) 0) || ((ltb 1 required && eqb (j .b) 0) || (ltb 2 required && eqb (j .c) 0))) ≡ false → not b ≡ true
+    by : (b : Bool) → eqb (j .a) 0 ≡ b → ((true && eqb (j .a) 0) || ((ltb 1 required && eqb (j .b) 0) || (ltb 2 required && eqb (j .c) 0)))
+        ≡ false → not b ≡ true
     by true e m = let z = rw e at m in let y : _≡_ {A = ℕ} 0 1 = cc in absurd (omega arith)
     by false e m = refl
 
   told : {em g : Bool} {p a b : ℕ} {s : List ℕ} → a ≡ b → Behind k em p s g a → Behind k em p s g b
   told e x = rw (← e) x
 
-  pub tag-sound : (required : ℕ) (j : Held) (em : Bool) (q n : ℕ) → tagOf bad d o at k [] [] 0 0 0 required ≡ Read j em q n → TagSaid k d at n em required (j .unknown)
+  pub tag-sound : (required : ℕ) (j : Held) (em : Bool) (q n : ℕ) → tagOf bad d o at k [] [] 0 0 0 required ≡ Read j em q n
+      → TagSaid k d at n em required (j .unknown)
   tag-sound required j em q n e =
       let t = tag-exactly bad d o at k [] [] 0 0 0 required j em q n .0 e in
       let l = placed-listed k d (t .placed) in
@@ -159,7 +185,8 @@ module _ (bad : Bool) (k d : List ℕ) (o at : ℕ) where
         enough = λ r. sym (l .filled) ∙ full-missing required j (t .whole) r;
       }
 
-  required-there : (required : ℕ) (j : Held) → required ≤ 1 → (ltb 0 required ≡ true → not (eqb (j .a) 0) ≡ true) → missesOf required j ≡ false
+  required-there : (required : ℕ) (j : Held) → required ≤ 1 → (ltb 0 required ≡ true → not (eqb (j .a) 0) ≡ true) → missesOf required j
+      ≡ false
   unfolding missesOf
   required-there zero j h f = refl
   required-there (suc zero) j h f = by (eqb (j .a) 0) (f refl) where
@@ -168,7 +195,8 @@ module _ (bad : Bool) (k d : List ℕ) (o at : ℕ) where
     by false e = refl
   required-there (suc (suc r)) j h f = absurd (omega arith)
 
-  pub tag-complete : (required : ℕ) (em : Bool) {s : List ℕ} {g : Bool} {a : ℕ} → required ≤ 1 → Behind k em at s g a → (ltb 0 required ≡ true → g ≡ true) → (n : ℕ) → Lies d at n s → TagRead bad k d o at n em required a
+  pub tag-complete : (required : ℕ) (em : Bool) {s : List ℕ} {g : Bool} {a : ℕ} → required ≤ 1 → Behind k em at s g a
+      → (ltb 0 required ≡ true → g ≡ true) → (n : ℕ) → Lies d at n s → TagRead bad k d o at n em required a
   tag-complete required em h (behind {s = s} {v} r w) f n l =
       let c = lies-cut d at n s (v ++ closing em) l in
       let y = listed-placed k d r (nothing at) (at + length s) refl refl (c .0) in

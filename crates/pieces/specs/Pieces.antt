@@ -214,7 +214,8 @@ module _ (d : List ℕ) where
   none-more from i to u e v = record {
     on = omega (arith, u .on, v .on);
     within = v .within;
-    nowhere = λ j a b. ⊎-elim (λ l. u .nowhere j a l) (λ l. ⊎-elim (λ q. let z : j ≡ i = omega arith in rw z e) (λ q. v .nowhere j q b) (lt-or-le j (i + 1))) (lt-or-le j i);
+    nowhere = λ j a b. ⊎-elim (λ l. u .nowhere j a l)
+        (λ l. ⊎-elim (λ q. let z : j ≡ i = omega arith in rw z e) (λ q. v .nowhere j q b) (lt-or-le j (i + 1))) (lt-or-le j i);
   }
 
 -- ---- counted

@@ -58,7 +58,8 @@ within-first d at (opened.Start p e) w = (omega arith, w .1, w .2)
 within-first d at (opened.Shut p n) w = (omega arith, w .1, w .2)
 within-first d at (opened.Not f) w = tt
 
-pub due-in : (bad : Bool) (d w : List ℕ) (o : Open) (p e : ℕ) → Within d 0 o → dueOf (bind (readOf o) (λ x. rule.due bad d w x give)) ≡ dues.At p e
+pub due-in : (bad : Bool) (d w : List ℕ) (o : Open) (p e : ℕ) → Within d 0 o → dueOf (bind (readOf o) (λ x. rule.due bad d w x give))
+    ≡ dues.At p e
     → e ≤ length d
 due-in bad d w (opened.Start q m) p e l f = by (isNamed d (q + 1) m w) (bareOf bad d q m) f where
   by : (x : Bool) (t : Tag) → dueOf (cond x (give q m) (rule.onBare bad d {A = ℕ} q t)) ≡ dues.At p e → e ≤ length d
@@ -87,7 +88,8 @@ behind (Is a n) k l m = bind-bind (k a n) l m
 behind (Not f) k l m = refl
 
 inside : {A B C D E : Type 0} (x : Result A) (k : A → Reader B) (l : B → Reader C) (m : C → Reader D) (o : D → Reader E)
-    → bind (bind x (λ a n. bind (k a n) (λ b n. bind (l b n) m))) o ≡ bind x (λ a n. bind (k a n) (λ b n. bind (l b n) (λ c n. bind (m c n) o)))
+    → bind (bind x (λ a n. bind (k a n) (λ b n. bind (l b n) m))) o
+    ≡ bind x (λ a n. bind (k a n) (λ b n. bind (l b n) (λ c n. bind (m c n) o)))
 inside (Is a n) k l m o = behind (k a n) l m o
 inside (Not f) k l m o = refl
 
@@ -119,10 +121,11 @@ module _ (bad : Bool) (d : List ℕ) where
 
   pub closing-is : (at : ℕ) → closing bad d at ≡ bind (endOf bad d SURVEY at) (λ u n. bind (endOf bad d SSS n) (λ u. clearedOf bad d))
   unfolding closing endOf clearedOf
-  closing-is at = sym (bind-bind (rule.within bad d SURVEY at) (rule.over bad d) last) ∙ on (bind (rule.within bad d SURVEY at) (rule.over bad d)) where
-    last : Unit {0} → Reader (Unit {0})
-    last u n = bind (rule.within bad d SSS n) (λ o n. bind (rule.over bad d o n) (λ u. clearedOf bad d))
+  closing-is at = sym (bind-bind (rule.within bad d SURVEY at) (rule.over bad d) last)
+      ∙ on (bind (rule.within bad d SURVEY at) (rule.over bad d)) where
+        last : Unit {0} → Reader (Unit {0})
+        last u n = bind (rule.within bad d SSS n) (λ o n. bind (rule.over bad d o n) (λ u. clearedOf bad d))
 
-    on : (y : Result (Unit {0})) → bind y last ≡ bind y (λ u n. bind (endOf bad d SSS n) (λ u. clearedOf bad d))
-    on (Is u n) = sym (bind-bind (rule.within bad d SSS n) (rule.over bad d) (λ u. clearedOf bad d))
-    on (Not f) = refl
+        on : (y : Result (Unit {0})) → bind y last ≡ bind y (λ u n. bind (endOf bad d SSS n) (λ u. clearedOf bad d))
+        on (Is u n) = sym (bind-bind (rule.within bad d SSS n) (rule.over bad d) (λ u. clearedOf bad d))
+        on (Not f) = refl

@@ -69,7 +69,8 @@ foreign-in bad d at p f = on (gapOf bad d at) f where
     opened angle.Foreign h f = let j : n ≡ p = cc in omega (arith, leb-false (length d) n h)
     opened (angle.Broken q) h f = let t : _≡_ {A = ℕ} 0 1 = cc in absurd (omega arith)
 
-    by : (x y : Bool) → leb (length d) n ≡ x → cond x (stand.Broken n) (cond y (onAngle n (angleOf bad d n)) (textOf d n)) ≡ stand.Foreign p → p ≤ length d
+    by : (x y : Bool) → leb (length d) n ≡ x → cond x (stand.Broken n) (cond y (onAngle n (angleOf bad d n)) (textOf d n)) ≡ stand.Foreign p
+        → p ≤ length d
     by true y h f = let t : _≡_ {A = ℕ} 0 1 = cc in absurd (omega arith)
     by false true h f = opened (angleOf bad d n) h f
     by false false h f = let t = sym (text-none d n) ∙ ap isForeign f in absurd (omega arith)
@@ -122,7 +123,8 @@ enter-in d u em q n h = by (least (named (unknownAt u ∷ []))) em where
   by clean false = h
   by (first f) em = tt
 
-pub manner-in : (d : List ℕ) (h : Held) (old new latin em : Bool) (q n : ℕ) → n ≤ length d → Ends d (prefacedOf (manneredOf h old new latin em q n))
+pub manner-in : (d : List ℕ) (h : Held) (old new latin em : Bool) (q n : ℕ) → n ≤ length d
+    → Ends d (prefacedOf (manneredOf h old new latin em q n))
 unfolding manneredOf judged
 manner-in d h old new latin em q n l = by (least (named charges)) em where
   charges : List Charge

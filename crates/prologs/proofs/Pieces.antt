@@ -41,7 +41,8 @@ run-within f d p h =
     let e = length-drop p d in
     omega arith
 
-run-up : (f : ℕ → Bool) (d : List ℕ) (q : ℕ) → (q < length d → f (getD d q 0) ≡ false) → {u : List ℕ} → Each f u → (p : ℕ) → drop p d ≡ u ++ drop q d → q ≡ p + length u → runOf f p (drop p d) ≡ q
+run-up : (f : ℕ → Bool) (d : List ℕ) (q : ℕ) → (q < length d → f (getD d q 0) ≡ false) → {u : List ℕ} → Each f u → (p : ℕ) → drop p d ≡ u
+    ++ drop q d → q ≡ p + length u → runOf f p (drop p d) ≡ q
 run-up f d q h no-more p e k =
     let g : q ≡ p = omega arith in
     ⊎-elim (λ l. run-over f d p (omega arith) (rw (← g) (h l)) ∙ sym g) (λ l. run-end f d p (omega arith) ∙ sym g) (lt-or-le q (length d))
@@ -154,7 +155,8 @@ unfolding alikes
 yes-letters [] s e = none
 yes-letters (x ∷ w) [] e = holds-not e refl
 yes-letters (x ∷ w) (b ∷ s) e =
-    one (eqb-true (upperOf b) x (and-left (eqb (upperOf b) x) (alikes w s) e)) (yes-letters w s (and-right (eqb (upperOf b) x) (alikes w s) e))
+    one (eqb-true (upperOf b) x (and-left (eqb (upperOf b) x) (alikes w s) e))
+    (yes-letters w s (and-right (eqb (upperOf b) x) (alikes w s) e))
 
 letters-yes : {w s : List ℕ} → Letters w s → alikes w s ≡ true
 unfolding alikes
@@ -182,13 +184,15 @@ alike-no w d {v} {k} h g = by (alikeOf d v k w) refl where
 
 -- ---- letters one by one, for the loop
 module _ (d : List ℕ) (at : ℕ) (w : List ℕ) (i : ℕ) where
-  pub alikes-next : at + i < length d → i < length w → upperOf (getD d (at + i) 0) ≡ getD w i 0 → alikes (drop i w) (drop (at + i) d) ≡ alikes (drop (i + 1) w) (drop (at + (i + 1)) d)
+  pub alikes-next : at + i < length d → i < length w → upperOf (getD d (at + i) 0) ≡ getD w i 0 → alikes (drop i w) (drop (at + i) d)
+      ≡ alikes (drop (i + 1) w) (drop (at + (i + 1)) d)
   unfolding alikes
   alikes-next h k e =
       let n : at + i + 1 ≡ at + (i + 1) = omega arith in
       rw (drop-1 w i k, drop-1 d (at + i) h, eq-eqb _ _ e, n)
 
-  pub alikes-not : at + i < length d → i < length w → (upperOf (getD d (at + i) 0) ≡ getD w i 0 → ⊥) → alikes (drop i w) (drop (at + i) d) ≡ false
+  pub alikes-not : at + i < length d → i < length w → (upperOf (getD d (at + i) 0) ≡ getD w i 0 → ⊥) → alikes (drop i w) (drop (at + i) d)
+      ≡ false
   unfolding alikes
   alikes-not h k e = rw (drop-1 w i k, drop-1 d (at + i) h, ne-eqb _ _ e)
 

@@ -13,7 +13,8 @@ use Rattle.markup.specs.rule.Gap.{gapOf}
 use Rattle.markup.specs.declared.Skip.{Skip}
 use Rattle.markup.specs.declared.Skip.the-variants.{Past, Broken}
 use Rattle.markup.proofs.Gaps.{stands-long, gap-exactly}
-use Rattle.prologs.specs.rule.Form.{Form, done, white, room, word, literal, root, bracket, perhaps, which, pair, naming, standalone, UTF-8, sss}
+use Rattle.prologs.specs.rule.Form.{Form, done, white, room, word, literal, root, bracket, perhaps, which, pair, naming, standalone}
+use Rattle.prologs.specs.rule.Form.{UTF-8, sss}
 use Rattle.prologs.specs.rule.Told.{quotedOf, speltOf, amongOf, alikeOf, dueOf, missOf, blanks, onSkip, tellOf}
 use Rattle.prologs.specs.Pair.{onQuoted, pairOf, latinOf}
 use Rattle.prologs.specs.declared.Pair.{Pair}
@@ -34,7 +35,8 @@ gap-within bad d p n h e =
     let k = g .place in
     omega (arith, length-drop p d)
 
-pub quoted-past : (alone public bad : Bool) (d : List ℕ) (o n k : ℕ) → quotedOf alone public bad d o n ≡ Past k → (n + 1 ≤ k) × (k < length d)
+pub quoted-past : (alone public bad : Bool) (d : List ℕ) (o n k : ℕ) → quotedOf alone public bad d o n ≡ Past k → (n + 1 ≤ k)
+    × (k < length d)
 quoted-past alone public bad d o n k e = quotes-past alone public bad d o n (rw (← e) (quotes alone public bad d o n))
 
 -- ---- = and a value
@@ -60,7 +62,9 @@ module _ (d : List ℕ) (o p : ℕ) where
 
   -- whatever is made of the value
   pair-goes : (g : ℕ → ℕ → Prolog)
-      → cond (stands (61 ∷ []) (drop (blanks d p) d)) (onSkip (quotedOf true false false d o (blanks d (blanks d p + 1))) (λ k. g (blanks d (blanks d p + 1) + 1) k)) (Fault 50 (dueOf false d o (blanks d p)))
+      → cond (stands (61 ∷ []) (drop (blanks d p) d))
+      (onSkip (quotedOf true false false d o (blanks d (blanks d p + 1))) (λ k. g (blanks d (blanks d p + 1) + 1) k))
+      (Fault 50 (dueOf false d o (blanks d p)))
       ≡ afterPair (pairOf d o p) g
   unfolding dueOf pairOf
   pair-goes g = by (leb (length d) (blanks d p)) (eqb (getD d (blanks d p) 0) 61) refl refl where
@@ -68,22 +72,29 @@ module _ (d : List ℕ) (o p : ℕ) where
     n = blanks d p
 
     by : (x y : Bool) → leb (length d) (blanks d p) ≡ x → eqb (getD d (blanks d p) 0) 61 ≡ y
-        → cond (stands (61 ∷ []) (drop (blanks d p) d)) (onSkip (quotedOf true false false d o (blanks d (blanks d p + 1))) (λ k. g (blanks d (blanks d p + 1) + 1) k)) (Fault 50 (cond x o (blanks d p)))
-        ≡ afterPair (cond x (Off o) (cond y (onQuoted (blanks d (blanks d p + 1)) (quotedOf true false false d o (blanks d (blanks d p + 1)))) (Off (blanks d p)))) g
+        → cond (stands (61 ∷ []) (drop (blanks d p) d))
+        (onSkip (quotedOf true false false d o (blanks d (blanks d p + 1))) (λ k. g (blanks d (blanks d p + 1) + 1) k))
+        (Fault 50 (cond x o (blanks d p)))
+        ≡ afterPair (cond x (Off o) (cond y (onQuoted (blanks d (blanks d p + 1))
+        (quotedOf true false false d o (blanks d (blanks d p + 1)))) (Off (blanks d p)))) g
     by true y e f = rw (none-more 61 d (blanks d p) (leb-true (length d) (blanks d p) e))
-    by false true e f = rw (one-more 61 d (blanks d p) (leb-false (length d) (blanks d p) e) ∙ f) (on-quoted g (blanks d (blanks d p + 1)) (quotedOf true false false d o (blanks d (blanks d p + 1))))
+    by false true e f = rw (one-more 61 d (blanks d p) (leb-false (length d) (blanks d p) e) ∙ f)
+        (on-quoted g (blanks d (blanks d p + 1)) (quotedOf true false false d o (blanks d (blanks d p + 1))))
     by false false e f = rw (one-more 61 d (blanks d p) (leb-false (length d) (blanks d p) e) ∙ f)
 
   pub pair-tell : (ws : List (List ℕ)) (f : Form) (l : Bool)
-      → tellOf false d o (pair ws f) l p ≡ afterPair (pairOf d o p) (λ v k. cond (amongOf d v k ws) (tellOf false d o f l (k + 1)) (Fault 50 v))
+      → tellOf false d o (pair ws f) l p ≡ afterPair (pairOf d o p)
+      (λ v k. cond (amongOf d v k ws) (tellOf false d o f l (k + 1)) (Fault 50 v))
   unfolding tellOf missOf
   pair-tell ws f l = pair-goes (λ v k. cond (amongOf d v k ws) (tellOf false d o f l (k + 1)) (Fault 50 v))
 
   pub naming-tell : (marked l : Bool)
       → tellOf false d o (naming marked) l p
-      ≡ afterPair (pairOf d o p) (λ v k. cond (alikeOf d v k UTF-8) (tellOf false d o standalone false (k + 1)) (cond marked (Fault 50 v) (latinOf d o v k)))
+      ≡ afterPair (pairOf d o p) (λ v k. cond (alikeOf d v k UTF-8) (tellOf false d o standalone false (k + 1))
+      (cond marked (Fault 50 v) (latinOf d o v k)))
   unfolding tellOf missOf latinOf
-  naming-tell marked l = pair-goes (λ v k. cond (alikeOf d v k UTF-8) (tellOf false d o standalone false (k + 1)) (cond marked (Fault 50 v) (latinOf d o v k)))
+  naming-tell marked l = pair-goes (λ v k. cond (alikeOf d v k UTF-8) (tellOf false d o standalone false (k + 1))
+      (cond marked (Fault 50 v) (latinOf d o v k)))
 
   pub pair-bounds : (v k : ℕ) → pairOf d o p ≡ Is v k → (v ≤ k) × (k < length d)
   unfolding pairOf
@@ -96,26 +107,31 @@ module _ (d : List ℕ) (o p : ℕ) where
         (omega (arith, q .0), omega (arith, q .1))
     on m (Broken q) f e = let z : _≡_ {A = ℕ} 0 1 = cc in absurd (omega arith)
 
-    by : (x y : Bool) → cond x (Off o) (cond y (onQuoted (blanks d (blanks d p + 1)) (quotedOf true false false d o (blanks d (blanks d p + 1)))) (Off (blanks d p))) ≡ Is v k → (v ≤ k) × (k < length d)
+    by : (x y : Bool) → cond x (Off o) (cond y (onQuoted (blanks d (blanks d p + 1))
+        (quotedOf true false false d o (blanks d (blanks d p + 1)))) (Off (blanks d p))) ≡ Is v k → (v ≤ k) × (k < length d)
     by true y e = let z : _≡_ {A = ℕ} 0 1 = cc in absurd (omega arith)
     by false true e = on (blanks d (blanks d p + 1)) (quotedOf true false false d o (blanks d (blanks d p + 1))) refl e
     by false false e = let z : _≡_ {A = ℕ} 0 1 = cc in absurd (omega arith)
 
   -- ---- what a pair makes of its value
   module _ (f : Form) (l : Bool) where
-    pub pair-first : (w : List ℕ) (ws : List (List ℕ)) {v k : ℕ} → pairOf d o p ≡ Is v k → speltOf d v k w ≡ true → tellOf false d o (pair (w ∷ ws) f) l p ≡ tellOf false d o f l (k + 1)
+    pub pair-first : (w : List ℕ) (ws : List (List ℕ)) {v k : ℕ} → pairOf d o p ≡ Is v k → speltOf d v k w ≡ true
+        → tellOf false d o (pair (w ∷ ws) f) l p ≡ tellOf false d o f l (k + 1)
     unfolding amongOf
     pair-first w ws e h = pair-tell (w ∷ ws) f l ∙ rw (e, h)
 
-    pub pair-second : (w x : List ℕ) {v k : ℕ} → pairOf d o p ≡ Is v k → speltOf d v k w ≡ false → speltOf d v k x ≡ true → tellOf false d o (pair (w ∷ x ∷ []) f) l p ≡ tellOf false d o f l (k + 1)
+    pub pair-second : (w x : List ℕ) {v k : ℕ} → pairOf d o p ≡ Is v k → speltOf d v k w ≡ false → speltOf d v k x ≡ true
+        → tellOf false d o (pair (w ∷ x ∷ []) f) l p ≡ tellOf false d o f l (k + 1)
     unfolding amongOf
     pair-second w x e h g = pair-tell (w ∷ x ∷ []) f l ∙ rw (e, h, g)
 
-    pub pair-neither : (w x : List ℕ) {v k : ℕ} → pairOf d o p ≡ Is v k → speltOf d v k w ≡ false → speltOf d v k x ≡ false → tellOf false d o (pair (w ∷ x ∷ []) f) l p ≡ Fault 50 v
+    pub pair-neither : (w x : List ℕ) {v k : ℕ} → pairOf d o p ≡ Is v k → speltOf d v k w ≡ false → speltOf d v k x ≡ false
+        → tellOf false d o (pair (w ∷ x ∷ []) f) l p ≡ Fault 50 v
     unfolding amongOf
     pair-neither w x e h g = pair-tell (w ∷ x ∷ []) f l ∙ rw (e, h, g)
 
-    pub pair-not : (w : List ℕ) {v k : ℕ} → pairOf d o p ≡ Is v k → speltOf d v k w ≡ false → tellOf false d o (pair (w ∷ []) f) l p ≡ Fault 50 v
+    pub pair-not : (w : List ℕ) {v k : ℕ} → pairOf d o p ≡ Is v k → speltOf d v k w ≡ false → tellOf false d o (pair (w ∷ []) f) l p
+        ≡ Fault 50 v
     unfolding amongOf
     pair-not w e h = pair-tell (w ∷ []) f l ∙ rw (e, h)
 
@@ -123,13 +139,16 @@ module _ (d : List ℕ) (o p : ℕ) where
     pair-off ws e = pair-tell ws f l ∙ rw e
 
   module _ (marked l : Bool) where
-    pub naming-utf : {v k : ℕ} → pairOf d o p ≡ Is v k → alikeOf d v k UTF-8 ≡ true → tellOf false d o (naming marked) l p ≡ tellOf false d o standalone false (k + 1)
+    pub naming-utf : {v k : ℕ} → pairOf d o p ≡ Is v k → alikeOf d v k UTF-8 ≡ true → tellOf false d o (naming marked) l p
+        ≡ tellOf false d o standalone false (k + 1)
     naming-utf e h = naming-tell marked l ∙ rw (e, h)
 
-    pub naming-marked : {v k : ℕ} → pairOf d o p ≡ Is v k → alikeOf d v k UTF-8 ≡ false → marked ≡ true → tellOf false d o (naming marked) l p ≡ Fault 50 v
+    pub naming-marked : {v k : ℕ} → pairOf d o p ≡ Is v k → alikeOf d v k UTF-8 ≡ false → marked ≡ true
+        → tellOf false d o (naming marked) l p ≡ Fault 50 v
     naming-marked e h m = naming-tell marked l ∙ rw (e, h, m)
 
-    pub naming-latin : {v k : ℕ} → pairOf d o p ≡ Is v k → alikeOf d v k UTF-8 ≡ false → marked ≡ false → tellOf false d o (naming marked) l p ≡ latinOf d o v k
+    pub naming-latin : {v k : ℕ} → pairOf d o p ≡ Is v k → alikeOf d v k UTF-8 ≡ false → marked ≡ false
+        → tellOf false d o (naming marked) l p ≡ latinOf d o v k
     naming-latin e h m = naming-tell marked l ∙ rw (e, h, m)
 
     pub naming-off : {q : ℕ} → pairOf d o p ≡ Off q → tellOf false d o (naming marked) l p ≡ Fault 50 q
@@ -161,11 +180,13 @@ module _ (bad : Bool) (d : List ℕ) (o : ℕ) (f : Form) (l : Bool) (p : ℕ) w
   unfolding tellOf
   word-miss w e = rw e
 
-  pub tell-literal : (public : Bool) {k : ℕ} → quotedOf false public bad d o p ≡ Past k → tellOf bad d o (literal public f) l p ≡ tellOf bad d o f l (k + 1)
+  pub tell-literal : (public : Bool) {k : ℕ} → quotedOf false public bad d o p ≡ Past k → tellOf bad d o (literal public f) l p
+      ≡ tellOf bad d o f l (k + 1)
   unfolding tellOf
   tell-literal public e = rw e
 
-  pub literal-broken : (public : Bool) {q : ℕ} → quotedOf false public bad d o p ≡ Broken q → tellOf bad d o (literal public f) l p ≡ Fault 50 q
+  pub literal-broken : (public : Bool) {q : ℕ} → quotedOf false public bad d o p ≡ Broken q → tellOf bad d o (literal public f) l p
+      ≡ Fault 50 q
   unfolding tellOf
   literal-broken public e = rw e
 
@@ -198,11 +219,13 @@ module _ (bad : Bool) (d : List ℕ) (o : ℕ) (w : List ℕ) (f g : Form) (l : 
   unfolding tellOf
   perhaps-none {n} e h = rw (← e, eq-eqb n p h)
 
-  pub perhaps-not : {n : ℕ} → n ≡ blanks d p → (n ≡ p → ⊥) → stands w (drop n d) ≡ false → tellOf bad d o (perhaps w f g) l p ≡ tellOf bad d o g l p
+  pub perhaps-not : {n : ℕ} → n ≡ blanks d p → (n ≡ p → ⊥) → stands w (drop n d) ≡ false → tellOf bad d o (perhaps w f g) l p
+      ≡ tellOf bad d o g l p
   unfolding tellOf
   perhaps-not {n} e h s = rw (← e, ne-eqb n p h, s)
 
-  pub perhaps-yes : {n : ℕ} → n ≡ blanks d p → (n ≡ p → ⊥) → stands w (drop n d) ≡ true → tellOf bad d o (perhaps w f g) l p ≡ tellOf bad d o f l (n + length w)
+  pub perhaps-yes : {n : ℕ} → n ≡ blanks d p → (n ≡ p → ⊥) → stands w (drop n d) ≡ true → tellOf bad d o (perhaps w f g) l p
+      ≡ tellOf bad d o f l (n + length w)
   unfolding tellOf
   perhaps-yes {n} e h s = rw (← e, ne-eqb n p h, s)
 

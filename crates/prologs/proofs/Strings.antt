@@ -27,9 +27,12 @@ Inside public d n k = Run (insideOf public (getD d n 0)) d (n + 1) k
 pub data Quotes (alone public bad : Bool) (d : List ℕ) (o n : ℕ) : Skip → Type 0 where
   gone : length d ≤ n → Quotes alone public bad d o n (Broken (endFault bad n o))
   bare : n < length d → (Opens d n → ⊥) → Quotes alone public bad d o n (Broken n)
-  cut : {k : ℕ} → n < length d → Opens d n → Inside public d n k → length d ≤ k → Quotes alone public bad d o n (Broken (cutOf alone bad d o n k))
-  other : {k : ℕ} → n < length d → Opens d n → Inside public d n k → k < length d → (getD d k 0 ≡ getD d n 0 → ⊥) → Quotes alone public bad d o n (Broken k)
-  whole : {k : ℕ} → n < length d → Opens d n → Inside public d n k → k < length d → getD d k 0 ≡ getD d n 0 → Quotes alone public bad d o n (Past k)
+  cut : {k : ℕ} → n < length d → Opens d n → Inside public d n k → length d ≤ k
+      → Quotes alone public bad d o n (Broken (cutOf alone bad d o n k))
+  other : {k : ℕ} → n < length d → Opens d n → Inside public d n k → k < length d → (getD d k 0 ≡ getD d n 0 → ⊥)
+      → Quotes alone public bad d o n (Broken k)
+  whole : {k : ℕ} → n < length d → Opens d n → Inside public d n k → k < length d → getD d k 0 ≡ getD d n 0
+      → Quotes alone public bad d o n (Past k)
 
 opens-yes : (b : ℕ) → (b ≡ 34) ⊎ (b ≡ 39) → (eqb b 34 || eqb b 39) ≡ true
 opens-yes b = ⊎-elim (λ x. rw x) (λ x. rw x)
@@ -47,10 +50,12 @@ module _ (alone public bad : Bool) (d : List ℕ) (o n : ℕ) where
   end-at : ℕ
   end-at = runOf (insideOf public (getD d n 0)) (n + 1) (drop (n + 1) d)
 
-  closed : (k : ℕ) → n < length d → Opens d n → Inside public d n k → Quotes alone public bad d o n (closedOf d (cutOf alone bad d o n k) (getD d n 0) k)
+  closed : (k : ℕ) → n < length d → Opens d n → Inside public d n k
+      → Quotes alone public bad d o n (closedOf d (cutOf alone bad d o n k) (getD d n 0) k)
   unfolding closedOf
   closed k h q i = by (leb (length d) k) (eqb (getD d k 0) (getD d n 0)) refl refl where
-    by : (x y : Bool) → leb (length d) k ≡ x → eqb (getD d k 0) (getD d n 0) ≡ y → Quotes alone public bad d o n (cond x (Broken (cutOf alone bad d o n k)) (cond y (Past k) (Broken k)))
+    by : (x y : Bool) → leb (length d) k ≡ x → eqb (getD d k 0) (getD d n 0) ≡ y
+        → Quotes alone public bad d o n (cond x (Broken (cutOf alone bad d o n k)) (cond y (Past k) (Broken k)))
     by true y e f = cut h q i (leb-true (length d) k e)
     by false true e f = whole h q i (leb-false (length d) k e) (eqb-true (getD d k 0) (getD d n 0) f)
     by false false e f = other h q i (leb-false (length d) k e) (eqb-false (getD d k 0) (getD d n 0) f)
@@ -59,7 +64,9 @@ module _ (alone public bad : Bool) (d : List ℕ) (o n : ℕ) where
   unfolding quotedOf
   quotes = by (leb (length d) n) (eqb (getD d n 0) 34 || eqb (getD d n 0) 39) refl refl where
     by : (x y : Bool) → leb (length d) n ≡ x → (eqb (getD d n 0) 34 || eqb (getD d n 0) 39) ≡ y
-        → Quotes alone public bad d o n (cond x (Broken (endFault bad n o)) (cond y (closedOf d (cutOf alone bad d o n (runOf (insideOf public (getD d n 0)) (n + 1) (drop (n + 1) d))) (getD d n 0) (runOf (insideOf public (getD d n 0)) (n + 1) (drop (n + 1) d))) (Broken n)))
+        → Quotes alone public bad d o n (cond x (Broken (endFault bad n o))
+        (cond y (closedOf d (cutOf alone bad d o n (runOf (insideOf public (getD d n 0)) (n + 1) (drop (n + 1) d))) (getD d n 0)
+        (runOf (insideOf public (getD d n 0)) (n + 1) (drop (n + 1) d))) (Broken n)))
     by true y e f = gone (leb-true (length d) n e)
     by false true e f =
         closed (runOf (insideOf public (getD d n 0)) (n + 1) (drop (n + 1) d)) (leb-false (length d) n e) (yes-opens (getD d n 0) f)
@@ -73,14 +80,27 @@ module _ (alone public bad : Bool) (d : List ℕ) (o n : ℕ) where
   quoted-is (cut {k} h q i l) =
       rw (lt-leb (length d) n h, opens-yes (getD d n 0) q, is-run (insideOf public (getD d n 0)) d i, le-leb (length d) k l)
   quoted-is (other {k} h q i l e) =
-      rw (lt-leb (length d) n h, opens-yes (getD d n 0) q, is-run (insideOf public (getD d n 0)) d i, lt-leb (length d) k l, ne-eqb (getD d k 0) (getD d n 0) e)
+      rw (
+        lt-leb (length d) n h,
+        opens-yes (getD d n 0) q,
+        is-run (insideOf public (getD d n 0)) d i,
+        lt-leb (length d) k l,
+        ne-eqb (getD d k 0) (getD d n 0) e,
+      )
   quoted-is (whole {k} h q i l e) =
-      rw (lt-leb (length d) n h, opens-yes (getD d n 0) q, is-run (insideOf public (getD d n 0)) d i, lt-leb (length d) k l, eq-eqb (getD d k 0) (getD d n 0) e)
+      rw (
+        lt-leb (length d) n h,
+        opens-yes (getD d n 0) q,
+        is-run (insideOf public (getD d n 0)) d i,
+        lt-leb (length d) k l,
+        eq-eqb (getD d k 0) (getD d n 0) e,
+      )
 
   -- a string that ends does so behind its first quote, and before the end
   pub quotes-past : {k : ℕ} → Quotes alone public bad d o n (Past k) → (n + 1 ≤ k) × (k < length d)
   quotes-past (whole h q i l e) = let p = i .stretch .place in (omega arith, l)
 
 -- STRING: what is found is found exactly so
-pub string-exactly : (alone public bad : Bool) (d : List ℕ) (o n : ℕ) (r : Skip) → (quotedOf alone public bad d o n ≡ r) ↔ Quotes alone public bad d o n r
+pub string-exactly : (alone public bad : Bool) (d : List ℕ) (o n : ℕ) (r : Skip)
+    → (quotedOf alone public bad d o n ≡ r) ↔ Quotes alone public bad d o n r
 string-exactly alone public bad d o n r = (λ e. rw (← e) (quotes alone public bad d o n), quoted-is alone public bad d o n)

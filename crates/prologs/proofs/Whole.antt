@@ -95,10 +95,12 @@ declaration-exactly d r = (λ e. rw (← e) (declares d), declared-is d)
 -- ---- before the root
 pub data Headed (bad latin : Bool) (d : List ℕ) (p : ℕ) : Prolog → Type 0 where
   untyped : {n : ℕ} → Gapped d p n → NoBytes DOCTYPE d n → Headed bad latin d p (Read latin n)
-  typed : {n m k e : ℕ} {l : Bool} → Gapped d p n → Bytes DOCTYPE d n m → Tells bad d n doctype latin n (Read l k) → Gapped d k e → Headed bad latin d p (Read l e)
+  typed : {n m k e : ℕ} {l : Bool} → Gapped d p n → Bytes DOCTYPE d n m → Tells bad d n doctype latin n (Read l k) → Gapped d k e
+      → Headed bad latin d p (Read l e)
   ill : {n m k q : ℕ} → Gapped d p n → Bytes DOCTYPE d n m → Tells bad d n doctype latin n (Fault k q) → Headed bad latin d p (Fault k q)
   comment : {q : ℕ} → gapOf bad d p ≡ Broken q → Headed bad latin d p (Fault 50 q)
-  later : {n m k q : ℕ} {l : Bool} → Gapped d p n → Bytes DOCTYPE d n m → Tells bad d n doctype latin n (Read l k) → gapOf bad d k ≡ Broken q → Headed bad latin d p (Fault 50 q)
+  later : {n m k q : ℕ} {l : Bool} → Gapped d p n → Bytes DOCTYPE d n m → Tells bad d n doctype latin n (Read l k) → gapOf bad d k
+      ≡ Broken q → Headed bad latin d p (Fault 50 q)
 
 module _ (bad latin : Bool) (d : List ℕ) (p : ℕ) where
   gapped : (k n : ℕ) → gapOf bad d k ≡ Past n → Gapped d k n
@@ -107,27 +109,36 @@ module _ (bad latin : Bool) (d : List ℕ) (p : ℕ) where
   heads : Headed bad latin d p (headOf bad latin d p)
   unfolding headOf gapTo
   heads = on (gapOf bad d p) refl where
-    then : {n m k : ℕ} {l : Bool} → Gapped d p n → Bytes DOCTYPE d n m → Tells bad d n doctype latin n (Read l k) → (s : Skip) → gapOf bad d k ≡ s
+    then : {n m k : ℕ} {l : Bool} → Gapped d p n → Bytes DOCTYPE d n m → Tells bad d n doctype latin n (Read l k) → (s : Skip)
+        → gapOf bad d k ≡ s
         → Headed bad latin d p (onSkip s λ e. Read l e)
     then {k = k} g b t (Past e) f = typed g b t (gapped k e f)
     then g b t (Broken q) f = later g b t f
 
-    of : {n m : ℕ} → Gapped d p n → Bytes DOCTYPE d n m → (r : Prolog) → Tells bad d n doctype latin n r → Headed bad latin d p (gapOn bad d r)
+    of : {n m : ℕ} → Gapped d p n → Bytes DOCTYPE d n m → (r : Prolog) → Tells bad d n doctype latin n r
+        → Headed bad latin d p (gapOn bad d r)
     of g b (Read l k) t = then g b t (gapOf bad d k) refl
     of g b (Fault k q) t = ill g b t
 
-    by : {n : ℕ} → Gapped d p n → (x : Bool) → stands DOCTYPE (drop n d) ≡ x → Headed bad latin d p (cond x (gapOn bad d (tellOf bad d n doctype latin n)) (Read latin n))
+    by : {n : ℕ} → Gapped d p n → (x : Bool) → stands DOCTYPE (drop n d) ≡ x
+        → Headed bad latin d p (cond x (gapOn bad d (tellOf bad d n doctype latin n)) (Read latin n))
     by {n} g true e = of g (yes-bytes DOCTYPE d n e) (tellOf bad d n doctype latin n) (tells bad d n doctype latin n)
     by {n} g false e = untyped g (no-bytes DOCTYPE d n e)
 
-    on : (s : Skip) → gapOf bad d p ≡ s → Headed bad latin d p (onSkip s λ n. cond (stands DOCTYPE (drop n d)) (gapOn bad d (tellOf bad d n doctype latin n)) (Read latin n))
+    on : (s : Skip) → gapOf bad d p ≡ s → Headed bad latin d p
+        (onSkip s λ n. cond (stands DOCTYPE (drop n d)) (gapOn bad d (tellOf bad d n doctype latin n)) (Read latin n))
     on (Past n) e = by (gapped p n e) (stands DOCTYPE (drop n d)) refl
     on (Broken q) e = comment e
 
   headed-is : {r : Prolog} → Headed bad latin d p r → headOf bad latin d p ≡ r
   unfolding headOf gapTo
   headed-is (untyped {n} g b) = rw (gap-exactly bad d p n .1 g, bytes-no DOCTYPE d n b)
-  headed-is (typed {n} {m} {k} {e} g b t h) = rw (gap-exactly bad d p n .1 g, bytes-yes DOCTYPE d b, told bad d n t, gap-exactly bad d k e .1 h)
+  headed-is (typed {n} {m} {k} {e} g b t h) = rw (
+    gap-exactly bad d p n .1 g,
+    bytes-yes DOCTYPE d b,
+    told bad d n t,
+    gap-exactly bad d k e .1 h,
+  )
   headed-is (ill {n} g b t) = rw (gap-exactly bad d p n .1 g, bytes-yes DOCTYPE d b, told bad d n t)
   headed-is (comment e) = rw e
   headed-is (later {n} g b t e) = rw (gap-exactly bad d p n .1 g, bytes-yes DOCTYPE d b, told bad d n t, e)
@@ -153,7 +164,8 @@ module _ (bad : Bool) (d : List ℕ) (p : ℕ) where
   tails : Tailed bad d p (tailOf bad d p)
   unfolding tailOf
   tails = on (gapOf bad d p) refl where
-    by : {n : ℕ} → Gapped d p n → (x y : Bool) → leb (length d) n ≡ x → stands (60 ∷ 63 ∷ []) (drop n d) ≡ y → Tailed bad d p (cond x (endOf bad n) (cond y (Foul 51 n) (Foul 50 n)))
+    by : {n : ℕ} → Gapped d p n → (x y : Bool) → leb (length d) n ≡ x → stands (60 ∷ 63 ∷ []) (drop n d) ≡ y
+        → Tailed bad d p (cond x (endOf bad n) (cond y (Foul 51 n) (Foul 50 n)))
     by {n} g true y e f = ends g (leb-true (length d) n e) bad refl
     by {n} g false true e f = instruction g (leb-false (length d) n e) (yes-bytes (60 ∷ 63 ∷ []) d n f)
     by {n} g false false e f = other g (leb-false (length d) n e) (no-bytes (60 ∷ 63 ∷ []) d n f)

@@ -101,7 +101,8 @@ unmarked-more f s from i n c e h = record {
 -- one byte on
 pub unmarked-next : (f : ℕ → Bool) (s : List ℕ) (from i : ℕ) → Unmarked f s from i → markAt f s i ≡ false → i < length s
     → Unmarked f s from (i + 1)
-unmarked-next f s from i c e h = unmarked-more f s from i 1 c (sym (among-more f s i 0 false (sym (among-none f s i))) ∙ rw (i-zero i) e) (omega arith)
+unmarked-next f s from i c e h = unmarked-more f s from i 1 c (sym (among-more f s i 0 false (sym (among-none f s i))) ∙ rw (i-zero i) e)
+    (omega arith)
   where
     i-zero : (i : ℕ) → i + 0 ≡ i
     i-zero i = omega arith

@@ -66,7 +66,8 @@ no-zero m e b h g = go (eqb m 0) (eqb→eq m 0)
     go true z =
         absurd
         (lt-irrefl 0
-        (subst (λ (x : ℕ). 0 < x) (sym h ∙ ap (λ (y : ℕ). y * up e * 1) (z tt) ∙ ap (λ (y : ℕ). y * 1) (zero-mul (up e)) ∙ zero-mul 1) (mul-pos g (down-pos e))))
+        (subst (λ (x : ℕ). 0 < x) (sym h ∙ ap (λ (y : ℕ). y * up e * 1) (z tt) ∙ ap (λ (y : ℕ). y * 1) (zero-mul (up e)) ∙ zero-mul 1)
+        (mul-pos g (down-pos e))))
 
 div-at : (f : Format) (x y : Float) (s : Bool) (a b : ℕ) → HasValue x s a 1 → HasValue y false b 1 → 0 < b → div f x y ≡ round f s a b
 unfolding div
@@ -91,7 +92,8 @@ div-at f (fin t m e) (fin false n d) s a b v w h =
 
 pub value-nearest : (n : ℤ) (p : ℕ) → Scaled n → Power p → valueOf n p ≡ round binary64 (minus n) (natAbs n) p
 unfolding valueOf
-value-nearest n p h k = div-at binary64 (ofInt binary64 n) (ofInt binary64 (pos p)) (minus n) (natAbs n) p (scaled-exact n h) (power-exact p k) (k .0)
+value-nearest n p h k = div-at binary64 (ofInt binary64 n) (ofInt binary64 (pos p)) (minus n) (natAbs n) p (scaled-exact n h)
+    (power-exact p k) (k .0)
 
 -- over 1, as for categories and truth values, the value is the number itself
 pub value-whole : (n : ℤ) → Scaled n → valueOf n 1 ≡ ofInt binary64 n

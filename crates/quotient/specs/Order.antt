@@ -5,7 +5,8 @@ use mathlib.Core.Path.{_≡_, refl, sym, ap, _∙_, subst}
 use mathlib.Core.Bool.{Bool, true, false, not, true≢false}
 use mathlib.Core.Logic.{inl, inr}
 use Prim.Native.Nat.{ℕ, zero, suc, _+_, _-_, _*_, _/_, _%_, _^_, _≤_, _<_, compare, Ordering, Ordering·lt, Ordering·eq, Ordering·gt}
-use native.Mathlib.Nat.{le-trans, le-refl, le-of-lt, le-antisymm, le-of-eq, lt-of-not-le, eq-or-lt-of-le, le-of-mul-le-mul-right, lt-of-mul-lt-mul-right, le-mul-of-pos-right, le-div-iff-mul-le}
+use native.Mathlib.Nat.{le-trans, le-refl, le-of-lt, le-antisymm, le-of-eq, lt-of-not-le, eq-or-lt-of-le, le-of-mul-le-mul-right}
+use native.Mathlib.Nat.{lt-of-mul-lt-mul-right, le-mul-of-pos-right, le-div-iff-mul-le}
 use native.Mathlib.Nat.{mod-lt, mul-one, one-mul, suc-mul, mul-assoc, mul-comm, mul-left-comm}
 use native.Mathlib.Nat.{mul-right-comm, add-mul, zero-mul, mul-pos, mul-le-mul-right, mul-lt-mul-of-pos-right, div-add-mod'}
 use native.Mathlib.Omega.{arith}
@@ -105,11 +106,13 @@ pub cells-rise : (a b c : ℕ) → a < b → b ≤ 999999999999999 → Power c �
 cells-rise a b c l h P = lt-of-not-le (λ (g : cells b c ≤ cells a c). far a b l (omega arith) (shrunk (crossed g)))
   where
     big : c * 4503599627370496 ≤ b * unit
-    big = let one : 1 ≤ b = omega arith in le-trans (mul-le-mul-right 4503599627370496 (P .1)) (le-trans (lit≤ tt) (mul-le-mul-right unit one))
+    big = let one : 1 ≤ b = omega arith in le-trans (mul-le-mul-right 4503599627370496 (P .1))
+        (le-trans (lit≤ tt) (mul-le-mul-right unit one))
 
     crossed : cells b c ≤ cells a c → b * unit * 9007199254740990 ≤ a * unit * 9007199254740992
     crossed g =
-        apart (a * unit) (b * unit) (step a c) (step b c) (cells a c * c) (cells b c * c) (near-cells a c (P .0) .0) (near-cells b c (P .0) .1)
+        apart (a * unit) (b * unit) (step a c) (step b c) (cells a c * c) (cells b c * c) (near-cells a c (P .0) .0)
+        (near-cells b c (P .0) .1)
         (small-step (a * unit) c (b * unit) (P .0) big (mul-le-mul-right unit (le-of-lt l)))
         (small-step (b * unit) c (b * unit) (P .0) big (le-refl (b * unit)))
         (mul-le-mul-right c g)

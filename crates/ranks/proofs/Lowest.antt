@@ -23,7 +23,8 @@ Below a b = (a .number < b .number) ⊎ ((a .number ≡ b .number) × (a .place 
 pub below-of : (a b : Found) → precedes b a ≡ false → Below a b
 unfolding precedes
 below-of a b e = by (ltb (b .number) (a .number)) (eqb (b .number) (a .number)) (ltb (b .place) (a .place)) refl refl refl e where
-  by : (x y z : Bool) → ltb (b .number) (a .number) ≡ x → eqb (b .number) (a .number) ≡ y → ltb (b .place) (a .place) ≡ z → (x || (y && z)) ≡ false → Below a b
+  by : (x y z : Bool) → ltb (b .number) (a .number) ≡ x → eqb (b .number) (a .number) ≡ y → ltb (b .place) (a .place) ≡ z → (x || (y && z))
+      ≡ false → Below a b
   by true y z f g h e = let t : _≡_ {A = ℕ} 0 1 = cc in absurd (omega arith)
   by false true true f g h e = let t : _≡_ {A = ℕ} 0 1 = cc in absurd (omega arith)
   by false true false f g h e = inr (sym (eqb-true (b .number) (a .number) g), ltb-false (b .place) (a .place) h)
@@ -32,17 +33,23 @@ below-of a b e = by (ltb (b .number) (a .number)) (eqb (b .number) (a .number)) 
 of-below : (a b : Found) → Below a b → precedes b a ≡ false
 unfolding precedes
 of-below a b = ⊎-elim (λ h. rw (le-ltb (b .number) (a .number) (omega arith), ne-eqb (b .number) (a .number) (λ e. omega arith)))
-    (λ h. let e = h .0 in let k = h .1 in rw (le-ltb (b .number) (a .number) (omega arith), eq-eqb (b .number) (a .number) (sym e), le-ltb (b .place) (a .place) k))
+    (λ h. let e = h .0 in let k = h .1 in rw (
+      le-ltb (b .number) (a .number) (omega arith),
+      eq-eqb (b .number) (a .number) (sym e),
+      le-ltb (b .place) (a .place) k,
+    ))
 
 pub below-join : (a b c : Found) → Below a b → Below b c → Below a c
 below-join a b c x y =
     ⊎-elim (λ h. ⊎-elim (λ k. inl (omega arith)) (λ k. let e = k .0 in inl (omega arith)) y)
-    (λ h. let e = h .0 in let f = h .1 in ⊎-elim (λ k. inl (omega arith)) (λ k. let i = k .0 in let j = k .1 in inr (omega arith, omega arith)) y) x
+    (λ h. let e = h .0 in let f = h .1 in ⊎-elim (λ k. inl (omega arith))
+    (λ k. let i = k .0 in let j = k .1 in inr (omega arith, omega arith)) y) x
 
 pub turned : (a b : Found) → precedes b a ≡ true → Below b a
 unfolding precedes
 turned a b e = by (ltb (b .number) (a .number)) (eqb (b .number) (a .number)) (ltb (b .place) (a .place)) refl refl refl e where
-  by : (x y z : Bool) → ltb (b .number) (a .number) ≡ x → eqb (b .number) (a .number) ≡ y → ltb (b .place) (a .place) ≡ z → (x || (y && z)) ≡ true → Below b a
+  by : (x y z : Bool) → ltb (b .number) (a .number) ≡ x → eqb (b .number) (a .number) ≡ y → ltb (b .place) (a .place) ≡ z → (x || (y && z))
+      ≡ true → Below b a
   by true y z f g h e = inl (ltb-true (b .number) (a .number) f)
   by false true true f g h e = let k = ltb-true (b .place) (a .place) h in inr (eqb-true (b .number) (a .number) g, omega arith)
   by false true false f g h e = let t : _≡_ {A = ℕ} 0 1 = cc in absurd (omega arith)
@@ -72,7 +79,8 @@ module _ (a : Found) (s : List Found) where
 
   -- the others are none
   alone : (m : Found) → (a .number ≡ 0 → ⊥) → m .number ≡ 0 → Held s m → Held (a ∷ s) a
-  alone m n z (nothing e f) = lowest here n (each-of (λ g. (g .number ≡ 0 → ⊥) → Below a g) (λ k. below-same a) (λ g i k. absurd (k (f g i))))
+  alone m n z (nothing e f) = lowest here n (each-of (λ g. (g .number ≡ 0 → ⊥) → Below a g) (λ k. below-same a)
+      (λ g i k. absurd (k (f g i))))
   alone m n z (lowest x y f) = absurd (y z)
 
   take-rest : (m : Found) → (m .number ≡ 0 → ⊥) → Below m a → Held s m → Held (a ∷ s) m
@@ -81,7 +89,8 @@ module _ (a : Found) (s : List Found) where
 
   take-first : (m : Found) → (a .number ≡ 0 → ⊥) → (m .number ≡ 0 → ⊥) → Below a m → Held s m → Held (a ∷ s) a
   take-first m n k b (nothing e f) = absurd (k e)
-  take-first m n k b (lowest x y f) = lowest here n (each-of (λ g. (g .number ≡ 0 → ⊥) → Below a g) (λ i. below-same a) (λ g i j. below-join a m g b (f g i j)))
+  take-first m n k b (lowest x y f) = lowest here n
+      (each-of (λ g. (g .number ≡ 0 → ⊥) → Below a g) (λ i. below-same a) (λ g i j. below-join a m g b (f g i j)))
 
   one-more : (m : Found) → Held s m → Held (a ∷ s) (lowerOf a m)
   unfolding lowerOf

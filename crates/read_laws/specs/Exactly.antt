@@ -31,7 +31,8 @@ use Rattle.read_laws.specs.Kinds.{single-exactly, zero-not, not-zero, bi
 use Rattle.read_laws.specs.rule.Others.{TextForm, Entries, SpreadSet}
 use Rattle.read_laws.specs.Others.{text-exactly, spread-exactly, spread-set-of, spread-set-is}
 use Rattle.read_laws.specs.Missing.{spaces-missing}
-use Rattle.read_laws.specs.rule.Exactly.{AllPlain, Illegal, single, quantity, bitstring, spread, character, logical, Says, blank-field}
+use Rattle.read_laws.specs.rule.Exactly.{AllPlain, Illegal, single, quantity, bitstring, spread, character, logical, Says}
+use Rattle.read_laws.specs.rule.Exactly.{blank-field}
 use Rattle.read_laws.specs.rule.Exactly.{single-zero, single-number, quantity-number, bits-set, spread-set, character-text}
 use Rattle.read_laws.specs.rule.Exactly.{logical-true, logical-false, no-value, Given}
 
@@ -81,7 +82,8 @@ module _ (t : List ℤ) (v : ℕ) (r : Row) (s : List ℕ) where
     unfolding fieldBy quantitySays numberField
     quantity-named = go (quantityOf f s) refl
       where
-        by : (z : ℤ) → quantityOf f s ≡ says z → (b : Bool) → legal t v r z ≡ b → Says t v r s (Quantity f) (cond b (holds (number z)) illegal)
+        by : (z : ℤ) → quantityOf f s ≡ says z → (b : Bool) → legal t v r z ≡ b
+            → Says t v r s (Quantity f) (cond b (holds (number z)) illegal)
         by z u true q = quantity-number (quantity-exactly f facts s z .0 u) q
         by z u false q =
             no-value

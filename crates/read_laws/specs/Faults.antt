@@ -26,7 +26,8 @@ use Rattle.read_laws.specs.rule.Refused.{RecordOutcome, not-formed, too-
 use Rattle.read_laws.specs.Refused.{record-named}
 use Rattle.read_laws.specs.rule.Faults.{Told, stray, not-legal, point}
 use Rattle.read_laws.specs.rule.Reading as reading
-use Rattle.read_laws.specs.rule.Reading.{Readable, ReadOutcome, is-illegal, is-missing, is-number, is-set, short-list, is-text, is-truth}
+use Rattle.read_laws.specs.rule.Reading.{Readable, ReadOutcome, is-illegal, is-missing, is-number, is-set, short-list, is-text}
+use Rattle.read_laws.specs.rule.Reading.{is-truth}
 use Rattle.read_laws.specs.Reading.{read-named, row-only}
 
 -- what a fault that is one is told as
@@ -49,7 +50,8 @@ faultyRow t v bytes i = someFault (rowFault t v bytes i)
 pub same-row : (t : List ℤ) → wellFormed t ≡ true → (bytes : List ℕ)
     → firstFrom (badRow t (rowsOf t) bytes) 0 (rowsOf t) ≡ firstFrom (faultyRow t (rowsOf t) bytes) 0 (rowsOf t)
 same-row t good bytes =
-    first-same (badRow t (rowsOf t) bytes) (faultyRow t (rowsOf t) bytes) 0 (rowsOf t) (λ j a b. refused-as-before t good j (omega arith) bytes)
+    first-same (badRow t (rowsOf t) bytes) (faultyRow t (rowsOf t) bytes) 0 (rowsOf t)
+    (λ j a b. refused-as-before t good j (omega arith) bytes)
 
 -- ---- A RECORD JUDGED: with a row comes its fault, and there is one
 module _ {t : List ℤ} {bytes : List ℕ} {i : ℕ} {x : Fault} where

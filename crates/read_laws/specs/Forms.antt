@@ -240,7 +240,8 @@ module _ (f : Format) (facts : FormatFacts f) where
     opened : amountForm f x ≡ true → z ≡ numberOf neg (amountSize f x) → Parts
     unfolding amountForm
     opened a b =
-        let q = four (leb (leastWhole f + tailOf f) (length x)) (digitsOnly (wholePart f x)) (pointStands f x) (digitsOnly (decimalPart f x)) a in
+        let q = four (leb (leastWhole f + tailOf f) (length x)) (digitsOnly (wholePart f x)) (pointStands f x)
+        (digitsOnly (decimalPart f x)) a in
         record { long = leb-true _ _ (q .0); whole-digits = q .1; stands = q .2; decimal-digits = q .3; is = b }
 
     parts : amountOf f neg x ≡ says z → Parts
@@ -300,7 +301,8 @@ module _ (f : Format) (facts : FormatFacts f) where
 
   -- ---- a quantity
   -- what stands behind the spaces: a minus and an amount, or an amount that begins with a digit
-  after-complete : (neg : Bool) (g sg w t ds : List ℕ) (n : ℕ) → Spaces g → Sign neg sg → leastWhole f ≤ length w → Tail f t ds → Digits 0 (w ++ ds) n
+  after-complete : (neg : Bool) (g sg w t ds : List ℕ) (n : ℕ) → Spaces g → Sign neg sg → leastWhole f ≤ length w → Tail f t ds
+      → Digits 0 (w ++ ds) n
       → quantityOf f (g ++ (sg ++ (w ++ t))) ≡ says (numberOf neg n)
   unfolding quantityOf quantityAfter
   after-complete neg g sg w t ds n b minus some tl d = rw (past-gap 45 (w ++ t) b (λ e. omega arith)) (complete true w t ds n some tl d)

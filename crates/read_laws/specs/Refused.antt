@@ -90,7 +90,8 @@ module _ (t : List ℤ) (good : wellFormed t ≡ true) (bytes : List ℕ) where
   by-bytes l (At p) q v = let z : _≡_ {A = ℕ} 0 1 = cc in absurd (omega arith)
   by-bytes l Nothing q v = by-rows l q (firstFrom (badRow t (rowsOf t) bytes) 0 (rowsOf t)) refl v
 
-  by-length : (c : Bool) → leb (lengthOf t) (length bytes) ≡ c → cond c (rowsVerdict t (rowsOf t) bytes) (refused 22) ≡ sound → Passes t good bytes
+  by-length : (c : Bool) → leb (lengthOf t) (length bytes) ≡ c → cond c (rowsVerdict t (rowsOf t) bytes) (refused 22) ≡ sound
+      → Passes t good bytes
   unfolding rowsVerdict
   by-length true q v = by-bytes (leb-true _ _ q) (firstFrom (lowAt bytes) 0 (length bytes)) refl v
   by-length false q v = let z : _≡_ {A = ℕ} 0 1 = cc in absurd (omega arith)

@@ -30,7 +30,8 @@ pub record ShareForm (decimals : ℕ) (s : List ℕ) (z : ℤ) : Type 0 where
   pub is : z ≡ numberOf negative size
 
 module _ (f : Format) (facts : FormatFacts f) (share : f .point ≡ 2) where
-  from-tail : (s : List ℕ) (z : ℤ) (q : QuantityForm f s z) {t ds : List ℕ} → q .tail ≡ t → q .decimals ≡ ds → Tail f t ds → ShareForm (f .decimals) s z
+  from-tail : (s : List ℕ) (z : ℤ) (q : QuantityForm f s z) {t ds : List ℕ} → q .tail ≡ t → q .decimals ≡ ds → Tail f t ds
+      → ShareForm (f .decimals) s z
   from-tail s z q a b (without p) = absurd (omega arith)
   from-tail s z q {ds = ds} a b (point p l) = record {
     gap = q .gap;

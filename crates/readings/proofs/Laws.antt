@@ -37,19 +37,23 @@ use Rattle.readings.specs.declared.Answer.the-variants.{Missing, Number,
 
 -- ---- the reading of a row by its kind
 module _ (tab : List ℤ) (v : ℕ) (r : Row) (bytes : List ℕ) where
-  pub as-single : r .kind ≡ Single → readingOf tab v r bytes ≡ singleField (legal tab v r) (pick bytes (run (r .finish - r .width) (r .width)))
+  pub as-single : r .kind ≡ Single → readingOf tab v r bytes
+      ≡ singleField (legal tab v r) (pick bytes (run (r .finish - r .width) (r .width)))
   unfolding readingOf fieldBy placesBy
   as-single e = rw e
 
-  pub as-bits : r .kind ≡ Multiple Bits → readingOf tab v r bytes ≡ bitsField (categories tab v r) (pick bytes (bitPlaces (r .start - 1) (categories tab v r)))
+  pub as-bits : r .kind ≡ Multiple Bits → readingOf tab v r bytes
+      ≡ bitsField (categories tab v r) (pick bytes (bitPlaces (r .start - 1) (categories tab v r)))
   unfolding readingOf fieldBy placesBy
   as-bits e = rw e
 
-  pub as-spread : (n b : ℕ) → r .kind ≡ Multiple (Fields n b) → readingOf tab v r bytes ≡ spreadField (legal tab v r) (r .width) n (pick bytes (spreadPlaces (r .start - 1) b (r .width) n))
+  pub as-spread : (n b : ℕ) → r .kind ≡ Multiple (Fields n b) → readingOf tab v r bytes
+      ≡ spreadField (legal tab v r) (r .width) n (pick bytes (spreadPlaces (r .start - 1) b (r .width) n))
   unfolding readingOf fieldBy placesBy
   as-spread n b e = rw e
 
-  pub as-quantity : (f : Format) → r .kind ≡ Quantity f → readingOf tab v r bytes ≡ quantityField f (legal tab v r) (pick bytes (run (r .finish - r .width) (r .width)))
+  pub as-quantity : (f : Format) → r .kind ≡ Quantity f → readingOf tab v r bytes
+      ≡ quantityField f (legal tab v r) (pick bytes (run (r .finish - r .width) (r .width)))
   unfolding readingOf fieldBy placesBy
   as-quantity f e = rw e
 
@@ -65,7 +69,10 @@ module _ (tab : List ℤ) (v : ℕ) (r : Row) (bytes : List ℕ) where
 plain-run : (bytes : List ℕ) (a w : ℕ) → Plain bytes → a + w ≤ length bytes → allPlain (pick bytes (run a w)) ≡ true
 unfolding allPlain
 plain-run bytes a zero h l = refl
-plain-run bytes a (suc w) h l = rw (le-leb 32 (getD bytes a 0) (ltb-false _ _ (h a (omega arith))), plain-run bytes (suc a) w h (omega arith))
+plain-run bytes a (suc w) h l = rw (
+  le-leb 32 (getD bytes a 0) (ltb-false _ _ (h a (omega arith))),
+  plain-run bytes (suc a) w h (omega arith),
+)
 
 pub text-legal : (bytes : List ℕ) (a w : ℕ) → Plain bytes → a + w ≤ length bytes → false ≡ isIllegal (textField (pick bytes (run a w)))
 unfolding isIllegal textField
@@ -119,13 +126,15 @@ pub truth-keeps : (s : List ℕ) (list : List ℤ) → listAfter (truthField s) 
 unfolding listAfter truthField
 truth-keeps s list = go (allSpaces s) (eqb (getD s 0 0) 49) (eqb (getD s 0 0) 48)
   where
-    go : (c d e : Bool) → listAfter (cond c (holds missing) (cond d (holds (truth true)) (cond e (holds (truth false)) illegal))) list ≡ list
+    go : (c d e : Bool) → listAfter (cond c (holds missing) (cond d (holds (truth true)) (cond e (holds (truth false)) illegal))) list
+        ≡ list
     go true d e = refl
     go false true e = refl
     go false false true = refl
     go false false false = refl
 
-pub row-read : {p : ℕ} {f g : Field} {list : List ℤ} {r : Answer} → g ≡ f → r ≡ answerOf p (length list) f → listAfter f list ≡ list → RowRead p g list list r
+pub row-read : {p : ℕ} {f g : Field} {list : List ℤ} {r : Answer} → g ≡ f → r ≡ answerOf p (length list) f → listAfter f list ≡ list
+    → RowRead p g list list r
 row-read e a k = record { answer = rw e a; leaves = rw e (sym k) }
 
 pub row-set : {p : ℕ} {f g : Field} {list list′ : List ℤ} {r : Answer} → g ≡ f → SetAnswered f list list′ r → RowRead p g list list′ r
@@ -160,11 +169,18 @@ set-said p list (some {ms}) = go (leb (length ms) (length list))
     go false = refl
 set-said p list bad = refl
 
-pub bits-answered : (cs s : List ℕ) (list list′ : List ℤ) (a : Answer) (r : SetRead) → a ≡ setSaid r → ReadSet (bitsField cs s) list list′ r → SetAnswered (bitsField cs s) list list′ a
-bits-answered cs s list list′ a r e q = record { answer = λ p. e ∙ ap setSaid (q .answer) ∙ set-said p list (bits-set cs s); leaves = q .leaves }
+pub bits-answered : (cs s : List ℕ) (list list′ : List ℤ) (a : Answer) (r : SetRead) → a ≡ setSaid r → ReadSet (bitsField cs s) list list′ r
+    → SetAnswered (bitsField cs s) list list′ a
+bits-answered cs s list list′ a r e q = record {
+  answer = λ p. e ∙ ap setSaid (q .answer)
+      ∙ set-said p list (bits-set cs s);
+  leaves = q .leaves;
+}
 
-pub spread-answered : (ok : ℤ → Bool) (w n : ℕ) (s : List ℕ) (list list′ : List ℤ) (a : Answer) (r : SetRead) → a ≡ setSaid r → ReadSet (spreadField ok w n s) list list′ r → SetAnswered (spreadField ok w n s) list list′ a
-spread-answered ok w n s list list′ a r e q = record { answer = λ p. e ∙ ap setSaid (q .answer) ∙ set-said p list (spread-set ok w n s); leaves = q .leaves }
+pub spread-answered : (ok : ℤ → Bool) (w n : ℕ) (s : List ℕ) (list list′ : List ℤ) (a : Answer) (r : SetRead) → a ≡ setSaid r
+    → ReadSet (spreadField ok w n s) list list′ r → SetAnswered (spreadField ok w n s) list list′ a
+spread-answered ok w n s list list′ a r e q = record
+    { answer = λ p. e ∙ ap setSaid (q .answer) ∙ set-said p list (spread-set ok w n s); leaves = q .leaves }
 
 -- ---- illegal or not
 pub illegal-back : (p n : ℕ) (f : Field) → illegalAnswer (answerOf p n f) ≡ isIllegal f
@@ -206,7 +222,8 @@ module _ (zero : Bool) (ok : ℤ → Bool) (p n : ℕ) where
       go true q = rw q
       go false q = holds-not q refl
 
-  pub numeral-number : (z : ℤ) → zero && eqZ z (pos 0) ≡ false → answerOf p n (numberField ok z) ≡ answerOf p n (numeralField zero ok (says z))
+  pub numeral-number : (z : ℤ) → zero && eqZ z (pos 0) ≡ false → answerOf p n (numberField ok z)
+      ≡ answerOf p n (numeralField zero ok (says z))
   unfolding numeralField singleSays quantitySays
   numeral-number z e = go zero e
     where
@@ -214,16 +231,19 @@ module _ (zero : Bool) (ok : ℤ → Bool) (p n : ℕ) where
       go true q = rw q
       go false q = refl
 
-pub as-single-says : (ok : ℤ → Bool) (s : List ℕ) (x : Said) (p n : ℕ) → x ≡ codeOf s → answerOf p n (numeralField true ok x) ≡ answerOf p n (singleField ok s)
+pub as-single-says : (ok : ℤ → Bool) (s : List ℕ) (x : Said) (p n : ℕ) → x ≡ codeOf s → answerOf p n (numeralField true ok x)
+    ≡ answerOf p n (singleField ok s)
 unfolding numeralField
 as-single-says ok s x p n e = rw e
 
-pub as-quantity-says : (f : Format) (ok : ℤ → Bool) (s : List ℕ) (x : Said) (p n : ℕ) → x ≡ quantityOf f s → answerOf p n (numeralField false ok x) ≡ answerOf p n (quantityField f ok s)
+pub as-quantity-says : (f : Format) (ok : ℤ → Bool) (s : List ℕ) (x : Said) (p n : ℕ) → x ≡ quantityOf f s
+    → answerOf p n (numeralField false ok x) ≡ answerOf p n (quantityField f ok s)
 unfolding numeralField
 as-quantity-says f ok s x p n e = rw e
 
 -- ---- the part of the record that the code lends
-pub last-bytes : (bytes : List ℕ) (e w : ℕ) → w ≤ e → e ≤ length bytes → take (e - (e - w)) (drop (e - w) bytes) ≡ pick bytes (run (e - w) w)
+pub last-bytes : (bytes : List ℕ) (e w : ℕ) → w ≤ e → e ≤ length bytes → take (e - (e - w)) (drop (e - w) bytes)
+    ≡ pick bytes (run (e - w) w)
 last-bytes bytes e w h l = let q : e - (e - w) ≡ w = omega arith in rw q (sym (pick-run bytes (e - w) w (omega arith)))
 
 pub first-bytes : (bytes : List ℕ) (a w : ℕ) → a + w ≤ length bytes → take (a + w - a) (drop a bytes) ≡ pick bytes (run a w)
@@ -235,7 +255,8 @@ module _ (p n : ℕ) (s : List ℕ) where
   unfolding textSaid textField answerOf
   text-missing e = go (allSpaces s) (allPlain s) e
     where
-      go : (c d : Bool) → textSaid (cond c (holds missing) (cond d (holds (text (unended s))) illegal)) ≡ t.Blank → Missing ≡ answerOf p n (cond c (holds missing) (cond d (holds (text (unended s))) illegal))
+      go : (c d : Bool) → textSaid (cond c (holds missing) (cond d (holds (text (unended s))) illegal)) ≡ t.Blank → Missing
+          ≡ answerOf p n (cond c (holds missing) (cond d (holds (text (unended s))) illegal))
       go true d q = refl
       go false true q = let z : _≡_ {A = ℕ} 0 1 = cc in absurd (omega arith)
       go false false q = let z : _≡_ {A = ℕ} 0 1 = cc in absurd (omega arith)
@@ -244,7 +265,8 @@ module _ (p n : ℕ) (s : List ℕ) where
   unfolding textSaid textField answerOf
   text-length k e = go (allSpaces s) (allPlain s) e
     where
-      go : (c d : Bool) → textSaid (cond c (holds missing) (cond d (holds (text (unended s))) illegal)) ≡ t.Length k → Text p k ≡ answerOf p n (cond c (holds missing) (cond d (holds (text (unended s))) illegal))
+      go : (c d : Bool) → textSaid (cond c (holds missing) (cond d (holds (text (unended s))) illegal)) ≡ t.Length k → Text p k
+          ≡ answerOf p n (cond c (holds missing) (cond d (holds (text (unended s))) illegal))
       go true d q = let z : _≡_ {A = ℕ} 0 1 = cc in absurd (omega arith)
       go false true q = cc
       go false false q = let z : _≡_ {A = ℕ} 0 1 = cc in absurd (omega arith)
@@ -253,7 +275,8 @@ module _ (p n : ℕ) (s : List ℕ) where
   unfolding textSaid textField answerOf
   text-wrong e = go (allSpaces s) (allPlain s) e
     where
-      go : (c d : Bool) → textSaid (cond c (holds missing) (cond d (holds (text (unended s))) illegal)) ≡ t.Wrong → Illegal ≡ answerOf p n (cond c (holds missing) (cond d (holds (text (unended s))) illegal))
+      go : (c d : Bool) → textSaid (cond c (holds missing) (cond d (holds (text (unended s))) illegal)) ≡ t.Wrong → Illegal
+          ≡ answerOf p n (cond c (holds missing) (cond d (holds (text (unended s))) illegal))
       go true d q = let z : _≡_ {A = ℕ} 0 1 = cc in absurd (omega arith)
       go false true q = let z : _≡_ {A = ℕ} 0 1 = cc in absurd (omega arith)
       go false false q = refl

@@ -80,7 +80,8 @@ fn single(t: &[i64], rows: usize, row: Row, bytes: &[u8]) -> Answer
 fn quantity(t: &[i64], rows: usize, row: Row, f: Format, bytes: &[u8]) -> Answer
     requires { ⌜ NumberFacts 17 (now t) rows row (length (now bytes)) ⌝ }
     requires { ⌜ FormatFacts f ⌝ }
-    ensures { λ r. ⌜ ((p n : ℕ) → r ≡ answerOf p n (quantityField f (legal (now (t .entry)) rows row) (pick (now (bytes .entry)) (run (row .finish - row .width) (row .width))))) ⌝ }
+    ensures { λ r. ⌜ ((p n : ℕ) → r ≡ answerOf p n
+        (quantityField f (legal (now (t .entry)) rows row) (pick (now (bytes .entry)) (run (row .finish - row .width) (row .width))))) ⌝ }
 {
     let e = row.finish;
     let a = e - row.width;
@@ -125,7 +126,9 @@ fn set_answer(r: SetRead) -> Answer
 
 fn bits(t: &[i64], rows: usize, row: Row, bytes: &[u8], list: &mut [i64]) -> Answer
     requires { ⌜ BitsFacts (now t) rows row (length (now bytes)) ⌝ }
-    ensures { λ r. ⌜ SetAnswered (bitsField (categories (now (t .entry)) rows row) (pick (now (bytes .entry)) (bitPlaces (row .start - 1) (categories (now (t .entry)) rows row)))) (now (list .entry)) (now (list .exit)) r ⌝ }
+    ensures { λ r. ⌜ SetAnswered (bitsField (categories (now (t .entry)) rows row)
+        (pick (now (bytes .entry)) (bitPlaces (row .start - 1) (categories (now (t .entry)) rows row)))) (now (list .entry))
+        (now (list .exit)) r ⌝ }
 {
     // Room for marks is cleared first, so that a short bitstring gets little.
     if row.width < 128 {
@@ -146,7 +149,8 @@ fn spread(
     list: &mut [i64],
 ) -> Answer
     requires { ⌜ FieldsFacts (now t) rows row n b (length (now bytes)) ⌝ }
-    ensures { λ r. ⌜ SetAnswered (spreadField (legal (now (t .entry)) rows row) (row .width) n (pick (now (bytes .entry)) (spreadPlaces (row .start - 1) b (row .width) n))) (now (list .entry)) (now (list .exit)) r ⌝ }
+    ensures { λ r. ⌜ SetAnswered (spreadField (legal (now (t .entry)) rows row) (row .width) n
+        (pick (now (bytes .entry)) (spreadPlaces (row .start - 1) b (row .width) n))) (now (list .entry)) (now (list .exit)) r ⌝ }
 {
     // Few subfields are put in order as they are read, unless the row's lines are so many that searching them costs more than marks.
     if (n <= 8) | ((n <= 64) & (row.lines <= 512)) {
@@ -162,7 +166,8 @@ fn spread(
 // What the row says of a record that is long enough; a set fills the start of the list.
 pub fn read_row(t: &[i64], rows: usize, row: Row, bytes: &[u8], list: &mut [i64]) -> Answer
     requires { ⌜ RowReady (now t) rows row (length (now bytes)) ⌝ }
-    ensures { λ r. ⌜ RowRead (row .start - 1) (readingOf (now (t .entry)) rows row (now (bytes .entry))) (now (list .entry)) (now (list .exit)) r ⌝ }
+    ensures { λ r. ⌜ RowRead (row .start - 1) (readingOf (now (t .entry)) rows row (now (bytes .entry))) (now (list .entry))
+        (now (list .exit)) r ⌝ }
 {
     let kind = row.kind;
     match kind {
@@ -201,7 +206,8 @@ pub fn is_illegal(a: Answer) -> bool
 fn quantity_illegal(t: &[i64], rows: usize, row: Row, f: Format, bytes: &[u8]) -> bool
     requires { ⌜ NumberFacts 17 (now t) rows row (length (now bytes)) ⌝ }
     requires { ⌜ FormatFacts f ⌝ }
-    ensures { λ r. ⌜ r ≡ isIllegal (quantityField f (legal (now (t .entry)) rows row) (pick (now (bytes .entry)) (run (row .finish - row .width) (row .width)))) ⌝ }
+    ensures { λ r. ⌜ r ≡ isIllegal (quantityField f (legal (now (t .entry)) rows row)
+        (pick (now (bytes .entry)) (run (row .finish - row .width) (row .width)))) ⌝ }
 {
     let e = row.finish;
     let a = e - row.width;

@@ -29,7 +29,8 @@ Long l (suc n) (unended r) = Unit
 Long l (suc n) (record-and r rs) = (l ≤ length r) × Long l n rs
 
 -- ---- a line from its first field on
-pub line-whole : {t : List ℤ} {h : Header} → Tested t h → (bytes : List ℕ) → lineBytes (recordLine t bytes) ≡ lineLeft (rowField t bytes) 0 (h .rows - 0)
+pub line-whole : {t : List ℤ} {h : Header} → Tested t h → (bytes : List ℕ) → lineBytes (recordLine t bytes)
+    ≡ lineLeft (rowField t bytes) 0 (h .rows - 0)
 unfolding recordLine
 line-whole {t} {h} g bytes =
     let e : h .rows - 0 ≡ rowsOf t = omega (arith, tested-rows g) in
@@ -88,7 +89,8 @@ verdict-long t (record-and r rs) n first =
     stop : (m : ℕ) → m ≡ n + 1 - 1 → (n ≤ m) × Long (lengthOf t) (m - n) (record-and r rs)
     stop m e = (omega arith, none-left (lengthOf t) (m - n) (record-and r rs) (omega arith))
 
-    step : (b : ℕ) → lengthOf t ≤ length r → (n + 1 ≤ b) × Long (lengthOf t) (b - (n + 1)) rs → (n ≤ b) × Long (lengthOf t) (b - n) (record-and r rs)
+    step : (b : ℕ) → lengthOf t ≤ length r → (n + 1 ≤ b) × Long (lengthOf t) (b - (n + 1)) rs → (n ≤ b)
+        × Long (lengthOf t) (b - n) (record-and r rs)
     step b l h = let e : b - n ≡ suc (b - (n + 1)) = omega (arith, h .0) in (omega (arith, h .0), rw e (l, h .1))
 
     go : (v : Verdict) (rest : FileVerdict) → recordVerdict t (firstLength n first (length r)) r ≡ v

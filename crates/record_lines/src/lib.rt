@@ -74,7 +74,8 @@ pub fn send_lines(
 ) -> usize
     requires { ⌜ Ready (now powers) (now t) h (length (now list)) ⌝ }
     requires { ⌜ (w .size ≤ 2) × Long (h .length) n (recordsFrom w (now d)) ⌝ }
-    ensures { λ r. ⌜ Sent bound (now (out .entry)) at (textBytes (linesOf (now (t .entry)) n (recordsFrom w (now (d .entry))))) (now (out .exit)) r ⌝ }
+    ensures { λ r. ⌜ Sent bound (now (out .entry)) at (textBytes (linesOf (now (t .entry)) n (recordsFrom w (now (d .entry)))))
+        (now (out .exit)) r ⌝ }
 {
     let mut end = at;
     let mut from: usize = 0;

@@ -47,11 +47,13 @@ part-pasted : (at : ℕ) (list last ms : List ℤ) → at ≤ length list → la
 unfolding filledOf pasted
 part-pasted at list last ms h e =
     let w = part-to-end list at in
-    let p : postOf at (length list - at) list ≡ [] = post-is at (length list) list h ∙ drop-of-length-le list {i = length list} (omega arith) in
+    let p : postOf at (length list - at) list ≡ [] = post-is at (length list) list h
+    ∙ drop-of-length-le list {i = length list} (omega arith) in
     let l : last ≡ ms ++ drop (at + length ms) list = e ∙ rw (w, drop-drop (length ms) at list) in
     rw (p, l, append-nil) (sym (append-assoc (take at list) ms (drop (at + length ms) list)))
 
-pasted-more : (l₀ xs ms l : List ℤ) (at : ℕ) → l ≡ pasted l₀ 0 xs → at ≡ length xs → length xs ≤ length l₀ → pasted l at ms ≡ pasted l₀ 0 (xs ++ ms)
+pasted-more : (l₀ xs ms l : List ℤ) (at : ℕ) → l ≡ pasted l₀ 0 xs → at ≡ length xs → length xs ≤ length l₀ → pasted l at ms
+    ≡ pasted l₀ 0 (xs ++ ms)
 pasted-more l₀ xs ms l at e a h = let z : at ≡ 0 + length xs = omega arith in rw (e, z) (paste-more l₀ xs ms 0 (omega arith))
 
 pub refusals-one : (a : Answer) → refusalsIn a ≤ 1
@@ -86,7 +88,8 @@ module _ (t : List ℤ) (v : ℕ) (bytes : List ℕ) (i : ℕ) (low : i < v) (li
     pub step-fits : at + membersIn a ≤ length list
     step-fits = omega (arith, read-members read fits, set-room)
 
-    pub step-refused : (refused : ℕ) → refused ≡ refusedBelow (rowReading t v bytes) i → refused + refusalsIn a ≡ refusedBelow (rowReading t v bytes) (i + 1)
+    pub step-refused : (refused : ℕ) → refused ≡ refusedBelow (rowReading t v bytes) i → refused + refusalsIn a
+        ≡ refusedBelow (rowReading t v bytes) (i + 1)
     step-refused refused e = rw (read-refusals read fits, refused-next (rowReading t v bytes) i, e)
 
     pub step-list : list ≡ pasted list₀ 0 (membersBelow (rowReading t v bytes) i)
@@ -98,7 +101,8 @@ module _ (t : List ℤ) (v : ℕ) (bytes : List ℕ) (i : ℕ) (low : i < v) (li
         ∙ ap (λ (l : List ℤ). pasted list₀ 0 l) (sym (members-next (rowReading t v bytes) i))
 
     pub step-out : (out₀ out out′ four : List ℤ) → 4 * v ≤ length out₀ → out ≡ pasted out₀ 0 (cellsBelow t v bytes i)
-        → four ≡ fourOf at (saidBy (faultOf t v row bytes) a) → out′ ≡ pasted out (4 * i) four → out′ ≡ pasted out₀ 0 (cellsBelow t v bytes (i + 1))
+        → four ≡ fourOf at (saidBy (faultOf t v row bytes) a) → out′ ≡ pasted out (4 * i) four → out′
+        ≡ pasted out₀ 0 (cellsBelow t v bytes (i + 1))
     step-out out₀ out out′ four wide e f o =
         let n = length-cells t v bytes i in
         let g : four ≡ fourOf (length (membersBelow (rowReading t v bytes) i)) (rowOutcome t v bytes i) =

@@ -50,7 +50,8 @@ module _ (t : List ℤ) (bytes : List ℕ) (o l : ℕ) where
       go : (a b c d : Bool) → wellFormed t ≡ a → leb (lengthOf t) (length bytes) ≡ b
           → leb (4 * rowsOf t) o ≡ c → leb (length (allMembers t bytes)) l ≡ d
           → Case t bytes o l (cond a (cond b (cond (c && d)
-          (whole.Read (length (allMembers t bytes)) (refusedBelow (rowReading t (rowsOf t) bytes) (rowsOf t))) whole.ShortRoom) whole.ShortRecord) whole.BadTable)
+          (whole.Read (length (allMembers t bytes)) (refusedBelow (rowReading t (rowsOf t) bytes) (rowsOf t))) whole.ShortRoom)
+          whole.ShortRecord) whole.BadTable)
       go false b c d p q r s = bad-table p
       go true false c d p q r s = short-record p (leb-false _ _ q)
       go true true false d p q r s = short-out p (leb-true _ _ q) (leb-false _ _ r)
@@ -66,7 +67,8 @@ module _ (t : List ℤ) (bytes : List ℕ) (o l : ℕ) where
   says-answer (short-list p q r) = rw (p, le-leb _ _ q, lt-leb _ _ r) (no-room (leb (4 * rowsOf t) o))
     where
       no-room : (b : Bool) → cond (b && false)
-          (whole.Read (length (allMembers t bytes)) (refusedBelow (rowReading t (rowsOf t) bytes) (rowsOf t))) whole.ShortRoom ≡ whole.ShortRoom
+          (whole.Read (length (allMembers t bytes)) (refusedBelow (rowReading t (rowsOf t) bytes) (rowsOf t))) whole.ShortRoom
+          ≡ whole.ShortRoom
       no-room true = refl
       no-room false = refl
   says-answer (all-read p q r s) = rw (p, le-leb _ _ q, le-leb _ _ r, le-leb _ _ s)
@@ -141,7 +143,8 @@ module _ (t : List ℤ) (bytes : List ℕ) where
       → readAs t i bytes n ≡ rowOutcome t (rowsOf t) bytes i
   unfolding readAs
   read-row-as i n good long low room =
-      rw (good, lt-ltb _ _ low, le-leb _ _ long) (outcome-room (rowAt t i .start - 1) n (rowFault t (rowsOf t) bytes i) (readingAt t i bytes) room)
+      rw (good, lt-ltb _ _ low, le-leb _ _ long) (outcome-room (rowAt t i .start - 1) n (rowFault t (rowsOf t) bytes i)
+      (readingAt t i bytes) room)
 
 -- ---- a record that was read
 module _ {t : List ℤ} {bytes : List ℕ} {out out′ list list′ : List ℤ} {m k : ℕ}

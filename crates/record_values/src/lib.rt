@@ -122,7 +122,8 @@ pub fn read_rows(t: &[i64], rows: usize, bytes: &[u8], out: &mut [i64], list: &m
     requires { ⌜ TableReady (now t) rows (length (now bytes)) ⌝ }
     requires { ⌜ 4 * rows ≤ length (now out) ⌝ }
     requires { ⌜ length (membersBelow (rowReading (now t) rows (now bytes)) rows) ≤ length (now list) ⌝ }
-    ensures { λ r. ⌜ RowsRead (now (t .entry)) rows (now (bytes .entry)) (now (out .entry)) (now (out .exit)) (now (list .entry)) (now (list .exit)) r ⌝ }
+    ensures { λ r. ⌜ RowsRead (now (t .entry)) rows (now (bytes .entry)) (now (out .entry)) (now (out .exit)) (now (list .entry))
+        (now (list .exit)) r ⌝ }
 {
     let mut at: usize = 0;
     let mut refused: usize = 0;
@@ -233,7 +234,8 @@ fn sets_fit(t: &[i64], rows: usize, bytes: &[u8], room: usize) -> bool
 // Reads all rows of a record by a table: four numbers a row at the start of out, the members of all sets at the start of the list. On
 // every other answer both are as they were.
 pub fn read_record(t: &[i64], bytes: &[u8], out: &mut [i64], list: &mut [i64]) -> Whole
-    ensures { λ r. ⌜ RecordRead (now (t .entry)) (now (bytes .entry)) (now (out .entry)) (now (out .exit)) (now (list .entry)) (now (list .exit)) r ⌝ }
+    ensures { λ r. ⌜ RecordRead (now (t .entry)) (now (bytes .entry)) (now (out .entry)) (now (out .exit)) (now (list .entry))
+        (now (list .exit)) r ⌝ }
 {
     if sound::well_formed(t) {
         let h = Header::read(t);

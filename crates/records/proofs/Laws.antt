@@ -54,7 +54,8 @@ unfolding firstFrom
 first-nowhere f zero i e j a b = absurd (omega arith)
 first-nowhere f (suc n) i e j a b = go (f i) refl e (λ q l. first-nowhere f n (suc i) q j l (omega arith))
   where
-    go : (c : Bool) → f i ≡ c → cond c (At i) (firstFrom f (suc i) n) ≡ Nothing → (firstFrom f (suc i) n ≡ Nothing → suc i ≤ j → f j ≡ false) → f j ≡ false
+    go : (c : Bool) → f i ≡ c → cond c (At i) (firstFrom f (suc i) n) ≡ Nothing
+        → (firstFrom f (suc i) n ≡ Nothing → suc i ≤ j → f j ≡ false) → f j ≡ false
     go true z q h = let o : _≡_ {A = ℕ} 0 1 = cc in absurd (omega arith)
     go false z q h = ⊎-elim (λ m. ap f (sym m) ∙ z) (λ m. h q (omega arith)) (eq-or-lt-of-le a)
 
@@ -70,11 +71,13 @@ first-inside f (suc n) i k e = go (f i) e (first-inside f n (suc i) k)
 
 -- numbers at which it fails are passed together
 module _ (f : ℕ → Bool) (n : ℕ) where
-  first-past : (k i : ℕ) → i + k ≤ n → ((j : ℕ) → i ≤ j → j < i + k → f j ≡ false) → firstFrom f i (n - i) ≡ firstFrom f (i + k) (n - (i + k))
+  first-past : (k i : ℕ) → i + k ≤ n → ((j : ℕ) → i ≤ j → j < i + k → f j ≡ false) → firstFrom f i (n - i)
+      ≡ firstFrom f (i + k) (n - (i + k))
   first-past zero i h g = let e : i + 0 ≡ i = omega arith in rw e
   first-past (suc k) i h g =
       let e : i + suc k ≡ i + 1 + k = omega arith in
-      first-on f n i (omega arith) (g i (omega arith) (omega arith)) ∙ rw e (first-past k (i + 1) (omega arith) (λ j a b. g j (omega arith) (omega arith)))
+      first-on f n i (omega arith) (g i (omega arith) (omega arith))
+      ∙ rw e (first-past k (i + 1) (omega arith) (λ j a b. g j (omega arith) (omega arith)))
 
   pub first-clear : (to : ℕ) → to ≤ n → ((j : ℕ) → 0 ≤ j → j < to → f j ≡ false) → firstFrom f to (n - to) ≡ firstFrom f 0 n
   first-clear to h g =
@@ -119,14 +122,16 @@ module _ (t : List ℤ) (i : ℕ) (bytes : List ℕ) (list : List ℤ) where
         pub row-ready : RowReady t (h .rows) row (length bytes)
         row-ready = rw (head, is) (table-ready t good (length bytes) long-is .row i low-is)
 
-        pub value-read : (list′ : List ℤ) (a : Answer) (r : Reading) → RowRead (row .start - 1) (readingOf t (h .rows) row bytes) list list′ a
+        pub value-read : (list′ : List ℤ) (a : Answer) (r : Reading)
+            → RowRead (row .start - 1) (readingOf t (h .rows) row bytes) list list′ a
             → said r ≡ saidBy (faultOf t (h .rows) row bytes) a → ValueRead t i bytes list list′ (said r)
         unfolding readAs listAs
         value-read list′ a r q e =
             let b : RowRead (rowAt t i .start - 1) (readingAt t i bytes) list list′ a = rw (head, is) at q in
             let x : said r ≡ saidBy (faultOf t (rowsOf t) (rowAt t i) bytes) a = rw (head, is) at e in
             record {
-              says = rw (good, lt-ltb _ _ low-is, le-leb _ _ long-is) (x ∙ ap (saidBy (faultOf t (rowsOf t) (rowAt t i) bytes)) (b .answer) ∙ said-answer _ _ _ _);
+              says = rw (good, lt-ltb _ _ low-is, le-leb _ _ long-is)
+                  (x ∙ ap (saidBy (faultOf t (rowsOf t) (rowAt t i) bytes)) (b .answer) ∙ said-answer _ _ _ _);
               leaves = rw (good, lt-ltb _ _ low-is, le-leb _ _ long-is) (b .leaves);
             }
 

@@ -56,7 +56,8 @@ module _ (d : List ℕ) where
   RangedStands (ranged.Is b with n) = n ≤ length d
   RangedStands (ranged.Not f) = Met d f
 
-  judge-range : (quantity : Bool) (a b : Value) → ValueStands d a → ValueStands d b → JudgedStands (judgeRange (reversedOf d a b) quantity a b)
+  judge-range : (quantity : Bool) (a b : Value) → ValueStands d a → ValueStands d b
+      → JudgedStands (judgeRange (reversedOf d a b) quantity a b)
   unfolding judgeRange limitRange
   judge-range quantity a b h k =
       either JudgedStands (formOf quantity a) (either JudgedStands (formOf quantity b)
@@ -71,10 +72,11 @@ module _ (d : List ℕ) where
   ranged-of quantity (amount.Not f) b end with h k l = h
   ranged-of quantity (amount.Is x) (amount.Not f) end with h k l = k
   ranged-of quantity (amount.Is x) (amount.Is y) (Refused f) with h k l = l
-  ranged-of quantity (amount.Is x) (amount.Is y) (At n) with h k l = by (judgeRange (reversedOf d x y) quantity x y) (judge-range quantity x y h k) where
-    by : (j : Judged) → JudgedStands j → RangedStands (settled j with n)
-    by (judged.Good b) i = l
-    by (judged.Bad f) i = i
+  ranged-of quantity (amount.Is x) (amount.Is y) (At n) with h k l = by (judgeRange (reversedOf d x y) quantity x y)
+      (judge-range quantity x y h k) where
+        by : (j : Judged) → JudgedStands j → RangedStands (settled j with n)
+        by (judged.Good b) i = l
+        by (judged.Bad f) i = i
 
   range-rest : (quantity : Bool) (a : Amount) (t : Reading) → AmountStands d a → Stands d t → RangedStands (rangeRest d quantity a t)
   unfolding rangeRest

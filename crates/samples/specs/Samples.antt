@@ -170,7 +170,8 @@ good =
 
 -- the same with shares: the quantity from -.9 to .9, with .5 on a line, has point code 2 and is three bytes wide
 abbrev pub share : List ℤ
-share = set (set (set (set (set good (in-row 3 POINT) (pos 2)) (in-row 3 FROM) (negsuc 8)) (in-row 3 TO) (pos 9)) (on-line 3 VALUE) (pos 5)) (in-row 3 WIDTH) (pos 3)
+share = set (set (set (set (set good (in-row 3 POINT) (pos 2)) (in-row 3 FROM) (negsuc 8)) (in-row 3 TO) (pos 9)) (on-line 3 VALUE) (pos 5))
+    (in-row 3 WIDTH) (pos 3)
 
 -- a sound table of XML: a truth; a truth that it filters; a SINGLE that the second filters; a text that is the serial; a quantity that is
 -- the weight; a quantity with a line, filtered by the first
@@ -322,9 +323,11 @@ broken =
     -- a decimal and no point
     ∷ breaks points (set (set good (in-row 3 POINT) (pos 0)) (in-row 3 WIDTH) (pos 3))
     -- point code 2 and no decimals
-    ∷ breaks shares (set (set (set (set (set (set good (in-row 3 DECIMALS) (pos 0)) (in-row 3 POINT) (pos 2)) (in-row 3 FROM) (pos 0)) (in-row 3 TO) (pos 0)) (on-line 3 VALUE) (pos 0)) (in-row 3 WIDTH) (pos 1))
+    ∷ breaks shares (set (set (set (set (set (set good (in-row 3 DECIMALS) (pos 0)) (in-row 3 POINT) (pos 2)) (in-row 3 FROM) (pos 0))
+    (in-row 3 TO) (pos 0)) (on-line 3 VALUE) (pos 0)) (in-row 3 WIDTH) (pos 1))
     -- a SINGLE with neither range nor line
-    ∷ breaks values (set (set (set (set good (in-row 0 RANGE) (pos 0)) (in-row 0 FROM) (pos 0)) (in-row 0 TO) (pos 0)) (in-row 0 WIDTH) (pos 0))
+    ∷ breaks values (set (set (set (set good (in-row 0 RANGE) (pos 0)) (in-row 0 FROM) (pos 0)) (in-row 0 TO) (pos 0)) (in-row 0 WIDTH)
+    (pos 0))
     -- ident 0
     ∷ breaks idents (set good (in-row 0 IDENT) (pos 0))
     -- ident of five digits

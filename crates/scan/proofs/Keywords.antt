@@ -47,14 +47,16 @@ module _ (n : ℕ) where
   word-sound (x ∷ w) (stop p) at k e = let z : _≡_ {A = ℕ} 0 1 = cc in absurd (omega arith)
   word-sound (x ∷ w) (sign p b t) at k e =
       let c = capital-of x w k in by c (eqb (upperOf b) x) refl (word-sound w t (p + 1) (c .rest)) e where
-        by : Capital x w → (q : Bool) → eqb (upperOf b) x ≡ q → (wordOf (p + 1) t w ≡ Matched n → Written w (p + 1) t n) → cond q (wordOf (p + 1) t w) Not ≡ Matched n → Written (x ∷ w) at (sign p b t) n
+        by : Capital x w → (q : Bool) → eqb (upperOf b) x ≡ q → (wordOf (p + 1) t w ≡ Matched n → Written w (p + 1) t n)
+            → cond q (wordOf (p + 1) t w) Not ≡ Matched n → Written (x ∷ w) at (sign p b t) n
         by c true f ih e = one (either-of x b (c .low) (c .high) (eqb-true (upperOf b) x f)) (ih e)
         by c false f ih e = let z : _≡_ {A = ℕ} 0 1 = cc in absurd (omega arith)
 
   word-complete : {w : List ℕ} {t : Text} {at : ℕ} → Written w at t n → capitals w ≡ true → wordOf at t w ≡ Matched n
   unfolding wordOf
   word-complete none k = refl
-  word-complete (one {b = b} {x = x} {w = w} i r) k = let c = capital-of x w k in rw (eq-eqb (upperOf b) x (upper-of (c .low) (c .high) i)) (word-complete r (c .rest))
+  word-complete (one {b = b} {x = x} {w = w} i r) k = let c = capital-of x w k in
+      rw (eq-eqb (upperOf b) x (upper-of (c .low) (c .high) i)) (word-complete r (c .rest))
 
 pub word-exactly : (d : List ℕ) (at n : ℕ) (w : List ℕ) → capitals w ≡ true → (wordAt d at w ≡ Matched n) ↔ Written w at (text d at) n
 unfolding wordAt

@@ -24,7 +24,8 @@ pub data All : List ℕ → Type 0 where
   none : All []
   one : {b : ℕ} {s : List ℕ} → 48 ≤ b → b ≤ 57 → All s → All (b ∷ s)
 
-class-two : (x y w l q br an : Bool) → eqb (cond x 0 (cond y 1 (cond w 2 (cond l 3 (cond q 4 (cond br 5 (cond an 6 7))))))) 2 ≡ true → w ≡ true
+class-two : (x y w l q br an : Bool) → eqb (cond x 0 (cond y 1 (cond w 2 (cond l 3 (cond q 4 (cond br 5 (cond an 6 7))))))) 2 ≡ true → w
+    ≡ true
 class-two true y w l q br an e = holds-not e refl
 class-two false true w l q br an e = holds-not e refl
 class-two false false true l q br an e = refl
@@ -44,7 +45,8 @@ both x y b = by (leb x b) (leb b y) refl refl where
 pub digit-bounds : (b : ℕ) → isDigit b ≡ true → (48 ≤ b) × (b ≤ 57)
 unfolding isDigit classOf
 digit-bounds b e =
-    both 48 57 b (class-two (ltb b 32) (eqb b 32) (within 48 57 b) (within 65 90 b || within 97 122 b) (eqb b 34) (eqb b 123 || eqb b 125) (eqb b 60 || eqb b 62) e)
+    both 48 57 b (class-two (ltb b 32) (eqb b 32) (within 48 57 b) (within 65 90 b || within 97 122 b) (eqb b 34) (eqb b 123 || eqb b 125)
+    (eqb b 60 || eqb b 62) e)
 
 -- the digits of a text are digits
 pub all-digits : (end : ℕ) (t : Text) → All (digitsTo end t)
@@ -61,7 +63,8 @@ pub strip-says : (s : List ℕ) → decimalOf 0 (stripped s) ≡ decimalOf 0 s
 unfolding stripped decimalOf
 strip-says [] = refl
 strip-says (b ∷ s) = by (eqb b 48) refl (strip-says s) where
-  by : (q : Bool) → eqb b 48 ≡ q → decimalOf 0 (stripped s) ≡ decimalOf 0 s → decimalOf 0 (cond q (stripped s) (b ∷ s)) ≡ decimalOf (0 * 10 + (b - 48)) s
+  by : (q : Bool) → eqb b 48 ≡ q → decimalOf 0 (stripped s) ≡ decimalOf 0 s → decimalOf 0 (cond q (stripped s) (b ∷ s))
+      ≡ decimalOf (0 * 10 + (b - 48)) s
   by true e ih = rw (eqb-true b 48 e) ih
   by false e ih = refl
 
@@ -97,7 +100,8 @@ data Compared (v w : ℕ) : Order → Type 0 where
   is-same : v ≡ w → Compared v w Same
   is-more : w < v → Compared v w More
 
-compared-then : {v w : ℕ} {o : Order} (x y : ℕ) → 48 ≤ x → x ≤ 57 → 48 ≤ y → y ≤ 57 → Compared v w o → Compared (v * 10 + (x - 48)) (w * 10 + (y - 48)) (orderThen o x y)
+compared-then : {v w : ℕ} {o : Order} (x y : ℕ) → 48 ≤ x → x ≤ 57 → 48 ≤ y → y ≤ 57 → Compared v w o
+    → Compared (v * 10 + (x - 48)) (w * 10 + (y - 48)) (orderThen o x y)
 unfolding orderThen
 compared-then {v} {w} x y a b e f (is-less h) = let g : v * 10 + (x - 48) < w * 10 + (y - 48) = omega arith in is-less g
 compared-then {v} {w} x y a b e f (is-more h) = let g : w * 10 + (y - 48) < v * 10 + (x - 48) = omega arith in is-more g
@@ -105,7 +109,8 @@ compared-then {v} {w} x y a b e f (is-same h) = by (ltb x y) (ltb y x) refl refl
   by : (p q : Bool) → ltb x y ≡ p → ltb y x ≡ q → Compared (v * 10 + (x - 48)) (w * 10 + (y - 48)) (cond p Less (cond q More Same))
   by true q i j = let k = ltb-true x y i in let g : v * 10 + (x - 48) < w * 10 + (y - 48) = omega arith in is-less g
   by false true i j = let k = ltb-true y x j in let g : w * 10 + (y - 48) < v * 10 + (x - 48) = omega arith in is-more g
-  by false false i j = let k = ltb-false x y i in let l = ltb-false y x j in let g : v * 10 + (x - 48) ≡ w * 10 + (y - 48) = omega arith in is-same g
+  by false false i j = let k = ltb-false x y i in let l = ltb-false y x j in let g : v * 10 + (x - 48) ≡ w * 10 + (y - 48) = omega arith in
+      is-same g
 
 over : {v w : ℕ} {o : Order} → Compared v w o → isLess o ≡ ltb v w
 unfolding isLess
@@ -114,7 +119,8 @@ over {v} {w} (is-same h) = sym (le-ltb v w (omega arith))
 over {v} {w} (is-more h) = sym (le-ltb v w (omega arith))
 
 -- numbers of as many digits, the first of them no zero: each is below ten times the other, which stays so digit by digit
-compared : {s t : List ℕ} {v w : ℕ} {o : Order} → All s → All t → v < 10 * w → w < 10 * v → Compared v w o → lessOf o s t ≡ ltb (decimalOf v s) (decimalOf w t)
+compared : {s t : List ℕ} {v w : ℕ} {o : Order} → All s → All t → v < 10 * w → w < 10 * v → Compared v w o → lessOf o s t
+    ≡ ltb (decimalOf v s) (decimalOf w t)
 unfolding lessOf decimalOf
 compared none none h g c = over c
 compared {v = v} {w = w} none (one {b = y} {s = t} l u a) h g c =
@@ -140,7 +146,8 @@ both-lead (one {b = x} l u a) (one {b = y} m n b) (first f) (first g) =
     compared a b (omega arith) (omega arith) (compared-then {v = 0} {w = 0} x y l u m n (is-same refl))
 
 -- LESS: the numbers that two rows of digits say, whatever stands in front
-pub less-exactly : (d : List ℕ) (a ae b be : ℕ) → lessOf Same (stripped (digitsTo ae (text d a))) (stripped (digitsTo be (text d b))) ≡ ltb (valueOf d a ae) (valueOf d b be)
+pub less-exactly : (d : List ℕ) (a ae b be : ℕ) → lessOf Same (stripped (digitsTo ae (text d a))) (stripped (digitsTo be (text d b)))
+    ≡ ltb (valueOf d a ae) (valueOf d b be)
 unfolding valueOf
 less-exactly d a ae b be =
     let s = digitsTo ae (text d a) in
@@ -156,11 +163,14 @@ module _ (d : List ℕ) (end : ℕ) where
     pub ahead : at < n
     pub within : n ≤ length d
 
-  figured : {at : ℕ} {t : Text} → From d at t → (b n : ℕ) → figureOf end t ≡ One b n → (digitsTo end t ≡ b ∷ digitsTo end (text d n)) × (at < n) × (n ≤ length d)
+  figured : {at : ℕ} {t : Text} → From d at t → (b n : ℕ) → figureOf end t ≡ One b n → (digitsTo end t ≡ b ∷ digitsTo end (text d n))
+      × (at < n) × (n ≤ length d)
   unfolding figureOf digitsTo
   figured at-stop b n e = let z : _≡_ {A = ℕ} 0 1 = cc in absurd (omega arith)
   figured {at} (at-sign {p = p} {b = c} {u = u} h w q r) b n e = by (leb end p) (isDigit c) (figured r b n) e where
-    by : (x y : Bool) → (figureOf end u ≡ One b n → (digitsTo end u ≡ b ∷ digitsTo end (text d n)) × (p + 1 < n) × (n ≤ length d)) → cond x Nothing (cond y (One c (p + 1)) (figureOf end u)) ≡ One b n → (cond x [] (cond y (c ∷ digitsTo end u) (digitsTo end u)) ≡ b ∷ digitsTo end (text d n)) × (at < n) × (n ≤ length d)
+    by : (x y : Bool) → (figureOf end u ≡ One b n → (digitsTo end u ≡ b ∷ digitsTo end (text d n)) × (p + 1 < n) × (n ≤ length d))
+        → cond x Nothing (cond y (One c (p + 1)) (figureOf end u)) ≡ One b n
+        → (cond x [] (cond y (c ∷ digitsTo end u) (digitsTo end u)) ≡ b ∷ digitsTo end (text d n)) × (at < n) × (n ≤ length d)
     by true y ih i = let z : _≡_ {A = ℕ} 0 1 = cc in absurd (omega arith)
     by false true ih i = let j : c ≡ b = cc in let k : p + 1 ≡ n = cc in (rw (j, q, k), omega arith, omega arith)
     by false false ih i = let g = ih i in (g .0, omega arith, g .2)
@@ -172,7 +182,8 @@ figure-empty : (end : ℕ) (t : Text) → figureOf end t ≡ Nothing → digitsT
 unfolding figureOf digitsTo
 figure-empty end (stop p) e = refl
 figure-empty end (sign p b t) e = by (leb end p) (isDigit b) (figure-empty end t) e where
-  by : (x y : Bool) → (figureOf end t ≡ Nothing → digitsTo end t ≡ []) → cond x Nothing (cond y (One b (p + 1)) (figureOf end t)) ≡ Nothing → cond x [] (cond y (b ∷ digitsTo end t) (digitsTo end t)) ≡ []
+  by : (x y : Bool) → (figureOf end t ≡ Nothing → digitsTo end t ≡ []) → cond x Nothing (cond y (One b (p + 1)) (figureOf end t)) ≡ Nothing
+      → cond x [] (cond y (b ∷ digitsTo end t) (digitsTo end t)) ≡ []
   by true y ih i = refl
   by false true ih i = let z : _≡_ {A = ℕ} 0 1 = cc in absurd (omega arith)
   by false false ih i = ih i
@@ -211,7 +222,8 @@ unfolding stripped
 strip-none e = rw e
 
 module _ {k l : List ℕ} where
-  pub less-both : (o : Order) {r : Order} {x y : ℕ} {s t : List ℕ} → k ≡ x ∷ s → l ≡ y ∷ t → r ≡ orderThen o x y → lessOf o k l ≡ lessOf r s t
+  pub less-both : (o : Order) {r : Order} {x y : ℕ} {s t : List ℕ} → k ≡ x ∷ s → l ≡ y ∷ t → r ≡ orderThen o x y → lessOf o k l
+      ≡ lessOf r s t
   unfolding lessOf
   less-both o e f q = rw (e, f, q)
 
@@ -240,7 +252,10 @@ run-digits : (d : List ℕ) {n : ℕ} {t : Text} → From d n t → digitsTo (ru
 unfolding runOf digitsTo bytesOf
 run-digits d at-stop = refl
 run-digits d {n} (at-sign {p = p} {b = b} {u = u} h w e r) = by (isDigit b) refl (run-ahead d isDigit r) (run-digits d r) where
-  by : (q : Bool) → isDigit b ≡ q → p + 1 ≤ runOf isDigit (p + 1) u → digitsTo (runOf isDigit (p + 1) u) u ≡ bytesOf isDigit u → cond (leb (cond q (runOf isDigit (p + 1) u) n) p) [] (cond (isDigit b) (b ∷ digitsTo (cond q (runOf isDigit (p + 1) u) n) u) (digitsTo (cond q (runOf isDigit (p + 1) u) n) u)) ≡ cond q (b ∷ bytesOf isDigit u) []
+  by : (q : Bool) → isDigit b ≡ q → p + 1 ≤ runOf isDigit (p + 1) u → digitsTo (runOf isDigit (p + 1) u) u ≡ bytesOf isDigit u
+      → cond (leb (cond q (runOf isDigit (p + 1) u) n) p) []
+      (cond (isDigit b) (b ∷ digitsTo (cond q (runOf isDigit (p + 1) u) n) u) (digitsTo (cond q (runOf isDigit (p + 1) u) n) u))
+      ≡ cond q (b ∷ bytesOf isDigit u) []
   by true f i g = rw (lt-leb (runOf isDigit (p + 1) u) p (omega arith), f, g)
   by false f i g = rw (le-leb n p h)
 

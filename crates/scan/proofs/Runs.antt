@@ -34,25 +34,32 @@ held v [] = by (ltb 1000000000000000 v) refl where
   by true e = refl
   by false e = rw e
 held v (b ∷ s) = by (ltb 1000000000000000 v) refl (held (10000000000000000 + (b - 48)) s) (held (v * 10 + (b - 48)) s) where
-  by : (q : Bool) → ltb 1000000000000000 v ≡ q → capped (decimalOf (capped (10000000000000000 + (b - 48))) s) ≡ capped (decimalOf (10000000000000000 + (b - 48)) s) → capped (decimalOf (capped (v * 10 + (b - 48))) s) ≡ capped (decimalOf (v * 10 + (b - 48)) s) → capped (decimalOf (cond q 1000000000000000 v * 10 + (b - 48)) s) ≡ capped (decimalOf (v * 10 + (b - 48)) s)
+  by : (q : Bool) → ltb 1000000000000000 v ≡ q → capped (decimalOf (capped (10000000000000000 + (b - 48))) s)
+      ≡ capped (decimalOf (10000000000000000 + (b - 48)) s) → capped (decimalOf (capped (v * 10 + (b - 48))) s)
+      ≡ capped (decimalOf (v * 10 + (b - 48)) s) → capped (decimalOf (cond q 1000000000000000 v * 10 + (b - 48)) s)
+      ≡ capped (decimalOf (v * 10 + (b - 48)) s)
   by true e i j =
       let h = ltb-true 1000000000000000 v e in
       sym i
-      ∙ rw (lt-ltb 1000000000000000 (10000000000000000 + (b - 48)) (omega arith)) (rw (lt-ltb 1000000000000000 (v * 10 + (b - 48)) (omega arith)) at j)
+      ∙ rw (lt-ltb 1000000000000000 (10000000000000000 + (b - 48)) (omega arith))
+      (rw (lt-ltb 1000000000000000 (v * 10 + (b - 48)) (omega arith)) at j)
   by false e i j = refl
 
 pub low : (v : ℕ) → v ≤ 1000000000000000 → capped v ≡ v
 low v h = rw (le-ltb 1000000000000000 v h)
 
-same : (s s′ c c′ n : ℕ) → s ≡ s′ → c ≡ c′ → _≡_ {A = Digits} (record { size = s; count = c; next = n }) (record { size = s′; count = c′; next = n })
+same : (s s′ c c′ n : ℕ) → s ≡ s′ → c ≡ c′ → _≡_ {A = Digits} (record { size = s; count = c; next = n })
+    (record { size = s′; count = c′; next = n })
 same s s′ c c′ n e f = rw (e, f)
 
 module _ (v c n : ℕ) {t : Text} where
-  pub digits-next : {p b : ℕ} {u : Text} → t ≡ sign p b u → isDigit b ≡ true → digitsFrom v c n t ≡ digitsFrom (pushOf v b) (c + 1) (p + 1) u
+  pub digits-next : {p b : ℕ} {u : Text} → t ≡ sign p b u → isDigit b ≡ true → digitsFrom v c n t
+      ≡ digitsFrom (pushOf v b) (c + 1) (p + 1) u
   unfolding digitsFrom pushOf bytesOf decimalOf runOf
   digits-next {b = b} {u = u} e q = rw (e, q) (same _ _ _ _ _ (sym (held (v * 10 + (b - 48)) (bytesOf isDigit u))) (omega arith))
 
-  pub digits-over : {p b : ℕ} {u : Text} → t ≡ sign p b u → isDigit b ≡ false → v ≤ 1000000000000000 → digitsFrom v c n t ≡ record { size = v; count = c; next = n }
+  pub digits-over : {p b : ℕ} {u : Text} → t ≡ sign p b u → isDigit b ≡ false → v ≤ 1000000000000000 → digitsFrom v c n t
+      ≡ record { size = v; count = c; next = n }
   unfolding digitsFrom bytesOf decimalOf runOf
   digits-over e q h = rw (e, q) (same _ _ _ _ _ (low v h) (omega arith))
 

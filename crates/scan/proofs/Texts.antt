@@ -31,15 +31,16 @@ module _ (d : List ℕ) (at : ℕ) where
 -- ---- a byte of 32 or above is kept
 pub kept-byte : (b : ℕ) → 32 ≤ b → classOf b ≡ 0 → ⊥
 unfolding classOf
-kept-byte b h = rw (le-ltb b 32 h) (by (eqb b 32) (within 48 57 b) (within 65 90 b || within 97 122 b) (eqb b 34) (eqb b 123 || eqb b 125) (eqb b 60 || eqb b 62)) where
-  by : (p q r s t u : Bool) → _≡_ {A = ℕ} (cond p 1 (cond q 2 (cond r 3 (cond s 4 (cond t 5 (cond u 6 7)))))) 0 → ⊥
-  by true q r s t u e = omega arith
-  by false true r s t u e = omega arith
-  by false false true s t u e = omega arith
-  by false false false true t u e = omega arith
-  by false false false false true u e = omega arith
-  by false false false false false true e = omega arith
-  by false false false false false false e = omega arith
+kept-byte b h = rw (le-ltb b 32 h) (by (eqb b 32) (within 48 57 b) (within 65 90 b || within 97 122 b) (eqb b 34) (eqb b 123 || eqb b 125)
+    (eqb b 60 || eqb b 62)) where
+      by : (p q r s t u : Bool) → _≡_ {A = ℕ} (cond p 1 (cond q 2 (cond r 3 (cond s 4 (cond t 5 (cond u 6 7)))))) 0 → ⊥
+      by true q r s t u e = omega arith
+      by false true r s t u e = omega arith
+      by false false true s t u e = omega arith
+      by false false false true t u e = omega arith
+      by false false false false true u e = omega arith
+      by false false false false false true e = omega arith
+      by false false false false false false e = omega arith
 
 -- what a step that found b at p, with n after it, says of the text t that was left at `at`
 pub record Stepped (d : List ℕ) (t : Text) (at b p n : ℕ) : Type 0 where
@@ -54,7 +55,10 @@ tail-of (y ∷ d) zero x s e = (omega arith, cc)
 tail-of (y ∷ d) (suc at) x s e = let h = tail-of d at x s e in (omega arith, rw (add-one (suc at)) (rw (add-one at) at (h .1)))
 
 module _ (d : List ℕ) (b p n : ℕ) where
-  step-cond : (q : Bool) (at x : ℕ) (s : List ℕ) → (drop at d ≡ x ∷ s) → (stepOf (kept (at + 1) s) ≡ Byte b p n → Stepped d (kept (at + 1) s) (at + 1) b p n) → stepOf (cond q (kept (at + 1) s) (sign at x (kept (at + 1) s))) ≡ Byte b p n → Stepped d (cond q (kept (at + 1) s) (sign at x (kept (at + 1) s))) at b p n
+  step-cond : (q : Bool) (at x : ℕ) (s : List ℕ) → (drop at d ≡ x ∷ s)
+      → (stepOf (kept (at + 1) s) ≡ Byte b p n → Stepped d (kept (at + 1) s) (at + 1) b p n)
+      → stepOf (cond q (kept (at + 1) s) (sign at x (kept (at + 1) s))) ≡ Byte b p n
+      → Stepped d (cond q (kept (at + 1) s) (sign at x (kept (at + 1) s))) at b p n
   unfolding stepOf text
   step-cond true at x s e ih h = let r = ih h in record { split = r .split; from = omega arith; within = r .within; next = r .next }
   step-cond false at x s e ih h =
@@ -91,7 +95,8 @@ from-before : {d : List ℕ} {at : ℕ} {t : Text} → From d (at + 1) t → Fro
 from-before at-stop = at-stop
 from-before {at = at} (at-sign {p = p} h w e r) = let g : at ≤ p = omega arith in at-sign g w e r
 
-from-cond : {d : List ℕ} {at : ℕ} {u : Text} (b : ℕ) (q : Bool) → at < length d → u ≡ text d (at + 1) → From d (at + 1) u → From d at (cond q u (sign at b u))
+from-cond : {d : List ℕ} {at : ℕ} {u : Text} (b : ℕ) (q : Bool) → at < length d → u ≡ text d (at + 1) → From d (at + 1) u
+    → From d at (cond q u (sign at b u))
 from-cond b true w e r = from-before r
 from-cond {at = at} b false w e r = let g : at ≤ at = omega arith in at-sign g w e r
 

@@ -17,7 +17,8 @@ use Rattle.scan.specs.declared.Word.the-variants.{Matched, Not}
 use Rattle.scan.proofs.Texts.{text-kept, kept-byte}
 
 module _ (n : ℕ) {t : Text} (w : List ℕ) (i : ℕ) where
-  pub word-next : {p b : ℕ} {u : Text} → t ≡ sign p b u → i < length w → upperOf b ≡ getD w i 0 → wordOf n t (drop i w) ≡ wordOf (p + 1) u (drop (i + 1) w)
+  pub word-next : {p b : ℕ} {u : Text} → t ≡ sign p b u → i < length w → upperOf b ≡ getD w i 0 → wordOf n t (drop i w)
+      ≡ wordOf (p + 1) u (drop (i + 1) w)
   unfolding wordOf
   word-next e h q = rw (e, drop-cons w i 0 h, eq-eqb _ _ q, add-one i)
 
@@ -45,7 +46,8 @@ upper-miss b x f g = by (ltb b 97) (leb b 122) refl where
   by false false i e = f e
 
 -- the byte at a place is kept, and not the first letter
-pub word-missed : (d : List ℕ) (at : ℕ) (w : List ℕ) → at < length d → (length w ≡ 0 → ⊥) → 32 ≤ getD d at 0 → (upperOf (getD d at 0) ≡ getD w 0 0 → ⊥) → wordOf at (text d at) w ≡ Not
+pub word-missed : (d : List ℕ) (at : ℕ) (w : List ℕ) → at < length d → (length w ≡ 0 → ⊥) → 32 ≤ getD d at 0
+    → (upperOf (getD d at 0) ≡ getD w 0 0 → ⊥) → wordOf at (text d at) w ≡ Not
 word-missed d at w h k l m = word-not at w 0 (text-kept d at h (kept-byte _ l)) (omega arith) m
 
 -- letter i stands i places on, as it is given, and is no small letter

@@ -44,7 +44,8 @@ head-bytes ok (keep {c = c} {n = n} {ms = ms} s) y q =
 
 module _ (ok : ℤ → Bool) (at : ℕ) (bytes : List ℕ) (c n : ℕ) where
   step-taken : (ms : List ℤ) (y : Bool) → Rising c (suc n) ms → y ≡ headIs ms (pos c) → ok (pos c) ≡ true
-      → put (set bytes (at + (c - 1)) (cond y 49 48)) (bitPlaces at (defined ok (suc c) n)) (bitBytes (drop (cond y 1 0) ms) (defined ok (suc c) n))
+      → put (set bytes (at + (c - 1)) (cond y 49 48)) (bitPlaces at (defined ok (suc c) n))
+      (bitBytes (drop (cond y 1 0) ms) (defined ok (suc c) n))
       ≡ put bytes (bitPlaces at (defined ok c (suc n))) (bitBytes ms (defined ok c (suc n)))
   unfolding defined bitPlaces bitBytes
   step-taken ms y r q a = rw (head-bytes ok r y q, a, head-member r, ← q)
@@ -72,7 +73,8 @@ abbrev pub rest : (ℤ → Bool) → ℕ → ℕ → List ℕ → List ℤ → �
 rest ok at w bytes ms i j = put bytes (bitPlaces at (defined ok (i + 1) (w - i))) (bitBytes (drop j ms) (defined ok (i + 1) (w - i)))
 
 abbrev pub restBlank : (ℤ → Bool) → ℕ → ℕ → List ℕ → ℕ → List ℕ
-restBlank ok at w bytes i = put bytes (bitPlaces at (defined ok (i + 1) (w - i))) (spaces (length (bitPlaces at (defined ok (i + 1) (w - i)))))
+restBlank ok at w bytes i = put bytes (bitPlaces at (defined ok (i + 1) (w - i)))
+    (spaces (length (bitPlaces at (defined ok (i + 1) (w - i)))))
 
 -- some of the categories that are left are the members that are left
 pub record Left (w i : ℕ) (ms : List ℤ) : Type 0 where
@@ -89,7 +91,8 @@ module _ (ok : ℤ → Bool) (at w : ℕ) (bytes : List ℕ) (i : ℕ) (h : i < 
     pub left-on : Left w (i + 1) (drop (j + cond y 1 0) ms)
     left-on = record { rising = rw (← drop-drop (cond y 1 0) j ms, add-one (i + 1)) (head-rising (rw last at (left .rising)) y q) }
 
-    pub taken : ok (pos (i + 1)) ≡ true → rest ok at w (set bytes (at + i) (cond y 49 48)) ms (i + 1) (j + cond y 1 0) ≡ rest ok at w bytes ms i j
+    pub taken : ok (pos (i + 1)) ≡ true → rest ok at w (set bytes (at + i) (cond y 49 48)) ms (i + 1) (j + cond y 1 0)
+        ≡ rest ok at w bytes ms i j
     taken a =
         let s = step-taken ok at bytes (i + 1) (w - (i + 1)) (drop j ms) y (rw last at (left .rising)) q a in
         rw (last, add-one (i + 1), ← drop-drop (cond y 1 0) j ms) (rw here at s)

@@ -55,7 +55,8 @@ pub fn put_bits(
     requires { ⌜ LineFacts (now t) rows row ⌝ }
     requires { ⌜ Marks (λ x. legal (now t) rows row x) (now marks) ⌝ }
     requires { ⌜ Bitstring at w (length (now bytes)) × Rising 1 w (now list) ⌝ }
-    ensures { λ _. ⌜ now (bytes .exit) ≡ put (now (bytes .entry)) (bitPlaces at (defined (legal (now (t .entry)) rows row) 1 w)) (bitBytes (now (list .entry)) (defined (legal (now (t .entry)) rows row) 1 w)) ⌝ }
+    ensures { λ _. ⌜ now (bytes .exit) ≡ put (now (bytes .entry)) (bitPlaces at (defined (legal (now (t .entry)) rows row) 1 w))
+        (bitBytes (now (list .entry)) (defined (legal (now (t .entry)) rows row) 1 w)) ⌝ }
 {
     let mut j: usize = 0;
     let mut i: usize = 0;
@@ -83,7 +84,8 @@ pub fn blank_bits(
     requires { ⌜ LineFacts (now t) rows row ⌝ }
     requires { ⌜ Marks (λ x. legal (now t) rows row x) (now marks) ⌝ }
     requires { ⌜ Bitstring at w (length (now bytes)) ⌝ }
-    ensures { λ _. ⌜ now (bytes .exit) ≡ put (now (bytes .entry)) (bitPlaces at (defined (legal (now (t .entry)) rows row) 1 w)) (spaces (length (bitPlaces at (defined (legal (now (t .entry)) rows row) 1 w)))) ⌝ }
+    ensures { λ _. ⌜ now (bytes .exit) ≡ put (now (bytes .entry)) (bitPlaces at (defined (legal (now (t .entry)) rows row) 1 w))
+        (spaces (length (bitPlaces at (defined (legal (now (t .entry)) rows row) 1 w)))) ⌝ }
 {
     let mut c: usize = 0;
     while c < w {
@@ -132,7 +134,8 @@ pub fn put_all(
 )
     requires { ⌜ hasAll row w ≡ true ⌝ }
     requires { ⌜ Bitstring at w (length (now bytes)) × Rising 1 w (now list) ⌝ }
-    ensures { λ _. ⌜ now (bytes .exit) ≡ put (now (bytes .entry)) (bitPlaces at (defined (legal (now (t .entry)) rows row) 1 w)) (bitBytes (now (list .entry)) (defined (legal (now (t .entry)) rows row) 1 w)) ⌝ }
+    ensures { λ _. ⌜ now (bytes .exit) ≡ put (now (bytes .entry)) (bitPlaces at (defined (legal (now (t .entry)) rows row) 1 w))
+        (bitBytes (now (list .entry)) (defined (legal (now (t .entry)) rows row) 1 w)) ⌝ }
 {
     clear_each(bytes, at, w);
     set_members(bytes, at, w, list);
@@ -142,7 +145,8 @@ pub fn put_all(
 pub fn blank_all(t: &[i64], rows: usize, row: Row, bytes: &mut [u8], at: usize, w: usize)
     requires { ⌜ hasAll row w ≡ true ⌝ }
     requires { ⌜ Bitstring at w (length (now bytes)) ⌝ }
-    ensures { λ _. ⌜ now (bytes .exit) ≡ put (now (bytes .entry)) (bitPlaces at (defined (legal (now (t .entry)) rows row) 1 w)) (spaces (length (bitPlaces at (defined (legal (now (t .entry)) rows row) 1 w)))) ⌝ }
+    ensures { λ _. ⌜ now (bytes .exit) ≡ put (now (bytes .entry)) (bitPlaces at (defined (legal (now (t .entry)) rows row) 1 w))
+        (spaces (length (bitPlaces at (defined (legal (now (t .entry)) rows row) 1 w)))) ⌝ }
 {
     runs::blank(bytes, at, w);
 }

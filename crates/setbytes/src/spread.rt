@@ -38,7 +38,8 @@ pub fn put_spread(
 // Spaces in every subfield's value places.
 pub fn blank_spread(bytes: &mut [u8], start: usize, b: usize, w: usize, n: usize)
     requires { ⌜ Subfields (length (now bytes)) start b w n ⌝ }
-    ensures { λ _. ⌜ now (bytes .exit) ≡ put (now (bytes .entry)) (spreadPlaces start b w n) (spaces (length (spreadPlaces start b w n))) ⌝ }
+    ensures { λ _. ⌜ now (bytes .exit) ≡ put (now (bytes .entry)) (spreadPlaces start b w n)
+        (spaces (length (spreadPlaces start b w n))) ⌝ }
 {
     let gap = b - w;
     let mut at = start;

@@ -127,13 +127,16 @@ module _ (x y : ℕ) (r : List ℕ) (at : ℕ) where
 
     -- ---- of the lines
     module _ (t : List ℤ) (v : ℕ) (row : Row) where
-      pub lines-alike : allBelow (row .lines) (λ k. allAt x y r at w (λ u. eqZ (lineValue t v row k) u)) ≡ allAt x y r at w (λ z. onLine t v row z)
+      pub lines-alike : allBelow (row .lines) (λ k. allAt x y r at w (λ u. eqZ (lineValue t v row k) u))
+          ≡ allAt x y r at w (λ z. onLine t v row z)
       unfolding onLine
       lines-alike =
           same-bool _ _
           (λ e. all (λ z. onLine t v row z) (λ d p q g. any-some (λ k. eqZ (lineValue t v row k) (pos d)) (row .lines) g
-          (λ k h s. each (λ u. eqZ (lineValue t v row k) u) (all-at (λ k. allAt x y r at w (λ u. eqZ (lineValue t v row k) u)) (row .lines) k h e) d p q s)))
-          (λ e. all-of (λ k. allAt x y r at w (λ u. eqZ (lineValue t v row k) u)) (row .lines) (λ k h. all (λ u. eqZ (lineValue t v row k) u)
+          (λ k h s. each (λ u. eqZ (lineValue t v row k) u)
+          (all-at (λ k. allAt x y r at w (λ u. eqZ (lineValue t v row k) u)) (row .lines) k h e) d p q s)))
+          (λ e. all-of (λ k. allAt x y r at w (λ u. eqZ (lineValue t v row k) u)) (row .lines)
+          (λ k h. all (λ u. eqZ (lineValue t v row k) u)
           (λ d p q s. each (λ z. onLine t v row z) e d p q (any-holds (λ k. eqZ (lineValue t v row k) (pos d)) (row .lines) k h s))))
 
       -- ---- of both
@@ -188,7 +191,8 @@ module _ (x y : ℕ) (r : List ℕ) (at : ℕ) where
             ap good (sym i) ∙ sym (same-byte (d - first)) ∙ all-at (λ k. byte k) (last + 1 - first) (d - first) (omega arith) e))
             (λ e. all-of (λ k. byte k) (last + 1 - first) (λ k g. let i = f .low in let j = l .few in
             same-byte k ∙ each (λ z. inRange row z) e (first + k) (omega arith) (omega arith)
-            (within (first + k) (omega arith) (omega arith) ∙ and-true _ _ (le-leb first (first + k) (omega arith)) (le-leb (first + k) last (omega arith)))))
+            (within (first + k) (omega arith) (omega arith)
+            ∙ and-true _ _ (le-leb first (first + k) (omega arith)) (le-leb (first + k) last (omega arith)))))
 
 -- ---- where every category from 1 to w is allowed, the bytes stand side by side
 pub each-alike : (x y : ℕ) (r : List ℕ) (at w : ℕ) (ok : ℤ → Bool) → ((c : ℕ) → 1 ≤ c → c ≤ w → ok (pos c) ≡ true)

@@ -26,7 +26,8 @@ read-illegal f list e = record { answer = rw e; leaves = rw e }
 module _ (f : Field) (ms list : List ℤ) (n : ℕ) (is : f ≡ holds (members ms)) (e : n ≡ length ms) where
   pub read-room : (list′ : List ℤ) → n ≤ length list → list′ ≡ filledOf ms list → ReadSet f list list′ (Count n)
   unfolding setAnswer listAfter
-  read-room list′ h q = let k : length ms ≤ length list = rw e at h in record { answer = rw (is, le-leb _ _ k, e); leaves = rw (is, le-leb _ _ k) q }
+  read-room list′ h q = let k : length ms ≤ length list = rw e at h in
+      record { answer = rw (is, le-leb _ _ k, e); leaves = rw (is, le-leb _ _ k) q }
 
   pub read-short : length list < n → ReadSet f list list Short
   unfolding setAnswer listAfter

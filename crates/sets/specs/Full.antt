@@ -41,7 +41,8 @@ module _ (t : List ℤ) (v : ℕ) (r : Row) where
   pub each-legal : (w : ℕ) → hasAll r w ≡ true → EachLegal t v r w
   unfolding hasAll legal
   each-legal w h c l m =
-      rw (between (pos 1) (pos w) (pos c) (and-left (inRange r (pos 1)) (inRange r (pos w)) h) (and-right (inRange r (pos 1)) (inRange r (pos w)) h)
+      rw (between (pos 1) (pos w) (pos c) (and-left (inRange r (pos 1)) (inRange r (pos w)) h)
+      (and-right (inRange r (pos 1)) (inRange r (pos w)) h)
       (le-leb 1 c l) (le-leb c w m))
 
   -- the first w lines are the categories, in their order

@@ -81,7 +81,8 @@ fn bits_fill(
     requires { ⌜ Marks (λ x. legal (now t) rows row x) (now marks) ⌝ }
     requires { ⌜ BitsRoom at w (length (now bytes)) ⌝ }
     requires { ⌜ length (setBitsAt (codesTo (now t) rows row w) at (now bytes)) ≤ length (now list) ⌝ }
-    ensures { λ _. ⌜ now (list .exit) ≡ filledOf (setBitsAt (codesTo (now (t .entry)) rows row w) at (now (bytes .entry))) (now (list .entry)) ⌝ }
+    ensures { λ _. ⌜ now (list .exit) ≡ filledOf (setBitsAt (codesTo (now (t .entry)) rows row w) at (now (bytes .entry)))
+        (now (list .entry)) ⌝ }
 {
     let mut n: usize = 0;
     let mut i: usize = 0;
@@ -141,8 +142,10 @@ fn list_set(
     requires { ⌜ LineFacts (now t) rows row ⌝ }
     requires { ⌜ Marks (λ x. legal (now t) rows row x) (now marks) ⌝ }
     requires { ⌜ BitsRoom at w (length (now bytes)) ⌝ }
-    requires { ⌜ bitsFieldAt (codesTo (now t) rows row w) at (now bytes) ≡ holds (members (setBitsAt (codesTo (now t) rows row w) at (now bytes))) ⌝ }
-    ensures { λ r. ⌜ ReadSet (bitsFieldAt (codesTo (now (t .entry)) rows row w) at (now (bytes .entry))) (now (list .entry)) (now (list .exit)) r ⌝ }
+    requires { ⌜ bitsFieldAt (codesTo (now t) rows row w) at (now bytes)
+        ≡ holds (members (setBitsAt (codesTo (now t) rows row w) at (now bytes))) ⌝ }
+    ensures { λ r. ⌜ ReadSet (bitsFieldAt (codesTo (now (t .entry)) rows row w) at (now (bytes .entry))) (now (list .entry))
+        (now (list .exit)) r ⌝ }
 {
     let n = count_set(t, rows, row, marks, bytes, at, w);
     if n <= list.len() {
@@ -164,7 +167,8 @@ pub fn read_each(
 ) -> SetRead
     requires { ⌜ EachLegal (now t) rows row w ⌝ }
     requires { ⌜ BitsRoom at w (length (now bytes)) ⌝ }
-    ensures { λ r. ⌜ ReadSet (bitsFieldAt (codesTo (now (t .entry)) rows row w) at (now (bytes .entry))) (now (list .entry)) (now (list .exit)) r ⌝ }
+    ensures { λ r. ⌜ ReadSet (bitsFieldAt (codesTo (now (t .entry)) rows row w) at (now (bytes .entry))) (now (list .entry))
+        (now (list .exit)) r ⌝ }
 {
     if run_is(bytes, at, w, 32, 32) {
         return SetRead::Missing;
@@ -194,8 +198,10 @@ pub fn mark_and_list(
     requires { ⌜ LineFacts (now t) rows row ⌝ }
     requires { ⌜ length (now marks) ≤ 10000 ⌝ }
     requires { ⌜ BitsRoom at w (length (now bytes)) ⌝ }
-    requires { ⌜ bitsFieldAt (codesTo (now t) rows row w) at (now bytes) ≡ holds (members (setBitsAt (codesTo (now t) rows row w) at (now bytes))) ⌝ }
-    ensures { λ r. ⌜ ReadSet (bitsFieldAt (codesTo (now (t .entry)) rows row w) at (now (bytes .entry))) (now (list .entry)) (now (list .exit)) r ⌝ }
+    requires { ⌜ bitsFieldAt (codesTo (now t) rows row w) at (now bytes)
+        ≡ holds (members (setBitsAt (codesTo (now t) rows row w) at (now bytes))) ⌝ }
+    ensures { λ r. ⌜ ReadSet (bitsFieldAt (codesTo (now (t .entry)) rows row w) at (now (bytes .entry))) (now (list .entry))
+        (now (list .exit)) r ⌝ }
 {
     mark_legal(t, rows, row, marks);
     list_set(t, rows, row, marks, bytes, at, w, list)

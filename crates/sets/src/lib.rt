@@ -61,7 +61,8 @@ pub fn read_bits(
 ) -> SetRead
     requires { ⌜ BitsFacts (now t) rows row (length (now bytes)) ⌝ }
     requires { ⌜ length (now scratch) ≤ 10000 ⌝ }
-    ensures { λ r. ⌜ ReadSet (bitsFieldAt (categories (now (t .entry)) rows row) (row .start - 1) (now (bytes .entry))) (now (list .entry)) (now (list .exit)) r ⌝ }
+    ensures { λ r. ⌜ ReadSet (bitsFieldAt (categories (now (t .entry)) rows row) (row .start - 1) (now (bytes .entry))) (now (list .entry))
+        (now (list .exit)) r ⌝ }
 {
     let w = row.width;
     let at = row.start - 1;
@@ -110,7 +111,8 @@ pub fn spread_illegal(
 ) -> bool
     requires { ⌜ FieldsFacts (now t) rows row n b (length (now bytes)) ⌝ }
     requires { ⌜ length (now scratch) ≤ 10000 ⌝ }
-    ensures { λ r. ⌜ r ≡ isIllegal (spreadFieldAt (legal (now (t .entry)) rows row) (row .start - 1) b (row .width) n (now (bytes .entry))) ⌝ }
+    ensures { λ r. ⌜ r ≡ isIllegal (spreadFieldAt (legal (now (t .entry)) rows row) (row .start - 1) b (row .width) n
+        (now (bytes .entry))) ⌝ }
 {
     let w = row.width;
     let at = row.start - 1;
@@ -133,7 +135,8 @@ pub fn read_spread(
     requires { ⌜ FieldsFacts (now t) rows row n b (length (now bytes)) ⌝ }
     requires { ⌜ length (now scratch) ≤ 10000 ⌝ }
     requires { ⌜ 10 ^ row .width ≤ length (now present) ⌝ }
-    ensures { λ r. ⌜ ReadSet (spreadFieldAt (legal (now (t .entry)) rows row) (row .start - 1) b (row .width) n (now (bytes .entry))) (now (list .entry)) (now (list .exit)) r ⌝ }
+    ensures { λ r. ⌜ ReadSet (spreadFieldAt (legal (now (t .entry)) rows row) (row .start - 1) b (row .width) n (now (bytes .entry)))
+        (now (list .entry)) (now (list .exit)) r ⌝ }
 {
     let w = row.width;
     let at = row.start - 1;
@@ -170,7 +173,8 @@ pub fn read_few(
 ) -> SetRead
     requires { ⌜ FieldsFacts (now t) rows row n b (length (now bytes)) ⌝ }
     requires { ⌜ n ≤ length (now room) ⌝ }
-    ensures { λ r. ⌜ ReadSet (spreadFieldAt (legal (now (t .entry)) rows row) (row .start - 1) b (row .width) n (now (bytes .entry))) (now (list .entry)) (now (list .exit)) r ⌝ }
+    ensures { λ r. ⌜ ReadSet (spreadFieldAt (legal (now (t .entry)) rows row) (row .start - 1) b (row .width) n (now (bytes .entry)))
+        (now (list .entry)) (now (list .exit)) r ⌝ }
 {
     let w = row.width;
     let at = row.start - 1;

@@ -54,7 +54,8 @@ module _ (t : List ℤ) (v : ℕ) (r : Row) {own : ℕ} {s s′ : List ℕ} {b :
   unfolding placesBy
   as-single e c = rw e c
 
-  pub as-quantity : {g : Format} → r .kind ≡ Quantity g → Claimed own (run (r .finish - r .width) (r .width)) s s′ b → Claimed own (placesOf t v r) s s′ b
+  pub as-quantity : {g : Format} → r .kind ≡ Quantity g → Claimed own (run (r .finish - r .width) (r .width)) s s′ b
+      → Claimed own (placesOf t v r) s s′ b
   unfolding placesBy
   as-quantity e c = rw e c
 
@@ -66,19 +67,23 @@ module _ (t : List ℤ) (v : ℕ) (r : Row) {own : ℕ} {s s′ : List ℕ} {b :
   unfolding placesBy
   as-truth e c = rw e c
 
-  pub as-bits : r .kind ≡ Multiple Bits → Claimed own (bitPlaces (r .start - 1) (categories t v r)) s s′ b → Claimed own (placesOf t v r) s s′ b
+  pub as-bits : r .kind ≡ Multiple Bits → Claimed own (bitPlaces (r .start - 1) (categories t v r)) s s′ b
+      → Claimed own (placesOf t v r) s s′ b
   unfolding placesBy
   as-bits e c = subst (λ (k : Kind). Claimed own (placesBy k t v r) s s′ b) (sym e) c
 
-  pub as-spread : {n w : ℕ} → r .kind ≡ Multiple (Fields n w) → Claimed own (spreadPlaces (r .start - 1) w (r .width) n) s s′ b → Claimed own (placesOf t v r) s s′ b
+  pub as-spread : {n w : ℕ} → r .kind ≡ Multiple (Fields n w) → Claimed own (spreadPlaces (r .start - 1) w (r .width) n) s s′ b
+      → Claimed own (placesOf t v r) s s′ b
   unfolding placesBy
   as-spread e c = rw e c
 
 -- a claim that is refused
-pub turn-stop : (P : ℕ → List ℕ) {k : ℕ} {s s′ : List ℕ} {b : Bool} → Stamped P k s → Claimed (k + 1) (P k) s s′ b → b ≡ false → apartBefore P k ≡ false
+pub turn-stop : (P : ℕ → List ℕ) {k : ℕ} {s s′ : List ℕ} {b : Bool} → Stamped P k s → Claimed (k + 1) (P k) s s′ b → b ≡ false
+    → apartBefore P k ≡ false
 turn-stop P st c e = sym (claim-says P st) ∙ sym (c .says) ∙ e
 
-pub turn-done : (P : ℕ → List ℕ) {k : ℕ} {s s′ : List ℕ} {b : Bool} → Stamped P k s → Claimed (k + 1) (P k) s s′ b → b ≡ true → apartBefore P k ≡ true
+pub turn-done : (P : ℕ → List ℕ) {k : ℕ} {s s′ : List ℕ} {b : Bool} → Stamped P k s → Claimed (k + 1) (P k) s s′ b → b ≡ true
+    → apartBefore P k ≡ true
 turn-done P st c e = sym (claim-says P st) ∙ sym (c .says) ∙ e
 
 pub is-true : {own : ℕ} {ps s s′ : List ℕ} {b : Bool} → b ≡ true → Claimed own ps s s′ b → Claimed own ps s s′ true

@@ -22,14 +22,16 @@ module _ {own : ℕ} {all s₀ left s : List ℕ} (on : Onward own all s₀ left
   pub on-step : (ps qs : List ℕ) {s₁ : List ℕ} {b : Bool} → left ≡ ps ++ qs → Claimed own ps s s₁ b → b ≡ true → Onward own all s₀ qs s₁
   on-step ps qs e c y s′ r d = on s′ r (rw e (claim-both (rw y at c) d))
 
-  pub on-stop : (ps qs : List ℕ) {s₁ : List ℕ} {b : Bool} → left ≡ ps ++ qs → Claimed own ps s s₁ b → b ≡ false → Claimed own all s₀ s₁ false
+  pub on-stop : (ps qs : List ℕ) {s₁ : List ℕ} {b : Bool} → left ≡ ps ++ qs → Claimed own ps s s₁ b → b ≡ false
+      → Claimed own all s₀ s₁ false
   on-stop ps qs {s₁} e c y = on s₁ false (rw e (claim-stop qs (rw y at c)))
 
   pub on-end : left ≡ [] → Claimed own all s₀ s true
   on-end e = on s true (rw e (claim-none own s))
 
 -- places behind places that were claimed, and behind some that were refused
-pub after : {own : ℕ} {ps qs s s₁ s₂ : List ℕ} {b r : Bool} → Claimed own ps s s₁ b → b ≡ true → Claimed own qs s₁ s₂ r → Claimed own (ps ++ qs) s s₂ r
+pub after : {own : ℕ} {ps qs s s₁ s₂ : List ℕ} {b r : Bool} → Claimed own ps s s₁ b → b ≡ true → Claimed own qs s₁ s₂ r
+    → Claimed own (ps ++ qs) s s₂ r
 after c y d = claim-both (rw y at c) d
 
 pub refused : {own : ℕ} {ps s s₁ : List ℕ} {b : Bool} (qs : List ℕ) → Claimed own ps s s₁ b → b ≡ false → Claimed own (ps ++ qs) s s₁ false
@@ -59,7 +61,8 @@ spread-end q b w n h = let e : n ≡ 0 = omega arith in rw e
 
 module _ (p : ℕ) (t : List ℤ) (v before n : ℕ) where
   pub lines-next : (k : ℕ) → k < n
-      → linePlaces p t v before k (n - k) ≡ ((p + (countOf (cell t (lineBase v (before + k))) - 1)) ∷ []) ++ linePlaces p t v before (k + 1) (n - (k + 1))
+      → linePlaces p t v before k (n - k) ≡ ((p + (countOf (cell t (lineBase v (before + k))) - 1)) ∷ [])
+      ++ linePlaces p t v before (k + 1) (n - (k + 1))
   unfolding linePlaces
   lines-next k h = let e : n - k ≡ suc (n - (k + 1)) = omega arith in rw (e, add-one k)
 

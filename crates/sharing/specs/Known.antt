@@ -69,12 +69,15 @@ unfolding countOf signedOf
 as-size (pos n) e = refl
 as-size (negsuc n) e = let z : _≡_ {A = ℕ} 0 1 = cc in absurd (omega arith)
 
-pub bits-known : {t : List ℤ} {v len : ℕ} {r : Row} (size : ℕ) → RowFacts t v len r → len ≤ size → r .kind ≡ Multiple Bits → BitsKnown t v r size
+pub bits-known : {t : List ℤ} {v len : ℕ} {r : Row} (size : ℕ) → RowFacts t v len r → len ≤ size → r .kind ≡ Multiple Bits
+    → BitsKnown t v r size
 unfolding lowest need
 bits-known {t} {v} {len} {r} size f h e =
     let w : WidthFacts 9999 r = subst (λ (k : Kind). KindFacts k r) e (f .kind) in
-    let one : (z : ℤ) → legal t v r z ≡ true → leZ (pos 1) z ≡ true = λ z g. subst (λ (k : Kind). leZ (lowest k) z ≡ true) e (f .least z g) in
-    let top : (z : ℤ) → legal t v r z ≡ true → signedOf z .size ≤ r .width = λ z g. subst (λ (k : Kind). need k z ≤ r .width) e (f .fits z g) in
+    let one : (z : ℤ) → legal t v r z ≡ true → leZ (pos 1) z
+    ≡ true = λ z g. subst (λ (k : Kind). leZ (lowest k) z ≡ true) e (f .least z g) in
+    let top : (z : ℤ) → legal t v r z ≡ true → signedOf z .size
+    ≤ r .width = λ z g. subst (λ (k : Kind). need k z ≤ r .width) e (f .fits z g) in
     let a = w .room in let b = f .position .inside in
     record {
       lines = f .lines;
@@ -101,7 +104,8 @@ module _ (ok : ℤ → Bool) (p : ℕ) where
   unfolding bitPlaces defined
   in-bits {A} q c zero e f = none-out q e
   in-bits {A} q c (suc n) e f =
-      let later : isOut q (bitPlaces p (defined ok (suc c) n)) ≡ false → A = λ x. in-bits q (suc c) n x (λ d a b. f d (omega arith) (omega arith)) in
+      let later : isOut q (bitPlaces p (defined ok (suc c) n)) ≡ false
+      → A = λ x. in-bits q (suc c) n x (λ d a b. f d (omega arith) (omega arith)) in
       by-cases (ok (pos c))
       (λ y. out-cases q (p + (c - 1)) (bitPlaces p (defined ok (suc c) n)) (rw y at e) (λ z. f c (omega arith) (omega arith) y z) later)
       (λ y. later (rw y at e))
@@ -241,13 +245,15 @@ module _ {t : List ℤ} {v : ℕ} {r : Row} {size : ℕ} (b : BitsKnown t v r si
   unfolding rangePlaces
   range-bits q = go (inRange r (r .from)) refl
     where
-      go : (x : Bool) → inRange r (r .from) ≡ x → isOut q (cond x (run (first + (countOf (r .from) - 1)) (countOf (r .to) - countOf (r .from) + 1)) []) ≡ false
+      go : (x : Bool) → inRange r (r .from) ≡ x → isOut q
+          (cond x (run (first + (countOf (r .from) - 1)) (countOf (r .to) - countOf (r .from) + 1)) []) ≡ false
           → isOut q bits ≡ false
       go false e o = none-out q o
       go true e o =
           let m = range-low e in let n = range-ends e in
           in-run q (first + (countOf (r .from) - 1)) (countOf (r .to) - countOf (r .from) + 1) o (λ l h.
-          legal-in q (q - first + 1) (omega arith) (range-legal t v r (pos (q - first + 1)) (between (q - first + 1) e (omega arith) (omega arith)))
+          legal-in q (q - first + 1) (omega arith)
+          (range-legal t v r (pos (q - first + 1)) (between (q - first + 1) e (omega arith) (omega arith)))
           (omega arith))
 
   bits-range : (q d : ℕ) → 1 ≤ d → inRange r (pos d) ≡ true → q ≡ first + (d - 1) → isOut q (rangePlaces first r) ≡ false
@@ -270,7 +276,8 @@ module _ {t : List ℤ} {v : ℕ} {r : Row} {size : ℕ} (b : BitsKnown t v r si
       let c = b .count (lineValue t v r j) e in
       legal-in q (countOf (lineValue t v r j)) (b .low (lineValue t v r j) e) (rw (← c) e) z)
 
-  bits-line : (q d : ℕ) → onLine t v r (pos d) ≡ true → q ≡ first + (d - 1) → isOut q (linePlaces first t v (r .before) 0 (r .lines)) ≡ false
+  bits-line : (q d : ℕ) → onLine t v r (pos d) ≡ true → q ≡ first + (d - 1) → isOut q (linePlaces first t v (r .before) 0 (r .lines))
+      ≡ false
   unfolding onLine
   bits-line q d e z =
       any-some (λ k. eqZ (lineValue t v r k) (pos d)) (r .lines) e (λ k h s.
@@ -301,4 +308,5 @@ module _ {t : List ℤ} {v : ℕ} {r : Row} {size : ℕ} (b : BitsKnown t v r si
       (sym (out-both q (rangePlaces first r) (linePlaces first t v (r .before) 0 (r .lines))) ∙ e) (range-bits q) (line-bits q))
       (λ e. out-both q (rangePlaces first r) (linePlaces first t v (r .before) 0 (r .lines))
       ∙ in-bits (legal t v r) first q 1 (r .width) e (λ d a h g z.
-      legal-ways (pos d) g (λ x. both-left _ _ (bits-range q d a x z)) (λ x. both-right (isOut q (rangePlaces first r)) _ (bits-line q d x z))))
+      legal-ways (pos d) g (λ x. both-left _ _ (bits-range q d a x z))
+      (λ x. both-right (isOut q (rangePlaces first r)) _ (bits-line q d x z))))

@@ -10,7 +10,8 @@ use lib.Dec.{eqb}
 use lib.IntN.{ℤ}
 use lib.ListN.{length, getD}
 use Rattle.below.specs.rule.Below.{allBelow}
-use Rattle.below.specs.Below.{all-none, all-more, all-next, all-fails, all-at, all-of, and-true, and-left, and-right, same-bool, decided, holds-not}
+use Rattle.below.specs.Below.{all-none, all-more, all-next, all-fails, all-at, all-of, and-true, and-left, and-right, same-bool, decided}
+use Rattle.below.specs.Below.{holds-not}
 use Rattle.places.specs.rule.Places.{Out, Apart}
 use Rattle.sharing.specs.rule.Sharing.{isOut, areApart, placesAt, sharesNone}
 use Rattle.sharing.specs.Claims.{Claimed, free, allFree, free-of, free-at, none-out, out-here, out-there, out-cases}
@@ -37,7 +38,10 @@ differs false e f = holds-not f refl
 pub out-is : (q : ℕ) (ps : List ℕ) → isOut q ps ≡ true → Out q ps
 unfolding isOut
 out-is q [] e = tt
-out-is q (p ∷ ps) e = (λ z. differs (eqb q p) (and-left (not (eqb q p)) (isOut q ps) e) (eq-eqb q p z), out-is q ps (and-right (not (eqb q p)) (isOut q ps) e))
+out-is q (p ∷ ps) e = (
+  λ z. differs (eqb q p) (and-left (not (eqb q p)) (isOut q ps) e) (eq-eqb q p z),
+  out-is q ps (and-right (not (eqb q p)) (isOut q ps) e),
+)
 
 pub is-out : (q : ℕ) (ps : List ℕ) → Out q ps → isOut q ps ≡ true
 unfolding isOut

@@ -90,7 +90,8 @@ fn claim_range(t: &[i64], rows: usize, row: Row, stamps: &mut [u16], own: u16) -
 // And those of its lines: no category from 1 to w is tried that has none.
 fn claim_lines(t: &[i64], rows: usize, row: Row, stamps: &mut [u16], own: u16) -> bool
     requires { ⌜ BitsKnown (now t) rows row (length (now stamps)) ⌝ }
-    ensures { λ r. ⌜ Claimed own (linePlaces (row .start - 1) (now (t .entry)) rows (row .before) 0 (row .lines)) (now (stamps .entry)) (now (stamps .exit)) r ⌝ }
+    ensures { λ r. ⌜ Claimed own (linePlaces (row .start - 1) (now (t .entry)) rows (row .before) 0 (row .lines)) (now (stamps .entry))
+        (now (stamps .exit)) r ⌝ }
 {
     let at = row.start - 1;
     let before = row.before;

@@ -29,5 +29,6 @@ few bad d old l p e t n f =
     short (t .ident) (figureOf d (h .a) (h .ae)) (g .ident-is) (few-digits d (h .a) (h .ae) (s .first .fits)) (g .digits)
 
 -- THE TABLE BUILT IS WELL FORMED, for every definition in XML that is read
-pub read-well-formed : (d : List ℕ) (t : List ℤ) (l : List Entry) → outcomeOf d (length t) ≡ Built l → wellFormed (pasted t 0 (tableOf l)) ≡ true
+pub read-well-formed : (d : List ℕ) (t : List ℤ) (l : List Entry) → outcomeOf d (length t) ≡ Built l → wellFormed (pasted t 0 (tableOf l))
+    ≡ true
 read-well-formed d t l e = laws.read-well-formed few d t l e

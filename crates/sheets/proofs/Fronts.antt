@@ -60,7 +60,8 @@ front-placed t a b i k u (Is p n) e f g = rw (e, f, g)
 front-placed t a b i k u (Not h) e f g = refl
 
 module _ (bad : Bool) (d : List ℕ) (m : Manner) (l : List Entry) (q e : ℕ) where
-  pub front-is : {i k u n : ℕ} (a b : Quoted) → titledOf (title bad d (m .old) l q e) ≡ titled.Is i k u n → phraseOf (nameIn bad d m l n) ≡ phrase.Is a
+  pub front-is : {i k u n : ℕ} (a b : Quoted) → titledOf (title bad d (m .old) l q e) ≡ titled.Is i k u n → phraseOf (nameIn bad d m l n)
+      ≡ phrase.Is a
       → phraseOf (labelIn bad d (m .languages) (a .next)) ≡ phrase.Is b
       → placedOf i k u a b (positionIn bad d (b .next)) ≡ frontedOf (frontOf bad d m l q e)
   unfolding frontOf
@@ -69,14 +70,16 @@ module _ (bad : Bool) (d : List ℕ) (m : Manner) (l : List Entry) (q e : ℕ) w
       rw (t .is, phrase-is (nameIn bad d m l n) a y, phrase-is (labelIn bad d (m .languages) (a .next)) b z)
       (front-placed (t .title) a b i k u (positionIn bad d (b .next)) (t .ident) (t .type) (t .usage))
 
-  pub label-not : {i k u n : ℕ} (a : Quoted) {f : Fault} → titledOf (title bad d (m .old) l q e) ≡ titled.Is i k u n → phraseOf (nameIn bad d m l n) ≡ phrase.Is a
+  pub label-not : {i k u n : ℕ} (a : Quoted) {f : Fault} → titledOf (title bad d (m .old) l q e) ≡ titled.Is i k u n
+      → phraseOf (nameIn bad d m l n) ≡ phrase.Is a
       → phraseOf (labelIn bad d (m .languages) (a .next)) ≡ phrase.Not f → fronted.Not f ≡ frontedOf (frontOf bad d m l q e)
   unfolding frontOf
   label-not {n = n} a x y z =
       let t = title-is (title bad d (m .old) l q e) x in
       rw (t .is, phrase-is (nameIn bad d m l n) a y, phrase-not (labelIn bad d (m .languages) (a .next)) z)
 
-  pub name-not : {i k u n : ℕ} {f : Fault} → titledOf (title bad d (m .old) l q e) ≡ titled.Is i k u n → phraseOf (nameIn bad d m l n) ≡ phrase.Not f
+  pub name-not : {i k u n : ℕ} {f : Fault} → titledOf (title bad d (m .old) l q e) ≡ titled.Is i k u n → phraseOf (nameIn bad d m l n)
+      ≡ phrase.Not f
       → fronted.Not f ≡ frontedOf (frontOf bad d m l q e)
   unfolding frontOf
   name-not {n = n} x y = let t = title-is (title bad d (m .old) l q e) x in rw (t .is, phrase-not (nameIn bad d m l n) y)

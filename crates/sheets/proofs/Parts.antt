@@ -51,8 +51,10 @@ within-first d at (opened.Not f) w = tt
 
 module _ (bad : Bool) (d : List ℕ) where
   -- what is due is found first and read then
-  due-after : {A : Type 0} (w : List ℕ) (x : Result rule.Open) (k : ℕ → Reader A) → bind x (λ o. due bad d w o k) ≡ bind (bind x (λ o. due bad d w o give)) k
-  due-after w (Is (start p) e) k = due-then bad d w (opened.Start p e) k ∙ ap (λ (r : Result ℕ). bind r k) (read-due (due bad d w (start p) give e))
+  due-after : {A : Type 0} (w : List ℕ) (x : Result rule.Open) (k : ℕ → Reader A) → bind x (λ o. due bad d w o k)
+      ≡ bind (bind x (λ o. due bad d w o give)) k
+  due-after w (Is (start p) e) k = due-then bad d w (opened.Start p e) k
+      ∙ ap (λ (r : Result ℕ). bind r k) (read-due (due bad d w (start p) give e))
   due-after w (Is (shut p) e) k = refl
   due-after w (Not f) k = refl
 
@@ -86,7 +88,8 @@ module _ (bad : Bool) (d : List ℕ) where
       let b = l .ordered in
       let c = l .low in
       let u : capped (p .start .value) ≡ p .start .value = capped-low (p .start .value) (omega arith) in
-      let v : capped (Option·getD (p .finish) (p .start) .value) ≡ Option·getD (p .finish) (p .start) .value = capped-low (Option·getD (p .finish) (p .start) .value) (omega arith) in
+      let v : capped (Option·getD (p .finish) (p .start) .value)
+      ≡ Option·getD (p .finish) (p .start) .value = capped-low (Option·getD (p .finish) (p .start) .value) (omega arith) in
       (l .next, rw u a, rw (u, v) b, rw v c)
     where
       capped-low : (n : ℕ) → n ≤ 16384 → capped n ≡ n

@@ -44,15 +44,18 @@ after (Not e) f g = refl
 
 module _ (bad : Bool) (d : List ℕ) where
   -- ---- the tag that is due where o stands
-  pub due-from : {A : Type 0} (w : List ℕ) (o : Open) (k : ℕ → Reader A) {p e : ℕ} → dueOf (bind (readOf o) λ x. due bad d w x give) ≡ dues.At p e
+  pub due-from : {A : Type 0} (w : List ℕ) (o : Open) (k : ℕ → Reader A) {p e : ℕ} → dueOf (bind (readOf o) λ x. due bad d w x give)
+      ≡ dues.At p e
       → bind (readOf o) (λ x. due bad d w x k) ≡ k p e
   due-from w o k f = due-then bad d w o k ∙ rw f
 
-  pub due-never : {A : Type 0} (w : List ℕ) (o : Open) (k : ℕ → Reader A) {g : Fault} → dueOf (bind (readOf o) λ x. due bad d w x give) ≡ dues.Not g
+  pub due-never : {A : Type 0} (w : List ℕ) (o : Open) (k : ℕ → Reader A) {g : Fault} → dueOf (bind (readOf o) λ x. due bad d w x give)
+      ≡ dues.Not g
       → bind (readOf o) (λ x. due bad d w x k) ≡ Not g
   due-never w o k f = due-then bad d w o k ∙ rw f
 
-  pub due-within : (w : List ℕ) (o : Open) {p e : ℕ} → Within d 0 o → dueOf (bind (readOf o) λ x. due bad d w x give) ≡ dues.At p e → (1 ≤ e) × (e ≤ length d)
+  pub due-within : (w : List ℕ) (o : Open) {p e : ℕ} → Within d 0 o → dueOf (bind (readOf o) λ x. due bad d w x give) ≡ dues.At p e
+      → (1 ≤ e) × (e ≤ length d)
   due-within w (opened.Start q m) {p} {e} h f = by (isNamed d (q + 1) m w) f where
     by : (t : Bool) → dueOf (cond t (give q m) (rule.misplaced bad d {A = ℕ} q m)) ≡ dues.At p e → (1 ≤ e) × (e ≤ length d)
     by true f = let j : m ≡ e = cc in rw (← j) (omega (arith, h .1), h .2)
@@ -68,10 +71,13 @@ module _ (bad : Bool) (d : List ℕ) where
 
   pub size-ended : (o : Open) {p e : ℕ} → dueOf (bind (readOf o) λ x. due bad d SIZE x give) ≡ dues.At p e
       → bind (readOf o) (sizeEnded bad d) ≡ bind (size bad d p e) K
-  size-ended o f = after (readOf o) (λ x. due bad d SIZE x (size bad d)) K ∙ ap (λ (r : Result Figure). bind r K) (due-from SIZE o (size bad d) f)
+  size-ended o f = after (readOf o) (λ x. due bad d SIZE x (size bad d)) K
+      ∙ ap (λ (r : Result Figure). bind r K) (due-from SIZE o (size bad d) f)
 
-  pub size-never : (o : Open) {g : Fault} → dueOf (bind (readOf o) λ x. due bad d SIZE x give) ≡ dues.Not g → bind (readOf o) (sizeEnded bad d) ≡ Not g
-  size-never o f = after (readOf o) (λ x. due bad d SIZE x (size bad d)) K ∙ ap (λ (r : Result Figure). bind r K) (due-never SIZE o (size bad d) f)
+  pub size-never : (o : Open) {g : Fault} → dueOf (bind (readOf o) λ x. due bad d SIZE x give) ≡ dues.Not g
+      → bind (readOf o) (sizeEnded bad d) ≡ Not g
+  size-never o f = after (readOf o) (λ x. due bad d SIZE x (size bad d)) K
+      ∙ ap (λ (r : Result Figure). bind r K) (due-never SIZE o (size bad d) f)
 
   pub size-next : (p e : ℕ) (x : Figures) → 1 ≤ e → toNumber (size bad d p e) ≡ number.Is x → x .next ≤ length d
   size-next p e x h = by (size bad d p e) refl where
@@ -130,7 +136,8 @@ module _ (bad : Bool) (d : List ℕ) where
     listed-not (Not g) {f} e = let j : g ≡ f = cc in ap Not j
 
     -- where the place behind a block lies
-    pub listed-next : (y : Result Block) {b : books.Block} {last n : ℕ} → ((c : Block) (m : ℕ) → y ≡ Is c m → m ≤ length d) → listedOf before y ≡ listed.Is b last n → n ≤ length d
+    pub listed-next : (y : Result Block) {b : books.Block} {last n : ℕ} → ((c : Block) (m : ℕ) → y ≡ Is c m → m ≤ length d)
+        → listedOf before y ≡ listed.Is b last n → n ≤ length d
     listed-next y {n = n} h e = let x = listed-is y e in h (x .block) n (x .is)
 
     module _ (c w : ℕ) (o : Open) (room end : List ℤ) where
@@ -142,7 +149,8 @@ module _ (bad : Bool) (d : List ℕ) where
         other : {B : Type 0} {f : Fault} {b : Block} {n : ℕ} → Not f ≡ Is b n → B
         other z = never cc
 
-      pub valued-due : {f : Fault} → dueOf (bind (readOf o) λ x. due bad d VALUES x give) ≡ dues.Not f → Valued c w before all room end (rested.Not f)
+      pub valued-due : {f : Fault} → dueOf (bind (readOf o) λ x. due bad d VALUES x give) ≡ dues.Not f
+          → Valued c w before all room end (rested.Not f)
       valued-due e = refused (values-never o e)
 
       module _ {p e : ℕ} (f : dueOf (bind (readOf o) λ x. due bad d VALUES x give) ≡ dues.At p e) where
@@ -165,18 +173,21 @@ module _ (bad : Bool) (d : List ℕ) where
           valued-ended g = refused (ended-is ∙ ends-not (endIn bad d n) g (listed-is (read p e) i .block))
 
           pub valued-is : {k : ℕ} → readingOf (endIn bad d n) ≡ reading.At k → Stored before (read p e) room end
-              → Valued c w before all room end (rested.Is (record { block = b; last = last; subfields = c; subwidth = w; size = 0; next = k }))
+              → Valued c w before all room end (rested.Is
+              (record { block = b; last = last; subfields = c; subwidth = w; size = 0; next = k }))
           valued-is {k} g s =
               let x = listed-is (read p e) i in
               let q : all ≡ Is (x .block) k = ended-is ∙ ends-at (endIn bad d n) g (x .block) in
               record {
                 is = made (x .block) b last k (x .kept) (x .count) ∙ ap (valuedOf c w before) (sym q);
-                line = λ y m z. s .stored (x .is) ∙ ap (λ (v : Block). pasted room (lineSize * before) (cellsOf (v .lines))) (same (sym q ∙ z));
+                line = λ y m z. s .stored (x .is)
+                    ∙ ap (λ (v : Block). pasted room (lineSize * before) (cellsOf (v .lines))) (same (sym q ∙ z));
               }
             where
               same : {x y : Block} {k m : ℕ} → Is x k ≡ Is y m → x ≡ y
               same z = cc
 
               made : (x : Block) (b : books.Block) (last k : ℕ) → b ≡ blockAs x → last ≡ before + length (x .lines)
-                  → rested.Is (record { block = b; last = last; subfields = c; subwidth = w; size = 0; next = k }) ≡ valuedOf c w before (Is x k)
+                  → rested.Is (record { block = b; last = last; subfields = c; subwidth = w; size = 0; next = k })
+                  ≡ valuedOf c w before (Is x k)
               made x b last k e g = rw (e, g)

@@ -53,8 +53,10 @@ use Rattle.xml_reading.specs.rule.Role.{Entry, Title, variablesOf, typeAt, useA
 use Rattle.xml_reading.specs.rule.Variable.{Manner, Then, filtered, spreading, block, ended, content, variable}
 use Rattle.xml_reading.specs.rule.Whole.{usedBy, columnsFor}
 use Rattle.xml_bridge.specs.Book.{quotedAs, blockAs, headWith, tellingWith, bookOf, saids-count, columns-same, sizeIn}
-use Rattle.xml_bridge.specs.Settle.{Told, as-single, as-multiple, as-quantity, as-character, as-logical, stoodFrom, measure-here, settled-same}
-use Rattle.xml_bridge.specs.Good.{FineContent, fine-single, fine-multiple, fine-quantity, fine-character, fine-logical, FineVariable, head-good, telling-good, good-book}
+use Rattle.xml_bridge.specs.Settle.{Told, as-single, as-multiple, as-quantity, as-character, as-logical, stoodFrom, measure-here}
+use Rattle.xml_bridge.specs.Settle.{settled-same}
+use Rattle.xml_bridge.specs.Good.{FineContent, fine-single, fine-multiple, fine-quantity, fine-character, fine-logical, FineVariable}
+use Rattle.xml_bridge.specs.Good.{head-good, telling-good, good-book}
 use Rattle.xml_bridge.specs.Table.{FineEntries, entries-few}
 use Rattle.xml_bridge.specs.Table as table
 use Rattle.laying.specs.declared.Tally.{Tally}
@@ -74,14 +76,17 @@ use Rattle.xml_laws.specs.Reads as Laws
 use Rattle.xml_laws.specs.Sheets.{Named, none-named, more-named}
 use Rattle.xml_laws.specs.Reads.{text-long, position-fine, judged-is, moved, clear-head, opened, bound, within-long}
 use Rattle.xml_laws.specs.Parts.{afterContent, afterFilter, afterPosition, afterLabel, afterName, afterTitle, variable-is}
-use Rattle.xml_laws.specs.Entries.{Titled, due-is, title-fine, Filter, no-filter, one-filter, filtered-fine, Contained, content-fine, room-some, room-few}
+use Rattle.xml_laws.specs.Entries.{Titled, due-is, title-fine, Filter, no-filter, one-filter, filtered-fine, Contained, content-fine}
+use Rattle.xml_laws.specs.Entries.{room-some, room-few}
 use Rattle.sheets.specs.declared.Fronted.{Fronted}
 use Rattle.sheets.specs.declared.Fronted.the-variants as fronted
 use Rattle.sheets.specs.declared.Sifted.{Sifted}
 use Rattle.sheets.specs.declared.Entered.{Entered}
 use Rattle.sheets.specs.declared.Entered.the-variants as entereds
-use Rattle.sheets.specs.Code.{countIn, widthIn, placelessOf, restedIn, roomy, contentBy, headOf, behindFront, siftedIn, siftedOf, FrontRead, enteredOf}
-use Rattle.sheets.specs.Code.{Front, frontOf, nameIn, labelIn, positionIn, Before, Sofar, tallyOf, Rests, SiftSaid, Bodied, FrontSaid, frontedOf, Joined}
+use Rattle.sheets.specs.Code.{countIn, widthIn, placelessOf, restedIn, roomy, contentBy, headOf, behindFront, siftedIn, siftedOf}
+use Rattle.sheets.specs.Code.{FrontRead, enteredOf}
+use Rattle.sheets.specs.Code.{Front, frontOf, nameIn, labelIn, positionIn, Before, Sofar, tallyOf, Rests, SiftSaid, Bodied, FrontSaid}
+use Rattle.sheets.specs.Code.{frontedOf, Joined}
 
 capped-low : (n : ℕ) → n ≤ 16384 → capped n ≡ n
 capped-low n h = rw (le-ltb 1000000000000000 n (omega arith))
@@ -93,21 +98,23 @@ pub record Known (t : Title) (n : ℕ) : Type 0 where
 
 type-most : (h : Heard) → forms.kindOf h ≤ 5
 unfolding forms.kindOf
-type-most h = by (wordOf forms.single h) (wordOf forms.multiple h) (wordOf forms.quantity h) (wordOf forms.character h) (wordOf forms.logical h) where
-  by : (a b c d e : Bool) → cond a 1 (cond b 2 (cond c 3 (cond d 4 (cond e 5 0)))) ≤ 5
-  by true b c d e = omega arith
-  by false true c d e = omega arith
-  by false false true d e = omega arith
-  by false false false true e = omega arith
-  by false false false false true = omega arith
-  by false false false false false = omega arith
+type-most h = by (wordOf forms.single h) (wordOf forms.multiple h) (wordOf forms.quantity h) (wordOf forms.character h)
+    (wordOf forms.logical h) where
+      by : (a b c d e : Bool) → cond a 1 (cond b 2 (cond c 3 (cond d 4 (cond e 5 0)))) ≤ 5
+      by true b c d e = omega arith
+      by false true c d e = omega arith
+      by false false true d e = omega arith
+      by false false false true e = omega arith
+      by false false false false true = omega arith
+      by false false false false false = omega arith
 
 module _ (d : List ℕ) (v e : ℕ) where
   type-within : stretchFits 4 d v e ≡ true → (1 ≤ typeAt d v e) × (typeAt d v e ≤ 5)
   unfolding stretchFits fitsOf typeAt
   type-within f = (ltb-true 0 (forms.kindOf (heard (take (e - v) (drop v d)) 0)) f, type-most (heard (take (e - v) (drop v d)) 0))
 
-pub title-known : (bad : Bool) (d : List ℕ) (old : Bool) (l : List Entry) (p e : ℕ) {t : Title} {n : ℕ} → title bad d old l p e ≡ Is t n → Known t n
+pub title-known : (bad : Bool) (d : List ℕ) (old : Bool) (l : List Entry) (p e : ℕ) {t : Title} {n : ℕ} → title bad d old l p e ≡ Is t n
+    → Known t n
 unfolding title
 title-known bad d old l p e {t} {n} f =
     let o = opened bad d (tagOf bad d p e IDENT TYPE (cond old [] USE) 1 4 (cond old 0 5) 2) _ t n f in
@@ -155,7 +162,8 @@ module _ (bad : Bool) (d : List ℕ) (m : Manner) where
     last (Is u j) g = cc
     last (Not g) e = never cc
 
-  type-same : (p : Position) (before t : ℕ) (o : Open) (e : ℕ) {c : Content} {n : ℕ} → (1 ≤ t) × (t ≤ 5) → content bad d m p before t o e ≡ Is c n → t ≡ typeOf c
+  type-same : (p : Position) (before t : ℕ) (o : Open) (e : ℕ) {c : Content} {n : ℕ} → (1 ≤ t) × (t ≤ 5) → content bad d m p before t o e
+      ≡ Is c n → t ≡ typeOf c
   unfolding content
   type-same p before t o e {c} {n} h f = by (eqb t 1) (eqb t 2) (eqb t 3) (eqb t 4) refl refl refl refl f where
     five : (eqb t 1 ≡ false) → eqb t 2 ≡ false → eqb t 3 ≡ false → eqb t 4 ≡ false → t ≡ 5
@@ -174,7 +182,8 @@ module _ (bad : Bool) (d : List ℕ) (m : Manner) where
 
     by : (q r s z : Bool) → eqb t 1 ≡ q → eqb t 2 ≡ r → eqb t 3 ≡ s → eqb t 4 ≡ z
         → cond {A = Reader Content} q (λ e. bind (block bad d m false before o e) λ b. ended bad d m (single b))
-        (cond r (λ e. bind (spreading bad d m (room p) o e) λ s n. bind (block bad d m false before (s .behind) n) λ b. ended bad d m (multiple (s .it) b))
+        (cond r (λ e. bind (spreading bad d m (room p) o e) λ s n. bind (block bad d m false before (s .behind) n) λ b. ended bad d m
+        (multiple (s .it) b))
         (cond s (λ e. bind (block bad d m true before o e) λ b. ended bad d m (quantity b))
         (cond z (λ e. bind (due bad d SIZE o (size bad d) e) λ x. ended bad d m (character x))
         (λ e. bind (over bad d o e) λ a j. Is logical j)))) e ≡ Is c n
@@ -195,7 +204,8 @@ module _ (bad : Bool) (d : List ℕ) (m : Manner) where
     by false false false false a b x y f = five a b x y ∙ ap (λ (c : Content). typeOf c) (last (over bad d o e) f)
 
   -- it goes by the bytes of its position alone
-  content-room : (p q : Position) (before t : ℕ) (o : Open) (e : ℕ) → room p ≡ room q → content bad d m p before t o e ≡ content bad d m q before t o e
+  content-room : (p q : Position) (before t : ℕ) (o : Open) (e : ℕ) → room p ≡ room q → content bad d m p before t o e
+      ≡ content bad d m q before t o e
   unfolding content
   content-room p q before t o e f = rw f
 
@@ -225,7 +235,8 @@ rest-inj a b e = cc
 small-plain : (b : ℕ) (v : Variable) → GoodVariable b (bookOf v) → SmallRow (columnsIn b (bookOf v))
 unfolding holdsIn columnsIn fullColumns widened plainColumns countedIn
 small-plain b v g =
-    small-columns (columnsIn b (bookOf v)) (g .counts) (g .places) (g .holds) (omega (arith, g .few)) (omega (arith, g .few)) (omega arith) (omega arith)
+    small-columns (columnsIn b (bookOf v)) (g .counts) (g .places) (g .holds) (omega (arith, g .few)) (omega (arith, g .few)) (omega arith)
+    (omega arith)
 
 small-used : (b : ℕ) (v : Variable) (u f : ℕ) → GoodVariable b (bookOf v) → u ≤ 2 → f ≤ 512 → SmallRow (usedBy u f (columnsOf b v))
 small-used b v u f g h k = wider (columnsOf b v) (rw (← columns-same b v) (small-plain b v g)) where
@@ -283,7 +294,8 @@ settled-not b v n f = by (held v n) where
   by (Not g) e = let a : f ≡ g = cc in ap Not (sym a)
 
 -- ---- BEHIND THE POSITION
-module _ (bad : Bool) (d : List ℕ) (long : length d ≤ 1048576) (m : Manner) (l : List Entry) (g : FineEntries l) (b : ℕ) (be : b ≡ linesAll (variablesOf l))
+module _ (bad : Bool) (d : List ℕ) (long : length d ≤ 1048576) (m : Manner) (l : List Entry) (g : FineEntries l) (b : ℕ)
+    (be : b ≡ linesAll (variablesOf l))
     (h : Head) (usage at : ℕ) (x : FrontRead bad d m l h usage at) where
   abbrev t : Title
   t = x .front .title
@@ -316,8 +328,10 @@ module _ (bad : Bool) (d : List ℕ) (long : length d ≤ 1048576) (m : Manner) 
   unfolding behindFront afterPosition
   filter-then = by (within bad d VARIABLE at) where
     by : (r : Result Open)
-        → bind r (λ o k. bind (filtered bad d m l (x .front .name) (t .usage) o k) (afterFilter bad d m l t (x .front .name) (x .front .label) p))
-        ≡ bind (bind r (λ o. filtered bad d m l (x .front .name) (t .usage) o)) (afterFilter bad d m l t (x .front .name) (x .front .label) p)
+        → bind r (λ o k. bind (filtered bad d m l (x .front .name) (t .usage) o k)
+        (afterFilter bad d m l t (x .front .name) (x .front .label) p))
+        ≡ bind (bind r (λ o. filtered bad d m l (x .front .name) (t .usage) o))
+        (afterFilter bad d m l t (x .front .name) (x .front .label) p)
     by (Is o k) = refl
     by (Not f) = refl
 
@@ -357,7 +371,8 @@ module _ (bad : Bool) (d : List ℕ) (long : length d ≤ 1048576) (m : Manner) 
     pub typed : t .type ≡ typeOf what
     pub filter : Filter bad d l (t .usage) (s .filter)
 
-  pub rest-read : (s : Sifted) (r : Rest) → s ≡ siftedOf sifted → rested.Is r ≡ restedIn (h .finish + 1 - h .start) b (contents s) → RestRead s r
+  pub rest-read : (s : Sifted) (r : Rest) → s ≡ siftedOf sifted → rested.Is r ≡ restedIn (h .finish + 1 - h .start) b (contents s)
+      → RestRead s r
   unfolding afterFilter
   rest-read s r e f = by sifted refl e where
     by : (z : Result (Then ℕ)) → sifted ≡ z → s ≡ siftedOf z → RestRead s r
@@ -374,13 +389,15 @@ module _ (bad : Bool) (d : List ℕ) (long : length d ≤ 1048576) (m : Manner) 
             place = k;
             is =
                 filter-then ∙ ap (λ (r : Result (Then ℕ)). bind r (afterFilter bad d m l t (x .front .name) (x .front .label) p)) i
-                ∙ ap (λ (b : ℕ). bind (content bad d m p b (t .type) (y .behind) n) (afterContent bad d m l t (x .front .name) (x .front .label) p (y .it))) (sym be)
+                ∙ ap (λ (b : ℕ). bind (content bad d m p b (t .type) (y .behind) n)
+                (afterContent bad d m l t (x .front .name) (x .front .label) p (y .it))) (sym be)
                 ∙ ap (λ (r : Result Content). bind r (afterContent bad d m l t (x .front .name) (x .front .label) p (y .it))) j
                 ∙ ap (λ (f : ℕ). afterContent bad d m l t (x .front .name) (x .front .label) p f c k) (sym fi);
             rest-is = rest-inj r (restAs c k) (f ∙ ap (restedIn (h .finish + 1 - h .start) b) z);
             what-is = z;
             contained =
-                content-fine bad d long m l (t .usage) p b few (room-some p (x .placed .ordered)) (room-few p (x .placed .from-one) (x .placed .low)) (t .type)
+                content-fine bad d long m l (t .usage) p b few (room-some p (x .placed .ordered))
+                (room-few p (x .placed .from-one) (x .placed .low)) (t .type)
                 (y .behind) n (ff .1) (ff .2) (x .titled .right) j;
             typed = type-same bad d m p b (t .type) (y .behind) n (x .typed) j;
             filter = rw fi (ff .0);
@@ -393,7 +410,8 @@ module _ (bad : Bool) (d : List ℕ) (long : length d ≤ 1048576) (m : Manner) 
   unfolding afterFilter
   rest-not s f e q =
       filter-then
-      ∙ ap (λ (b : ℕ). bind sifted (λ y n. bind (content bad d m p b (t .type) (y .behind) n) (afterContent bad d m l t (x .front .name) (x .front .label) p (y .it)))) (sym be)
+      ∙ ap (λ (b : ℕ). bind sifted (λ y n. bind (content bad d m p b (t .type) (y .behind) n)
+      (afterContent bad d m l t (x .front .name) (x .front .label) p (y .it)))) (sym be)
       ∙ by sifted e
     where
       none : (r : Result Content) → rested.Not f ≡ restedIn (h .finish + 1 - h .start) b r → r ≡ Not f
@@ -401,11 +419,13 @@ module _ (bad : Bool) (d : List ℕ) (long : length d ≤ 1048576) (m : Manner) 
       none (Not a) e = let z : f ≡ a = cc in ap Not (sym z)
 
       by : (z : Result (Then ℕ)) → s ≡ siftedOf z
-          → bind z (λ y n. bind (content bad d m p b (t .type) (y .behind) n) (afterContent bad d m l t (x .front .name) (x .front .label) p (y .it))) ≡ Not f
+          → bind z (λ y n. bind (content bad d m p b (t .type) (y .behind) n)
+          (afterContent bad d m l t (x .front .name) (x .front .label) p (y .it))) ≡ Not f
       by (Is y n) e =
           ap (λ (r : Result Content). bind r (afterContent bad d m l t (x .front .name) (x .front .label) p (y .it)))
           (none (content bad d m p b (t .type) (y .behind) n) (q ∙ ap (restedIn (h .finish + 1 - h .start) b) (contents-are s (Is y n) e)))
-      by (Not a) e = let z = q ∙ ap (restedIn (h .finish + 1 - h .start) b) (contents-are s (Not a) e) in let y : f ≡ a = cc in ap Not (sym y)
+      by (Not a) e = let z = q ∙ ap (restedIn (h .finish + 1 - h .start) b) (contents-are s (Not a) e) in let y : f ≡ a = cc in
+          ap Not (sym y)
 
   -- ---- measured
   module _ (s : Sifted) (r : Rest) (o : RestRead s r) where
@@ -432,8 +452,10 @@ module _ (bad : Bool) (d : List ℕ) (long : length d ≤ 1048576) (m : Manner) 
     head-same : h ≡ headWith 0 0 v
     head-same =
         x .head-is
-        ∙ head-by (quotedAs (x .front .name) 0) (quotedAs (x .front .label) 0) (p .start .place) (capped-low (t .ident .value) (omega (arith, x .short))) (o .typed)
-        (capped-low (p .start .value) (omega (arith, x .placed .ordered, x .placed .low))) (capped-low (Option·getD (p .finish) (p .start) .value) (x .placed .low))
+        ∙ head-by (quotedAs (x .front .name) 0) (quotedAs (x .front .label) 0) (p .start .place)
+        (capped-low (t .ident .value) (omega (arith, x .short))) (o .typed)
+        (capped-low (p .start .value) (omega (arith, x .placed .ordered, x .placed .low)))
+        (capped-low (Option·getD (p .finish) (p .start) .value) (x .placed .low))
 
     rest-same : placelessOf r ≡ countedIn b (tellingWith (o .contained .subfields) (o .contained .subwidth) (o .what))
     unfolding countedIn
@@ -443,21 +465,25 @@ module _ (bad : Bool) (d : List ℕ) (long : length d ≤ 1048576) (m : Manner) 
         ∙ rest-by (blockAs (blockIn (o .what))) (ap (λ (n : ℕ). b + n) (sym (saids-count (blockIn (o .what) .lines)))) (q .0)
         (ap (λ (k : ℕ). widthIn k (spreadIn (o .what))) room-is ∙ q .1) (size-low (o .contained .fine))
 
-    module _ (lines lines′ : List ℤ) (wide : length lines ≡ 16384) (pasted-in : lines′ ≡ pasted lines (lineSize * b) (cellsOf (blockIn (o .what) .lines))) where
+    module _ (lines lines′ : List ℤ) (wide : length lines ≡ 16384)
+        (pasted-in : lines′ ≡ pasted lines (lineSize * b) (cellsOf (blockIn (o .what) .lines))) where
       pub measured-here : Measurable lines′ h (placelessOf r) b
       measured-here =
           by lines′ h (placelessOf r) pasted-in head-same rest-same
           (measure-here 0 0 b (o .contained .subfields) (o .contained .subwidth) v (o .contained .told)
-          (head-good b (o .contained .subfields) (o .contained .subwidth) v few fine 0 0) (telling-good b (o .contained .subfields) (o .contained .subwidth) v few fine) lines wide)
+          (head-good b (o .contained .subfields) (o .contained .subwidth) v few fine 0 0)
+          (telling-good b (o .contained .subfields) (o .contained .subwidth) v few fine) lines wide)
         where
-          by : (n : List ℤ) (k : Head) (q : Rest) {n′ : List ℤ} {k′ : Head} {q′ : Rest} → n ≡ n′ → k ≡ k′ → q ≡ q′ → Measurable n′ k′ q′ b → Measurable n k q b
+          by : (n : List ℤ) (k : Head) (q : Rest) {n′ : List ℤ} {k′ : Head} {q′ : Rest} → n ≡ n′ → k ≡ k′ → q ≡ q′ → Measurable n′ k′ q′ b
+              → Measurable n k q b
           by n k q e f z a = rw (e, f, z) a
 
       pub settled-here : (n : ℕ) → settledBy (numberIn lines′ b) h (placelessOf r) b (At n) ≡ stoodFrom b (held v n)
       settled-here n =
           by lines′ h (placelessOf r) pasted-in head-same rest-same
           ∙ settled-same 0 0 b (o .contained .subfields) (o .contained .subwidth) v (o .contained .told)
-          (head-good b (o .contained .subfields) (o .contained .subwidth) v few fine 0 0) (telling-good b (o .contained .subfields) (o .contained .subwidth) v few fine) lines wide n
+          (head-good b (o .contained .subfields) (o .contained .subwidth) v few fine 0 0)
+          (telling-good b (o .contained .subfields) (o .contained .subwidth) v few fine) lines wide n
         where
           by : (i : List ℤ) (k : Head) (q : Rest) {i′ : List ℤ} {k′ : Head} {q′ : Rest} → i ≡ i′ → k ≡ k′ → q ≡ q′
               → settledBy (numberIn i b) k q b (At n) ≡ settledBy (numberIn i′ b) k′ q′ b (At n)
@@ -510,7 +536,8 @@ filters-low (table.more {l = l} {v = w} g f) i v a = by i v (at-split l w a) (λ
   on (table.unfiltered e) = omega arith
   on (table.filtered p s u a b c k) = omega (arith, ap length b, length-append p (u ∷ s), length-append l (w ∷ []))
 
-  by : (i : ℕ) (v : Entry) → keeping.Split l w i v → ((i : ℕ) (v : Entry) → kept.At l i v → v .filter ≤ length l) → v .filter ≤ length (l ++ w ∷ [])
+  by : (i : ℕ) (v : Entry) → keeping.Split l w i v → ((i : ℕ) (v : Entry) → kept.At l i v → v .filter ≤ length l) → v .filter
+      ≤ length (l ++ w ∷ [])
   by i v (keeping.old a) ih = omega (arith, ih i v a, length-append l (w ∷ []))
   by i v (keeping.new e) ih = on (f .filters)
 
@@ -539,7 +566,8 @@ pub lines-few : {d seen : List ℕ} {y : Tally} {rows : List ℤ} → Sofar d se
 lines-few s = omega (arith, lines-of (s .before), entries-few (s .before .fine) .1)
 
 -- ---- for whatever variables stand before
-module _ (bad : Bool) (d : List ℕ) (long : length d ≤ 1048576) (m : Manner) (seen : List ℕ) (y : Tally) (h : Head) (usage at : ℕ) (rows : List ℤ) where
+module _ (bad : Bool) (d : List ℕ) (long : length d ≤ 1048576) (m : Manner) (seen : List ℕ) (y : Tally) (h : Head) (usage at : ℕ)
+    (rows : List ℤ) where
   abbrev Given : Type 0
   Given = (l : List Entry) → Before d seen y rows l → FrontRead bad d m l h usage at
 
@@ -575,16 +603,19 @@ module _ (bad : Bool) (d : List ℕ) (long : length d ≤ 1048576) (m : Manner) 
 
     pub body-not : (rows′ : List ℤ) (f : Fault) → Rests bytes (y .lines) content-of lines lines′ (rested.Not f)
         → Bodied bad d m seen y h usage at rows rows′ lines lines′ (entereds.Not f)
-    body-not rows′ f q = not-all rows′ lines lines′ f λ l b x. rest-not bad d long m l (b .fine) (y .lines) (lines-of b) h usage at x s f (sifted-is l b x) (q .is)
+    body-not rows′ f q = not-all rows′ lines lines′ f λ l b x. rest-not bad d long m l (b .fine) (y .lines) (lines-of b) h usage at x s f
+        (sifted-is l b x) (q .is)
 
     module _ (r : Rest) (rests : Rests bytes (y .lines) content-of lines lines′ (rested.Is r)) (q : Rest) (q-is : q ≡ placelessOf r) where
-      abbrev read : (l : List Entry) (b : Before d seen y rows l) (x : FrontRead bad d m l h usage at) → RestRead bad d long m l (b .fine) (y .lines) (lines-of b) h usage at x s r
+      abbrev read : (l : List Entry) (b : Before d seen y rows l) (x : FrontRead bad d m l h usage at)
+          → RestRead bad d long m l (b .fine) (y .lines) (lines-of b) h usage at x s r
       read l b x = rest-read bad d long m l (b .fine) (y .lines) (lines-of b) h usage at x s r (sifted-is l b x) (rests .is)
 
       pub measured-all : Sofar d seen y rows → Given → Measurable lines′ h q (y .lines)
       measured-all z f =
           let o = read (z .read) (z .before) (f (z .read) (z .before)) in
-          by q-is (measured-here bad d long m (z .read) (z .before .fine) (y .lines) (lines-of (z .before)) h usage at (f (z .read) (z .before)) s r o lines lines′ wide
+          by q-is (measured-here bad d long m (z .read) (z .before .fine) (y .lines) (lines-of (z .before)) h usage at
+          (f (z .read) (z .before)) s r o lines lines′ wide
           (rests .line (o .what) (o .place) (o .what-is)))
         where
           by : {q p : Rest} → q ≡ p → Measurable lines′ h p (y .lines) → Measurable lines′ h q (y .lines)
@@ -594,57 +625,71 @@ module _ (bad : Bool) (d : List ℕ) (long : length d ≤ 1048576) (m : Manner) 
         abbrev whole : Variable
         whole = variableOf (x .front .title .ident) (x .front .name) (x .front .label) (x .front .position) (read l b x .what)
 
-        settled-all : settledBy (numberIn lines′ (y .lines)) h q (y .lines) (At (r .next)) ≡ stoodFrom (y .lines) (held whole (read l b x .place))
+        settled-all : settledBy (numberIn lines′ (y .lines)) h q (y .lines) (At (r .next))
+            ≡ stoodFrom (y .lines) (held whole (read l b x .place))
         settled-all =
             let o = read l b x in
             ap (λ (q : Rest). settledBy (numberIn lines′ (y .lines)) h q (y .lines) (At (r .next))) q-is
-            ∙ ap (λ (n : ℕ). settledBy (numberIn lines′ (y .lines)) h (placelessOf r) (y .lines) (At n)) (ap (λ (r : Rest). r .next) (o .rest-is))
-            ∙ settled-here bad d long m l (b .fine) (y .lines) (lines-of b) h usage at x s r o lines lines′ wide (rests .line (o .what) (o .place) (o .what-is)) (o .place)
+            ∙ ap (λ (n : ℕ). settledBy (numberIn lines′ (y .lines)) h (placelessOf r) (y .lines) (At n))
+            (ap (λ (r : Rest). r .next) (o .rest-is))
+            ∙ settled-here bad d long m l (b .fine) (y .lines) (lines-of b) h usage at x s r o lines lines′ wide
+            (rests .line (o .what) (o .place) (o .what-is)) (o .place)
 
       pub body-unheld : (rows′ : List ℤ) (f : Fault) → stood.Not f ≡ settledBy (numberIn lines′ (y .lines)) h q (y .lines) (At (r .next))
           → Bodied bad d m seen y h usage at rows rows′ lines lines′ (entereds.Not f)
       body-unheld rows′ f e =
-          not-all rows′ lines lines′ f λ l b x. not-held bad d long m l (b .fine) (y .lines) (lines-of b) h usage at x s r (read l b x) f (e ∙ settled-all l b x)
+          not-all rows′ lines lines′ f λ l b x. not-held bad d long m l (b .fine) (y .lines) (lines-of b) h usage at x s r (read l b x) f
+          (e ∙ settled-all l b x)
 
-      module _ (c : Columns) (last k : ℕ) (e : stood.Is c last k ≡ settledBy (numberIn lines′ (y .lines)) h q (y .lines) (At (r .next))) where
-        settles : (l : List Entry) (b : Before d seen y rows l) (x : FrontRead bad d m l h usage at) → Settled (y .lines) (whole l b x) (read l b x .place) c last k
-        settles l b x = settled-is (y .lines) (whole l b x) (read l b x .place) c last k (e ∙ settled-all l b x)
+      module _ (c : Columns) (last k : ℕ) (e : stood.Is c last k ≡ settledBy (numberIn lines′ (y .lines)) h q (y .lines) (At (r .next)))
+        where
+          settles : (l : List Entry) (b : Before d seen y rows l) (x : FrontRead bad d m l h usage at)
+              → Settled (y .lines) (whole l b x) (read l b x .place) c last k
+          settles l b x = settled-is (y .lines) (whole l b x) (read l b x .place) c last k (e ∙ settled-all l b x)
 
-        pub small-all : Sofar d seen y rows → Given → SmallRow (usedBy usage (s .filter) c)
-        small-all z f =
-            let b = z .before in
-            let x = f (z .read) b in
-            small-row bad d long m (z .read) (b .fine) (y .lines) (lines-of b) h usage at x s r (read (z .read) b x) c last k (settles (z .read) b x)
+          pub small-all : Sofar d seen y rows → Given → SmallRow (usedBy usage (s .filter) c)
+          small-all z f =
+              let b = z .before in
+              let x = f (z .read) b in
+              small-row bad d long m (z .read) (b .fine) (y .lines) (lines-of b) h usage at x s r (read (z .read) b x) c last k
+              (settles (z .read) b x)
 
-        made-is : (l : List Entry) (b : Before d seen y rows l) (x : FrontRead bad d m l h usage at)
-            → behindFront bad d m l (x .front) at ≡ Is (record { variable = whole l b x; usage = x .front .title .usage; filter = s .filter }) (read l b x .place)
-        made-is l b x = entry-is bad d long m l (b .fine) (y .lines) (lines-of b) h usage at x s r (read l b x) c last k (settles l b x)
+          made-is : (l : List Entry) (b : Before d seen y rows l) (x : FrontRead bad d m l h usage at)
+              → behindFront bad d m l (x .front) at
+              ≡ Is (record { variable = whole l b x; usage = x .front .title .usage; filter = s .filter }) (read l b x .place)
+          made-is l b x = entry-is bad d long m l (b .fine) (y .lines) (lines-of b) h usage at x s r (read l b x) c last k (settles l b x)
 
-        row-of : (l : List Entry) (b : Before d seen y rows l) (x : FrontRead bad d m l h usage at)
-            → usedBy usage (s .filter) c ≡ columnsFor (y .lines) (record { variable = whole l b x; usage = x .front .title .usage; filter = s .filter })
-        row-of l b x = row-is bad d long m l (b .fine) (y .lines) (lines-of b) h usage at x s r (read l b x) c last k (settles l b x)
+          row-of : (l : List Entry) (b : Before d seen y rows l) (x : FrontRead bad d m l h usage at)
+              → usedBy usage (s .filter) c ≡ columnsFor (y .lines)
+              (record { variable = whole l b x; usage = x .front .title .usage; filter = s .filter })
+          row-of l b x = row-is bad d long m l (b .fine) (y .lines) (lines-of b) h usage at x s r (read l b x) c last k (settles l b x)
 
-        same-entry : {v w : Entry} {i j : ℕ} → Is v i ≡ Is w j → v ≡ w
-        same-entry e = cc
+          same-entry : {v w : Entry} {i j : ℕ} → Is v i ≡ Is w j → v ≡ w
+          same-entry e = cc
 
-        pub body-held : (rows′ : List ℤ) (o : Entered) → o ≡ entereds.Is (c .ident) (tallyWith y (usedBy usage (s .filter) c) last) k
-            → rows′ ≡ pasted rows (rowSize * y .rows) (rowCells (usedBy usage (s .filter) c)) → Bodied bad d m seen y h usage at rows rows′ lines lines′ o
-        body-held rows′ o a z = record {
-          is = λ l b x.
-              let t = settles l b x in
-              a ∙ by (ident-is bad d long m l (b .fine) (y .lines) (lines-of b) h usage at x s r (read l b x) c last k t) (row-of l b x) (t .last-is) (t .next-is)
-              ∙ ap (enteredOf y) (sym (made-is l b x));
-          row = λ l b x v n f.
-              z ∙ ap (λ (c : Columns). pasted rows (rowSize * y .rows) (rowCells c)) (row-of l b x)
-              ∙ ap (λ (v : Entry). pasted rows (rowSize * y .rows) (rowCells (columnsFor (y .lines) v))) (same-entry (sym (made-is l b x) ∙ f));
-          line = λ l b x v n f.
-              let p = read l b x in
-              rests .line (p .what) (p .place) (p .what-is)
-              ∙ ap (λ (v : Entry). pasted lines (lineSize * y .lines) (cellsOf (linesOf (v .variable)))) (same-entry (sym (made-is l b x) ∙ f));
-        }
-          where
-            by : {i j n k u v : ℕ} {e f : Columns} → i ≡ j → e ≡ f → n ≡ k → u ≡ v → entereds.Is i (tallyWith y e n) u ≡ entereds.Is j (tallyWith y f k) v
-            by p q r s = rw (p, q, r, s)
+          pub body-held : (rows′ : List ℤ) (o : Entered) → o ≡ entereds.Is (c .ident) (tallyWith y (usedBy usage (s .filter) c) last) k
+              → rows′ ≡ pasted rows (rowSize * y .rows) (rowCells (usedBy usage (s .filter) c))
+              → Bodied bad d m seen y h usage at rows rows′ lines lines′ o
+          body-held rows′ o a z = record {
+            is = λ l b x.
+                let t = settles l b x in
+                a ∙ by (ident-is bad d long m l (b .fine) (y .lines) (lines-of b) h usage at x s r (read l b x) c last k t) (row-of l b x)
+                (t .last-is) (t .next-is)
+                ∙ ap (enteredOf y) (sym (made-is l b x));
+            row = λ l b x v n f.
+                z ∙ ap (λ (c : Columns). pasted rows (rowSize * y .rows) (rowCells c)) (row-of l b x)
+                ∙ ap (λ (v : Entry). pasted rows (rowSize * y .rows) (rowCells (columnsFor (y .lines) v)))
+                (same-entry (sym (made-is l b x) ∙ f));
+            line = λ l b x v n f.
+                let p = read l b x in
+                rests .line (p .what) (p .place) (p .what-is)
+                ∙ ap (λ (v : Entry). pasted lines (lineSize * y .lines) (cellsOf (linesOf (v .variable))))
+                (same-entry (sym (made-is l b x) ∙ f));
+          }
+            where
+              by : {i j n k u v : ℕ} {e f : Columns} → i ≡ j → e ≡ f → n ≡ k → u ≡ v → entereds.Is i (tallyWith y e n) u
+                  ≡ entereds.Is j (tallyWith y f k) v
+              by p q r s = rw (p, q, r, s)
 
 -- ---- UP TO THE POSITION
 pub record Fronts (bad : Bool) (d : List ℕ) (m : Manner) (l : List Entry) (q e : ℕ) (h : Head) (u n : ℕ) : Type 0 where
@@ -663,7 +708,8 @@ front-known bad d m l q e {x} {n} f =
     let bw = bound (within bad d VARIABLE (a .place)) _ (b .value) (b .place) (b .first-is) in
     let bd = due-is bad d NAME (bw .value) (naming bad d (m .latin) (m .standard) l) (bw .place) (bw .then-is) in
     let bt = bound (text bad d NAME 0 (bd .place) (bw .place)) _ (b .value) (b .place) (bd .then-is) in
-    let bj = judged-is (fault 52 (bt .value .place) when hasServed (m .latin) (m .standard) d l (bt .value) ∷ []) (bt .value) (bt .place) (bt .then-is) in
+    let bj = judged-is (fault 52 (bt .value .place) when hasServed (m .latin) (m .standard) d l (bt .value) ∷ []) (bt .value) (bt .place)
+    (bt .then-is) in
     let cw = bound (within bad d VARIABLE (b .place)) _ (c .value) (c .place) (c .first-is) in
     let cd = due-is bad d LABEL (cw .value) (text bad d LABEL (rich (m .languages))) (cw .place) (cw .then-is) in
     let gw = bound (within bad d VARIABLE (c .place)) _ (g .value) (g .place) (g .first-is) in
@@ -718,37 +764,43 @@ module _ (bad : Bool) (d : List ℕ) (m : Manner) (seen : List ℕ) (y : Tally) 
 
     inner : (t : Title) (a b : Text) (r : Result Open)
         → bind r (λ o k. bind (due bad d POSITION o (position bad d) k) (afterPosition bad d m l t a b))
-        ≡ bind (bind (bind r λ o. due bad d POSITION o (position bad d)) λ p n. Is (record { title = t; name = a; label = b; position = p }) n) (behindFront bad d m l)
+        ≡ bind (bind (bind r λ o. due bad d POSITION o (position bad d)) λ p n. Is (record { title = t; name = a; label = b; position = p })
+        n) (behindFront bad d m l)
     inner t a b (Is o k) = four t a b (due bad d POSITION o (position bad d) k)
     inner t a b (Not f) = refl
 
     three : (t : Title) (a : Text) (r : Result Text)
         → bind r (afterLabel bad d m l t a)
-        ≡ bind (bind r λ b n. bind (positionIn bad d n) λ p n. Is (record { title = t; name = a; label = b; position = p }) n) (behindFront bad d m l)
+        ≡ bind (bind r λ b n. bind (positionIn bad d n) λ p n. Is (record { title = t; name = a; label = b; position = p }) n)
+        (behindFront bad d m l)
     three t a (Is b n) = inner t a b (within bad d VARIABLE n)
     three t a (Not f) = refl
 
     label : (t : Title) (a : Text) (r : Result Open)
         → bind r (λ o k. bind (due bad d LABEL o (text bad d LABEL (rich (m .languages))) k) (afterLabel bad d m l t a))
-        ≡ bind (bind (bind r λ o. due bad d LABEL o (text bad d LABEL (rich (m .languages)))) λ b n. bind (positionIn bad d n) λ p n. Is (record { title = t; name = a; label = b; position = p }) n) (behindFront bad d m l)
+        ≡ bind (bind (bind r λ o. due bad d LABEL o (text bad d LABEL (rich (m .languages)))) λ b n. bind (positionIn bad d n) λ p n. Is
+        (record { title = t; name = a; label = b; position = p }) n) (behindFront bad d m l)
     label t a (Is o k) = three t a (due bad d LABEL o (text bad d LABEL (rich (m .languages))) k)
     label t a (Not f) = refl
 
     two : (t : Title) (r : Result Text)
         → bind r (afterName bad d m l t)
-        ≡ bind (bind r λ a n. bind (labelIn bad d (m .languages) n) λ b n. bind (positionIn bad d n) λ p n. Is (record { title = t; name = a; label = b; position = p }) n) (behindFront bad d m l)
+        ≡ bind (bind r λ a n. bind (labelIn bad d (m .languages) n) λ b n. bind (positionIn bad d n) λ p n. Is
+        (record { title = t; name = a; label = b; position = p }) n) (behindFront bad d m l)
     two t (Is a n) = label t a (within bad d VARIABLE n)
     two t (Not f) = refl
 
     name : (t : Title) (r : Result Open)
         → bind r (λ o k. bind (due bad d NAME o (naming bad d (m .latin) (m .standard) l) k) (afterName bad d m l t))
-        ≡ bind (bind (bind r λ o. due bad d NAME o (naming bad d (m .latin) (m .standard) l)) λ a n. bind (labelIn bad d (m .languages) n) λ b n. bind (positionIn bad d n) λ p n. Is (record { title = t; name = a; label = b; position = p }) n) (behindFront bad d m l)
+        ≡ bind (bind (bind r λ o. due bad d NAME o (naming bad d (m .latin) (m .standard) l)) λ a n. bind (labelIn bad d (m .languages) n)
+        λ b n. bind (positionIn bad d n) λ p n. Is (record { title = t; name = a; label = b; position = p }) n) (behindFront bad d m l)
     name t (Is o k) = two t (due bad d NAME o (naming bad d (m .latin) (m .standard) l) k)
     name t (Not f) = refl
 
     one : (r : Result Title)
         → bind r (afterTitle bad d m l)
-        ≡ bind (bind r λ t n. bind (nameIn bad d m l n) λ a n. bind (labelIn bad d (m .languages) n) λ b n. bind (positionIn bad d n) λ p n. Is (record { title = t; name = a; label = b; position = p }) n) (behindFront bad d m l)
+        ≡ bind (bind r λ t n. bind (nameIn bad d m l n) λ a n. bind (labelIn bad d (m .languages) n) λ b n. bind (positionIn bad d n) λ p n.
+        Is (record { title = t; name = a; label = b; position = p }) n) (behindFront bad d m l)
     one (Is t n) = name t (within bad d VARIABLE n)
     one (Not f) = refl
 
@@ -779,4 +831,5 @@ module _ (bad : Bool) (d : List ℕ) (m : Manner) (seen : List ℕ) (y : Tally) 
         stops : (l : List Entry) → Before d seen y rows l → variable bad d m l q e ≡ Not g
         stops l z =
             variable-front l
-            ∙ ap (λ (r : Result Front). bind r (behindFront bad d m l)) (none (frontOf bad d m l q e) (sym f ∙ said .is l (z .held) (z .idents)))
+            ∙ ap (λ (r : Result Front). bind r (behindFront bad d m l))
+            (none (frontOf bad d m l q e) (sym f ∙ said .is l (z .held) (z .idents)))

@@ -41,13 +41,15 @@ module _ (bad : Bool) (d : List ℕ) where
   either-starts : {A : Type 0} (w : List ℕ) (o : Open) (k : ℕ → Reader A) (q : rule.Open → Reader A) {p e : ℕ} → startsOf d o w ≡ true
       → dueOf (bind (readOf o) λ x. due bad d w x give) ≡ dues.At p e → bind (readOf o) (λ x. either bad d w x k (q x)) ≡ k p e
   either-starts {A} w (opened.Start i j) k q {p} {e} h f = by (isNamed d (i + 1) j w) h f where
-    by : (t : Bool) → t ≡ true → dueOf (cond t (give i j) (rule.misplaced bad d {A = ℕ} i j)) ≡ dues.At p e → cond t (k i j) (q (start i) j) ≡ k p e
+    by : (t : Bool) → t ≡ true → dueOf (cond t (give i j) (rule.misplaced bad d {A = ℕ} i j)) ≡ dues.At p e → cond t (k i j) (q (start i) j)
+        ≡ k p e
     by true h f = let a : i ≡ p = cc in let b : j ≡ e = cc in rw (a, b)
     by false h f = never cc
   either-starts w (opened.Shut i j) k q h f = never cc
   either-starts w (opened.Not g) k q h f = never cc
 
-  pub starts-due : {A : Type 0} (w : List ℕ) (o : Open) {g : Fault} → startsOf d o w ≡ true → dueOf (bind (readOf o) λ x. due bad d w x give) ≡ dues.Not g → A
+  pub starts-due : {A : Type 0} (w : List ℕ) (o : Open) {g : Fault} → startsOf d o w ≡ true
+      → dueOf (bind (readOf o) λ x. due bad d w x give) ≡ dues.Not g → A
   starts-due {A} w (opened.Start i j) {g} h f = by (isNamed d (i + 1) j w) h f where
     by : (t : Bool) → t ≡ true → dueOf (cond t (give i j) (rule.misplaced bad d {A = ℕ} i j)) ≡ dues.Not g → A
     by true h f = never cc
@@ -66,9 +68,11 @@ module _ (bad : Bool) (d : List ℕ) where
     noneAt x n = Is (with 0 x) n
 
     abbrev pub filterAt : ℕ → Reader (Then ℕ)
-    filterAt p e = bind (filter bad d (m .latin) (m .standard) l name usage p e) λ f n. bind (within bad d VARIABLE n) λ o k. Is (with f o) k
+    filterAt p e = bind (filter bad d (m .latin) (m .standard) l name usage p e) λ f n. bind (within bad d VARIABLE n) λ o k. Is (with f o)
+        k
 
-    all-by : (o : Open) → m .old ≡ false → bind (readOf o) (filtered bad d m l name usage) ≡ bind (readOf o) (λ x. either bad d FILTER x filterAt (noneAt x))
+    all-by : (o : Open) → m .old ≡ false → bind (readOf o) (filtered bad d m l name usage)
+        ≡ bind (readOf o) (λ x. either bad d FILTER x filterAt (noneAt x))
     unfolding filtered
     all-by (opened.Start i j) e = rw e
     all-by (opened.Shut i j) e = rw e
@@ -80,9 +84,11 @@ module _ (bad : Bool) (d : List ℕ) where
     sift-old (opened.Shut i j) e = rw e
     sift-old (opened.Not g) e = refl
 
-    pub sift-none : (o : Open) → m .old ≡ false → startsOf d o FILTER ≡ false → bind (readOf o) (filtered bad d m l name usage) ≡ bind (readOf o) noneAt
+    pub sift-none : (o : Open) → m .old ≡ false → startsOf d o FILTER ≡ false → bind (readOf o) (filtered bad d m l name usage)
+        ≡ bind (readOf o) noneAt
     sift-none o e h = all-by o e ∙ either-other FILTER o filterAt noneAt h
 
-    pub sift-one : (o : Open) {p e : ℕ} → m .old ≡ false → startsOf d o FILTER ≡ true → dueOf (bind (readOf o) λ x. due bad d FILTER x give) ≡ dues.At p e
+    pub sift-one : (o : Open) {p e : ℕ} → m .old ≡ false → startsOf d o FILTER ≡ true → dueOf (bind (readOf o) λ x. due bad d FILTER x give)
+        ≡ dues.At p e
         → bind (readOf o) (filtered bad d m l name usage) ≡ filterAt p e
     sift-one o g h f = all-by o g ∙ either-starts FILTER o filterAt noneAt h f

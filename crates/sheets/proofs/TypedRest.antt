@@ -63,16 +63,17 @@ spread-refused room (Not g) {f} e = let a : g ≡ f = cc in ap Not a
 pub rests-of : {c w before room : ℕ} {v : Result Block} {k : Result Content} {lines lines′ : List ℤ} {r : Rested} (f : Block → Content)
     → ((b : Block) (n : ℕ) → restedIn room before (Is (f b) n) ≡ valuedOf c w before (Is b n)) → ((b : Block) → blockIn (f b) ≡ b)
     → k ≡ bind v (λ b n. Is (f b) n) → Valued c w before v lines lines′ r → Rests room before k lines lines′ r
-rests-of {c} {w} {before} {room} {v} {k} {lines} {lines′} {r} f g h e x = record { is = x .is ∙ sym (by v) ∙ ap (restedIn room before) (sym e); line = lined } where
-  by : (v : Result Block) → restedIn room before (bind v (λ b n. Is (f b) n)) ≡ valuedOf c w before v
-  by (Is b n) = g b n
-  by (Not z) = refl
+rests-of {c} {w} {before} {room} {v} {k} {lines} {lines′} {r} f g h e x = record
+    { is = x .is ∙ sym (by v) ∙ ap (restedIn room before) (sym e); line = lined } where
+      by : (v : Result Block) → restedIn room before (bind v (λ b n. Is (f b) n)) ≡ valuedOf c w before v
+      by (Is b n) = g b n
+      by (Not z) = refl
 
-  lined : (y : Content) (n : ℕ) → k ≡ Is y n → lines′ ≡ pasted lines (lineSize * before) (cellsOf (blockIn y .lines))
-  lined y n i =
-      let b = bound v (λ b n. Is (f b) n) y n (sym e ∙ i) in
-      let a : f (b .value) ≡ y = cc in
-      rw (← a, h (b .value)) (x .line (b .value) (b .place) (b .first-is))
+      lined : (y : Content) (n : ℕ) → k ≡ Is y n → lines′ ≡ pasted lines (lineSize * before) (cellsOf (blockIn y .lines))
+      lined y n i =
+          let b = bound v (λ b n. Is (f b) n) y n (sym e ∙ i) in
+          let a : f (b .value) ≡ y = cc in
+          rw (← a, h (b .value)) (x .line (b .value) (b .place) (b .first-is))
 
 -- with a spread
 pub rests-spread : {c w before room : ℕ} {v : Result Block} {k : Result Content} {lines lines′ : List ℤ} {r : Rested} (s : Spread)
@@ -80,7 +81,8 @@ pub rests-spread : {c w before room : ℕ} {v : Result Block} {k : Result Conten
     → Valued c w before v lines lines′ r → Rests room before k lines lines′ r
 rests-spread s a b e x = rests-of (multiple (some s)) (λ y n. rw (a, b)) (λ y. refl) e x
 
-pub rests-not : {before room : ℕ} {k : Result Content} {lines lines′ : List ℤ} {f : Fault} → k ≡ Not f → Rests room before k lines lines′ (rested.Not f)
+pub rests-not : {before room : ℕ} {k : Result Content} {lines lines′ : List ℤ} {f : Fault} → k ≡ Not f
+    → Rests room before k lines lines′ (rested.Not f)
 rests-not e = record { is = rw e; line = λ y n f. never cc }
 
 -- ---- by type
@@ -115,7 +117,8 @@ module _ (bad : Bool) (d : List ℕ) (m : Manner) (before : ℕ) where
 
   -- a type of that number
   pub kinded : {room kind k : ℕ} (x : Result rule.Open) {lines lines′ : List ℤ} {r : Rested} → kind ≡ k
-      → Rests room before (bind x (contentBy bad d m room before k)) lines lines′ r → Rests room before (bind x (contentBy bad d m room before kind)) lines lines′ r
+      → Rests room before (bind x (contentBy bad d m room before k)) lines lines′ r
+      → Rests room before (bind x (contentBy bad d m room before kind)) lines lines′ r
   kinded x e h = rw e h
 
   -- a spread or none, and what follows
@@ -133,7 +136,8 @@ module _ (bad : Bool) (d : List ℕ) (m : Manner) (before : ℕ) where
       sym (bind-on x (spreading bad d m (room + 1 - 1)) afterSpread)
       ∙ ap (λ (k : ℕ). bind (bind x (spreading bad d m k)) afterSpread) a
 
-  none-stands : (room : ℕ) (o : Open) → startsOf d o SPREAD ≡ false → bind (readOf o) (spreading bad d m room) ≡ bind (readOf o) (λ x n. Is (with none x) n)
+  none-stands : (room : ℕ) (o : Open) → startsOf d o SPREAD ≡ false → bind (readOf o) (spreading bad d m room)
+      ≡ bind (readOf o) (λ x n. Is (with none x) n)
   unfolding spreading
   none-stands room (opened.Start p e) f = rw f
   none-stands room (opened.Shut p n) f = refl
@@ -148,7 +152,8 @@ module _ (bad : Bool) (d : List ℕ) (m : Manner) (before : ℕ) where
       ∙ bind-on (readOf o) (λ x n. Is (with none x) n) afterSpread
       ∙ block-then false (multiple none) (readOf o)
 
-  one-stands : (room : ℕ) (o : Open) {p e : ℕ} → startsOf d o SPREAD ≡ true → dueOf (bind (readOf o) λ x. due bad d SPREAD x give) ≡ dues.At p e
+  one-stands : (room : ℕ) (o : Open) {p e : ℕ} → startsOf d o SPREAD ≡ true → dueOf (bind (readOf o) λ x. due bad d SPREAD x give)
+      ≡ dues.At p e
       → bind (readOf o) (spreading bad d m room) ≡ bind (spread bad d room p e) thenInside
   unfolding spreading
   one-stands room (opened.Start q n) {p} {e} f g =
@@ -159,12 +164,14 @@ module _ (bad : Bool) (d : List ℕ) (m : Manner) (before : ℕ) where
   one-stands room (opened.Shut q n) f g = never cc
   one-stands room (opened.Not z) f g = never cc
 
-  pub spread-stands : {A : Type 0} (o : Open) {g : Fault} → startsOf d o SPREAD ≡ true → dueOf (bind (readOf o) λ x. due bad d SPREAD x give) ≡ dues.Not g → A
+  pub spread-stands : {A : Type 0} (o : Open) {g : Fault} → startsOf d o SPREAD ≡ true
+      → dueOf (bind (readOf o) λ x. due bad d SPREAD x give) ≡ dues.Not g → A
   spread-stands (opened.Start q n) {g} f h = let i : dues.At q n ≡ dues.Not g = rw f at h in never cc
   spread-stands (opened.Shut q n) f g = never cc
   spread-stands (opened.Not z) f g = never cc
 
-  module _ (room : ℕ) (o : Open) {p e : ℕ} (f : startsOf d o SPREAD ≡ true) (g : dueOf (bind (readOf o) λ x. due bad d SPREAD x give) ≡ dues.At p e) where
+  module _ (room : ℕ) (o : Open) {p e : ℕ} (f : startsOf d o SPREAD ≡ true)
+      (g : dueOf (bind (readOf o) λ x. due bad d SPREAD x give) ≡ dues.At p e) where
     pub content-spread : (s : Spread) (n : ℕ) → spread bad d room p e ≡ Is s n
         → bind (readOf o) (contentBy bad d m room before 2)
         ≡ bind (bind (within bad d VARIABLE n) (valuesEnded bad d (m .languages) false before)) (λ b n. Is (multiple (some s) b) n)
@@ -200,14 +207,23 @@ module _ (bad : Bool) (d : List ℕ) (m : Manner) (before : ℕ) where
   content-size room (Is o n) = size-ended (due bad d SIZE o (size bad d) n)
   content-size room (Not g) = refl
 
-  content-logical : (room kind : ℕ) (x : Result rule.Open) → eqb kind 1 ≡ false → eqb kind 2 ≡ false → eqb kind 3 ≡ false → eqb kind 4 ≡ false
+  content-logical : (room kind : ℕ) (x : Result rule.Open) → eqb kind 1 ≡ false → eqb kind 2 ≡ false → eqb kind 3 ≡ false → eqb kind 4
+      ≡ false
       → bind x (contentBy bad d m room before kind) ≡ bind (bind x (over bad d)) (λ u n. Is logical n)
   unfolding content
   content-logical room kind (Is o n) a b c e = rw (a, b, c, e)
   content-logical room kind (Not g) a b c e = refl
 
   -- no values: the room stays as it is
-  nothing-there : (n k : ℕ) → rested.Is (record { block = blockAs noBlock; last = before + 0; subfields = 0; subwidth = 0; size = k; next = n })
+  nothing-there : (n k : ℕ) → rested.Is (record {
+    block = blockAs noBlock;
+    last = before
+        + 0;
+    subfields = 0;
+    subwidth = 0;
+    size = k;
+    next = n;
+  })
       ≡ plainOf k before (reading.At n)
   unfolding someOf eachOf amounts
   nothing-there n k = let a : before + 0 ≡ before = omega arith in rw a
@@ -218,12 +234,17 @@ module _ (bad : Bool) (d : List ℕ) (m : Manner) (before : ℕ) where
 
   pub rests-size : (room : ℕ) (x : Result rule.Open) {lines : List ℤ} {r : Rested} → r ≡ sizedOf before (bind x (sizeEnded bad d))
       → Rests room before (bind x (contentBy bad d m room before 4)) lines lines r
-  rests-size room x {lines} {r} e = record { is = e ∙ by (bind x (sizeEnded bad d)) ∙ ap (restedIn room before) (sym (content-size room x)); line = lined } where
+  rests-size room x {lines} {r} e = record {
+    is = e ∙ by (bind x (sizeEnded bad d))
+        ∙ ap (restedIn room before) (sym (content-size room x));
+    line = lined;
+  } where
     by : (z : Result Figure) → sizedOf before z ≡ restedIn room before (bind z (λ y n. Is (character y) n))
     by (Is y n) = sym (nothing-there n (capped (y .value)))
     by (Not g) = refl
 
-    lined : (y : Content) (n : ℕ) → bind x (contentBy bad d m room before 4) ≡ Is y n → lines ≡ pasted lines (lineSize * before) (cellsOf (blockIn y .lines))
+    lined : (y : Content) (n : ℕ) → bind x (contentBy bad d m room before 4) ≡ Is y n → lines
+        ≡ pasted lines (lineSize * before) (cellsOf (blockIn y .lines))
     lined y n i =
         let b = bound (bind x (sizeEnded bad d)) (λ y n. Is (character y) n) y n (sym (content-size room x) ∙ i) in
         let a : character (b .value) ≡ y = cc in
@@ -233,16 +254,18 @@ module _ (bad : Bool) (d : List ℕ) (m : Manner) (before : ℕ) where
       → eqb kind 1 ≡ false → eqb kind 2 ≡ false → eqb kind 3 ≡ false → eqb kind 4 ≡ false
       → r ≡ plainOf 0 before (readingOf (bind x (over bad d)))
       → Rests room before (bind x (contentBy bad d m room before kind)) lines lines r
-  rests-logical room kind x {lines} {r} p q s t e = record { is = e ∙ by (bind x (over bad d)) ∙ ap (restedIn room before) (sym is-logical); line = lined } where
-    is-logical : bind x (contentBy bad d m room before kind) ≡ bind (bind x (over bad d)) (λ u n. Is logical n)
-    is-logical = content-logical room kind x p q s t
+  rests-logical room kind x {lines} {r} p q s t e = record
+      { is = e ∙ by (bind x (over bad d)) ∙ ap (restedIn room before) (sym is-logical); line = lined } where
+        is-logical : bind x (contentBy bad d m room before kind) ≡ bind (bind x (over bad d)) (λ u n. Is logical n)
+        is-logical = content-logical room kind x p q s t
 
-    by : (z : Result Unit) → plainOf 0 before (readingOf z) ≡ restedIn room before (bind z (λ u n. Is logical n))
-    by (Is u n) = sym (nothing-there n 0)
-    by (Not g) = refl
+        by : (z : Result Unit) → plainOf 0 before (readingOf z) ≡ restedIn room before (bind z (λ u n. Is logical n))
+        by (Is u n) = sym (nothing-there n 0)
+        by (Not g) = refl
 
-    lined : (y : Content) (n : ℕ) → bind x (contentBy bad d m room before kind) ≡ Is y n → lines ≡ pasted lines (lineSize * before) (cellsOf (blockIn y .lines))
-    lined y n i =
-        let b = bound (bind x (over bad d)) (λ u n. Is logical n) y n (sym is-logical ∙ i) in
-        let a : logical ≡ y = cc in
-        rw (← a) (unmoved lines)
+        lined : (y : Content) (n : ℕ) → bind x (contentBy bad d m room before kind) ≡ Is y n → lines
+            ≡ pasted lines (lineSize * before) (cellsOf (blockIn y .lines))
+        lined y n i =
+            let b = bound (bind x (over bad d)) (λ u n. Is logical n) y n (sym is-logical ∙ i) in
+            let a : logical ≡ y = cc in
+            rw (← a) (unmoved lines)

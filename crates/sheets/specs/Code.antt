@@ -1,4 +1,5 @@
--- THE CODE'S BOOKS: the answers of the rule's readers (`xml_reading`) as the code of a sheet holds them, and what it keeps of the variables that
+-- THE CODE'S BOOKS: the answers of the rule's readers (`xml_reading`) as the code of a sheet holds them, and what it keeps of the variables
+-- that
 -- were read.
 use mathlib.Core.Path.{_≡_}
 use mathlib.Core.Bool.{Bool, cond}
@@ -166,7 +167,8 @@ pub record Valued (c w before : ℕ) (k : Result Block) (lines lines′ : List �
   pub line : (b : Block) (n : ℕ) → k ≡ Is b n → lines′ ≡ pasted lines (lineSize * before) (cellsOf (b .lines))
 
 abbrev pub plainOf : ℕ → ℕ → Reading → Rested
-plainOf size before (reading.At n) = rested.Is (record { block = emptyBlock; last = before; subfields = 0; subwidth = 0; size = size; next = n })
+plainOf size before (reading.At n) = rested.Is (record
+    { block = emptyBlock; last = before; subfields = 0; subwidth = 0; size = size; next = n })
 plainOf size before (reading.Refused f) = rested.Not f
 
 abbrev pub sizedOf : ℕ → Result Figure → Rested
@@ -277,7 +279,8 @@ module _ (bad : Bool) (d : List ℕ) (m : Manner) (rows : List ℤ) (count : ℕ
 
   pub record FilterSaid (name : Text) (usage p e : ℕ) (r : Sifted) : Type 0 where
     pub is : (l : List Entry) → RowsOf rows count l
-        → r ≡ siftedOf (bind (filter bad d (m .latin) (m .standard) l name usage p e) λ f n. bind (within bad d VARIABLE n) λ o k. Is (with f o) k)
+        → r ≡ siftedOf (bind (filter bad d (m .latin) (m .standard) l name usage p e) λ f n. bind (within bad d VARIABLE n) λ o k. Is
+        (with f o) k)
     pub ends : Within d 0 (r .tag)
 
 abbrev pub enteredOf : Tally → Result Entry → Entered
@@ -286,7 +289,8 @@ enteredOf y (Is v n) =
 enteredOf y (Not f) = entered.Not f
 
 -- what a reader k of one more variable gives, and its row and lines behind those before
-pub record Joined (d : List ℕ) (seen : List ℕ) (y : Tally) (rows rows′ lines lines′ : List ℤ) (k : List Entry → Result Entry) (r : Entered) : Type 0 where
+pub record Joined (d : List ℕ) (seen : List ℕ) (y : Tally) (rows rows′ lines lines′ : List ℤ) (k : List Entry → Result Entry)
+    (r : Entered) : Type 0 where
   pub is : (l : List Entry) → Before d seen y rows l → r ≡ enteredOf y (k l)
   pub row : (l : List Entry) → Before d seen y rows l → (v : Entry) (n : ℕ) → k l ≡ Is v n
       → rows′ ≡ pasted rows (rowSize * y .rows) (rowCells (columnsFor (y .lines) v))
@@ -294,9 +298,11 @@ pub record Joined (d : List ℕ) (seen : List ℕ) (y : Tally) (rows rows′ lin
       → lines′ ≡ pasted lines (lineSize * y .lines) (cellsOf (linesOf (v .variable)))
 
 -- behind the position
-pub record Bodied (bad : Bool) (d : List ℕ) (m : Manner) (seen : List ℕ) (y : Tally) (h : Head) (usage at : ℕ) (rows rows′ lines lines′ : List ℤ) (r : Entered)
+pub record Bodied (bad : Bool) (d : List ℕ) (m : Manner) (seen : List ℕ) (y : Tally) (h : Head) (usage at : ℕ)
+    (rows rows′ lines lines′ : List ℤ) (r : Entered)
     : Type 0 where
-  pub is : (l : List Entry) → Before d seen y rows l → (x : FrontRead bad d m l h usage at) → r ≡ enteredOf y (behindFront bad d m l (x .front) at)
+  pub is : (l : List Entry) → Before d seen y rows l → (x : FrontRead bad d m l h usage at) → r
+      ≡ enteredOf y (behindFront bad d m l (x .front) at)
   pub row : (l : List Entry) → Before d seen y rows l → (x : FrontRead bad d m l h usage at) → (v : Entry) (n : ℕ)
       → behindFront bad d m l (x .front) at ≡ Is v n → rows′ ≡ pasted rows (rowSize * y .rows) (rowCells (columnsFor (y .lines) v))
   pub line : (l : List Entry) → Before d seen y rows l → (x : FrontRead bad d m l h usage at) → (v : Entry) (n : ℕ)
@@ -323,7 +329,8 @@ turnOf y (Is (Again l) n) = turns.More (lastIdent l) (tallyOf l) n
 turnOf y (Is (Done l) n) = turns.Over y n
 turnOf y (Not f) = turns.Not f
 
-pub record Turned (bad : Bool) (d : List ℕ) (m : Manner) (seen : List ℕ) (y : Tally) (at : ℕ) (rows rows′ lines lines′ : List ℤ) (r : Turn) : Type 0 where
+pub record Turned (bad : Bool) (d : List ℕ) (m : Manner) (seen : List ℕ) (y : Tally) (at : ℕ) (rows rows′ lines lines′ : List ℤ)
+    (r : Turn) : Type 0 where
   pub is : (l : List Entry) → Before d seen y rows l → r ≡ turnOf y (oneMore bad d m l at)
   pub row : (l : List Entry) → Before d seen y rows l → (v : Entry) (n : ℕ) → oneMore bad d m l at ≡ Is (Again (l ++ v ∷ [])) n
       → rows′ ≡ pasted rows (rowSize * y .rows) (rowCells (columnsFor (y .lines) v))

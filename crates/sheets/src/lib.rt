@@ -1,4 +1,5 @@
-// A definition in XML read into rooms for rows and lines: a variable, all variables, the whole file. Above it stands the call for both kinds of
+// A definition in XML read into rooms for rows and lines: a variable, all variables, the whole file. Above it stands the call for both
+// kinds of
 // a definition.
 use elements::Due;
 use elements::Open;
@@ -54,8 +55,10 @@ ghost use Rattle.prefaces.specs.Code.{readingOf, ruleOf, Inside};
 ghost use Rattle.sheets.specs.declared.Fronted.the-variants as fronted;
 ghost use Rattle.sheets.specs.declared.Entered.the-variants as entered;
 ghost use Rattle.sheets.specs.Code.{dueIn, labelIn, positionIn, endIn, valuesEnded, sizeEnded, contentBy};
-ghost use Rattle.sheets.specs.Code.{DueEnds, PhraseEnds, StatedEnds, FrontEnds, NameSaid, placedOf, FrontSaid, siftedOf, FilterSaid, SiftSaid};
-ghost use Rattle.sheets.specs.Code.{Valued, plainOf, sizedOf, Rests, placelessOf, Before, Sofar, FrontRead, Bodied, Joined, Turned, runOf, Laid};
+ghost use Rattle.sheets.specs.Code.{DueEnds, PhraseEnds, StatedEnds, FrontEnds, NameSaid, placedOf, FrontSaid, siftedOf, FilterSaid};
+ghost use Rattle.sheets.specs.Code.{SiftSaid};
+ghost use Rattle.sheets.specs.Code.{Valued, plainOf, sizedOf, Rests, placelessOf, Before, Sofar, FrontRead, Bodied, Joined, Turned};
+ghost use Rattle.sheets.specs.Code.{runOf, Laid};
 ghost use Rattle.sheets.specs.Code.{NamesSettled, RoomsRead, outcomeIn};
 
 // ---- inside a variable
@@ -266,7 +269,8 @@ fn read_filter(
 ) -> Sifted
     requires { ⌜ Lying (length (now d)) (now rows) count ⌝ }
     requires { ⌜ (name .place + name .length ≤ length (now d)) × (end ≤ length (now d)) ⌝ }
-    ensures { λ r. ⌜ FilterSaid bad (now (d .entry)) (ruleOf m) (now (rows .entry)) count (record { place = name .place; length = name .length }) usage place end r ⌝ }
+    ensures { λ r. ⌜ FilterSaid bad (now (d .entry)) (ruleOf m) (now (rows .entry)) count
+        (record { place = name .place; length = name .length }) usage place end r ⌝ }
 {
     match filters::filter_at(
         bad,
@@ -304,7 +308,8 @@ fn sift_in(
 ) -> Sifted
     requires { ⌜ Lying (length (now d)) (now rows) count ⌝ }
     requires { ⌜ (name .place + name .length ≤ length (now d)) × (at ≤ length (now d)) ⌝ }
-    ensures { λ r. ⌜ SiftSaid bad (now (d .entry)) (ruleOf m) (now (rows .entry)) count (record { place = name .place; length = name .length }) usage at r ⌝ }
+    ensures { λ r. ⌜ SiftSaid bad (now (d .entry)) (ruleOf m) (now (rows .entry)) count
+        (record { place = name .place; length = name .length }) usage at r ⌝ }
 {
     let o = elements::find_open(bad, d, at, b"variable");
     if m.old {
@@ -339,7 +344,8 @@ fn values_rest(
 ) -> Rested
     requires { ⌜ Within (now d) 0 o × (length (now d) ≤ 1048576) ⌝ }
     requires { ⌜ (length (now lines) ≡ lineSize * mostLines) × (before ≤ mostLines) × (length (now marks) ≡ 16384) ⌝ }
-    ensures { λ r. ⌜ Valued count width before (bind (readOf o) (valuesEnded bad (now (d .entry)) languages quantity before)) (now (lines .entry)) (now (lines .exit)) r ⌝ }
+    ensures { λ r. ⌜ Valued count width before (bind (readOf o) (valuesEnded bad (now (d .entry)) languages quantity before))
+        (now (lines .entry)) (now (lines .exit)) r ⌝ }
 {
     match elements::tag_due(bad, d, o, b"values") {
         Due::At { place, end } => {
@@ -436,7 +442,8 @@ fn spread_rest(
 ) -> Rested
     requires { ⌜ Within (now d) 0 o × (length (now d) ≤ 1048576) × (1 ≤ room) × (room ≤ 16384) ⌝ }
     requires { ⌜ (length (now lines) ≡ lineSize * mostLines) × (before ≤ mostLines) × (length (now marks) ≡ 16384) ⌝ }
-    ensures { λ r. ⌜ Rests room before (bind (readOf o) (contentBy bad (now (d .entry)) (ruleOf m) room before 2)) (now (lines .entry)) (now (lines .exit)) r ⌝ }
+    ensures { λ r. ⌜ Rests room before (bind (readOf o) (contentBy bad (now (d .entry)) (ruleOf m) room before 2)) (now (lines .entry))
+        (now (lines .exit)) r ⌝ }
 {
     let languages = m.languages;
     if !elements::is_start(d, o, b"spread") {
@@ -493,7 +500,8 @@ fn rest_in(
 ) -> Rested
     requires { ⌜ Within (now d) 0 o × (length (now d) ≤ 1048576) × (1 ≤ room) × (room ≤ 16384) ⌝ }
     requires { ⌜ (length (now lines) ≡ lineSize * mostLines) × (before ≤ mostLines) × (length (now marks) ≡ 16384) ⌝ }
-    ensures { λ r. ⌜ Rests room before (bind (readOf o) (contentBy bad (now (d .entry)) (ruleOf m) room before kind)) (now (lines .entry)) (now (lines .exit)) r ⌝ }
+    ensures { λ r. ⌜ Rests room before (bind (readOf o) (contentBy bad (now (d .entry)) (ruleOf m) room before kind)) (now (lines .entry))
+        (now (lines .exit)) r ⌝ }
 {
     let languages = m.languages;
     if kind == 1 {
@@ -634,7 +642,8 @@ fn body_at(
     requires { ⌜ (length (now lines) ≡ lineSize * mostLines) × (length (now marks) ≡ 16384) ⌝ }
     requires { ⌜ FrontEnds (now d) (fronted.Is h usage at) ⌝ }
     requires { ⌜ ((l : List Entry) → Before (now d) (now seen) y (now rows) l → FrontRead bad (now d) (ruleOf m) l h usage at) ⌝ }
-    ensures { λ r. ⌜ Bodied bad (now (d .entry)) (ruleOf m) (now (seen .entry)) y h usage at (now (rows .entry)) (now (rows .exit)) (now (lines .entry)) (now (lines .exit)) r ⌝ }
+    ensures { λ r. ⌜ Bodied bad (now (d .entry)) (ruleOf m) (now (seen .entry)) y h usage at (now (rows .entry)) (now (rows .exit))
+        (now (lines .entry)) (now (lines .exit)) r ⌝ }
 {
     let name = h.name;
     let s = sift_in(bad, d, m, rows, y.rows, name, usage, at);
@@ -676,7 +685,8 @@ pub fn variable_at(
     requires { ⌜ Tens (now powers) ⌝ }
     requires { ⌜ (length (now d) ≤ 1048576) × (end ≤ length (now d)) × Sofar (now d) (now seen) y (now rows) ⌝ }
     requires { ⌜ (length (now lines) ≡ lineSize * mostLines) × (length (now marks) ≡ 16384) ⌝ }
-    ensures { λ r. ⌜ Joined (now (d .entry)) (now (seen .entry)) y (now (rows .entry)) (now (rows .exit)) (now (lines .entry)) (now (lines .exit)) (λ l. variable bad (now (d .entry)) (ruleOf m) l place end) r ⌝ }
+    ensures { λ r. ⌜ Joined (now (d .entry)) (now (seen .entry)) y (now (rows .entry)) (now (rows .exit)) (now (lines .entry))
+        (now (lines .exit)) (λ l. variable bad (now (d .entry)) (ruleOf m) l place end) r ⌝ }
 {
     match front_at(bad, d, m, place, end, seen, rows, y.rows) {
         Fronted::Is { head, usage, next } => {

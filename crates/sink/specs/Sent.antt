@@ -22,7 +22,8 @@ module _ {A : Type 0} where
 pub nothing-sent : (bound : ℕ) (out : List ℕ) (at : ℕ) → Sent bound out at [] out at
 nothing-sent bound out at = record { room = refl; within = λ h. omega arith; beyond = λ h. omega arith; stored = λ h g. refl }
 
-pub sent-as : {bound : ℕ} {out : List ℕ} {at : ℕ} {s u out′ : List ℕ} {r : ℕ} → Sent bound out at s out′ r → s ≡ u → Sent bound out at u out′ r
+pub sent-as : {bound : ℕ} {out : List ℕ} {at : ℕ} {s u out′ : List ℕ} {r : ℕ} → Sent bound out at s out′ r → s ≡ u
+    → Sent bound out at u out′ r
 sent-as a e = rw e at a
 
 -- bytes behind bytes
@@ -50,17 +51,18 @@ pub record Owed (bound : ℕ) (out₀ : List ℕ) (at₀ : ℕ) (whole out : Lis
 pub all-owed : (bound : ℕ) (out : List ℕ) (at : ℕ) {s u : List ℕ} → s ≡ u → Owed bound out at s out at u
 all-owed bound out at e = record { pays = λ a. sent-as a (sym e); same-room = refl }
 
-module _ {bound : ℕ} {out₀ : List ℕ} {at₀ : ℕ} {whole out : List ℕ} {at : ℕ} {left : List ℕ} (o : Owed bound out₀ at₀ whole out at left) where
-  -- some of it is sent
-  pub less-owed : {s u out′ : List ℕ} {r : ℕ} → left ≡ s ++ u → Sent bound out at s out′ r → Owed bound out₀ at₀ whole out′ r u
-  less-owed e a = record { pays = λ b. o .pays (sent-as (then a b) (sym e)); same-room = a .room ∙ o .same-room }
+module _ {bound : ℕ} {out₀ : List ℕ} {at₀ : ℕ} {whole out : List ℕ} {at : ℕ} {left : List ℕ} (o : Owed bound out₀ at₀ whole out at left)
+  where
+    -- some of it is sent
+    pub less-owed : {s u out′ : List ℕ} {r : ℕ} → left ≡ s ++ u → Sent bound out at s out′ r → Owed bound out₀ at₀ whole out′ r u
+    less-owed e a = record { pays = λ b. o .pays (sent-as (then a b) (sym e)); same-room = a .room ∙ o .same-room }
 
-  -- nothing is left
-  pub none-owed : left ≡ [] → Sent bound out₀ at₀ whole out at
-  none-owed e = o .pays (sent-as (nothing-sent bound out at) (sym e))
+    -- nothing is left
+    pub none-owed : left ≡ [] → Sent bound out₀ at₀ whole out at
+    none-owed e = o .pays (sent-as (nothing-sent bound out at) (sym e))
 
-  pub owed-as : {u : List ℕ} → left ≡ u → Owed bound out₀ at₀ whole out at u
-  owed-as e = rw e at o
+    pub owed-as : {u : List ℕ} → left ≡ u → Owed bound out₀ at₀ whole out at u
+    owed-as e = rw e at o
 
 -- one byte
 pub byte-stored : (bound : ℕ) (out : List ℕ) (at b : ℕ) → at < length out → at < bound → Sent bound out at (b ∷ []) (set out at b) (at + 1)
@@ -88,7 +90,8 @@ byte-lost bound out at b g = record {
 }
 
 -- bytes at once
-pub bytes-stored : (bound : ℕ) (out : List ℕ) (at : ℕ) (s : List ℕ) → at + length s < bound → Sent bound out at s (sets out at s) (at + length s)
+pub bytes-stored : (bound : ℕ) (out : List ℕ) (at : ℕ) (s : List ℕ) → at + length s < bound
+    → Sent bound out at s (sets out at s) (at + length s)
 bytes-stored bound out at s g = record {
   room = length-sets out at s;
   within = λ k. refl;

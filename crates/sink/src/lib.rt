@@ -1,4 +1,5 @@
-// Bytes sent to a lent buffer one behind the other: to be measured where the buffer has no room, to be stored where it has. Above it stand the
+// Bytes sent to a lent buffer one behind the other: to be measured where the buffer has no room, to be stored where it has. Above it stand
+// the
 // texts that are written: the export of a data file, the clean text of a definition.
 ghost use mathlib.Core.Path.{_≡_};
 ghost use mathlib.Core.List.{[], _∷_};

@@ -14,7 +14,8 @@ ghost use Rattle.sound.specs.rule.Sound.{holdsWidth, roomGood, rowGood, 
 ghost use Rattle.sound.specs.Types.{wholeIs, undividedIs, formatGood, unrangedIs, valuedIs, valuelessIs, typeGood, sharedGood, Sited};
 ghost use Rattle.strides.specs.Hull.{Blocked};
 ghost use Rattle.sound.specs.Block.{Standing, hullWidth, Placed};
-ghost use Rattle.sound.specs.Values.{rangeWithin, numbersWithin, bottomOf, topOf, endsWidth, valuedBy, spreadBy, multipleOf, quantityOf, valuesBy, rangeBlock, BlockTold};
+ghost use Rattle.sound.specs.Values.{rangeWithin, numbersWithin, bottomOf, topOf, endsWidth, valuedBy, spreadBy, multipleOf};
+ghost use Rattle.sound.specs.Values.{quantityOf, valuesBy, rangeBlock, BlockTold};
 ghost use Rattle.layout.specs.rule.Row.{kindOf, rowOf};
 ghost use Rattle.layout.specs.declared.Kind.the-variants.{Single};
 ghost use Rattle.layout.specs.declared.Spread.the-variants.{Bits, Fields};

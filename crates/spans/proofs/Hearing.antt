@@ -21,7 +21,8 @@ use Rattle.markup.specs.declared.Skip.the-variants.{Past, Broken}
 use Rattle.markup.proofs.Runs.{first-at, onward}
 use Rattle.markup.proofs.References.{Referred, reference-sound, reference-complete}
 use Rattle.markup.proofs.Gaps.{Noted, comment-sound, comment-complete, stands-split}
-use Rattle.spans.specs.rule.Heard.{Says, nothing, plain, refer, note, ofChar, ofNote, notedOf, partOf, ofPart, firstOf, Heard, All, Ill, after, onFirst, heardBy, heard}
+use Rattle.spans.specs.rule.Heard.{Says, nothing, plain, refer, note, ofChar, ofNote, notedOf, partOf, ofPart, firstOf, Heard, All}
+use Rattle.spans.specs.rule.Heard.{Ill, after, onFirst, heardBy, heard}
 use Rattle.spans.specs.declared.First.{First}
 use Rattle.spans.specs.declared.First.the-variants.{One, End, Not}
 use Rattle.spans.specs.declared.Part.{Part}
@@ -53,7 +54,8 @@ module _ (s : List ℕ) where
       let a : drop p s ≡ (38 ∷ r .bytes) ++ r .rest = drop-1 s p h ∙ rw (e, r .split) in
       stepped s p m (38 ∷ r .bytes) (r .rest) (c ∷ []) a (omega arith) (omega arith) h (λ t cs v. refer (r .ref) v)
 
-  with-note : (p m : ℕ) → p < length s → stands (60 ∷ 33 ∷ 45 ∷ 45 ∷ []) (drop p s) ≡ true → commentOf false p (p + 4) (drop (p + 4) s) ≡ Past m → Step s p m []
+  with-note : (p m : ℕ) → p < length s → stands (60 ∷ 33 ∷ 45 ∷ 45 ∷ []) (drop p s) ≡ true → commentOf false p (p + 4) (drop (p + 4) s)
+      ≡ Past m → Step s p m []
   with-note p m h e f =
       let x = stands-split (60 ∷ 33 ∷ 45 ∷ 45 ∷ []) (drop p s) e in
       let r = comment-sound false p (p + 4) m (drop (p + 4) s) f in
@@ -66,7 +68,8 @@ module _ (s : List ℕ) where
   pub part-passed : (p m : ℕ) → partOf s p ≡ Passed m → Step s p m []
   unfolding partOf notedOf
   part-passed p m e = by (leb (length s) p) (eqb (getD s p 0) 38) (eqb (getD s p 0) 60) refl e where
-    noted : (r : Bool) → stands (60 ∷ 33 ∷ 45 ∷ 45 ∷ []) (drop p s) ≡ r → p < length s → cond r (ofNote (commentOf false p (p + 4) (drop (p + 4) s))) (Stop Not) ≡ Passed m → Step s p m []
+    noted : (r : Bool) → stands (60 ∷ 33 ∷ 45 ∷ 45 ∷ []) (drop p s) ≡ r → p < length s
+        → cond r (ofNote (commentOf false p (p + 4) (drop (p + 4) s))) (Stop Not) ≡ Passed m → Step s p m []
     noted true f h e = past (commentOf false p (p + 4) (drop (p + 4) s)) refl e where
       past : (k : Skip) → commentOf false p (p + 4) (drop (p + 4) s) ≡ k → ofNote k ≡ Passed m → Step s p m []
       past (Past n) g e = let i : n ≡ m = cc in with-note p m h f (g ∙ ap Past i)
@@ -74,7 +77,9 @@ module _ (s : List ℕ) where
     noted false f h e = let z : _≡_ {A = ℕ} 0 1 = cc in absurd (omega arith)
 
     by : (a b c : Bool) → leb (length s) p ≡ a
-        → cond a (Stop End) (cond b (Stop (ofChar (referenceOf p (drop (p + 1) s)))) (cond c (cond (stands (60 ∷ 33 ∷ 45 ∷ 45 ∷ []) (drop p s)) (ofNote (commentOf false p (p + 4) (drop (p + 4) s))) (Stop Not)) (Stop (One (getD s p 0) (p + 1))))) ≡ Passed m
+        → cond a (Stop End) (cond b (Stop (ofChar (referenceOf p (drop (p + 1) s))))
+        (cond c (cond (stands (60 ∷ 33 ∷ 45 ∷ 45 ∷ []) (drop p s)) (ofNote (commentOf false p (p + 4) (drop (p + 4) s))) (Stop Not))
+        (Stop (One (getD s p 0) (p + 1))))) ≡ Passed m
         → Step s p m []
     by true b c f e = let z : _≡_ {A = ℕ} 0 1 = cc in absurd (omega arith)
     by false true c f e = let z : _≡_ {A = ℕ} 0 1 = cc in absurd (omega arith)
@@ -84,7 +89,8 @@ module _ (s : List ℕ) where
   part-one : (p c n : ℕ) → partOf s p ≡ Stop (One c n) → Step s p n (c ∷ [])
   unfolding partOf notedOf
   part-one p c n e = by (leb (length s) p) (eqb (getD s p 0) 38) (eqb (getD s p 0) 60) refl refl refl e where
-    char : (k : Char) → referenceOf p (drop (p + 1) s) ≡ k → p < length s → getD s p 0 ≡ 38 → Stop (ofChar k) ≡ Stop (One c n) → Step s p n (c ∷ [])
+    char : (k : Char) → referenceOf p (drop (p + 1) s) ≡ k → p < length s → getD s p 0 ≡ 38 → Stop (ofChar k) ≡ Stop (One c n)
+        → Step s p n (c ∷ [])
     char (Is x m) g h i e =
         let j : x ≡ c = cc in
         let k : m ≡ n = cc in
@@ -97,7 +103,9 @@ module _ (s : List ℕ) where
     noted false k e = let z : _≡_ {A = ℕ} 0 1 = cc in absurd (omega arith)
 
     by : (a b r : Bool) → leb (length s) p ≡ a → eqb (getD s p 0) 38 ≡ b → eqb (getD s p 0) 60 ≡ r
-        → cond a (Stop End) (cond b (Stop (ofChar (referenceOf p (drop (p + 1) s)))) (cond r (cond (stands (60 ∷ 33 ∷ 45 ∷ 45 ∷ []) (drop p s)) (ofNote (commentOf false p (p + 4) (drop (p + 4) s))) (Stop Not)) (Stop (One (getD s p 0) (p + 1))))) ≡ Stop (One c n)
+        → cond a (Stop End) (cond b (Stop (ofChar (referenceOf p (drop (p + 1) s))))
+        (cond r (cond (stands (60 ∷ 33 ∷ 45 ∷ 45 ∷ []) (drop p s)) (ofNote (commentOf false p (p + 4) (drop (p + 4) s))) (Stop Not))
+        (Stop (One (getD s p 0) (p + 1))))) ≡ Stop (One c n)
         → Step s p n (c ∷ [])
     by true b r f g h e = let z : _≡_ {A = ℕ} 0 1 = cc in absurd (omega arith)
     by false true r f g h e = char (referenceOf p (drop (p + 1) s)) refl (leb-false (length s) p f) (eqb-true (getD s p 0) 38 g) e
@@ -123,7 +131,9 @@ module _ (s : List ℕ) where
     noted false k e = let z : _≡_ {A = ℕ} 0 1 = cc in absurd (omega arith)
 
     by : (a b r : Bool) → leb (length s) p ≡ a
-        → cond a (Stop End) (cond b (Stop (ofChar (referenceOf p (drop (p + 1) s)))) (cond r (cond (stands (60 ∷ 33 ∷ 45 ∷ 45 ∷ []) (drop p s)) (ofNote (commentOf false p (p + 4) (drop (p + 4) s))) (Stop Not)) (Stop (One (getD s p 0) (p + 1))))) ≡ Stop End
+        → cond a (Stop End) (cond b (Stop (ofChar (referenceOf p (drop (p + 1) s))))
+        (cond r (cond (stands (60 ∷ 33 ∷ 45 ∷ 45 ∷ []) (drop p s)) (ofNote (commentOf false p (p + 4) (drop (p + 4) s))) (Stop Not))
+        (Stop (One (getD s p 0) (p + 1))))) ≡ Stop End
         → length s ≤ p
     by true b r f e = leb-true (length s) p f
     by false true r f e = char (referenceOf p (drop (p + 1) s)) e
@@ -137,7 +147,8 @@ module _ (s : List ℕ) where
   less : (p m : ℕ) → step p ≡ Again m → length s - m < length s - p
   less p m e = by (partOf s p) refl e where
     by : (r : Part) → partOf s p ≡ r → ofPart r ≡ Again m → length s - m < length s - p
-    by (Passed k) f e = let h : k ≡ m = cc in let g = part-passed p k f in let a = g .place in let b = g .some in let c = g .within in omega arith
+    by (Passed k) f e = let h : k ≡ m = cc in let g = part-passed p k f in let a = g .place in let b = g .some in let c = g .within in
+        omega arith
     by (Stop r) f e = let z : _≡_ {A = ℕ} 0 1 = cc in absurd (omega arith)
 
   pub first-next : (p m : ℕ) → partOf s p ≡ Passed m → firstOf s p ≡ firstOf s m
@@ -204,7 +215,8 @@ module _ (s : List ℕ) where
     by ih (Stop r) f = rw (drop-of-length-le s (part-end p (f ∙ ap Stop (sym (first-stop p r f) ∙ e)))) nothing
 
   -- ---- all of them
-  cases : (f g p : ℕ) (r : First) → firstOf s p ≡ r → ((c n : ℕ) → firstOf s p ≡ One c n → heardBy f s n ≡ heardBy g s n) → onFirst r (heardBy f s) ≡ onFirst r (heardBy g s)
+  cases : (f g p : ℕ) (r : First) → firstOf s p ≡ r → ((c n : ℕ) → firstOf s p ≡ One c n → heardBy f s n ≡ heardBy g s n)
+      → onFirst r (heardBy f s) ≡ onFirst r (heardBy g s)
   cases f g p (One c n) e ih = ap (after c) (ih c n e)
   cases f g p End e ih = refl
   cases f g p Not e ih = refl
@@ -214,7 +226,8 @@ module _ (s : List ℕ) where
   enough zero g p h k = absurd (omega arith)
   enough (suc f) zero p h k = absurd (omega arith)
   enough (suc f) (suc g) p h k =
-      cases f g p (firstOf s p) refl (λ c n e. let o = first-on p c n e in enough f g n (omega (arith, o .0, o .1)) (omega (arith, o .0, o .1)))
+      cases f g p (firstOf s p) refl (λ c n e. let o = first-on p c n e in
+      enough f g n (omega (arith, o .0, o .1)) (omega (arith, o .0, o .1)))
 
   pub heard-one : (p c n : ℕ) → firstOf s p ≡ One c n → heard s p ≡ after c (heard s n)
   unfolding heard heardBy
@@ -239,7 +252,8 @@ module _ (s : List ℕ) where
     by Not f = heard-not p (e ∙ f) ∙ sym (heard-not m f)
 
   -- what follows the first character says the rest
-  sound-more : (p c n : ℕ) (cs : List ℕ) → firstOf s p ≡ One c n → ((q : List ℕ) → heard s n ≡ All q → Says (drop n s) q) → heard s p ≡ All cs → Says (drop p s) cs
+  sound-more : (p c n : ℕ) (cs : List ℕ) → firstOf s p ≡ One c n → ((q : List ℕ) → heard s n ≡ All q → Says (drop n s) q) → heard s p
+      ≡ All cs → Says (drop p s) cs
   sound-more p c n cs f ih e = tail (heard s n) refl where
     tail : (t : Heard) → heard s n ≡ t → Says (drop p s) cs
     tail (All q) i =
@@ -247,10 +261,12 @@ module _ (s : List ℕ) where
         let j : c ∷ q ≡ cs = cc in
         let x = first-one p c n f in
         rw (x .split, ← j) (x .says (drop n s) q (ih q i))
-    tail Ill i = let g : Ill ≡ All cs = ap (after c) (sym i) ∙ sym (heard-one p c n f) ∙ e in let z : _≡_ {A = ℕ} 0 1 = cc in absurd (omega arith)
+    tail Ill i = let g : Ill ≡ All cs = ap (after c) (sym i) ∙ sym (heard-one p c n f) ∙ e in let z : _≡_ {A = ℕ} 0 1 = cc in
+        absurd (omega arith)
 
   sound-end : (p : ℕ) (cs : List ℕ) → firstOf s p ≡ End → heard s p ≡ All cs → Says (drop p s) cs
-  sound-end p cs f e = let g : All [] ≡ All cs = sym (heard-end p f) ∙ e in let i : [] ≡ cs = cc in rw (← i) (end-by (length s) p (omega arith) f)
+  sound-end p cs f e = let g : All [] ≡ All cs = sym (heard-end p f) ∙ e in let i : [] ≡ cs = cc in
+      rw (← i) (end-by (length s) p (omega arith) f)
 
   sound-not : (p : ℕ) (cs : List ℕ) → firstOf s p ≡ Not → heard s p ≡ All cs → Says (drop p s) cs
   sound-not p cs f e = let g : Ill ≡ All cs = sym (heard-not p f) ∙ e in let z : _≡_ {A = ℕ} 0 1 = cc in absurd (omega arith)
@@ -262,7 +278,8 @@ module _ (s : List ℕ) where
     by Not f = sound-not p cs f e
     by (One c n) f = let o = first-on p c n f in absurd (omega (arith, o .0, o .1))
   sound (suc k) p cs h e = by (sound k) (firstOf s p) refl where
-    by : ((p : ℕ) (cs : List ℕ) → length s - p ≤ k → heard s p ≡ All cs → Says (drop p s) cs) → (r : First) → firstOf s p ≡ r → Says (drop p s) cs
+    by : ((p : ℕ) (cs : List ℕ) → length s - p ≤ k → heard s p ≡ All cs → Says (drop p s) cs) → (r : First) → firstOf s p ≡ r
+        → Says (drop p s) cs
     by ih End f = sound-end p cs f e
     by ih Not f = sound-not p cs f e
     by ih (One c n) f = let o = first-on p c n f in sound-more p c n cs f (λ q i. ih n q (omega (arith, o .0, o .1)) i) e

@@ -67,7 +67,8 @@ unfolding figuresAfter eachOf
 figures-none v = refl
 
 module _ (v k : ℕ) (s : List ℕ) (n : ℕ) where
-  pub figures-on : {c m : ℕ} → firstOf s n ≡ One c m → isDigit c ≡ true → figuresAfter v k (heard s n) ≡ figuresAfter (pushOf v c) (k + 1) (heard s m)
+  pub figures-on : {c m : ℕ} → firstOf s n ≡ One c m → isDigit c ≡ true → figuresAfter v k (heard s n)
+      ≡ figuresAfter (pushOf v c) (k + 1) (heard s m)
   figures-on {c} {m} e t = ap (figuresAfter v k) (heard-one s n c m e) ∙ figures-next v k c (heard s m) t
 
   pub figures-off : {c m : ℕ} → firstOf s n ≡ One c m → isDigit c ≡ false → figuresAfter v k (heard s n) ≡ Wrong

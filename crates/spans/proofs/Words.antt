@@ -36,7 +36,8 @@ unfolding countAfter
 count-ill class k = refl
 
 module _ (class k : ℕ) (s : List ℕ) (n : ℕ) where
-  pub count-on : {c m : ℕ} → firstOf s n ≡ One c m → ofClass class c ≡ true → countAfter class k (heard s n) ≡ countAfter class (k + 1) (heard s m)
+  pub count-on : {c m : ℕ} → firstOf s n ≡ One c m → ofClass class c ≡ true → countAfter class k (heard s n)
+      ≡ countAfter class (k + 1) (heard s m)
   count-on {c} {m} e t = ap (countAfter class k) (heard-one s n c m e) ∙ count-next class k c (heard s m) t
 
   pub count-off : {c m : ℕ} → firstOf s n ≡ One c m → ofClass class c ≡ false → countAfter class k (heard s n) ≡ 0
@@ -85,7 +86,8 @@ module _ (w : List ℕ) (i : ℕ) where
     by false e = word-shorter (leb-false (length w) i e)
 
 module _ (w : List ℕ) (i : ℕ) (s : List ℕ) (n : ℕ) where
-  pub word-on : {c m : ℕ} → firstOf s n ≡ One c m → i < length w → getD w i 0 ≡ c → wordOf (drop i w) (heard s n) ≡ wordOf (drop (i + 1) w) (heard s m)
+  pub word-on : {c m : ℕ} → firstOf s n ≡ One c m → i < length w → getD w i 0 ≡ c → wordOf (drop i w) (heard s n)
+      ≡ wordOf (drop (i + 1) w) (heard s m)
   word-on {c} {m} e l q = ap (wordOf (drop i w)) (heard-one s n c m e) ∙ word-next w i c (heard s m) l q
 
   pub word-off : {c m : ℕ} → firstOf s n ≡ One c m → i < length w → (getD w i 0 ≡ c → ⊥) → wordOf (drop i w) (heard s n) ≡ false

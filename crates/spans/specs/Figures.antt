@@ -15,7 +15,8 @@ use Rattle.spans.specs.declared.Figures.the-variants.{Good, Wrong}
 -- ---- a number: digits, one or more; what they say is held at 10 ^ 15, which every limit lies below
 -- after digits that said v and were k
 unfoldable pub figuresAfter : ℕ → ℕ → Heard → Figures
-figuresAfter v k (All cs) = cond (eachOf isDigit cs) (cond (eqb (k + length cs) 0) Wrong (Good (capped (decimalOf v cs)) (k + length cs))) Wrong
+figuresAfter v k (All cs) = cond (eachOf isDigit cs) (cond (eqb (k + length cs) 0) Wrong (Good (capped (decimalOf v cs)) (k + length cs)))
+    Wrong
 figuresAfter v k Ill = Wrong
 
 abbrev pub figuresOf : Heard → Figures

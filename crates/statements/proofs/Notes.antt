@@ -32,7 +32,8 @@ module _ (d : List ℕ) where
 
     pub notes-again : {m : ℕ} → k ≡ Taken m → notesHere d t ≡ notesHere d (pastNote d m)
     unfolding notesHere
-    notes-again {m} f = loop-again (λ t. noteStep d (choiceOf d t NOTE) t) (At 0) (left d) note-less {s = t} {s′ = pastNote d m} (rw (sym e ∙ f))
+    notes-again {m} f = loop-again (λ t. noteStep d (choiceOf d t NOTE) t) (At 0) (left d) note-less {s = t} {s′ = pastNote d m}
+        (rw (sym e ∙ f))
 
     pub notes-done : k ≡ Left → notesHere d t ≡ t
     unfolding notesHere
@@ -42,7 +43,8 @@ module _ (d : List ℕ) where
   notes-within : (f : ℕ) (t : Reading) → left d t < f → left d (notesHere d t) ≤ left d t
   notes-within zero t h = absurd (omega arith)
   notes-within (suc f) t h = by (choiceOf d t NOTE) refl (notes-within f) where
-    by : (k : Choice) → choiceOf d t NOTE ≡ k → ((u : Reading) → left d u < f → left d (notesHere d u) ≤ left d u) → left d (notesHere d t) ≤ left d t
+    by : (k : Choice) → choiceOf d t NOTE ≡ k → ((u : Reading) → left d u < f → left d (notesHere d u) ≤ left d u) → left d (notesHere d t)
+        ≤ left d t
     by (Taken m) e ih =
         let l = note-left t refl e in
         let j = ih (pastNote d m) (omega arith) in

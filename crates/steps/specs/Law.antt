@@ -15,7 +15,8 @@ use Rattle.reading.specs.rule.Result.{Result, Is}
 use Rattle.reading.specs.rule.Token.{amountOf}
 use Rattle.bridge.specs.Tokens.{number-on, string-on}
 use Rattle.bridge.specs.Notes.{notes-on}
-use Rattle.grammar.specs.Token.{Gap, Here, NoWord, Keyword, keyword, Number, Value, String, Notes, Statement, Phrase, End, Optional, Whether, yes, no}
+use Rattle.grammar.specs.Token.{Gap, Here, NoWord, Keyword, keyword, Number, Value, String, Notes, Statement, Phrase, End, Optional}
+use Rattle.grammar.specs.Token.{Whether, yes, no}
 use Rattle.grammar.specs.Token as token
 use Rattle.grammar.specs.Refusal.{Noted, noted}
 use Rattle.grammar_laws.specs.Views.{word-at, word-not}
@@ -24,7 +25,8 @@ use Rattle.grammar_laws.specs.Tokens.{run-there, number-is, string-is}
 use Rattle.grammar_laws.specs.Notes.{note-capitals, notes-is}
 use Rattle.steps.specs.declared.Span.{Span}
 use Rattle.steps.specs.declared.Found.{Found}
-use Rattle.steps.specs.Step.{span, placeIn, gapPast, notesPast, foundIn, wordPast, statementPast, keywordPast, wordFound, statementFound}
+use Rattle.steps.specs.Step.{span, placeIn, gapPast, notesPast, foundIn, wordPast, statementPast, keywordPast, wordFound}
+use Rattle.steps.specs.Step.{statementFound}
 use Rattle.steps.specs.Step.{numberIn, numberSpan, phraseIn, stringSpan, valueSpan}
 
 abbrev pub found : Bool → ℕ → Found

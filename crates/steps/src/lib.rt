@@ -1,5 +1,6 @@
 // From a place of a definition that was read before, past the next thing of it: a gap, notes, a word, a number, a value, a string, each as
-// the stretch of bytes that it is. Nothing is judged anew: where something else stands, the place stays. Above it stands the writer of clean
+// the stretch of bytes that it is. Nothing is judged anew: where something else stands, the place stays. Above it stands the writer of
+// clean
 // definitions.
 use scan::Word;
 use tokens::Number;
@@ -10,7 +11,8 @@ ghost use Prim.Native.Nat.{_-_};
 ghost use Rattle.ascii.specs.Class.{Classes};
 ghost use Rattle.scan.specs.rule.Word.{wordAt};
 ghost use Rattle.tokens.specs.Token.{numberOn, stringOn};
-ghost use Rattle.steps.specs.Step.{placeIn, gapPast, wordPast, notesPast, statementPast, keywordPast, foundIn, wordFound, statementFound};
+ghost use Rattle.steps.specs.Step.{placeIn, gapPast, wordPast, notesPast, statementPast, keywordPast, foundIn, wordFound};
+ghost use Rattle.steps.specs.Step.{statementFound};
 ghost use Rattle.steps.specs.Step.{numberIn, numberSpan, phraseIn, stringSpan, valueSpan};
 
 // A stretch of the definition, the place where reading goes on behind it, and of a number what it says.

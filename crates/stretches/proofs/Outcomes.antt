@@ -83,7 +83,8 @@ module _ (l : Bool) (d : List ℕ) (place long : ℕ) (list : List ℤ) where
     unfolding stretchText
     is-text e = rw (le-leb (place + long) (length d) h, e)
 
-    short-is : (r : Room) → r ≡ roomOf (length list) (length (stretchSigns l d place long)) → r ≡ Short → ltb (length list) (length (stretchSigns l d place long)) ≡ true
+    short-is : (r : Room) → r ≡ roomOf (length list) (length (stretchSigns l d place long)) → r ≡ Short
+        → ltb (length list) (length (stretchSigns l d place long)) ≡ true
     unfolding roomOf
     short-is r e f = by (ltb (length list) (length (stretchSigns l d place long))) (sym f ∙ e) where
       by : (q : Bool) → Short ≡ cond q Short (Signs (length (stretchSigns l d place long))) → q ≡ true
@@ -94,22 +95,28 @@ module _ (l : Bool) (d : List ℕ) (place long : ℕ) (list : List ℤ) where
         → (ltb (length list) (length (stretchSigns l d place long)) ≡ false) × (n ≡ length (stretchSigns l d place long))
     unfolding roomOf
     fits-is r n e f = by (ltb (length list) (length (stretchSigns l d place long))) refl (sym f ∙ e) where
-      by : (q : Bool) → ltb (length list) (length (stretchSigns l d place long)) ≡ q → Signs n ≡ cond q Short (Signs (length (stretchSigns l d place long)))
+      by : (q : Bool) → ltb (length list) (length (stretchSigns l d place long)) ≡ q → Signs n
+          ≡ cond q Short (Signs (length (stretchSigns l d place long)))
           → (ltb (length list) (length (stretchSigns l d place long)) ≡ false) × (n ≡ length (stretchSigns l d place long))
       by true k g = let z : _≡_ {A = ℕ} 0 1 = cc in absurd (omega arith)
       by false k g = (k, cc)
 
-    pub no-room : textOf l (cutOff d place long) place ≡ true → (r : Room) → r ≡ roomOf (length list) (length (signsFrom l (cutOff d place long) (begun place))) → r ≡ Short → StretchDecoded l d place long list list decoded.ShortList
+    pub no-room : textOf l (cutOff d place long) place ≡ true → (r : Room) → r
+        ≡ roomOf (length list) (length (signsFrom l (cutOff d place long) (begun place))) → r ≡ Short
+        → StretchDecoded l d place long list list decoded.ShortList
     unfolding said stretchAs listAfter fitting stretchSigns
     no-room t r e f = let q = short-is r e f in record { says = rw (is-text t, q); leaves = rw (is-text t, q) }
 
     pub counted : (r : Room) (n : ℕ) → r ≡ roomOf (length list) (length (signsFrom l (cutOff d place long) (begun place))) → r ≡ Signs n
         → (n ≡ length (signsFrom l (cutOff d place long) (begun place))) × (n ≤ length list)
     unfolding stretchSigns
-    counted r n e f = let q = fits-is r n e f in let g = ltb-false (length list) (length (signsFrom l (cutOff d place long) (begun place))) (q .0) in let k = q .1 in (k, omega arith)
+    counted r n e f = let q = fits-is r n e f in let g = ltb-false (length list) (length (signsFrom l (cutOff d place long) (begun place)))
+        (q .0) in let k = q .1 in (k, omega arith)
 
-    pub decodes : textOf l (cutOff d place long) place ≡ true → (r : Room) (n : ℕ) (list′ : List ℤ) → r ≡ roomOf (length list) (length (signsFrom l (cutOff d place long) (begun place))) → r ≡ Signs n
-        → list′ ≡ numbersOf (signsFrom l (cutOff d place long) (begun place)) ++ drop n list → StretchDecoded l d place long list list′ (decoded.Signs n)
+    pub decodes : textOf l (cutOff d place long) place ≡ true → (r : Room) (n : ℕ) (list′ : List ℤ) → r
+        ≡ roomOf (length list) (length (signsFrom l (cutOff d place long) (begun place))) → r ≡ Signs n
+        → list′ ≡ numbersOf (signsFrom l (cutOff d place long) (begun place)) ++ drop n list
+        → StretchDecoded l d place long list list′ (decoded.Signs n)
     unfolding said stretchAs listAfter fitting stretchSigns
     decodes t r n list′ e f g =
         let q = fits-is r n e f in
@@ -130,7 +137,11 @@ module _ (l : Bool) (d : List ℕ) (place long : ℕ) where
   unfolding stretchText
   sound e =
       let h = leb-true (place + long) (length d) (and-left (leb (place + long) (length d)) (textOf l (cutOff d place long) place) e) in
-      record { inside = h; text = text-exactly l (cutOff d place long) place (cut-long d place long h) .0 (and-right (leb (place + long) (length d)) (textOf l (cutOff d place long) place) e) }
+      record {
+        inside = h;
+        text = text-exactly l (cutOff d place long) place (cut-long d place long h) .0
+            (and-right (leb (place + long) (length d)) (textOf l (cutOff d place long) place) e);
+      }
 
   complete : StretchAt l d place long → stretchText l d place long ≡ true
   unfolding stretchText
@@ -148,5 +159,6 @@ unfolding stretchSigns
 stretch-says l d place long s = text-says l (cutOff d place long) place (cut-long d place long (s .inside)) (s .text)
 
 -- two answers for one stretch and one list are one
-pub stretch-once : {l : Bool} {d : List ℕ} {place long : ℕ} {list a b : List ℤ} {r t : Decoded} → StretchDecoded l d place long list a r → StretchDecoded l d place long list b t → (said r ≡ said t) × (a ≡ b)
+pub stretch-once : {l : Bool} {d : List ℕ} {place long : ℕ} {list a b : List ℤ} {r t : Decoded} → StretchDecoded l d place long list a r
+    → StretchDecoded l d place long list b t → (said r ≡ said t) × (a ≡ b)
 stretch-once x y = (x .says ∙ sym (y .says), x .leaves ∙ sym (y .leaves))

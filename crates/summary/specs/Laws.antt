@@ -153,11 +153,17 @@ module _ (p : ℕ) (P : Power p) where
   extended-is [] k a b h g e = rw add-zero
   extended-is (n ∷ ns) k a b h g e =
       ap (λ (s : Summary). extendedBy s (valuesOf p ns)) (extend-is k a b n h g (e .0))
-      ∙ extended-is ns (suc k) (cond (ltZ n a) n a) (cond (above n b) n b) (kept-scaled (ltZ n a) a n h (e .0)) (kept-scaled (above n b) b n g (e .0)) (e .1)
+      ∙ extended-is ns (suc k) (cond (ltZ n a) n a) (cond (above n b) n b) (kept-scaled (ltZ n a) a n h (e .0))
+      (kept-scaled (above n b) b n g (e .0)) (e .1)
       ∙ rw (add-suc (suc k) (length ns), suc-add (suc k) (length ns))
 
   pub summary-is : (n : ℤ) (ns : List ℤ) → Each (n ∷ ns)
-      → summaryOf (valuesOf p (n ∷ ns)) ≡ record { count = suc (length ns); least = valueOf (firstOf ltZ n ns) p; most = valueOf (firstOf above n ns) p }
+      → summaryOf (valuesOf p (n ∷ ns)) ≡ record {
+        count = suc (length ns);
+        least = valueOf (firstOf ltZ n ns) p;
+        most = valueOf
+            (firstOf above n ns) p;
+      }
   unfolding summaryOf none extendedBy extendOf valuesOf
   summary-is n ns e = extended-is ns 0 n n (e .0) (e .0) (e .1) ∙ rw (suc-add 0 (length ns), zero-add)
 
@@ -206,7 +212,8 @@ unfolding summaryOf extendedBy
 summary-none = refl
 
 -- what holds of both values and of one more holds of both after it: no NaN, or that the format holds it
-pub extend-keeps : (P : Float → Type 0) (s : Summary) (x : Float) → P (s .least) → P (s .most) → P x → P (extendOf s x .least) × P (extendOf s x .most)
+pub extend-keeps : (P : Float → Type 0) (s : Summary) (x : Float) → P (s .least) → P (s .most) → P x → P (extendOf s x .least)
+    × P (extendOf s x .most)
 unfolding extendOf lowerOf higherOf
 extend-keeps P s x a b c = go (eqb (s .count) 0) refl
   where

@@ -35,10 +35,51 @@ put-next h g slot name next good v k e = by (eqb slot 1) (eqb slot 2) (eqb slot 
 
   by : (p q r : Bool)
       → inner
-      (placedOf (h .a) good name v (record { a = v; ae = k; b = h .b; be = h .be; c = h .c; ce = h .ce; third = h .third; unknown = h .unknown; next = next }))
-      (placedOf (h .b) good name v (record { a = h .a; ae = h .ae; b = v; be = k; c = h .c; ce = h .ce; third = h .third; unknown = h .unknown; next = next }))
-      (placedOf (h .c) good name v (record { a = h .a; ae = h .ae; b = h .b; be = h .be; c = v; ce = k; third = name; unknown = h .unknown; next = next }))
-      (More (record { a = h .a; ae = h .ae; b = h .b; be = h .be; c = h .c; ce = h .ce; third = h .third; unknown = cond (eqb (h .unknown) 0) name (h .unknown); next = next }))
+      (placedOf (h .a) good name v (record {
+        a = v;
+        ae = k;
+        b = h .b;
+        be = h .be;
+        c = h .c;
+        ce = h .ce;
+        third = h .third;
+        unknown = h .unknown;
+        next = next;
+      }))
+      (placedOf (h .b) good name v (record {
+        a = h .a;
+        ae = h .ae;
+        b = v;
+        be = k;
+        c = h .c;
+        ce = h .ce;
+        third = h .third;
+        unknown = h .unknown;
+        next = next;
+      }))
+      (placedOf (h .c) good name v (record {
+        a = h .a;
+        ae = h .ae;
+        b = h .b;
+        be = h .be;
+        c = v;
+        ce = k;
+        third = name;
+        unknown = h .unknown;
+        next = next;
+      }))
+      (More (record {
+        a = h .a;
+        ae = h .ae;
+        b = h .b;
+        be = h .be;
+        c = h .c;
+        ce = h .ce;
+        third = h .third;
+        unknown = cond
+            (eqb (h .unknown) 0) name (h .unknown);
+        next = next;
+      }))
       p q r ≡ More g → g .next ≡ next
   by true q r e = ap (λ (x : Held). x .next) (placed-next (h .a) good name v _ g e)
   by false true r e = ap (λ (x : Held). x .next) (placed-next (h .b) good name v _ g e)
@@ -51,7 +92,8 @@ module _ (bad : Bool) (d : List ℕ) (opened : ℕ) (x y z : List ℕ) (f g k re
   pub turn-on : (h g′ : Held) → turnOf bad d opened x y z f g k required h ≡ More g′ → (h .next < g′ .next) × (g′ .next ≤ length d)
   unfolding turnOf
   turn-on h g′ e = by (attributeOf bad d opened (h .next)) refl e where
-    by : (r : Attribute) → attributeOf bad d opened (h .next) ≡ r → turned d x y z f g k required h r ≡ More g′ → (h .next < g′ .next) × (g′ .next ≤ length d)
+    by : (r : Attribute) → attributeOf bad d opened (h .next) ≡ r → turned d x y z f g k required h r ≡ More g′ → (h .next < g′ .next)
+        × (g′ .next ≤ length d)
     by (One n e v w next) o q =
         let a = attribute-one bad d opened (h .next) o in
         let i = put-next h g′ (slotOf d n e x y z) n next (stretchFits (formOf (slotOf d n e x y z) f g k) d v w) v w q in
@@ -74,10 +116,12 @@ module _ (bad : Bool) (d : List ℕ) (opened : ℕ) (x y z : List ℕ) (f g k re
     by (More i) o e = let q : i ≡ g′ = cc in let l = turn-on h i o in rw (← q) (omega arith)
     by (Over t) o e = let w : _≡_ {A = ℕ} 0 1 = cc in absurd (omega arith)
 
-  pub turns-next : (h g′ : Held) → turnOf bad d opened x y z f g k required h ≡ More g′ → turnsOf bad d opened x y z f g k required h ≡ turnsOf bad d opened x y z f g k required g′
+  pub turns-next : (h g′ : Held) → turnOf bad d opened x y z f g k required h ≡ More g′ → turnsOf bad d opened x y z f g k required h
+      ≡ turnsOf bad d opened x y z f g k required g′
   unfolding turnsOf
   turns-next h g′ e = loop-again step (Fault 0 0) (λ h. length d - h .next) less (rw e)
 
-  pub turns-over : (h : Held) (t : Tag) → turnOf bad d opened x y z f g k required h ≡ Over t → turnsOf bad d opened x y z f g k required h ≡ t
+  pub turns-over : (h : Held) (t : Tag) → turnOf bad d opened x y z f g k required h ≡ Over t → turnsOf bad d opened x y z f g k required h
+      ≡ t
   unfolding turnsOf
   turns-over h t e = loop-done step (Fault 0 0) (λ h. length d - h .next) less (rw e)

@@ -28,7 +28,8 @@ use Rattle.definition.proofs.Bridge.{Sames, SameOutcome, outcome-same}
 use Rattle.definition.proofs.Bridge as bridge
 use Rattle.texts.specs.declared.Decoded.{Decoded}
 use Rattle.texts.specs.declared.Decoded.the-variants as decoded
-use Rattle.texts.specs.rule.Decode.{insideText, signsAt, numbersOf, Outcome, signs, refused, said, fitting, decodedAs, listAfter, TextDecoded}
+use Rattle.texts.specs.rule.Decode.{insideText, signsAt, numbersOf, Outcome, signs, refused, said, fitting, decodedAs, listAfter}
+use Rattle.texts.specs.rule.Decode.{TextDecoded}
 use Rattle.text_laws.specs.Cut.{none, Says, string-says}
 use Rattle.text_laws.specs.Stand.{Each, nil, more, LineStands, VariableStands, built-stands}
 

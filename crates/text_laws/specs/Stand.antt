@@ -293,7 +293,16 @@ module _ (d : List ℕ) where
     by t u (number.Is x) (phrase.Is n) (phrase.Is l) (typed.Not f) p a b g = none cc
     by t u (number.Is x) (phrase.Is n) (phrase.Is l) (typed.Is k m) (stated.Not f) a b g = none cc
     by t u (number.Is x) (phrase.Is n) (phrase.Is l) (typed.Is k m) (stated.Is q) a b g =
-        let j : record { ident = x .size; name = n; label = l; kind = k; start = q .start; finish = q .finish; place = q .place; next = q .next }
+        let j : record {
+          ident = x .size;
+          name = n;
+          label = l;
+          kind = k;
+          start = q .start;
+          finish = q .finish;
+          place = q .place;
+          next = q .next;
+        }
         ≡ h = cc in
         rw (← j) (string-stands t n a, string-stands u l b)
 

@@ -55,25 +55,34 @@ low-class b h = rw (lt-ltb b 32 h)
 
 module _ (d : List ℕ) (i : ℕ) (h : i < length d) where
   -- it says itself
-  pub decode-kept : 32 ≤ getD d i 0 → isMark (getD d i 0) ≡ false → decodeOf Plain 0 (text d i) ≡ Byte (getD d i 0) ∷ decodeOf Plain 0 (text d (i + 1))
+  pub decode-kept : 32 ≤ getD d i 0 → isMark (getD d i 0) ≡ false → decodeOf Plain 0 (text d i) ≡ Byte (getD d i 0)
+      ∷ decodeOf Plain 0 (text d (i + 1))
   unfolding decodeOf
   decode-kept g e =
-      rw (text-kept d i h (kept-byte (getD d i 0) g), plain-go (getD d i 0) i e, plain-gives 0 (getD d i 0) e, before (getD d i 0) 0 (text d (i + 1)))
+      rw (
+        text-kept d i h (kept-byte (getD d i 0) g),
+        plain-go (getD d i 0) i e,
+        plain-gives 0 (getD d i 0) e,
+        before (getD d i 0) 0 (text d (i + 1)),
+      )
 
   -- or nothing, where it is dropped
   pub decode-dropped : getD d i 0 < 32 → decodeOf Plain 0 (text d i) ≡ decodeOf Plain 0 (text d (i + 1))
   decode-dropped g = ap (decodeOf Plain 0) (text-dropped d i h (low-class (getD d i 0) g))
 
-  pub measure-over : (c : ℕ) → isMark (getD d i 0) ≡ false → measureFrom Plain c (text d i) ≡ measureFrom Plain (c + cond (ltb (getD d i 0) 32) 0 1) (text d (i + 1))
+  pub measure-over : (c : ℕ) → isMark (getD d i 0) ≡ false → measureFrom Plain c (text d i)
+      ≡ measureFrom Plain (c + cond (ltb (getD d i 0) 32) 0 1) (text d (i + 1))
   unfolding measureFrom completes
   measure-over c e = by (ltb (getD d i 0) 32) refl where
     by : (q : Bool) → ltb (getD d i 0) 32 ≡ q → measureFrom Plain c (text d i) ≡ measureFrom Plain (c + cond q 0 1) (text d (i + 1))
-    by true f = let z : c ≡ c + 0 = omega arith in rw (← z) (ap (measureFrom Plain c) (text-dropped d i h (low-class (getD d i 0) (ltb-true _ _ f))))
+    by true f = let z : c ≡ c + 0 = omega arith in
+        rw (← z) (ap (measureFrom Plain c) (text-dropped d i h (low-class (getD d i 0) (ltb-true _ _ f))))
     by false f = rw (text-kept d i h (kept-byte (getD d i 0) (ltb-false _ _ f)), plain-go (getD d i 0) i e, plain-gives 0 (getD d i 0) e)
 
 -- ---- steps of the measuring loop
 module _ (s : Inside) (c : ℕ) {t : Text} where
-  pub measure-on : {p b : ℕ} {u : Text} {m : Move} {v : Inside} → t ≡ sign p b u → m ≡ insideOf s b p → m ≡ Go v → measureFrom s c t ≡ measureFrom v (c + completes s b) u
+  pub measure-on : {p b : ℕ} {u : Text} {m : Move} {v : Inside} → t ≡ sign p b u → m ≡ insideOf s b p → m ≡ Go v → measureFrom s c t
+      ≡ measureFrom v (c + completes s b) u
   unfolding measureFrom
   measure-on e f g = rw (e, sym f ∙ g)
 
@@ -109,7 +118,8 @@ gives-count (Low o) a b = refl
 
 -- the extent of bytes that start at p, read on from s behind a, where c signs were said before: a quote behind them closes them, or not
 abbrev extentOf : List ℕ → ℕ → Inside → ℕ → ℕ → Extent
-extentOf l p s a c = cond (closesAt (p + length l + 1) (stringOf s (kept p (l ++ 34 ∷ [])))) (Signs (c + length (decodeOf s a (kept p l)))) NotText
+extentOf l p s a c = cond (closesAt (p + length l + 1) (stringOf s (kept p (l ++ 34 ∷ [])))) (Signs (c + length (decodeOf s a (kept p l))))
+    NotText
 
 over : (p : ℕ) (s : Inside) (a c : ℕ) → endedIn s c ≡ extentOf [] p s a c
 unfolding endedIn kept stringOf decodeOf insideOf isHex isDigit upperOf classOf
@@ -127,7 +137,10 @@ extent (x ∷ l) p s a c = by (eqb (classOf x) 0) (λ u y k. extent l (p + 1) u 
   e : p + suc (length l) ≡ p + 1 + length l
   e = omega arith
 
-  at-byte : (m : Move) → ((u : Inside) (y k : ℕ) → measureFrom u k (kept (p + 1) l) ≡ extentOf l (p + 1) u y k) → measured m (λ u. measureFrom u (c + completes s x) (kept (p + 1) l)) ≡ cond (closesAt (p + suc (length l) + 1) (moved m (λ u. stringOf u (kept (p + 1) (l ++ 34 ∷ []))) (Past (p + 1)))) (Signs (c + length (gone m (givesOf s a x) (λ u. decodeOf u x (kept (p + 1) l))))) NotText
+  at-byte : (m : Move) → ((u : Inside) (y k : ℕ) → measureFrom u k (kept (p + 1) l) ≡ extentOf l (p + 1) u y k)
+      → measured m (λ u. measureFrom u (c + completes s x) (kept (p + 1) l))
+      ≡ cond (closesAt (p + suc (length l) + 1) (moved m (λ u. stringOf u (kept (p + 1) (l ++ 34 ∷ []))) (Past (p + 1))))
+      (Signs (c + length (gone m (givesOf s a x) (λ u. decodeOf u x (kept (p + 1) l))))) NotText
   at-byte (Go u) ih =
       let n : c + length (givesOf s a x ++ decodeOf u x (kept (p + 1) l)) ≡ c + completes s x + length (decodeOf u x (kept (p + 1) l)) =
       rw (length-append (givesOf s a x) (decodeOf u x (kept (p + 1) l)), gives-count s a x) (omega arith) in
@@ -135,18 +148,24 @@ extent (x ∷ l) p s a c = by (eqb (classOf x) 0) (λ u y k. extent l (p + 1) u 
   at-byte Closed ih = rw (ne-eqb (p + 1) (p + suc (length l) + 1) (λ q. omega arith))
   at-byte (Wrong o) ih = refl
 
-  by : (q : Bool) → ((u : Inside) (y k : ℕ) → measureFrom u k (kept (p + 1) l) ≡ extentOf l (p + 1) u y k) → measureFrom s c (cond q (kept (p + 1) l) (sign p x (kept (p + 1) l))) ≡ cond (closesAt (p + suc (length l) + 1) (stringOf s (cond q (kept (p + 1) (l ++ 34 ∷ [])) (sign p x (kept (p + 1) (l ++ 34 ∷ [])))))) (Signs (c + length (decodeOf s a (cond q (kept (p + 1) l) (sign p x (kept (p + 1) l)))))) NotText
+  by : (q : Bool) → ((u : Inside) (y k : ℕ) → measureFrom u k (kept (p + 1) l) ≡ extentOf l (p + 1) u y k)
+      → measureFrom s c (cond q (kept (p + 1) l) (sign p x (kept (p + 1) l)))
+      ≡ cond (closesAt (p + suc (length l) + 1) (stringOf s
+      (cond q (kept (p + 1) (l ++ 34 ∷ [])) (sign p x (kept (p + 1) (l ++ 34 ∷ []))))))
+      (Signs (c + length (decodeOf s a (cond q (kept (p + 1) l) (sign p x (kept (p + 1) l)))))) NotText
   by true ih = rw e (ih s a c)
   by false ih = at-byte (insideOf s x p) ih
 
 -- MEASURED: a stretch that lies in the definition measures its signs where it is the inside of a text
-pub measure-is : (d : List ℕ) (place long : ℕ) → place + long ≤ length d → measureFrom Plain 0 (text (cutOff d place long) place) ≡ cond (insideText d place long) (Signs (length (signsAt d place long))) NotText
+pub measure-is : (d : List ℕ) (place long : ℕ) → place + long ≤ length d → measureFrom Plain 0 (text (cutOff d place long) place)
+    ≡ cond (insideText d place long) (Signs (length (signsAt d place long))) NotText
 unfolding insideText signsAt text
 measure-is d place long h =
     let n : length (take (place + long) d) ≡ place + long = length-take-le (place + long) d h in
     let m : length (drop place (take (place + long) d)) ≡ long = length-drop place (take (place + long) d) ∙ omega arith in
     rw (le-leb (place + long) (length d) h, drop-append-le place (take (place + long) d) (34 ∷ []) (omega arith))
-    (rw (m, zero-add (length (decodeOf Plain 0 (kept place (drop place (take (place + long) d)))))) at (extent (drop place (take (place + long) d)) place Plain 0 0))
+    (rw (m, zero-add (length (decodeOf Plain 0 (kept place (drop place (take (place + long) d)))))) at
+    (extent (drop place (take (place + long) d)) place Plain 0 0))
 
 -- ---- what is written
 pub numbers-count : (s : List Sign) → length (numbersOf s) ≡ length s
@@ -161,7 +180,8 @@ written s list h =
     sets-eq (numbersOf s) list 0 (omega arith) ∙ rw (n, zero-add (length s))
 
 -- one sign is stored, and what follows it is left
-pub next-stored : (list : List ℤ) (m : ℕ) {s rest : List Sign} {x : Sign} → s ≡ x ∷ rest → sets list m (numbersOf s) ≡ sets (set list m (pos (signNumber x))) (suc m) (numbersOf rest)
+pub next-stored : (list : List ℤ) (m : ℕ) {s rest : List Sign} {x : Sign} → s ≡ x ∷ rest → sets list m (numbersOf s)
+    ≡ sets (set list m (pos (signNumber x))) (suc m) (numbersOf rest)
 unfolding numbersOf
 next-stored list m e = rw e
 
@@ -170,6 +190,7 @@ none [] e = refl
 none (x ∷ l) e = absurd (omega arith)
 
 -- nothing is left to store: it is done
-pub all-written : (s rest : List Sign) (list list′ : List ℤ) (n m : ℕ) → sets list 0 (numbersOf s) ≡ sets list′ m (numbersOf rest) → length rest ≡ 0 → n ≡ length s → n ≤ length list → list′ ≡ numbersOf s ++ drop n list
+pub all-written : (s rest : List Sign) (list list′ : List ℤ) (n m : ℕ) → sets list 0 (numbersOf s) ≡ sets list′ m (numbersOf rest)
+    → length rest ≡ 0 → n ≡ length s → n ≤ length list → list′ ≡ numbersOf s ++ drop n list
 unfolding numbersOf
 all-written s rest list list′ n m e f g h = sym (rw (none rest f) at e) ∙ rw g (written s list (omega arith))

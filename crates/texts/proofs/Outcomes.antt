@@ -29,14 +29,16 @@ module _ (d : List ℕ) (place long : ℕ) (list : List ℤ) where
   beyond h = refuses (rw (lt-leb (place + long) (length d) h))
 
   module _ (h : place + long ≤ length d) {r : Extent} (e : r ≡ measureFrom Plain 0 (text (cutOff d place long) place)) where
-    not-text : (x : Bool) → insideText d place long ≡ x → cond x (Signs (length (signsAt d place long))) NotText ≡ NotText → insideText d place long ≡ false
+    not-text : (x : Bool) → insideText d place long ≡ x → cond x (Signs (length (signsAt d place long))) NotText ≡ NotText
+        → insideText d place long ≡ false
     not-text true f g = let z : _≡_ {A = ℕ} 0 1 = cc in absurd (omega arith)
     not-text false f g = f
 
     pub no-text : r ≡ NotText → TextDecoded d place long list list decoded.NotText
     no-text f = refuses (not-text (insideText d place long) refl (sym (measure-is d place long h) ∙ sym e ∙ f))
 
-    is-text : (n : ℕ) (x : Bool) → insideText d place long ≡ x → cond x (Signs (length (signsAt d place long))) NotText ≡ Signs n → (insideText d place long ≡ true) × (n ≡ length (signsAt d place long))
+    is-text : (n : ℕ) (x : Bool) → insideText d place long ≡ x → cond x (Signs (length (signsAt d place long))) NotText ≡ Signs n
+        → (insideText d place long ≡ true) × (n ≡ length (signsAt d place long))
     is-text n true f g = (f, cc)
     is-text n false f g = let z : _≡_ {A = ℕ} 0 1 = cc in absurd (omega arith)
 
@@ -56,7 +58,9 @@ module _ (d : List ℕ) (place long : ℕ) (list : List ℤ) where
         record { says = rw (m .0, l); leaves = rw (m .0, l) }
 
     -- a text that it has room for
-    pub decodes : {n : ℕ} {list′ : List ℤ} → r ≡ Signs n → n ≤ length list → list′ ≡ numbersOf (decodeOf Plain 0 (text (cutOff d place long) place)) ++ drop n list → TextDecoded d place long list list′ (decoded.Signs n)
+    pub decodes : {n : ℕ} {list′ : List ℤ} → r ≡ Signs n → n ≤ length list → list′
+        ≡ numbersOf (decodeOf Plain 0 (text (cutOff d place long) place)) ++ drop n list
+        → TextDecoded d place long list list′ (decoded.Signs n)
     unfolding said decodedAs listAfter fitting signsAt
     decodes f g q =
         let m = measures f in

@@ -76,7 +76,8 @@ module _ (d : List ℕ) where
   -- a pair, and a closing brace behind it or not
   module _ (o n : ℕ) (h : n + 2 ≤ length d) (f : isHex (getD d n 0) ≡ true) (g : isHex (getD d (n + 1) 0) ≡ true) where
     second : text d (n + 1) ≡ sign (n + 1) (getD d (n + 1) 0) (text d (n + 2))
-    second = let y : n + 1 + 1 ≡ n + 2 = omega arith in rw (← y) (here (n + 1) (getD d (n + 1) 0) (omega arith) refl (hex-kept (getD d (n + 1) 0) g))
+    second = let y : n + 1 + 1 ≡ n + 2 = omega arith in
+        rw (← y) (here (n + 1) (getD d (n + 1) 0) (omega arith) refl (hex-kept (getD d (n + 1) 0) g))
 
     pair-on : PairSays d o n (Byte (pairOf (getD d n 0) (getD d (n + 1) 0))) (n + 2) (Pair o)
     unfolding decodeOf givesOf insideOf measureFrom completes
@@ -113,7 +114,8 @@ module _ (d : List ℕ) where
     two : (b : ℕ) → getD d (n + 1) 0 ≡ b → 32 ≤ b → text d n ≡ sign n 123 (sign (n + 1) b (text d (n + 1 + 1)))
     two b e k = here n 123 (omega arith) o (omega arith) ∙ ap (sign n 123) (here (n + 1) b (omega arith) e k)
 
-    three : (b c : ℕ) → getD d (n + 1) 0 ≡ b → 32 ≤ b → getD d (n + 2) 0 ≡ c → 32 ≤ c → text d n ≡ sign n 123 (sign (n + 1) b (sign (n + 2) c (text d (n + 3))))
+    three : (b c : ℕ) → getD d (n + 1) 0 ≡ b → 32 ≤ b → getD d (n + 2) 0 ≡ c → 32 ≤ c → text d n
+        ≡ sign n 123 (sign (n + 1) b (sign (n + 2) c (text d (n + 3))))
     three b c e k f l =
         let x : n + 1 + 1 ≡ n + 2 = omega arith in
         let y : n + 2 + 1 ≡ n + 3 = omega arith in
@@ -125,7 +127,8 @@ module _ (d : List ℕ) where
     line-says e f g =
         let y : n + 3 + 1 ≡ n + 4 = omega arith in
         let t : text d n ≡ sign n 123 (sign (n + 1) 78 (sign (n + 2) 76 (sign (n + 3) 125 (text d (n + 4))))) =
-        three 78 76 e (omega arith) f (omega arith) ∙ rw (← y) (ap (λ t. sign n 123 (sign (n + 1) 78 (sign (n + 2) 76 t))) (here (n + 3) 125 (omega arith) g (omega arith))) in
+        three 78 76 e (omega arith) f (omega arith)
+        ∙ rw (← y) (ap (λ t. sign n 123 (sign (n + 1) 78 (sign (n + 2) 76 t))) (here (n + 3) 125 (omega arith) g (omega arith))) in
         record {
           split = rw (t, before 125 0 (text d (n + 4)));
           counts = λ c. let z : c + 0 + 0 + 1 + 0 ≡ c + 1 = omega arith in rw (t, z);
@@ -134,7 +137,8 @@ module _ (d : List ℕ) where
         }
 
     -- {"} and {{}
-    closed : (b : ℕ) → 32 ≤ b → getD d (n + 1) 0 ≡ b → getD d (n + 2) 0 ≡ 125 → text d n ≡ sign n 123 (sign (n + 1) b (sign (n + 2) 125 (text d (n + 3))))
+    closed : (b : ℕ) → 32 ≤ b → getD d (n + 1) 0 ≡ b → getD d (n + 2) 0 ≡ 125 → text d n
+        ≡ sign n 123 (sign (n + 1) b (sign (n + 2) 125 (text d (n + 3))))
     closed b k e g = three b 125 e k g (omega arith)
 
     quote-says : getD d (n + 1) 0 ≡ 34 → getD d (n + 2) 0 ≡ 125 → Says d Plain n (Byte 34) (n + 3) Plain

@@ -44,16 +44,19 @@ module _ (d : List ℕ) where
   unfolding wordOf
   word-within {at} {n} f [] h e = let q : at ≡ n = cc in (omega arith, omega arith)
   word-within at-stop (x ∷ w) h e = let z : _≡_ {A = ℕ} 0 1 = cc in absurd (omega arith)
-  word-within {at} {n} (at-sign {p = p} {b = b} {u = u} g l q r) (x ∷ w) h e = by (eqb (upperOf b) x) (word-within r w (omega arith)) e where
-    by : (y : Bool) → (wordOf (p + 1) u w ≡ Matched n → (p + 1 ≤ n) × (n ≤ length d)) → cond y (wordOf (p + 1) u w) Not ≡ Matched n → (at ≤ n) × (n ≤ length d)
-    by true ih e = let k = ih e in (omega arith, k .1)
-    by false ih e = let z : _≡_ {A = ℕ} 0 1 = cc in absurd (omega arith)
+  word-within {at} {n} (at-sign {p = p} {b = b} {u = u} g l q r) (x ∷ w) h e = by (eqb (upperOf b) x) (word-within r w (omega arith)) e
+    where
+      by : (y : Bool) → (wordOf (p + 1) u w ≡ Matched n → (p + 1 ≤ n) × (n ≤ length d)) → cond y (wordOf (p + 1) u w) Not ≡ Matched n
+          → (at ≤ n) × (n ≤ length d)
+      by true ih e = let k = ih e in (omega arith, k .1)
+      by false ih e = let z : _≡_ {A = ℕ} 0 1 = cc in absurd (omega arith)
 
   word-ahead : {at n : ℕ} {t : Text} → From d at t → (x : ℕ) (w : List ℕ) → wordOf at t (x ∷ w) ≡ Matched n → (at < n) × (n ≤ length d)
   unfolding wordOf
   word-ahead at-stop x w e = let z : _≡_ {A = ℕ} 0 1 = cc in absurd (omega arith)
   word-ahead {at} {n} (at-sign {p = p} {b = b} {u = u} g l q r) x w e = by (eqb (upperOf b) x) (word-within r w (omega arith)) e where
-    by : (y : Bool) → (wordOf (p + 1) u w ≡ Matched n → (p + 1 ≤ n) × (n ≤ length d)) → cond y (wordOf (p + 1) u w) Not ≡ Matched n → (at < n) × (n ≤ length d)
+    by : (y : Bool) → (wordOf (p + 1) u w ≡ Matched n → (p + 1 ≤ n) × (n ≤ length d)) → cond y (wordOf (p + 1) u w) Not ≡ Matched n
+        → (at < n) × (n ≤ length d)
     by true ih e = let k = ih e in (omega arith, k .1)
     by false ih e = let z : _≡_ {A = ℕ} 0 1 = cc in absurd (omega arith)
 
@@ -82,7 +85,8 @@ module _ (d : List ℕ) where
   unfolding left
   gap-within zero n h = absurd (omega arith)
   gap-within (suc f) n h = by (gapStep (text d n)) refl (gap-within f) where
-    by : (s : Next ℕ Reading) → gapStep (text d n) ≡ s → ((m : ℕ) → length d - m < f → left d (gapAt d m) ≤ left d (At m)) → left d (gapAt d n) ≤ left d (At n)
+    by : (s : Next ℕ Reading) → gapStep (text d n) ≡ s → ((m : ℕ) → length d - m < f → left d (gapAt d m) ≤ left d (At m))
+        → left d (gapAt d n) ≤ left d (At n)
     by (Again m) e ih = let l = gap-less d (from-text d n) e in let k = ih m (omega arith) in rw (gap-again d n e) (omega arith)
     by (Done r) e ih = rw (gap-done d n e) (step-done n (text d n) (place-from d n) r e)
 
@@ -114,7 +118,8 @@ module _ (d : List ℕ) where
   unfolding stringOf
   string-end at-stop s e = let z : _≡_ {A = ℕ} 0 1 = cc in absurd (omega arith)
   string-end (at-sign {p = p} {b = b} {u = u} g l q r) s {n} e = by (λ s. string-end r s) (insideOf s b p) e where
-    by : ((s : Inside) → stringOf s u ≡ Past n → n ≤ length d) → (m : Move) → moved m (λ s. stringOf s u) (Past (p + 1)) ≡ Past n → n ≤ length d
+    by : ((s : Inside) → stringOf s u ≡ Past n → n ≤ length d) → (m : Move) → moved m (λ s. stringOf s u) (Past (p + 1)) ≡ Past n → n
+        ≤ length d
     by ih (Go s) e = ih s e
     by ih Closed e = let k : p + 1 ≡ n = cc in omega arith
     by ih (Wrong o) e = let z : _≡_ {A = ℕ} 0 1 = cc in absurd (omega arith)
@@ -123,7 +128,8 @@ module _ (d : List ℕ) where
   unfolding stringIn
   quoted-in at-stop q e = let z : _≡_ {A = ℕ} 0 1 = cc in absurd (omega arith)
   quoted-in (at-sign {p = p} {b = b} {u = u} g l f r) q e = by (eqb b 34) (stringOf Plain u) refl e where
-    by : (x : Bool) (k : Skip) → stringOf Plain u ≡ k → cond x (ofSkip p k) (phrase.Not (fault 2 p)) ≡ phrase.Is q → (q .place ≤ length d) × (q .length ≤ length d)
+    by : (x : Bool) (k : Skip) → stringOf Plain u ≡ k → cond x (ofSkip p k) (phrase.Not (fault 2 p)) ≡ phrase.Is q → (q .place ≤ length d)
+        × (q .length ≤ length d)
     by true (Past m) i e =
         let h = string-end r Plain i in
         let j : quote p m ≡ q = cc in

@@ -39,7 +39,8 @@ skip-less p {n = n} (by-past {n = m} h) e = let q : m ≡ n = cc in omega arith
 skip-less p by-none e = let z : _≡_ {A = ℕ} 0 1 = cc in omega arith
 skip-less p by-bad e = let z : _≡_ {A = ℕ} 0 1 = cc in omega arith
 
-step-less : {at p n : ℕ} {r : Skip} (q q′ : Bool) → at ≤ p → Ahead (p + 1) r → cond q (Again (p + 1)) (cond q′ (gapSkip p r) (Done (At p))) ≡ Again n → at < n
+step-less : {at p n : ℕ} {r : Skip} (q q′ : Bool) → at ≤ p → Ahead (p + 1) r → cond q (Again (p + 1)) (cond q′ (gapSkip p r) (Done (At p)))
+    ≡ Again n → at < n
 step-less {p = p} {n = n} true q′ h a e = let j : p + 1 ≡ n = cc in omega arith
 step-less {p = p} false true h a e = omega (arith, skip-less p a e)
 step-less false false h a e = let z : _≡_ {A = ℕ} 0 1 = cc in omega arith
@@ -82,7 +83,8 @@ gap-blank d n h l = by (ltb (getD d n 0) 32) refl where
   by false q = let g = ltb-false (getD d n 0) 32 q in gap-again d n (space-on d n h (omega arith))
 
 -- two of them, and what follows
-pub gap-two : (d : List ℕ) (n m : ℕ) → n + 1 < length d → getD d n 0 ≤ 32 → getD d (n + 1) 0 ≤ 32 → gapAt d (n + 2) ≡ gapAt d m → gapAt d n ≡ gapAt d m
+pub gap-two : (d : List ℕ) (n m : ℕ) → n + 1 < length d → getD d n 0 ≤ 32 → getD d (n + 1) 0 ≤ 32 → gapAt d (n + 2) ≡ gapAt d m → gapAt d n
+    ≡ gapAt d m
 gap-two d n m h a b e =
     let q : n + 1 + 1 ≡ n + 2 = omega arith in
     gap-blank d n (omega arith) a ∙ gap-blank d (n + 1) h b ∙ ap (gapAt d) q ∙ e
@@ -95,7 +97,9 @@ all-four true true false d e = let z : _≡_ {A = ℕ} 0 1 = cc in absurd (omega
 all-four true true true false e = let z : _≡_ {A = ℕ} 0 1 = cc in absurd (omega arith)
 all-four true true true true e = (refl, refl, refl, refl)
 
-pub gap-four : (d : List ℕ) (n : ℕ) → n + 4 ≤ length d → (eqb (getD d n 0) 32 && (eqb (getD d (n + 1) 0) 32 && (eqb (getD d (n + 2) 0) 32 && eqb (getD d (n + 3) 0) 32))) ≡ true → gapAt d n ≡ gapAt d (n + 4)
+pub gap-four : (d : List ℕ) (n : ℕ) → n + 4 ≤ length d
+    → (eqb (getD d n 0) 32 && (eqb (getD d (n + 1) 0) 32 && (eqb (getD d (n + 2) 0) 32 && eqb (getD d (n + 3) 0) 32))) ≡ true → gapAt d n
+    ≡ gapAt d (n + 4)
 gap-four d n h e =
     let all = all-four (eqb (getD d n 0) 32) (eqb (getD d (n + 1) 0) 32) (eqb (getD d (n + 2) 0) 32) (eqb (getD d (n + 3) 0) 32) e in
     let a : getD d n 0 ≡ 32 = eqb-true _ _ (all .0) in
@@ -116,14 +120,15 @@ gap-four d n h e =
 -- ---- a byte above 32 that opens no comment ends a gap
 above-space : (b : ℕ) → 32 < b → isSpace b ≡ false
 unfolding isSpace classOf
-above-space b h = rw (le-ltb b 32 (omega arith), ne-eqb b 32 (λ e. omega arith)) (by (within 48 57 b) (within 65 90 b || within 97 122 b) (eqb b 34) (eqb b 123 || eqb b 125) (eqb b 60 || eqb b 62)) where
-  by : (q r s t u : Bool) → eqb (cond q 2 (cond r 3 (cond s 4 (cond t 5 (cond u 6 7))))) 1 ≡ false
-  by true r s t u = refl
-  by false true s t u = refl
-  by false false true t u = refl
-  by false false false true u = refl
-  by false false false false true = refl
-  by false false false false false = refl
+above-space b h = rw (le-ltb b 32 (omega arith), ne-eqb b 32 (λ e. omega arith))
+    (by (within 48 57 b) (within 65 90 b || within 97 122 b) (eqb b 34) (eqb b 123 || eqb b 125) (eqb b 60 || eqb b 62)) where
+      by : (q r s t u : Bool) → eqb (cond q 2 (cond r 3 (cond s 4 (cond t 5 (cond u 6 7))))) 1 ≡ false
+      by true r s t u = refl
+      by false true s t u = refl
+      by false false true t u = refl
+      by false false false true u = refl
+      by false false false false true = refl
+      by false false false false false = refl
 
 pub gap-token : (d : List ℕ) (n : ℕ) → n < length d → 32 < getD d n 0 → (getD d n 0 ≡ 60 → ⊥) → gapAt d n ≡ At n
 unfolding gapStep

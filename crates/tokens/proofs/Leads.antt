@@ -53,18 +53,21 @@ module _ (n : ℕ) where
   unfolding overOf markOf isValue
   over-dot (stop p) e = refl
   over-dot (sign p b t) e = by (isDigit b) (eqb b 43) (eqb b 45) (eqb b 46) e where
-    by : (x y z w : Bool) → not (x || (y || (z || w))) ≡ true → cond {A = Mark} w (record { there = true; next = p + 1 }) (noMark n) ≡ noMark n
+    by : (x y z w : Bool) → not (x || (y || (z || w))) ≡ true → cond {A = Mark} w (record { there = true; next = p + 1 }) (noMark n)
+        ≡ noMark n
     by x y z false e = refl
     by true y z true e = let o : _≡_ {A = ℕ} 0 1 = cc in absurd (omega arith)
     by false true z true e = let o : _≡_ {A = ℕ} 0 1 = cc in absurd (omega arith)
     by false false true true e = let o : _≡_ {A = ℕ} 0 1 = cc in absurd (omega arith)
     by false false false true e = let o : _≡_ {A = ℕ} 0 1 = cc in absurd (omega arith)
 
-  over-digits : (v c : ℕ) (t : Text) → v ≤ 1000000000000000 → overOf t ≡ true → digitsFrom v c n t ≡ record { size = v; count = c; next = n }
+  over-digits : (v c : ℕ) (t : Text) → v ≤ 1000000000000000 → overOf t ≡ true → digitsFrom v c n t
+      ≡ record { size = v; count = c; next = n }
   unfolding overOf isValue
   over-digits v c (stop p) h e = digits-end v c n refl h
   over-digits v c (sign p b t) h e = by (isDigit b) refl e where
-    by : (x : Bool) → isDigit b ≡ x → not (x || (eqb b 43 || (eqb b 45 || eqb b 46))) ≡ true → digitsFrom v c n (sign p b t) ≡ record { size = v; count = c; next = n }
+    by : (x : Bool) → isDigit b ≡ x → not (x || (eqb b 43 || (eqb b 45 || eqb b 46))) ≡ true → digitsFrom v c n (sign p b t)
+        ≡ record { size = v; count = c; next = n }
     by true f e = let o : _≡_ {A = ℕ} 0 1 = cc in absurd (omega arith)
     by false f e = digits-over v c n refl f h
 
@@ -77,7 +80,8 @@ no-minus : (n : ℕ) (t : Text) → 0 < digitsFrom 0 0 n t .count → markOf n 4
 unfolding digitsFrom bytesOf markOf
 no-minus n (stop p) h = absurd (omega arith)
 no-minus n (sign p b t) h = by (eqb b 45) refl (isDigit b) refl h where
-  by : (x : Bool) → eqb b 45 ≡ x → (y : Bool) → isDigit b ≡ y → 0 < 0 + length (cond y (b ∷ bytesOf isDigit t) []) → cond {A = Mark} x (record { there = true; next = p + 1 }) (noMark n) ≡ noMark n
+  by : (x : Bool) → eqb b 45 ≡ x → (y : Bool) → isDigit b ≡ y → 0 < 0 + length (cond y (b ∷ bytesOf isDigit t) [])
+      → cond {A = Mark} x (record { there = true; next = p + 1 }) (noMark n) ≡ noMark n
   by false e y f h = refl
   by true e true f h = let o : _≡_ {A = ℕ} 0 1 = cc (sym f, ap isDigit (eqb-true b 45 e), minus) in absurd (omega arith)
   by true e false f h = absurd (omega arith)
@@ -96,11 +100,31 @@ module _ (d : List ℕ) (n e v : ℕ) (l : n < e) (w : v ≤ 1000000000000000)
   lead-number = rw (whole, ne-eqb (e - n) 0 (λ q. omega arith))
 
   -- a value
-  lead-value : valueAt d n ≡ record { minus = false; size = v; whole = e - n; decimals = 0; point = false; formed = true; place = n; first = n; last = e; next = e }
+  lead-value : valueAt d n ≡ record {
+    minus = false;
+    size = v;
+    whole = e - n;
+    decimals = 0;
+    point = false;
+    formed = true;
+    place = n;
+    first = n;
+    last = e;
+    next = e;
+  }
   unfolding valueAt
   lead-value =
-      rw (no-minus n (text d n) some, whole, over-dot e (text d e) o, over-digits e v 0 (text d e) w o, over-run e (text d e) o, eq-eqb e e refl, lt-ltb 0 (e - n) (omega arith))
+      rw (
+        no-minus n (text d n) some,
+        whole,
+        over-dot e (text d e) o,
+        over-digits e v 0 (text d e) w o,
+        over-run e (text d e) o,
+        eq-eqb e e refl,
+        lt-ltb 0 (e - n) (omega arith),
+      )
 
-  pub lead-here : valueHere d (At n) ≡ amount.Is (record { minus = false; size = v; whole = e - n; decimals = 0; point = false; formed = true; place = n; first = n; last = e; next = e })
+  pub lead-here : valueHere d (At n) ≡ amount.Is (record
+      { minus = false; size = v; whole = e - n; decimals = 0; point = false; formed = true; place = n; first = n; last = e; next = e })
   unfolding valueHere ofValue
   lead-here = rw (lead-value, ne-eqb e n (λ q. omega arith))

@@ -23,11 +23,15 @@ dot = refl
 
 module _ (d : List ℕ) (e : ℕ) where
   -- digits up to e: a run of them, and then those from its end on
-  digits-split : {n : ℕ} {t : Text} → From d n t → t ≡ text d n → runOf isDigit n t ≤ e → digitsTo e t ≡ bytesOf isDigit t ++ digitsTo e (text d (runOf isDigit n t))
+  digits-split : {n : ℕ} {t : Text} → From d n t → t ≡ text d n → runOf isDigit n t ≤ e → digitsTo e t ≡ bytesOf isDigit t
+      ++ digitsTo e (text d (runOf isDigit n t))
   unfolding digitsTo bytesOf runOf
   digits-split at-stop q h = ap (digitsTo e) q
   digits-split {n} (at-sign {p = p} {b = b} {u = u} g w i r) q h = by (isDigit b) refl (run-ahead d isDigit r) (digits-split r i) q h where
-    by : (x : Bool) → isDigit b ≡ x → p + 1 ≤ runOf isDigit (p + 1) u → (runOf isDigit (p + 1) u ≤ e → digitsTo e u ≡ bytesOf isDigit u ++ digitsTo e (text d (runOf isDigit (p + 1) u))) → sign p b u ≡ text d n → cond x (runOf isDigit (p + 1) u) n ≤ e → cond (leb e p) [] (cond (isDigit b) (b ∷ digitsTo e u) (digitsTo e u)) ≡ cond x (b ∷ bytesOf isDigit u) [] ++ digitsTo e (text d (cond x (runOf isDigit (p + 1) u) n))
+    by : (x : Bool) → isDigit b ≡ x → p + 1 ≤ runOf isDigit (p + 1) u
+        → (runOf isDigit (p + 1) u ≤ e → digitsTo e u ≡ bytesOf isDigit u ++ digitsTo e (text d (runOf isDigit (p + 1) u))) → sign p b u
+        ≡ text d n → cond x (runOf isDigit (p + 1) u) n ≤ e → cond (leb e p) [] (cond (isDigit b) (b ∷ digitsTo e u) (digitsTo e u))
+        ≡ cond x (b ∷ bytesOf isDigit u) [] ++ digitsTo e (text d (cond x (runOf isDigit (p + 1) u) n))
     by true f k ih q h = rw (lt-leb e p (omega arith), f, ih h)
     by false f k ih q h = ap (digitsTo e) q
 
@@ -38,11 +42,14 @@ module _ (d : List ℕ) (e : ℕ) where
   none-left (at-sign {p = p} g w i r) = rw (le-leb e p g)
 
   -- a point is no digit
-  past-point : (n : ℕ) {t : Text} → From d n t → t ≡ text d n → markOf n 46 t .next ≤ e → digitsTo e t ≡ digitsTo e (text d (markOf n 46 t .next))
+  past-point : (n : ℕ) {t : Text} → From d n t → t ≡ text d n → markOf n 46 t .next ≤ e → digitsTo e t
+      ≡ digitsTo e (text d (markOf n 46 t .next))
   unfolding markOf digitsTo
   past-point n at-stop q h = ap (digitsTo e) q
   past-point n (at-sign {p = p} {b = b} {u = u} g w i r) q h = by (eqb b 46) refl h where
-    by : (x : Bool) → eqb b 46 ≡ x → cond {A = Mark} x (record { there = true; next = p + 1 }) (record { there = false; next = n }) .next ≤ e → digitsTo e (sign p b u) ≡ digitsTo e (text d (cond {A = Mark} x (record { there = true; next = p + 1 }) (record { there = false; next = n }) .next))
+    by : (x : Bool) → eqb b 46 ≡ x → cond {A = Mark} x (record { there = true; next = p + 1 }) (record { there = false; next = n }) .next
+        ≤ e → digitsTo e (sign p b u) ≡ digitsTo e
+        (text d (cond {A = Mark} x (record { there = true; next = p + 1 }) (record { there = false; next = n }) .next))
     by true f h = rw (eqb-true b 46 f, lt-leb e p (omega arith), dot, i)
     by false f h = ap (digitsTo e) q
 

@@ -249,7 +249,8 @@ pub struct Lead {
 
 // The digits from a place on, up to another byte, a dropped one too, or to the fifteenth.
 fn lead_at(d: &[u8], at: usize) -> Lead
-    ensures { λ r. ⌜ digitsFrom 0 0 at (text (now (d .entry)) at) ≡ digitsFrom (r .size) (r .end - at) (r .end) (text (now (d .entry)) (r .end)) ⌝ }
+    ensures { λ r. ⌜ digitsFrom 0 0 at (text (now (d .entry)) at)
+        ≡ digitsFrom (r .size) (r .end - at) (r .end) (text (now (d .entry)) (r .end)) ⌝ }
     ensures { λ r. ⌜ (at ≤ r .end) × (r .size ≤ 1000000000000000) ⌝ }
 {
     let mut i = at;

@@ -12,7 +12,8 @@ use Rattle.below.specs.Below.{and-both, and-left, and-right, either-true, all-a
 use Rattle.layout.specs.rule.Layout.{markXml, rowBase, columnsAt}
 use Rattle.layout.specs.declared.Header.{Header}
 use Rattle.layout.specs.declared.Columns.{Columns}
-use Rattle.uses.specs.rule.Uses.{unused, rowsUnused, useKnown, serialTyped, weightTyped, unfiltered, ownUse, filterGood, useGood, isUse}
+use Rattle.uses.specs.rule.Uses.{unused, rowsUnused, useKnown, serialTyped, weightTyped, unfiltered, ownUse, filterGood, useGood}
+use Rattle.uses.specs.rule.Uses.{isUse}
 use Rattle.uses.specs.rule.Uses.{usesGood, xmlGood, kindGood}
 
 pub use-one : (usage k : ℕ) → isUse usage k ≤ 1
@@ -54,5 +55,6 @@ module _ (t : List ℤ) (h : Header) (g : kindGood t h ≡ true) where
   use-few i l = go (eqb (h .mark) markXml) g
     where
       go : (b : Bool) → cond b (xmlGood t (h .rows) (h .lines)) (rowsUnused t (h .rows)) ≡ true → UseFew i (columnsAt t (rowBase i))
-      go true e = good-few t i (columnsAt t (rowBase i)) (all-at (λ k. useGood t k (columnsAt t (rowBase k))) (h .rows) i l (and-both (and-both e .0) .0))
+      go true e = good-few t i (columnsAt t (rowBase i))
+          (all-at (λ k. useGood t k (columnsAt t (rowBase k))) (h .rows) i l (and-both (and-both e .0) .0))
       go false e = none-few i (columnsAt t (rowBase i)) (all-at (λ k. unused (columnsAt t (rowBase k))) (h .rows) i l e)

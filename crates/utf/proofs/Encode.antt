@@ -26,7 +26,8 @@ pub encode-3 : (c : ℕ) → 2048 ≤ c → c < 65536 → encode c ≡ (224 + c 
 unfolding encode
 encode-3 c h k = rw (le-ltb c 128 (omega arith), le-ltb c 2048 h, lt-ltb c 65536 k)
 
-pub encode-4 : (c : ℕ) → 65536 ≤ c → encode c ≡ (240 + c / 64 / 64 / 64) ∷ (128 + c / 64 / 64 % 64) ∷ (128 + c / 64 % 64) ∷ (128 + c % 64) ∷ []
+pub encode-4 : (c : ℕ) → 65536 ≤ c → encode c ≡ (240 + c / 64 / 64 / 64) ∷ (128 + c / 64 / 64 % 64) ∷ (128 + c / 64 % 64) ∷ (128 + c % 64)
+    ∷ []
 unfolding encode
 encode-4 c h = rw (le-ltb c 128 (omega arith), le-ltb c 2048 (omega arith), le-ltb c 65536 h)
 
@@ -64,7 +65,8 @@ encode-spells c h = by (ltb c 128) (ltb c 2048) (ltb c 65536) refl refl refl whe
       four {c = c} {x = c / 64 / 64 / 64} {y = c / 64 / 64 % 64} {z = c / 64 % 64} {w = c % 64} (omega arith) (omega arith) n l b i
 
 -- ALONE: where two legal characters' bytes begin one text, they are the same bytes
-pub begin-once : {l : Bool} {c c′ : ℕ} {u u′ : List ℕ} (t t′ : List ℕ) → legal c ≡ true → legal c′ ≡ true → Spelt l c u → Spelt l c′ u′ → u ++ t ≡ u′ ++ t′ → u ≡ u′
+pub begin-once : {l : Bool} {c c′ : ℕ} {u u′ : List ℕ} (t t′ : List ℕ) → legal c ≡ true → legal c′ ≡ true → Spelt l c u → Spelt l c′ u′ → u
+    ++ t ≡ u′ ++ t′ → u ≡ u′
 begin-once {l} {u = u} {u′ = u′} t t′ g g′ s s′ e =
     let n : length u ≡ length u′ = sym (width-complete t g s) ∙ ap (widthOf l) e ∙ width-complete t′ g′ s′ in
     sym (take-at u t (length u) refl) ∙ ap (take (length u)) e ∙ take-at u′ t′ (length u) (sym n)

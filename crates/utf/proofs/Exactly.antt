@@ -43,11 +43,22 @@ width-complete t q (two {c} {x} {y} e h k m) =
     (rw (v, le-leb 128 c m, q))
 width-complete t q (three {c} {x} {y} {z} e h k i m) =
     let v : (224 + x - 224) * 4096 + ((128 + y - 128) * 64 + (128 + z - 128)) ≡ c = omega arith in
-    rw (no-plain (224 + x) (omega arith), le-ltb (224 + x) 192 (omega arith), le-ltb (224 + x) 224 (omega arith), lt-ltb (224 + x) 240 (omega arith))
+    rw (
+      no-plain (224 + x) (omega arith),
+      le-ltb (224 + x) 192 (omega arith),
+      le-ltb (224 + x) 224 (omega arith),
+      lt-ltb (224 + x) 240 (omega arith),
+    )
     (rw (follows-yes y k, follows-yes z i, v, le-leb 2048 c m, q))
 width-complete t q (four {c} {x} {y} {z} {w} e h k i j m) =
     let v : (240 + x - 240) * 262144 + ((128 + y - 128) * 4096 + ((128 + z - 128) * 64 + (128 + w - 128))) ≡ c = omega arith in
-    rw (no-plain (240 + x) (omega arith), le-ltb (240 + x) 192 (omega arith), le-ltb (240 + x) 224 (omega arith), le-ltb (240 + x) 240 (omega arith), lt-ltb (240 + x) 248 (omega arith))
+    rw (
+      no-plain (240 + x) (omega arith),
+      le-ltb (240 + x) 192 (omega arith),
+      le-ltb (240 + x) 224 (omega arith),
+      le-ltb (240 + x) 240 (omega arith),
+      lt-ltb (240 + x) 248 (omega arith),
+    )
     (rw (follows-yes y k, follows-yes z i, follows-yes w j, v, le-leb 65536 c m, q))
 
 -- ---- what is found is a legal character's bytes
@@ -112,7 +123,8 @@ three-sound a k (b ∷ c ∷ s) g h e = by (tripleOf a b c) refl e where
         bytes = (224 + (a - 224)) ∷ (128 + (b - 128)) ∷ (128 + (c - 128)) ∷ [];
         rest = s;
         good = and-right (leb 2048 v) (legal v) r;
-        spelt = three {x = a - 224} {y = b - 128} {z = c - 128} refl (omega arith) (omega arith) (omega arith) (leb-true 2048 v (and-left (leb 2048 v) (legal v) r));
+        spelt = three {x = a - 224} {y = b - 128} {z = c - 128} refl (omega arith) (omega arith) (omega arith)
+            (leb-true 2048 v (and-left (leb 2048 v) (legal v) r));
         split = rw (x, y, z);
         long = e;
       }
@@ -148,7 +160,8 @@ four-sound a k (b ∷ c ∷ i ∷ s) g h e = by (fourOf a b c i) refl e where
         bytes = (240 + (a - 240)) ∷ (128 + (b - 128)) ∷ (128 + (c - 128)) ∷ (128 + (i - 128)) ∷ [];
         rest = s;
         good = and-right (leb 65536 v) (legal v) r;
-        spelt = four {x = a - 240} {y = b - 128} {z = c - 128} {w = i - 128} refl (omega arith) (omega arith) (omega arith) (omega arith) (leb-true 65536 v (and-left (leb 65536 v) (legal v) r));
+        spelt = four {x = a - 240} {y = b - 128} {z = c - 128} {w = i - 128} refl (omega arith) (omega arith) (omega arith) (omega arith)
+            (leb-true 65536 v (and-left (leb 65536 v) (legal v) r));
         split = rw (x, y, z, w);
         long = e;
       }
@@ -203,7 +216,8 @@ module _ (l : Bool) (d : List ℕ) where
   onward : (p n : ℕ) (u t : List ℕ) → drop p d ≡ u ++ t → length u ≡ n → drop (p + n) d ≡ t
   onward p n u t e f = sym (drop-drop n p d) ∙ ap (drop n) e ∙ drop-at u t n f
 
-  complete : (q : ℕ) {cs u : List ℕ} → Chars l cs u → (p : ℕ) → drop p d ≡ u ++ drop q d → q ≡ p + length u → NoneAt l (drop q d) → firstBad l d p ≡ q
+  complete : (q : ℕ) {cs u : List ℕ} → Chars l cs u → (p : ℕ) → drop p d ≡ u ++ drop q d → q ≡ p + length u → NoneAt l (drop q d)
+      → firstBad l d p ≡ q
   complete q none p e f n =
       let g : q ≡ p = omega arith in
       bad-here l d p (at-none l (drop p d) (rw (← g) n)) ∙ sym g
@@ -220,7 +234,8 @@ module _ (l : Bool) (d : List ℕ) where
       rw b (record { chars = []; bytes = []; legals = none; split = refl; place = omega arith; over = none-at l (drop p d) e })
 
   -- a character, and what follows it
-  then : (p k : ℕ) → Found l (drop p d) (suc k) → firstBad l d p ≡ firstBad l d (p + suc k) → Cut l d (p + suc k) (firstBad l d (p + suc k)) → Cut l d p (firstBad l d p)
+  then : (p k : ℕ) → Found l (drop p d) (suc k) → firstBad l d p ≡ firstBad l d (p + suc k) → Cut l d (p + suc k) (firstBad l d (p + suc k))
+      → Cut l d p (firstBad l d p)
   then p k f b c =
       let o : drop (p + suc k) d ≡ f .rest = onward p (suc k) (f .bytes) (f .rest) (f .split) (f .long) in
       let x = f .long in
@@ -239,7 +254,8 @@ module _ (l : Bool) (d : List ℕ) where
     none-left : (w : ℕ) → w ≤ length (drop p d) → w ≡ 0
     none-left w k = omega (arith, length-drop p d)
   sound (suc n) p h i = by (sound n) (widthOf l (drop p d)) refl where
-    by : ((p : ℕ) → length d - p ≤ n → p ≤ length d → Cut l d p (firstBad l d p)) → (w : ℕ) → widthOf l (drop p d) ≡ w → Cut l d p (firstBad l d p)
+    by : ((p : ℕ) → length d - p ≤ n → p ≤ length d → Cut l d p (firstBad l d p)) → (w : ℕ) → widthOf l (drop p d) ≡ w
+        → Cut l d p (firstBad l d p)
     by ih zero e = here p e
     by ih (suc k) e =
         let b : firstBad l d p ≡ firstBad l d (p + suc k) = bad-next l d p (λ z. never (sym z ∙ e)) ∙ rw e in

@@ -26,7 +26,12 @@ plain-is false b h =
     ⊎-elim
     (λ k. rw (lt-ltb b 128 k, le-leb b 55295 (omega arith)) (whole (leb 32 b) (eqb b 9 || (eqb b 10 || eqb b 13))))
     (λ k.
-    rw
-    (le-ltb b 128 k, le-leb b 55295 (omega arith), ne-eqb b 9 (λ e. omega arith), ne-eqb b 10 (λ e. omega arith), ne-eqb b 13 (λ e. omega arith))
+    rw (
+      le-ltb b 128 k,
+      le-leb b 55295 (omega arith),
+      ne-eqb b 9 (λ e. omega arith),
+      ne-eqb b 10 (λ e. omega arith),
+      ne-eqb b 13 (λ e. omega arith),
+    )
     (none (leb 32 b)))
     (lt-or-le b 128)

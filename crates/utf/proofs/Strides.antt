@@ -85,7 +85,8 @@ long-within : (a : ℕ) (s : List ℕ) → longOf a s ≤ suc (length s)
 unfolding longOf
 long-within a s =
     cond-le (ltb a 192) _ _ _ (omega arith)
-    (cond-le (ltb a 224) _ _ _ (two-within a s) (cond-le (ltb a 240) _ _ _ (three-within a s) (cond-le (ltb a 248) _ _ _ (four-within a s) (omega arith))))
+    (cond-le (ltb a 224) _ _ _ (two-within a s) (cond-le (ltb a 240) _ _ _ (three-within a s)
+    (cond-le (ltb a 248) _ _ _ (four-within a s) (omega arith))))
 
 pub width-within : (l : Bool) (s : List ℕ) → widthOf l s ≤ length s
 unfolding widthOf
@@ -103,7 +104,8 @@ apart a b h k = let p = positive (b - a) (λ e. k (omega arith)) in omega arith
 module _ (l : Bool) (d : List ℕ) where
   less : (p q : ℕ) → badStep l d p ≡ Again q → length d - q < length d - p
   less p q e = by (eqb (widthOf l (drop p d)) 0) refl e where
-    by : (t : Bool) → eqb (widthOf l (drop p d)) 0 ≡ t → cond t (Done p) (Again (p + widthOf l (drop p d))) ≡ Again q → length d - q < length d - p
+    by : (t : Bool) → eqb (widthOf l (drop p d)) 0 ≡ t → cond t (Done p) (Again (p + widthOf l (drop p d))) ≡ Again q → length d - q
+        < length d - p
     by true f g = let z : _≡_ {A = ℕ} 0 1 = cc in absurd (omega arith)
     by false f g =
         let w = width-within l (drop p d) in

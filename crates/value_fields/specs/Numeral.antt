@@ -68,11 +68,13 @@ module _ (bound : ℕ) (out : List ℕ) (at n : ℕ) where
   two-digits h l r b = sent-as (two-sent r b (48 + n / 10) (48 + n % 10)) (sym (numeral-two n h l))
 
   pub three-digits : 100 ≤ n → n < 1000 → at + 1 + 1 < length out → at + 1 + 1 < bound
-      → Sent bound out at (numeral n) (set (set (set out at (48 + n / 100)) (at + 1) (48 + n / 10 % 10)) (at + 1 + 1) (48 + n % 10)) (at + 1 + 1 + 1)
+      → Sent bound out at (numeral n) (set (set (set out at (48 + n / 100)) (at + 1) (48 + n / 10 % 10)) (at + 1 + 1) (48 + n % 10))
+      (at + 1 + 1 + 1)
   three-digits h l r b =
       let x = 48 + n / 100 in
       let y = 48 + n / 10 % 10 in
       sent-as
       (then (two-sent (omega arith) (omega arith) x y)
-      (byte-stored bound (set (set out at x) (at + 1) y) (at + 1 + 1) (48 + n % 10) (omega (arith, length-set (set out at x) (at + 1) y, length-set out at x)) b))
+      (byte-stored bound (set (set out at x) (at + 1) y) (at + 1 + 1) (48 + n % 10)
+      (omega (arith, length-set (set out at x) (at + 1) y, length-set out at x)) b))
       (sym (numeral-three n h l))

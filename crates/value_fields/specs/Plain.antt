@@ -18,14 +18,20 @@ use Rattle.value_fields.specs.rule.Values.{amountText, numberText, codes
 digit-plain : (x : ℕ) → isSpecial (48 + x % 10) ≡ false
 unfolding isSpecial
 digit-plain x =
-    rw (ne-eqb (48 + x % 10) 44 (λ e. omega arith), ne-eqb (48 + x % 10) 34 (λ e. omega arith), ne-eqb (48 + x % 10) 13 (λ e. omega arith), ne-eqb (48 + x % 10) 10 (λ e. omega arith))
+    rw (
+      ne-eqb (48 + x % 10) 44 (λ e. omega arith),
+      ne-eqb (48 + x % 10) 34 (λ e. omega arith),
+      ne-eqb (48 + x % 10) 13 (λ e. omega arith),
+      ne-eqb (48 + x % 10) 10 (λ e. omega arith),
+    )
 
 pub plain-join : (a b : List ℕ) → holdsSpecial a ≡ false → holdsSpecial b ≡ false → holdsSpecial (a ++ b) ≡ false
 unfolding holdsSpecial
 plain-join [] b e f = f
 plain-join (x ∷ a) b e f = go (isSpecial x) e (λ h. plain-join a b h f)
   where
-    go : (p : Bool) → (p || holdsSpecial a) ≡ false → (holdsSpecial a ≡ false → holdsSpecial (a ++ b) ≡ false) → (p || holdsSpecial (a ++ b)) ≡ false
+    go : (p : Bool) → (p || holdsSpecial a) ≡ false → (holdsSpecial a ≡ false → holdsSpecial (a ++ b) ≡ false)
+        → (p || holdsSpecial (a ++ b)) ≡ false
     go true e k = e
     go false e k = k e
 
@@ -36,7 +42,8 @@ padded-plain (suc k) n = rw (digit-plain (n / 10 ^ k)) (padded-plain k n)
 
 amount-plain : (k n : ℕ) → holdsSpecial (amountText k n) ≡ false
 unfolding amountText numeral holdsSpecial isSpecial
-amount-plain k n = plain-join (padded (digitsOf (n / 10 ^ k)) (n / 10 ^ k)) _ (padded-plain (digitsOf (n / 10 ^ k)) (n / 10 ^ k)) (go (eqb k 0))
+amount-plain k n = plain-join (padded (digitsOf (n / 10 ^ k)) (n / 10 ^ k)) _ (padded-plain (digitsOf (n / 10 ^ k)) (n / 10 ^ k))
+    (go (eqb k 0))
   where
     go : (q : Bool) → holdsSpecial (cond q [] ((46 ∷ []) ++ padded k n)) ≡ false
     go true = refl

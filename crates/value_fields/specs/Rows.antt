@@ -63,5 +63,6 @@ module _ {t : List ℤ} {h : Header} (g : Tested t h) {i : ℕ} (low : i < h .ro
     row-field m e = go (shown-some (rowAt t i .start - 1) (length list) (readingAt t i bytes) a (read-is .answer) e)
       where
         go : Held (readingAt t i bytes)
-            → fieldBytes (valueText (decimalsOf (r .kind)) (valueOf a list′ bytes)) ≡ fieldBytes (fieldText (decimalsOf (rowAt t i .kind)) (readingAt t i bytes))
+            → fieldBytes (valueText (decimalsOf (r .kind)) (valueOf a list′ bytes))
+            ≡ fieldBytes (fieldText (decimalsOf (rowAt t i .kind)) (readingAt t i bytes))
         go (held x q) = rw (q, held-shown x m q .value, is)

@@ -44,7 +44,8 @@ module _ (bound : ℕ) (out : List ℕ) (at w n : ℕ) where
   pub digits-counted : length out < at + w → Sent bound out at (padded w n) out (at + w)
   digits-counted h = rw long at (bytes-counted bound out at (padded w n) (rw long h))
 
-  pub digits-stored : {out′ : List ℕ} → at + w < bound → out′ ≡ put out (run at w) (padded w n) → Sent bound out at (padded w n) out′ (at + w)
+  pub digits-stored : {out′ : List ℕ} → at + w < bound → out′ ≡ put out (run at w) (padded w n)
+      → Sent bound out at (padded w n) out′ (at + w)
   digits-stored h e = rw (e, put-sets (padded w n) out at w long) (rw long at (bytes-stored bound out at (padded w n) (rw long h)))
 
 -- a size by its decimals
@@ -84,7 +85,8 @@ module _ (list : List ℤ) (n j : ℕ) (h : j < n) (l : n ≤ length list) where
       let k : j < length (take n list) = rw (length-take-le n list l) h in
       rw (drop-cons (take n list) j (pos 0) k, getD-take n list j (pos 0) h, add-one j)
 
-  pub codes-next : codesBehind (drop j (take n list)) ≡ (59 ∷ []) ++ (numberText 0 (cell list j) ++ codesBehind (drop (j + 1) (take n list)))
+  pub codes-next : codesBehind (drop j (take n list)) ≡ (59 ∷ [])
+      ++ (numberText 0 (cell list j) ++ codesBehind (drop (j + 1) (take n list)))
   unfolding codesBehind
   codes-next = ap codesBehind next-code
 

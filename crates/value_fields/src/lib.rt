@@ -1,4 +1,5 @@
-// The fields of a record as they are exported: numbers with their point, sets with semicolons, texts in quotes where they need them. Above it
+// The fields of a record as they are exported: numbers with their point, sets with semicolons, texts in quotes where they need them. Above
+// it
 // stands the export of a file.
 ghost use mathlib.Core.Path.{_≡_};
 ghost use mathlib.Core.Bool.{true, false, cond};
@@ -231,7 +232,8 @@ fn send_value(
 ) -> usize
     requires { ⌜ Tens (now powers) ⌝ }
     requires { ⌜ Listable a (now list) (now bytes) × (k ≤ 9) ⌝ }
-    ensures { λ r. ⌜ Sent bound (now (out .entry)) at (fieldBytes (valueText k (valueOf a (now (list .entry)) (now (bytes .entry))))) (now (out .exit)) r ⌝ }
+    ensures { λ r. ⌜ Sent bound (now (out .entry)) at (fieldBytes (valueText k (valueOf a (now (list .entry)) (now (bytes .entry)))))
+        (now (out .exit)) r ⌝ }
 {
     match a {
         Answer::Missing => at,
@@ -274,7 +276,8 @@ pub fn send_row(
 ) -> usize
     requires { ⌜ Ready (now powers) (now t) h (length (now list)) ⌝ }
     requires { ⌜ (i < h .rows) × (h .length ≤ length (now bytes)) ⌝ }
-    ensures { λ r. ⌜ Sent bound (now (out .entry)) at (fieldBytes (rowField (now (t .entry)) (now (bytes .entry)) i)) (now (out .exit)) r ⌝ }
+    ensures { λ r. ⌜ Sent bound (now (out .entry)) at (fieldBytes (rowField (now (t .entry)) (now (bytes .entry)) i)) (now (out .exit))
+        r ⌝ }
 {
     let row = Row::read(t, i);
     let kind = row.kind;

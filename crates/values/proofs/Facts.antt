@@ -40,7 +40,8 @@ slot-small z =
 
 pub large-size : (quantity : Bool) (v : Value) → largeOf quantity v ≡ false → v .size ≤ 1000000000000000
 unfolding largeOf
-large-size true v e = let h = ltb-false 999999999999999 (v .size) (or-none (ltb 999999999999999 (v .size)) (ltb 9 (v .decimals)) e) in omega arith
+large-size true v e = let h = ltb-false 999999999999999 (v .size) (or-none (ltb 999999999999999 (v .size)) (ltb 9 (v .decimals)) e) in
+    omega arith
 large-size false v e = let h = ltb-false 9999 (v .size) e in omega arith
 
 -- nothing stands from 0 to 0
@@ -94,7 +95,8 @@ module _ (d : List ℕ) (a b : Value) where
   unfolding trueOf numberOf
   less-never e f = rw (e, f) (sym (up-minus said-b said-a))
 
-  pub less-some : {r s : Bool} → a .minus ≡ false → b .minus ≡ true → r ≡ ltb (valueOf d 0 0) said-a → s ≡ ltb (valueOf d 0 0) said-b → (r || s) ≡ ltZ (trueOf d b) (trueOf d a)
+  pub less-some : {r s : Bool} → a .minus ≡ false → b .minus ≡ true → r ≡ ltb (valueOf d 0 0) said-a → s ≡ ltb (valueOf d 0 0) said-b
+      → (r || s) ≡ ltZ (trueOf d b) (trueOf d a)
   unfolding trueOf numberOf
   less-some e f g h = rw (g, h, nothing-says d, e, f) (sym (minus-up said-b said-a))
 
@@ -105,7 +107,8 @@ module _ (d : List ℕ) (a b : Value) where
 -- ---- repeats
 module _ (room : List ℤ) (first last : ℕ) (z : ℤ) where
   -- lines that do not say it
-  pub none-until : (i : ℕ) → first ≤ i → repeatedIn (roomAt room first) (i - first) z ≡ false → eqZ (cell room (4 * i)) z ≡ false → repeatedIn (roomAt room first) ((i + 1) - first) z ≡ false
+  pub none-until : (i : ℕ) → first ≤ i → repeatedIn (roomAt room first) (i - first) z ≡ false → eqZ (cell room (4 * i)) z ≡ false
+      → repeatedIn (roomAt room first) ((i + 1) - first) z ≡ false
   unfolding repeatedIn roomAt
   none-until i h e f =
       let n : (i + 1) - first ≡ (i - first) + 1 = omega arith in
@@ -124,7 +127,8 @@ unfolding repeatedIn
 none-yet room first z = let n : first - first ≡ 0 = omega arith in rw n (any-none (λ i. eqZ (roomAt room first i) z))
 
 -- where a number's slot has another mark, no line says it
-pub none-marked : (f : ℕ → ℤ) (n stamp : ℕ) (marks : List ℕ) (z : ℤ) (slot : ℕ) → Marked f n stamp marks → slot ≡ slotOf z → getD marks slot 0 ≢ stamp → false ≡ repeatedIn f n z
+pub none-marked : (f : ℕ → ℤ) (n stamp : ℕ) (marks : List ℕ) (z : ℤ) (slot : ℕ) → Marked f n stamp marks → slot ≡ slotOf z
+    → getD marks slot 0 ≢ stamp → false ≡ repeatedIn f n z
 unfolding repeatedIn
 none-marked f n stamp marks z slot m e g = sym (any-fails (λ i. eqZ (f i) z) n (λ i h. by i h (eqZ (f i) z) refl)) where
   by : (i : ℕ) → i < n → (p : Bool) → eqZ (f i) z ≡ p → p ≡ false
@@ -140,13 +144,15 @@ repeated-alike f g n z h =
     (λ e. any-some (λ i. eqZ (g i) z) n e (λ i k q. any-holds (λ i. eqZ (f i) z) n i k (ap (λ (x : ℤ). eqZ x z) (h i k) ∙ q)))
 
 -- one mark more
-pub marked-more : (f : ℕ → ℤ) (n stamp : ℕ) (marks : List ℕ) (z : ℤ) → length marks ≡ 16384 → z ≡ f n → Marked f n stamp marks → Marked f (n + 1) stamp (set marks (slotOf z) stamp)
+pub marked-more : (f : ℕ → ℤ) (n stamp : ℕ) (marks : List ℕ) (z : ℤ) → length marks ≡ 16384 → z ≡ f n → Marked f n stamp marks
+    → Marked f (n + 1) stamp (set marks (slotOf z) stamp)
 marked-more f n stamp marks z h e m = record { left = λ i k. go i (eqb (slotOf (f i)) (slotOf z)) refl (each i k) }
   where
     each : (i : ℕ) → i < n + 1 → (i ≡ n) ⊎ (i < n)
     each i k = let g : i ≤ n = omega arith in eq-or-lt-of-le g
 
-    go : (i : ℕ) (b : Bool) → eqb (slotOf (f i)) (slotOf z) ≡ b → (i ≡ n) ⊎ (i < n) → getD (set marks (slotOf z) stamp) (slotOf (f i)) 0 ≡ stamp
+    go : (i : ℕ) (b : Bool) → eqb (slotOf (f i)) (slotOf z) ≡ b → (i ≡ n) ⊎ (i < n) → getD (set marks (slotOf z) stamp) (slotOf (f i)) 0
+        ≡ stamp
     go i true q c = rw (eqb-true (slotOf (f i)) (slotOf z) q) (getD-set-same marks (slotOf z) stamp 0 (omega (arith, h, slot-small z)))
     go i false q c =
         ⊎-elim (λ p. absurd (eqb-false (slotOf (f i)) (slotOf z) q (ap (λ (k : ℕ). slotOf (f k)) p ∙ ap slotOf (sym e))))

@@ -48,12 +48,14 @@ use Rattle.values.specs.declared.Turn.{Turn}
 use Rattle.values.specs.declared.Turn.the-variants as turn
 use Rattle.values.specs.Value.{formOf, largeOf, trueOf, scaledOf, pointOf, pointsOf}
 use Rattle.values.specs.Range.{limitRange, reversedOf, judgeRange, settled, rangedOf, withOr, rangeRest}
-use Rattle.values.specs.Line.{Given, Is, Not, lineRest, numberOn, numberAt, repeatedIn, lineFault, judgeLine, grownPoint, grownBy, endOf}
+use Rattle.values.specs.Line.{Given, Is, Not, lineRest, numberOn, numberAt, repeatedIn, lineFault, judgeLine, grownPoint, grownBy}
+use Rattle.values.specs.Line.{endOf}
 use Rattle.values.specs.Line.{endOr, moreOf, Listing, stateOf, after, judgedStep, readStep, lineStep, linesFrom}
 use Rattle.values.specs.Block.{emptyBlock, closedBy, rangeThen, toOr, valuesOn}
 use Rattle.values.specs.Good.{least, most, Limited, Near, GoodBlock, GoodLine, EachGood, none, more, GoodLines, GoodValues}
 use Rattle.values.proofs.Facts.{or-none, or-neither, sound-value}
-use Rattle.values.proofs.Shares.{value-near, value-some, code-low, code-bare, code-none, code-some, codes-low, codes-same, codes-some, codes-first}
+use Rattle.values.proofs.Shares.{value-near, value-some, code-low, code-bare, code-none, code-some, codes-low, codes-same}
+use Rattle.values.proofs.Shares.{codes-some, codes-first}
 use Rattle.values.proofs.Shares.{size-number}
 use Rattle.values.proofs.Rooms.{count-more, number-before, number-last}
 use Rattle.values.proofs.Lists.{good-line, line-value, line-good}
@@ -64,7 +66,8 @@ run-stops : (d : List ℕ) {n : ℕ} {t : Text} → From d n t → t ≡ text d 
 unfolding bytesOf runOf
 run-stops d at-stop q = rw (sym q)
 run-stops d {n} (at-sign {p = p} {b = b} {u = u} g w i r) q = by (isDigit b) refl (run-stops d r i) where
-  by : (x : Bool) → isDigit b ≡ x → bytesOf isDigit (text d (runOf isDigit (p + 1) u)) ≡ [] → bytesOf isDigit (text d (cond x (runOf isDigit (p + 1) u) n)) ≡ []
+  by : (x : Bool) → isDigit b ≡ x → bytesOf isDigit (text d (runOf isDigit (p + 1) u)) ≡ []
+      → bytesOf isDigit (text d (cond x (runOf isDigit (p + 1) u) n)) ≡ []
   by true f ih = ih
   by false f ih = rw (sym q, f)
 
@@ -81,11 +84,14 @@ pub record Genuine (z : ℕ) (v : Value) : Type 0 where
 abbrev pub sizeIn : List ℕ → Value → ℕ
 sizeIn d v = valueOf d (v .first) (v .last)
 
-mark-pointed : (d : List ℕ) (k : ℕ) (t : Text) → bytesOf isDigit (text d k) ≡ [] → (length (bytesOf isDigit (text d (markOf k 46 t .next))) ≡ 0) ⊎ (markOf k 46 t .there ≡ true)
+mark-pointed : (d : List ℕ) (k : ℕ) (t : Text) → bytesOf isDigit (text d k) ≡ []
+    → (length (bytesOf isDigit (text d (markOf k 46 t .next))) ≡ 0) ⊎ (markOf k 46 t .there ≡ true)
 unfolding markOf
 mark-pointed d k (stop p) f = inl (ap length f)
 mark-pointed d k (sign p c u) f = by (eqb c 46) where
-  by : (x : Bool) → (length (bytesOf isDigit (text d (cond {A = Mark} x (record { there = true; next = p + 1 }) (record { there = false; next = k }) .next))) ≡ 0) ⊎ (cond {A = Mark} x (record { there = true; next = p + 1 }) (record { there = false; next = k }) .there ≡ true)
+  by : (x : Bool) → (length (bytesOf isDigit (text d
+      (cond {A = Mark} x (record { there = true; next = p + 1 }) (record { there = false; next = k }) .next))) ≡ 0) ⊎
+      (cond {A = Mark} x (record { there = true; next = p + 1 }) (record { there = false; next = k }) .there ≡ true)
   by true = inr refl
   by false = inl (ap length f)
 
@@ -102,7 +108,8 @@ value-genuine d (Refused f) v e = let z : _≡_ {A = ℕ} 0 1 = cc in absurd (om
 value-genuine d (At n) v e = by (eqb (valueAt d n .next) n) e where
   by : (x : Bool) → cond x (amount.Not (fault 2 n)) (amount.Is (valueAt d n)) ≡ amount.Is v → Genuine (sizeIn d v) v
   by true e = let z : _≡_ {A = ℕ} 0 1 = cc in absurd (omega arith)
-  by false e = let j : valueAt d n ≡ v = cc in rw (← j) (record { pointed = value-pointed d n; sized = value-true d n; some = value-some d n; near = value-near d n })
+  by false e = let j : valueAt d n ≡ v = cc in rw (← j)
+      (record { pointed = value-pointed d n; sized = value-true d n; some = value-some d n; near = value-near d n })
 
 -- ---- a value of the right form that passes no limit
 pub record Fit (quantity : Bool) (v : Value) : Type 0 where
@@ -181,7 +188,15 @@ near-said {v = v} f e = rw (size-number (v .minus) (v .size)) (f .share e .1)
 
 -- ---- a range
 abbrev rangeBlock : Value → Value → Block
-rangeBlock x y = record { ranged = true; from = scaledOf x; to = scaledOf y; known = true; decimals = x .decimals; point = pointsOf (pointOf x) (pointOf y) }
+rangeBlock x y = record {
+  ranged = true;
+  from = scaledOf x;
+  to = scaledOf y;
+  known = true;
+  decimals = x .decimals;
+  point = pointsOf
+      (pointOf x) (pointOf y);
+}
 
 module _ (quantity : Bool) (below : Bool) (x y : Value) (n m′ : ℕ) (gx : Genuine n x) (gy : Genuine m′ y)
     (order : below ≡ ltZ (numberOf (y .minus) m′) (numberOf (x .minus) n)) where
@@ -201,36 +216,47 @@ module _ (quantity : Bool) (below : Bool) (x y : Value) (n m′ : ℕ) (gx : Gen
   }
 
   -- a range that stands is a good block, whatever road its values came by
-  pub judged-good : {b : Block} → judgeRange below quantity x y ≡ judged.Good b → GoodBlock quantity b × (b .ranged ≡ true) × (b .known ≡ true)
+  pub judged-good : {b : Block} → judgeRange below quantity x y ≡ judged.Good b → GoodBlock quantity b × (b .ranged ≡ true)
+      × (b .known ≡ true)
   unfolding judgeRange limitRange
-  judged-good {b} = by (formOf quantity x) (formOf quantity y) (eqb (x .decimals) (y .decimals)) below (largeOf quantity x) (largeOf quantity y) refl refl refl refl refl refl where
-    by : (f g q r l m : Bool) → formOf quantity x ≡ f → formOf quantity y ≡ g → eqb (x .decimals) (y .decimals) ≡ q → below ≡ r → largeOf quantity x ≡ l → largeOf quantity y ≡ m → cond f (cond g (cond q (cond r (judged.Bad (fault 6 (y .place))) (cond l (judged.Bad (fault 8 (x .place))) (cond m (judged.Bad (fault 8 (y .place))) (judged.Good (rangeBlock x y))))) (judged.Bad (fault 6 (y .place)))) (judged.Bad (fault 6 (y .place)))) (judged.Bad (fault 6 (x .place))) ≡ judged.Good b → GoodBlock quantity b × (b .ranged ≡ true) × (b .known ≡ true)
-    by false g q r l m ef eg eq er el em e = let z : _≡_ {A = ℕ} 0 1 = cc in absurd (omega arith)
-    by true false q r l m ef eg eq er el em e = let z : _≡_ {A = ℕ} 0 1 = cc in absurd (omega arith)
-    by true true false r l m ef eg eq er el em e = let z : _≡_ {A = ℕ} 0 1 = cc in absurd (omega arith)
-    by true true true true l m ef eg eq er el em e = let z : _≡_ {A = ℕ} 0 1 = cc in absurd (omega arith)
-    by true true true false true m ef eg eq er el em e = let z : _≡_ {A = ℕ} 0 1 = cc in absurd (omega arith)
-    by true true true false false true ef eg eq er el em e = let z : _≡_ {A = ℕ} 0 1 = cc in absurd (omega arith)
-    by true true true false false false ef eg eq er el em e =
-        let j : rangeBlock x y ≡ b = cc in
-        rw (← j) (range-good (fits n quantity x gx ef el) (fits m′ quantity y gy eg em) (eqb-true _ _ eq) er, refl, refl)
+  judged-good {b} = by (formOf quantity x) (formOf quantity y) (eqb (x .decimals) (y .decimals)) below (largeOf quantity x)
+      (largeOf quantity y) refl refl refl refl refl refl where
+        by : (f g q r l m : Bool) → formOf quantity x ≡ f → formOf quantity y ≡ g → eqb (x .decimals) (y .decimals) ≡ q → below ≡ r
+            → largeOf quantity x ≡ l → largeOf quantity y ≡ m
+            → cond f (cond g (cond q (cond r (judged.Bad (fault 6 (y .place)))
+            (cond l (judged.Bad (fault 8 (x .place))) (cond m (judged.Bad (fault 8 (y .place))) (judged.Good (rangeBlock x y)))))
+            (judged.Bad (fault 6 (y .place)))) (judged.Bad (fault 6 (y .place)))) (judged.Bad (fault 6 (x .place))) ≡ judged.Good b
+            → GoodBlock quantity b × (b .ranged ≡ true) × (b .known ≡ true)
+        by false g q r l m ef eg eq er el em e = let z : _≡_ {A = ℕ} 0 1 = cc in absurd (omega arith)
+        by true false q r l m ef eg eq er el em e = let z : _≡_ {A = ℕ} 0 1 = cc in absurd (omega arith)
+        by true true false r l m ef eg eq er el em e = let z : _≡_ {A = ℕ} 0 1 = cc in absurd (omega arith)
+        by true true true true l m ef eg eq er el em e = let z : _≡_ {A = ℕ} 0 1 = cc in absurd (omega arith)
+        by true true true false true m ef eg eq er el em e = let z : _≡_ {A = ℕ} 0 1 = cc in absurd (omega arith)
+        by true true true false false true ef eg eq er el em e = let z : _≡_ {A = ℕ} 0 1 = cc in absurd (omega arith)
+        by true true true false false false ef eg eq er el em e =
+            let j : rangeBlock x y ≡ b = cc in
+            rw (← j) (range-good (fits n quantity x gx ef el) (fits m′ quantity y gy eg em) (eqb-true _ _ eq) er, refl, refl)
 
 module _ (d : List ℕ) (quantity : Bool) where
   -- what is known of a block that a range made
   unfoldable pub Made : Block → Type 0
   Made b = GoodBlock quantity b × (b .ranged ≡ true) × (b .known ≡ true)
 
-  ranged-good : (a c : Amount) (end : Reading) (w : Bool) {b : Block} {with : Bool} {n : ℕ} → ((v : Value) → a ≡ amount.Is v → Genuine (sizeIn d v) v) → ((v : Value) → c ≡ amount.Is v → Genuine (sizeIn d v) v) → rangedOf d quantity a c end w ≡ ranged.Is b with n → Made b
+  ranged-good : (a c : Amount) (end : Reading) (w : Bool) {b : Block} {with : Bool} {n : ℕ}
+      → ((v : Value) → a ≡ amount.Is v → Genuine (sizeIn d v) v) → ((v : Value) → c ≡ amount.Is v → Genuine (sizeIn d v) v)
+      → rangedOf d quantity a c end w ≡ ranged.Is b with n → Made b
   unfolding rangedOf Made trueOf
   ranged-good (amount.Not f) c end w ga gc e = let z : _≡_ {A = ℕ} 0 1 = cc in absurd (omega arith)
   ranged-good (amount.Is x) (amount.Not f) end w ga gc e = let z : _≡_ {A = ℕ} 0 1 = cc in absurd (omega arith)
   ranged-good (amount.Is x) (amount.Is y) (Refused f) w ga gc e = let z : _≡_ {A = ℕ} 0 1 = cc in absurd (omega arith)
   ranged-good (amount.Is x) (amount.Is y) (At m) w {b} {with} {n} ga gc e = by (judgeRange (reversedOf d x y) quantity x y) refl e where
     by : (j : Judged) → judgeRange (reversedOf d x y) quantity x y ≡ j → settled j w m ≡ ranged.Is b with n → Made b
-    by (judged.Good k) i e = let q : k ≡ b = cc in judged-good quantity (reversedOf d x y) x y (sizeIn d x) (sizeIn d y) (ga x refl) (gc y refl) refl (rw q at i)
+    by (judged.Good k) i e = let q : k ≡ b = cc in
+        judged-good quantity (reversedOf d x y) x y (sizeIn d x) (sizeIn d y) (ga x refl) (gc y refl) refl (rw q at i)
     by (judged.Bad f) i e = let z : _≡_ {A = ℕ} 0 1 = cc in absurd (omega arith)
 
-  pub rest-good : (a : Amount) (t : Reading) {b : Block} {with : Bool} {n : ℕ} → ((v : Value) → a ≡ amount.Is v → Genuine (sizeIn d v) v) → rangeRest d quantity a t ≡ ranged.Is b with n → Made b
+  pub rest-good : (a : Amount) (t : Reading) {b : Block} {with : Bool} {n : ℕ} → ((v : Value) → a ≡ amount.Is v → Genuine (sizeIn d v) v)
+      → rangeRest d quantity a t ≡ ranged.Is b with n → Made b
   unfolding rangeRest valueOn
   rest-good a t {b} {with} {n} ga = by (choiceOf d (gapOn d (pastValue c)) WITH) where
     c : Amount
@@ -286,7 +312,8 @@ grown-none b v e f = rw (e, code-none v f) (by (b .known)) where
   by false = refl
 
 -- what was near stays so where all decimals are alike; and so is a block's range, where it has one only if a number is known
-near-still : (b : Block) (v : Value) (z : ℤ) → b .known ≡ true → (b .known ≡ true → v .decimals ≡ b .decimals) → Near b z → Near (grownBy b v) z
+near-still : (b : Block) (v : Value) (z : ℤ) → b .known ≡ true → (b .known ≡ true → v .decimals ≡ b .decimals) → Near b z
+    → Near (grownBy b v) z
 unfolding grownBy
 near-still b v z k s n p = rw (s k) (n (grown-shares b v p .before k))
 
@@ -311,7 +338,8 @@ each-more : {l : List Said} {s : Said} → EachGood l → GoodLine s → EachGoo
 each-more none g = more g none
 each-more (more h r) g = more h (each-more r g)
 
-module _ (quantity : Bool) (first : ℕ) (l : List Said) (s : Said) (g : GoodLines quantity first l) (n : Limited quantity (numberOn s)) (r : repeatedIn (numberAt l) (length l) (numberOn s) ≡ false) where
+module _ (quantity : Bool) (first : ℕ) (l : List Said) (s : Said) (g : GoodLines quantity first l) (n : Limited quantity (numberOn s))
+    (r : repeatedIn (numberAt l) (length l) (numberOn s) ≡ false) where
   last-or : (i : ℕ) → i < length (l ++ s ∷ []) → (i ≡ length l) ⊎ (i < length l)
   last-or i h = let k : i ≤ length l = omega (arith, count-more l s) in eq-or-lt-of-le k
 
@@ -365,7 +393,8 @@ module _ (d : List ℕ) (quantity : Bool) (first : ℕ) (h : length d ≤ 104857
   is-given b l n g = record { of = λ {b = b′} {l = l′} {n = n′} e. let p : b ≡ b′ = cc in let q : l ≡ l′ = cc in rw (← p, ← q) g }
 
   -- a line more
-  known-more : (b : Block) (l : List Said) (s : Said) → Known b l → (b .known ≡ true → s .value .decimals ≡ b .decimals) → Fit quantity (s .value)
+  known-more : (b : Block) (l : List Said) (s : Said) → Known b l → (b .known ≡ true → s .value .decimals ≡ b .decimals)
+      → Fit quantity (s .value)
       → Known (grownBy b (s .value)) (l ++ s ∷ [])
   unfolding grownBy
   known-more b l s k same f = record {
@@ -379,7 +408,8 @@ module _ (d : List ℕ) (quantity : Bool) (first : ℕ) (h : length d ≤ 104857
         (let n : i ≤ length l = omega (arith, count-more l s) in eq-or-lt-of-le n);
   }
 
-  more-keeps : (b : Block) (l : List Said) (n : ℕ) → GoodBlock quantity b → GoodLines quantity first l → Known b l → 1 ≤ length l → Keeps (after l (moreOf d b n))
+  more-keeps : (b : Block) (l : List Said) (n : ℕ) → GoodBlock quantity b → GoodLines quantity first l → Known b l → 1 ≤ length l
+      → Keeps (after l (moreOf d b n))
   unfolding moreOf endOf
   more-keeps b l n gb gl kn some = by (choiceOf d (notesOn d (At n)) END) where
     ends : (r : Reading) → Keeps (after l (endOf b r))
@@ -393,7 +423,8 @@ module _ (d : List ℕ) (quantity : Bool) (first : ℕ) (h : length d ≤ 104857
   step-keeps : (l : Listing) → Sofar l → Keeps (lineStep d quantity first l)
   unfolding lineStep
   step-keeps l k = by (lineRest d (l .amount)) refl where
-    judge : (s : Said) (v : Verdict) → lineRest d (l .amount) ≡ lined.Is s → judgeLine (numberAt (l .lines)) (length (l .lines)) first quantity (l .block) (s .value) ≡ v → Keeps (judgedStep d l s v)
+    judge : (s : Said) (v : Verdict) → lineRest d (l .amount) ≡ lined.Is s
+        → judgeLine (numberAt (l .lines)) (length (l .lines)) first quantity (l .block) (s .value) ≡ v → Keeps (judgedStep d l s v)
     judge s (Good z) j i =
         let t = good-line (numberAt (l .lines)) (length (l .lines)) first quantity (l .block) (s .value) i in
         let g = k .value (s .value) (line-value d (l .amount) s j) in
@@ -401,7 +432,8 @@ module _ (d : List ℕ) (quantity : Bool) (first : ℕ) (h : length d ≤ 104857
         let f = fits (sizeIn d (s .value)) quantity (s .value) g (w .0) (w .1) in
         more-keeps (grownBy (l .block) (s .value)) (l .lines ++ s ∷ []) (s .next)
         (grown-good quantity (l .block) (s .value) (k .block) (k .known .ranged) (w .2) g f)
-        (lines-good quantity first (l .lines) s (k .lines) (value-limited quantity (s .value) f) (t .fresh) (t .few) (line-good d (l .amount) s h j))
+        (lines-good quantity first (l .lines) s (k .lines) (value-limited quantity (s .value) f) (t .fresh) (t .few)
+        (line-good d (l .amount) s h j))
         (known-more (l .block) (l .lines) s (k .known) (w .2) f)
         (omega (arith, count-more (l .lines) s))
     judge s (Bad f) j i = over (not-given f)
@@ -414,14 +446,16 @@ module _ (d : List ℕ) (quantity : Bool) (first : ℕ) (h : length d ≤ 104857
   unfolding loopOf
   loops zero l k = not-given (fault 0 0)
   loops (suc f) l k = by (loops f) (step-keeps l k) where
-    by : ((m : Listing) → Sofar m → GoodGiven (loopOf (lineStep d quantity first) (Not (fault 0 0)) f m)) → {x : Next Listing Given} → Keeps x → GoodGiven (onNext x (loopOf (lineStep d quantity first) (Not (fault 0 0)) f))
+    by : ((m : Listing) → Sofar m → GoodGiven (loopOf (lineStep d quantity first) (Not (fault 0 0)) f m)) → {x : Next Listing Given}
+        → Keeps x → GoodGiven (onNext x (loopOf (lineStep d quantity first) (Not (fault 0 0)) f))
     by ih (on {l = m} r) = ih m r
     by ih (over g) = g
 
   no-lines : first ≤ 4096 → GoodLines quantity first []
   no-lines r = record { few = omega arith; limited = λ i e. absurd (omega arith); differ = λ i j a e. absurd (omega arith); each = none }
 
-  lines-given : (a : Amount) (b : Block) → first ≤ 4096 → ((v : Value) → a ≡ amount.Is v → Genuine (sizeIn d v) v) → GoodBlock quantity b → (b .ranged ≡ true → b .known ≡ true) → GoodGiven (linesFrom d quantity first (stateOf a b []))
+  lines-given : (a : Amount) (b : Block) → first ≤ 4096 → ((v : Value) → a ≡ amount.Is v → Genuine (sizeIn d v) v) → GoodBlock quantity b
+      → (b .ranged ≡ true → b .known ≡ true) → GoodGiven (linesFrom d quantity first (stateOf a b []))
   unfolding linesFrom
   lines-given a b r ga gb kn =
       loops (suc (4096 - (first + 0))) (stateOf a b [])
@@ -432,15 +466,23 @@ module _ (d : List ℕ) (quantity : Bool) (first : ℕ) (h : length d ≤ 104857
         known = record { ranged = kn; lined = λ q. absurd (omega arith); near = λ i e. absurd (omega arith) };
       })
 
-  range-given : first ≤ 4096 → (r : Ranged) → ((b : Block) (with : Bool) (n : ℕ) → r ≡ ranged.Is b with n → Made d quantity b) → GoodGiven (rangeThen d quantity first r)
+  range-given : first ≤ 4096 → (r : Ranged) → ((b : Block) (with : Bool) (n : ℕ) → r ≡ ranged.Is b with n → Made d quantity b)
+      → GoodGiven (rangeThen d quantity first r)
   unfolding rangeThen closedBy Made
   range-given r (ranged.Not f) m = not-given f
   range-given r (ranged.Is b with n) m = by with (m b with n refl) where
     close : (e : Reading) → GoodBlock quantity b × (b .ranged ≡ true) × (b .known ≡ true) → GoodGiven (closedBy b e)
-    close (At k) g = is-given b [] k (record { block = g .0; lines = no-lines r; near = λ i e. absurd (omega arith); something = inl (g .1) })
+    close (At k) g = is-given b [] k (record {
+      block = g .0;
+      lines = no-lines r;
+      near = λ i e. absurd (omega arith);
+      something = inl (g .1);
+    })
     close (Refused f) g = not-given f
 
-    by : (w : Bool) → GoodBlock quantity b × (b .ranged ≡ true) × (b .known ≡ true) → GoodGiven (cond w (linesFrom d quantity first (stateOf (valueHere d (notesOn d (At n))) b [])) (closedBy b (wordOn d (wordHere d (notesOn d (At n)) END) VALUES)))
+    by : (w : Bool) → GoodBlock quantity b × (b .ranged ≡ true) × (b .known ≡ true)
+        → GoodGiven (cond w (linesFrom d quantity first (stateOf (valueHere d (notesOn d (At n))) b []))
+        (closedBy b (wordOn d (wordHere d (notesOn d (At n)) END) VALUES)))
     by true g = lines-given (valueHere d (notesOn d (At n))) b r (value-genuine d (notesOn d (At n))) (g .0) (λ q. g .2)
     by false g = close (wordOn d (wordHere d (notesOn d (At n)) END) VALUES) g
 
@@ -454,9 +496,11 @@ module _ (d : List ℕ) (quantity : Bool) (first : ℕ) (h : length d ≤ 104857
     a = valueHere d n
 
     by : (k : Choice) → GoodGiven (toOr d quantity first a k)
-    by (Taken m) = range-given r (rangeRest d quantity a (At m)) (λ b with n e. rest-good d quantity a (At m) (value-genuine d (notesOn d (statementOn d t VALUES))) e)
+    by (Taken m) = range-given r (rangeRest d quantity a (At m))
+        (λ b with n e. rest-good d quantity a (At m) (value-genuine d (notesOn d (statementOn d t VALUES))) e)
     by Left = lines-given a emptyBlock r (value-genuine d n) (none-good quantity) (λ q. holds-not q refl)
 
 -- VALUES that were read are good
-pub values-good : (d : List ℕ) (quantity : Bool) (first : ℕ) (t : Reading) {b : Block} {l : List Said} {n : ℕ} → length d ≤ 1048576 → first ≤ 4096 → valuesOn d quantity first t ≡ Is b l n → GoodValues quantity first b l
+pub values-good : (d : List ℕ) (quantity : Bool) (first : ℕ) (t : Reading) {b : Block} {l : List Said} {n : ℕ} → length d ≤ 1048576 → first
+    ≤ 4096 → valuesOn d quantity first t ≡ Is b l n → GoodValues quantity first b l
 values-good d quantity first t h r e = all-given d quantity first h r t .of e

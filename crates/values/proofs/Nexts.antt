@@ -20,7 +20,11 @@ use Rattle.statements.proofs.Notes.{notes-done}
 module _ (d : List ℕ) (at : ℕ) (h : at < length d) (l : 48 ≤ getD d at 0) (m : getD d at 0 ≤ 57) where
   no-word : (x : ℕ) (w : List ℕ) → 65 ≤ x → choiceOf d (At at) (x ∷ w) ≡ Left
   unfolding choiceOf wordAt wordOf upperOf
-  no-word x w g = rw (text-kept d at h (kept-byte (getD d at 0) (omega arith)), lt-ltb (getD d at 0) 97 (omega arith), ne-eqb (getD d at 0) x (λ e. omega arith))
+  no-word x w g = rw (
+    text-kept d at h (kept-byte (getD d at 0) (omega arith)),
+    lt-ltb (getD d at 0) 97 (omega arith),
+    ne-eqb (getD d at 0) x (λ e. omega arith),
+  )
 
   no-note : choiceOf d (At at) NOTE ≡ Left
   no-note = no-word 78 (79 ∷ 84 ∷ 69 ∷ []) (omega arith)

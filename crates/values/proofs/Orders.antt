@@ -125,11 +125,13 @@ module _ (d : List ℕ) (quantity : Bool) (first : ℕ) where
     unfolding repeatedIn
     large-fresh f u e = by (l .block .known) refl u where
       other : v .decimals ≤ 9 → again (trueOf d v) ≡ false
-      other h = any-fails (λ i. eqZ (numberAt (l .lines) i) (trueOf d v)) (length (l .lines)) λ i q. not-it i q (eqZ (numberAt (l .lines) i) (trueOf d v)) refl where
-        not-it : (i : ℕ) → i < length (l .lines) → (x : Bool) → eqZ (numberAt (l .lines) i) (trueOf d v) ≡ x → x ≡ false
-        not-it i q false s = refl
-        not-it i q true s =
-            absurd (too-large d quantity v g f h e (rw (same-true (numberAt (l .lines) i) (trueOf d v) s) at (held-limited (k .lines) i q)))
+      other h = any-fails (λ i. eqZ (numberAt (l .lines) i) (trueOf d v)) (length (l .lines)) λ i q. not-it i q
+          (eqZ (numberAt (l .lines) i) (trueOf d v)) refl where
+            not-it : (i : ℕ) → i < length (l .lines) → (x : Bool) → eqZ (numberAt (l .lines) i) (trueOf d v) ≡ x → x ≡ false
+            not-it i q false s = refl
+            not-it i q true s =
+                absurd (too-large d quantity v g f h e
+                (rw (same-true (numberAt (l .lines) i) (trueOf d v) s) at (held-limited (k .lines) i q)))
 
       by : (x : Bool) → l .block .known ≡ x → (x && not (eqb (v .decimals) (l .block .decimals))) ≡ false
           → again (trueOf d v) ≡ false
@@ -214,7 +216,8 @@ module _ (d : List ℕ) (quantity : Bool) (first : ℕ) where
 
   -- ---- a line is judged as document 01 says
   pub paper-verdict : (l : Listing) (s : Said) → Reached d quantity first l → lineRest d (l .amount) ≡ lined.Is s
-      → judgeLine (numberAt (l .lines)) (length (l .lines)) first quantity (l .block) (s .value) ≡ paperLine d (l .lines) first quantity (l .block) (s .value)
+      → judgeLine (numberAt (l .lines)) (length (l .lines)) first quantity (l .block) (s .value)
+      ≡ paperLine d (l .lines) first quantity (l .block) (s .value)
   paper-verdict l s r j = let k = steady r in same-verdict l k (s .value) (k .value (s .value) (line-value d (l .amount) s j))
 
   pub paper-step : (l : Listing) → Reached d quantity first l → lineStep d quantity first l ≡ paperStep d quantity first l
@@ -230,8 +233,10 @@ module _ (d : List ℕ) (quantity : Bool) (first : ℕ) where
   loops zero l r = refl
   loops (suc f) l r = rw (← paper-step l r) (by (lineStep d quantity first l) refl (loops f)) where
     by : (x : Next Listing Given) → lineStep d quantity first l ≡ x
-        → ((m : Listing) → Reached d quantity first m → loopOf (lineStep d quantity first) (Not (fault 0 0)) f m ≡ loopOf (paperStep d quantity first) (Not (fault 0 0)) f m)
-        → onNext x (loopOf (lineStep d quantity first) (Not (fault 0 0)) f) ≡ onNext x (loopOf (paperStep d quantity first) (Not (fault 0 0)) f)
+        → ((m : Listing) → Reached d quantity first m → loopOf (lineStep d quantity first) (Not (fault 0 0)) f m
+        ≡ loopOf (paperStep d quantity first) (Not (fault 0 0)) f m)
+        → onNext x (loopOf (lineStep d quantity first) (Not (fault 0 0)) f)
+        ≡ onNext x (loopOf (paperStep d quantity first) (Not (fault 0 0)) f)
     by (Again m) e ih = ih m (next r e)
     by (Done g) e ih = refl
 

@@ -55,7 +55,8 @@ cells-number (s ∷ l) (suc i) h =
 -- the numbers of the lines before one more, and its own
 pub number-before : (l : List Said) (s : Said) (i : ℕ) → i < length l → numberAt (l ++ s ∷ []) i ≡ numberAt l i
 unfolding numberAt
-number-before l s i h = rw (numbers-join l (s ∷ [])) (List·getD-append (numbers l) (numbers (s ∷ [])) (pos 0) i (omega (arith, numbers-length l)))
+number-before l s i h = rw (numbers-join l (s ∷ []))
+    (List·getD-append (numbers l) (numbers (s ∷ [])) (pos 0) i (omega (arith, numbers-length l)))
 
 pub number-last : (l : List Said) (s : Said) → numberAt (l ++ s ∷ []) (length l) ≡ numberOn s
 unfolding numberAt numbers
@@ -77,7 +78,8 @@ module _ (l s : List ℤ) (at : ℕ) (h : at + length s ≤ length l) where
       ∙ List·getD-append s (drop (at + length s) l) (pos 0) k g)
 
 -- line i of lines that stand behind the first ones
-pub room-number : (room : List ℤ) (first : ℕ) (l : List Said) → 4 * (first + length l) ≤ length room → (i : ℕ) → i < length l → cell (pasted room (4 * first) (cellsOf l)) (4 * (first + i)) ≡ numberAt l i
+pub room-number : (room : List ℤ) (first : ℕ) (l : List Said) → 4 * (first + length l) ≤ length room → (i : ℕ) → i < length l
+    → cell (pasted room (4 * first) (cellsOf l)) (4 * (first + i)) ≡ numberAt l i
 room-number room first l h i k =
     let n = cells-length l in
     let e : 4 * (first + i) ≡ 4 * first + 4 * i = omega arith in

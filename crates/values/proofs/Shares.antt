@@ -56,7 +56,8 @@ value-near d at e =
     let o = markOf k 46 (text d k) .next in
     by (bytesOf isDigit (text d m)) (text d o) (none-of (bytesOf isDigit (text d m)) (omega (arith, e)))
   where
-    by : (w : List ℕ) (t : Text) → w ≡ [] → capped (decimalOf (capped (decimalOf 0 w)) (bytesOf isDigit t)) < 10 ^ (0 + length (bytesOf isDigit t))
+    by : (w : List ℕ) (t : Text) → w ≡ [] → capped (decimalOf (capped (decimalOf 0 w)) (bytesOf isDigit t))
+        < 10 ^ (0 + length (bytesOf isDigit t))
     by w t q =
         let k = length (bytesOf isDigit t) in
         let e : 0 + k ≡ k = omega arith in

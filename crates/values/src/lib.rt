@@ -23,10 +23,12 @@ ghost use Rattle.cells.specs.rule.Cell.{pasted};
 ghost use Rattle.layout.specs.rule.Layout.{lineSize, mostLines};
 ghost use Rattle.values.specs.Value.{formOf, largeOf, trueOf, scaledOf, pointOf, pointsOf};
 ghost use Rattle.values.specs.Range.{limitRange, reversedOf, judgeRange, settled, rangedOf, rangeRest};
-ghost use Rattle.values.specs.Line.{saidOf, lineRest, numberOn, repeatedIn, lineFault, judgeLine, grownPoint, grownBy, lineCells, endOf};
+ghost use Rattle.values.specs.Line.{saidOf, lineRest, numberOn, repeatedIn, lineFault, judgeLine, grownPoint, grownBy, lineCells};
+ghost use Rattle.values.specs.Line.{endOf};
 ghost use Rattle.values.specs.Line.{moreOf, stateOf, linesFrom};
 ghost use Rattle.values.specs.Line.{listedOf, Stored};
-ghost use Rattle.values.specs.Room.{roomAt, slotOf, Marked, storable, judgedTurn, judgedRoom, judgedMarks, standAt, turnOf, roomAfter, marksAfter};
+ghost use Rattle.values.specs.Room.{roomAt, slotOf, Marked, storable, judgedTurn, judgedRoom, judgedMarks, standAt, turnOf};
+ghost use Rattle.values.specs.Room.{roomAfter, marksAfter};
 ghost use Rattle.values.specs.Block.{emptyBlock, closedBy, rangeThen, valuesOn};
 
 // What the values of a variable have said so far: whether there is a range, and its ends; whether a number was read, and then how
@@ -436,7 +438,8 @@ fn end_values(b: Block, t: Reading) -> Turn
 
 // Whether a digit stands just here: then no gap, no note and no END does.
 fn digit_at(d: &[u8], at: usize) -> bool
-    ensures { λ r. ⌜ (r ≡ true → (notesOn (now (d .entry)) (Reading.At at) ≡ Reading.At at) × (choiceOf (now (d .entry)) (Reading.At at) END ≡ Choice.Left)) ⌝ }
+    ensures { λ r. ⌜ (r ≡ true → (notesOn (now (d .entry)) (Reading.At at) ≡ Reading.At at)
+        × (choiceOf (now (d .entry)) (Reading.At at) END ≡ Choice.Left)) ⌝ }
 {
     if d.len() <= at {
         return false;
@@ -516,8 +519,10 @@ pub fn stand_line(
     requires { ⌜ Marked (roomAt (now lines) first) (last - first) stamp (now marks) ⌝ }
     requires { ⌜ storable s ⌝ }
     ensures { λ r. ⌜ r ≡ judgeLine (roomAt (now (lines .entry)) first) (last - first) first quantity b (s .value) ⌝ }
-    ensures { λ r. ⌜ now (lines .exit) ≡ judgedRoom (now (lines .entry)) last s (judgeLine (roomAt (now (lines .entry)) first) (last - first) first quantity b (s .value)) ⌝ }
-    ensures { λ r. ⌜ now (marks .exit) ≡ judgedMarks (now (marks .entry)) stamp (judgeLine (roomAt (now (lines .entry)) first) (last - first) first quantity b (s .value)) ⌝ }
+    ensures { λ r. ⌜ now (lines .exit) ≡ judgedRoom (now (lines .entry)) last s
+        (judgeLine (roomAt (now (lines .entry)) first) (last - first) first quantity b (s .value)) ⌝ }
+    ensures { λ r. ⌜ now (marks .exit) ≡ judgedMarks (now (marks .entry)) stamp
+        (judgeLine (roomAt (now (lines .entry)) first) (last - first) first quantity b (s .value)) ⌝ }
 {
     let v = s.value;
     match judge_line(lines, marks, stamp, first, last, quantity, b, v) {
@@ -547,9 +552,12 @@ fn place_line(
     requires { ⌜ (length (now lines) ≡ lineSize * mostLines) × (first ≤ last) × (last ≤ mostLines) × (length (now marks) ≡ 16384) ⌝ }
     requires { ⌜ Marked (roomAt (now lines) first) (last - first) stamp (now marks) ⌝ }
     requires { ⌜ storable s ⌝ }
-    ensures { λ r. ⌜ r ≡ judgedTurn (now (d .entry)) b s (judgeLine (roomAt (now (lines .entry)) first) (last - first) first quantity b (s .value)) ⌝ }
-    ensures { λ r. ⌜ now (lines .exit) ≡ judgedRoom (now (lines .entry)) last s (judgeLine (roomAt (now (lines .entry)) first) (last - first) first quantity b (s .value)) ⌝ }
-    ensures { λ r. ⌜ now (marks .exit) ≡ judgedMarks (now (marks .entry)) stamp (judgeLine (roomAt (now (lines .entry)) first) (last - first) first quantity b (s .value)) ⌝ }
+    ensures { λ r. ⌜ r ≡ judgedTurn (now (d .entry)) b s
+        (judgeLine (roomAt (now (lines .entry)) first) (last - first) first quantity b (s .value)) ⌝ }
+    ensures { λ r. ⌜ now (lines .exit) ≡ judgedRoom (now (lines .entry)) last s
+        (judgeLine (roomAt (now (lines .entry)) first) (last - first) first quantity b (s .value)) ⌝ }
+    ensures { λ r. ⌜ now (marks .exit) ≡ judgedMarks (now (marks .entry)) stamp
+        (judgeLine (roomAt (now (lines .entry)) first) (last - first) first quantity b (s .value)) ⌝ }
 {
     match stand_line(quantity, first, s, b, last, lines, marks, stamp) {
         Verdict::Good(_) => {
@@ -579,7 +587,8 @@ fn one_line(
     requires { ⌜ Marked (roomAt (now lines) first) (last - first) stamp (now marks) ⌝ }
     ensures { λ r. ⌜ r ≡ turnOf (now (d .entry)) quantity first (standAt a b last (now (lines .entry))) ⌝ }
     ensures { λ r. ⌜ now (lines .exit) ≡ roomAfter (now (d .entry)) quantity first (standAt a b last (now (lines .entry))) ⌝ }
-    ensures { λ r. ⌜ now (marks .exit) ≡ marksAfter (now (d .entry)) quantity first (standAt a b last (now (lines .entry))) (now (marks .entry)) stamp ⌝ }
+    ensures { λ r. ⌜ now (marks .exit) ≡ marksAfter (now (d .entry)) quantity first (standAt a b last (now (lines .entry)))
+        (now (marks .entry)) stamp ⌝ }
 {
     match line_rest(classes, d, a) {
         Lined::Is(s) => { place_line(classes, d, quantity, first, s, b, last, lines, marks, stamp) }

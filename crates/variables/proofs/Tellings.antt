@@ -36,7 +36,8 @@ lines-of (Not f) = []
 
 -- ---- values
 module _ (first count width : ℕ) where
-  pub rested-is : (g : Given) {b : Block} {last n : ℕ} → listed.Is b last n ≡ listedOf first g → rested.Is (rest b last count width 0 n) ≡ restedOf first (joinValues count width g)
+  pub rested-is : (g : Given) {b : Block} {last n : ℕ} → listed.Is b last n ≡ listedOf first g → rested.Is (rest b last count width 0 n)
+      ≡ restedOf first (joinValues count width g)
   unfolding listedOf joinValues restedOf
   rested-is (given.Is b l n) e = cc
   rested-is (given.Not f) e = let z : _≡_ {A = ℕ} 0 1 = cc in absurd (omega arith)
@@ -48,7 +49,10 @@ module _ (first count width : ℕ) where
 
   pub stored-values : (g : Given) {room end : List ℤ} → given.Stored first g room end → Stored first (joinValues count width g) room end
   unfolding joinValues
-  stored-values (given.Is b l n) {room} {end} s = record { stored = λ {y} q. let j : l ≡ y .lines = ap lines-of q in s .stored refl ∙ ap (λ (x : List Said). pasted room (4 * first) (cellsOf x)) j }
+  stored-values (given.Is b l n) {room} {end} s = record {
+    stored = λ {y} q. let j : l ≡ y .lines = ap lines-of q in
+        s .stored refl ∙ ap (λ (x : List Said). pasted room (4 * first) (cellsOf x)) j;
+  }
   stored-values (given.Not f) s = record { stored = λ {y} q. let z : _≡_ {A = ℕ} 0 1 = cc in absurd (omega arith) }
 
 -- ---- no values
@@ -56,11 +60,16 @@ pub stored-not : (first : ℕ) (f : Fault) (room end : List ℤ) → Stored firs
 stored-not first f room end = record { stored = λ {y} q. let z : _≡_ {A = ℕ} 0 1 = cc in absurd (omega arith) }
 
 module _ (first : ℕ) where
-  none : (size n : ℕ) (room : List ℤ) → Stored first (Is (record { block = emptyBlock; lines = []; subfields = 0; subwidth = 0; size = size; next = n })) room room
+  none : (size n : ℕ) (room : List ℤ) → Stored first
+      (Is (record { block = emptyBlock; lines = []; subfields = 0; subwidth = 0; size = size; next = n })) room room
   unfolding cellsOf
-  none size n room = record { stored = λ {y} q. let j : [] ≡ y .lines = ap lines-of q in paste-none room (4 * first) ∙ ap (λ (x : List Said). pasted room (4 * first) (cellsOf x)) j }
+  none size n room = record {
+    stored = λ {y} q. let j : [] ≡ y .lines = ap lines-of q in
+        paste-none room (4 * first) ∙ ap (λ (x : List Said). pasted room (4 * first) (cellsOf x)) j;
+  }
 
-  pub rested-none : (size n : ℕ) → rested.Is (rest emptyBlock first 0 0 size n) ≡ restedOf first (Is (record { block = emptyBlock; lines = []; subfields = 0; subwidth = 0; size = size; next = n }))
+  pub rested-none : (size n : ℕ) → rested.Is (rest emptyBlock first 0 0 size n)
+      ≡ restedOf first (Is (record { block = emptyBlock; lines = []; subfields = 0; subwidth = 0; size = size; next = n }))
   unfolding restedOf
   rested-none size n = let e : first ≡ first + 0 = omega arith in ap (λ (k : ℕ). rested.Is (rest emptyBlock k 0 0 size n)) e
 

@@ -211,7 +211,8 @@ fn values_rest(
     requires { ⌜ length (now d) ≤ 1048576 ⌝ }
     requires { ⌜ (length (now lines) ≡ lineSize * mostLines) × (first ≤ mostLines) × (length (now marks) ≡ 16384) ⌝ }
     ensures { λ r. ⌜ r ≡ restedOf first (valuesRest (now (d .entry)) quantity first t subfields subwidth) ⌝ }
-    ensures { λ r. ⌜ Stored first (valuesRest (now (d .entry)) quantity first t subfields subwidth) (now (lines .entry)) (now (lines .exit)) ⌝ }
+    ensures { λ r. ⌜ Stored first (valuesRest (now (d .entry)) quantity first t subfields subwidth) (now (lines .entry))
+        (now (lines .exit)) ⌝ }
 {
     match values::values_on(classes, d, quantity, t, first, lines, marks, stamp) {
         Listed::Is { block, last, next } => Rested::Is(Rest {

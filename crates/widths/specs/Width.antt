@@ -223,12 +223,14 @@ most-within f n h near = go (eqb (f .point) 2) refl
 pub size-fits : (f : Format) (z : ℤ) → sizeOf z ≤ 999999999999999 → (f .point ≡ 2 → sizeOf z < 10 ^ f .decimals)
     → fitsKind (Quantity f) z ≡ true
 unfolding lowest highest signedOf numberOf
-size-fits f (pos n) h near = and-true (leZ (numberOf true (mostSize f)) (pos n)) _ (low (mostSize f)) (le-leb n (mostSize f) (most-within f n h near))
+size-fits f (pos n) h near = and-true (leZ (numberOf true (mostSize f)) (pos n)) _ (low (mostSize f))
+    (le-leb n (mostSize f) (most-within f n h near))
   where
     low : (m : ℕ) → leZ (numberOf true m) (pos n) ≡ true
     low zero = le-leb 0 n (omega arith)
     low (suc m) = refl
-size-fits f (negsuc n) h near = and-true (leZ (numberOf true (mostSize f)) (negsuc n)) _ (low (mostSize f) (most-within f (suc n) h near)) refl
+size-fits f (negsuc n) h near = and-true (leZ (numberOf true (mostSize f)) (negsuc n)) _ (low (mostSize f) (most-within f (suc n) h near))
+    refl
   where
     low : (m : ℕ) → suc n ≤ m → leZ (numberOf true m) (negsuc n) ≡ true
     low zero g = absurd (omega arith)

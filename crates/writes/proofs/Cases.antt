@@ -83,7 +83,8 @@ unfolding lowest highest
 code-few h z e = code-size z (h .least z e) (h .most z e)
 
 -- a legal quantity has room in the row's width
-pub quantity-wide : {t : List ℤ} {v n : ℕ} {r : Row} {f : Format} → Ready (Quantity f) t v n r → (z : ℤ) → legal t v r z ≡ true → Wide f (r .width) z
+pub quantity-wide : {t : List ℤ} {v n : ℕ} {r : Row} {f : Format} → Ready (Quantity f) t v n r → (z : ℤ) → legal t v r z ≡ true
+    → Wide f (r .width) z
 unfolding lowest highest need quantityWidth
 quantity-wide {f = f} h z e = record {
   few = quantity-few f z (h .least z e) (h .most z e);
@@ -149,17 +150,20 @@ limits-of : {k : Kind} {t : List ℤ} {v n : ℕ} {r : Row} → Ready k t v n r 
 limits-of h = record { kind = h .kind; least = h .least; most = h .most; room = h .room }
 
 -- a set that fits a bitstring is some of its categories
-pub bits-rising : {t : List ℤ} {v n : ℕ} {r : Row} → Ready (Multiple Bits) t v n r → (ms : List ℤ) → setFits (legal t v r) ms ≡ true → Rising 1 (r .width) ms
+pub bits-rising : {t : List ℤ} {v n : ℕ} {r : Row} → Ready (Multiple Bits) t v n r → (ms : List ℤ) → setFits (legal t v r) ms ≡ true
+    → Rising 1 (r .width) ms
 bits-rising {t} {v} {n} {r} h ms e = bits-members t v r (limits-of h) ms e
 
 -- the members of a set that fits have few digits
-all-small : (ok : ℤ → Bool) → ((z : ℤ) → ok z ≡ true → sizeOf z < 10 ^ 16) → (ms : List ℤ) → allLegal ok ms ≡ true → (i : ℕ) → sizeOf (getD ms i (pos 0)) < 10 ^ 16
+all-small : (ok : ℤ → Bool) → ((z : ℤ) → ok z ≡ true → sizeOf z < 10 ^ 16) → (ms : List ℤ) → allLegal ok ms ≡ true → (i : ℕ)
+    → sizeOf (getD ms i (pos 0)) < 10 ^ 16
 unfolding signedOf
 all-small ok few [] l i = omega arith
 all-small ok few (m ∷ ms) l zero = few m (legal-here ok m ms l)
 all-small ok few (m ∷ ms) l (suc i) = all-small ok few ms (legal-next ok m ms l) i
 
-pub spread-small : {t : List ℤ} {v n c b : ℕ} {r : Row} → Ready (Multiple (Fields c b)) t v n r → (ms : List ℤ) → setFits (legal t v r) ms ≡ true → Small ms
+pub spread-small : {t : List ℤ} {v n c b : ℕ} {r : Row} → Ready (Multiple (Fields c b)) t v n r → (ms : List ℤ) → setFits (legal t v r) ms
+    ≡ true → Small ms
 unfolding lowest highest
 spread-small {t} {v} {r = r} h ms e =
     record { at = all-small (legal t v r) (λ z q. code-size z (h .least z q) (h .most z q)) ms (legal-of (legal t v r) ms e) }

@@ -45,7 +45,8 @@ pub fn write_row(
 ) -> Wrote
     requires { ⌜ Tens (now powers) ⌝ }
     requires { ⌜ Ready (row .kind) (now t) rows (length (now bytes)) row ⌝ }
-    ensures { λ r. ⌜ WrittenBy (row .kind) (now (t .entry)) rows row value (now (list .entry)) (now (text .entry)) (now (bytes .entry)) (now (bytes .exit)) r ⌝ }
+    ensures { λ r. ⌜ WrittenBy (row .kind) (now (t .entry)) rows row value (now (list .entry)) (now (text .entry)) (now (bytes .entry))
+        (now (bytes .exit)) r ⌝ }
 {
     match value {
         Value::Missing => plain::write_missing(powers, t, rows, row, bytes),
@@ -66,7 +67,8 @@ pub fn write_value(
     text: &[u8],
     bytes: &mut [u8],
 ) -> Wrote
-    ensures { λ r. ⌜ Written (now (table .entry)) row (valueOf value (now (list .entry)) (now (text .entry))) (now (bytes .entry)) (now (bytes .exit)) (numberOf r) ⌝ }
+    ensures { λ r. ⌜ Written (now (table .entry)) row (valueOf value (now (list .entry)) (now (text .entry))) (now (bytes .entry))
+        (now (bytes .exit)) (numberOf r) ⌝ }
 {
     if !sound::well_formed(table) {
         return Wrote::NotWellFormed;

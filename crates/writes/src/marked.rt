@@ -30,7 +30,8 @@ const SHORT: usize = 128;
 fn bits_missing(t: &[i64], rows: usize, row: Row, marks: &mut [u8], bytes: &mut [u8]) -> Wrote
     requires { ⌜ Ready (kind.Multiple spread.Bits) (now t) rows (length (now bytes)) row ⌝ }
     requires { ⌜ length (now marks) ≤ 10000 ⌝ }
-    ensures { λ r. ⌜ WrittenBy (kind.Multiple spread.Bits) (now (t .entry)) rows row given.Missing [] [] (now (bytes .entry)) (now (bytes .exit)) r ⌝ }
+    ensures { λ r. ⌜ WrittenBy (kind.Multiple spread.Bits) (now (t .entry)) rows row given.Missing [] [] (now (bytes .entry))
+        (now (bytes .exit)) r ⌝ }
 {
     let w = row.width;
     let at = row.start - 1;
@@ -49,7 +50,8 @@ fn bits_set(
 ) -> Wrote
     requires { ⌜ Ready (kind.Multiple spread.Bits) (now t) rows (length (now bytes)) row ⌝ }
     requires { ⌜ length (now marks) ≤ 10000 ⌝ }
-    ensures { λ r. ⌜ WrittenBy (kind.Multiple spread.Bits) (now (t .entry)) rows row given.Set (now (list .entry)) [] (now (bytes .entry)) (now (bytes .exit)) r ⌝ }
+    ensures { λ r. ⌜ WrittenBy (kind.Multiple spread.Bits) (now (t .entry)) rows row given.Set (now (list .entry)) [] (now (bytes .entry))
+        (now (bytes .exit)) r ⌝ }
 {
     let w = row.width;
     let at = row.start - 1;
@@ -68,7 +70,8 @@ fn bits_set(
 // No marks for a range that has every category, and no more than there are categories else.
 fn bits_blanked(t: &[i64], rows: usize, row: Row, bytes: &mut [u8]) -> Wrote
     requires { ⌜ Ready (kind.Multiple spread.Bits) (now t) rows (length (now bytes)) row ⌝ }
-    ensures { λ r. ⌜ WrittenBy (kind.Multiple spread.Bits) (now (t .entry)) rows row given.Missing [] [] (now (bytes .entry)) (now (bytes .exit)) r ⌝ }
+    ensures { λ r. ⌜ WrittenBy (kind.Multiple spread.Bits) (now (t .entry)) rows row given.Missing [] [] (now (bytes .entry))
+        (now (bytes .exit)) r ⌝ }
 {
     let w = row.width;
     let at = row.start - 1;
@@ -88,7 +91,8 @@ fn bits_blanked(t: &[i64], rows: usize, row: Row, bytes: &mut [u8]) -> Wrote
 // The same for a set.
 fn bits_written(t: &[i64], rows: usize, row: Row, list: &[i64], bytes: &mut [u8]) -> Wrote
     requires { ⌜ Ready (kind.Multiple spread.Bits) (now t) rows (length (now bytes)) row ⌝ }
-    ensures { λ r. ⌜ WrittenBy (kind.Multiple spread.Bits) (now (t .entry)) rows row given.Set (now (list .entry)) [] (now (bytes .entry)) (now (bytes .exit)) r ⌝ }
+    ensures { λ r. ⌜ WrittenBy (kind.Multiple spread.Bits) (now (t .entry)) rows row given.Set (now (list .entry)) [] (now (bytes .entry))
+        (now (bytes .exit)) r ⌝ }
 {
     let w = row.width;
     if sets::marks::range_has(row, w) {
@@ -118,7 +122,8 @@ fn spread_set(
     requires { ⌜ Tens (now powers) ⌝ }
     requires { ⌜ Ready (kind.Multiple (spread.Fields count width)) (now t) rows (length (now bytes)) row ⌝ }
     requires { ⌜ length (now marks) ≤ 10000 ⌝ }
-    ensures { λ r. ⌜ WrittenBy (kind.Multiple (spread.Fields count width)) (now (t .entry)) rows row given.Set (now (list .entry)) [] (now (bytes .entry)) (now (bytes .exit)) r ⌝ }
+    ensures { λ r. ⌜ WrittenBy (kind.Multiple (spread.Fields count width)) (now (t .entry)) rows row given.Set (now (list .entry)) []
+        (now (bytes .entry)) (now (bytes .exit)) r ⌝ }
 {
     let w = row.width;
     let at = row.start - 1;
@@ -145,7 +150,8 @@ fn spread_written(
 ) -> Wrote
     requires { ⌜ Tens (now powers) ⌝ }
     requires { ⌜ Ready (kind.Multiple (spread.Fields count width)) (now t) rows (length (now bytes)) row ⌝ }
-    ensures { λ r. ⌜ WrittenBy (kind.Multiple (spread.Fields count width)) (now (t .entry)) rows row given.Set (now (list .entry)) [] (now (bytes .entry)) (now (bytes .exit)) r ⌝ }
+    ensures { λ r. ⌜ WrittenBy (kind.Multiple (spread.Fields count width)) (now (t .entry)) rows row given.Set (now (list .entry)) []
+        (now (bytes .entry)) (now (bytes .exit)) r ⌝ }
 {
     let lines = row.lines;
     if (list.len() < MANY) | (lines < MANY) {
@@ -170,7 +176,8 @@ fn spread_written(
 // Spaces at the places of a set.
 fn blank_set(t: &[i64], rows: usize, row: Row, s: Spread, bytes: &mut [u8]) -> Wrote
     requires { ⌜ Ready (kind.Multiple s) (now t) rows (length (now bytes)) row ⌝ }
-    ensures { λ r. ⌜ WrittenBy (kind.Multiple s) (now (t .entry)) rows row given.Missing [] [] (now (bytes .entry)) (now (bytes .exit)) r ⌝ }
+    ensures { λ r. ⌜ WrittenBy (kind.Multiple s) (now (t .entry)) rows row given.Missing [] [] (now (bytes .entry)) (now (bytes .exit))
+        r ⌝ }
 {
     match s {
         Spread::Bits => bits_blanked(t, rows, row, bytes),
@@ -193,7 +200,8 @@ fn put_set(
 ) -> Wrote
     requires { ⌜ Tens (now powers) ⌝ }
     requires { ⌜ Ready (kind.Multiple s) (now t) rows (length (now bytes)) row ⌝ }
-    ensures { λ r. ⌜ WrittenBy (kind.Multiple s) (now (t .entry)) rows row given.Set (now (list .entry)) [] (now (bytes .entry)) (now (bytes .exit)) r ⌝ }
+    ensures { λ r. ⌜ WrittenBy (kind.Multiple s) (now (t .entry)) rows row given.Set (now (list .entry)) [] (now (bytes .entry))
+        (now (bytes .exit)) r ⌝ }
 {
     match s {
         Spread::Bits => bits_written(t, rows, row, list, bytes),
@@ -217,7 +225,8 @@ pub fn write_multiple(
 ) -> Wrote
     requires { ⌜ Tens (now powers) ⌝ }
     requires { ⌜ Ready (kind.Multiple s) (now t) rows (length (now bytes)) row ⌝ }
-    ensures { λ r. ⌜ WrittenBy (kind.Multiple s) (now (t .entry)) rows row (setOr blank) (now (list .entry)) [] (now (bytes .entry)) (now (bytes .exit)) r ⌝ }
+    ensures { λ r. ⌜ WrittenBy (kind.Multiple s) (now (t .entry)) rows row (setOr blank) (now (list .entry)) [] (now (bytes .entry))
+        (now (bytes .exit)) r ⌝ }
 {
     if blank {
         return blank_set(t, rows, row, s, bytes);
@@ -249,7 +258,8 @@ fn lines_count(t: &[i64], rows: usize, row: Row, w: usize) -> bool
 // Spaces at the places of a bitstring: one run where its lines are its categories, as they mostly are.
 fn blank_categories(t: &[i64], rows: usize, row: Row, bytes: &mut [u8]) -> Wrote
     requires { ⌜ Ready (kind.Multiple spread.Bits) (now t) rows (length (now bytes)) row ⌝ }
-    ensures { λ r. ⌜ WrittenBy (kind.Multiple spread.Bits) (now (t .entry)) rows row given.Missing [] [] (now (bytes .entry)) (now (bytes .exit)) r ⌝ }
+    ensures { λ r. ⌜ WrittenBy (kind.Multiple spread.Bits) (now (t .entry)) rows row given.Missing [] [] (now (bytes .entry))
+        (now (bytes .exit)) r ⌝ }
 {
     let w = row.width;
     let at = row.start - 1;
@@ -264,7 +274,8 @@ fn blank_categories(t: &[i64], rows: usize, row: Row, bytes: &mut [u8]) -> Wrote
 // Spaces at the places of a set, as `write_multiple` puts them; its frame is taken only where marks may be needed.
 pub fn blank_multiple(t: &[i64], rows: usize, row: Row, s: Spread, bytes: &mut [u8]) -> Wrote
     requires { ⌜ Ready (kind.Multiple s) (now t) rows (length (now bytes)) row ⌝ }
-    ensures { λ r. ⌜ WrittenBy (kind.Multiple s) (now (t .entry)) rows row given.Missing [] [] (now (bytes .entry)) (now (bytes .exit)) r ⌝ }
+    ensures { λ r. ⌜ WrittenBy (kind.Multiple s) (now (t .entry)) rows row given.Missing [] [] (now (bytes .entry)) (now (bytes .exit))
+        r ⌝ }
 {
     match s {
         Spread::Bits => blank_categories(t, rows, row, bytes),
@@ -285,7 +296,8 @@ pub fn write_set(
 ) -> Wrote
     requires { ⌜ Tens (now powers) ⌝ }
     requires { ⌜ Ready (row .kind) (now t) rows (length (now bytes)) row ⌝ }
-    ensures { λ r. ⌜ WrittenBy (row .kind) (now (t .entry)) rows row given.Set (now (list .entry)) [] (now (bytes .entry)) (now (bytes .exit)) r ⌝ }
+    ensures { λ r. ⌜ WrittenBy (row .kind) (now (t .entry)) rows row given.Set (now (list .entry)) [] (now (bytes .entry))
+        (now (bytes .exit)) r ⌝ }
 {
     let kind = row.kind;
     match kind {

@@ -31,7 +31,8 @@ pub fn put_figures(powers: &[u64; 16], t: &[i64], rows: usize, row: Row, z: i64,
     requires { ⌜ Tens (now powers) ⌝ }
     requires { ⌜ Ready (row .kind) (now t) rows (length (now bytes)) row ⌝ }
     requires { ⌜ legal (now t) rows row z ≡ true ⌝ }
-    ensures { λ _. ⌜ now (bytes .exit) ≡ put (now (bytes .entry)) (placesBy (row .kind) (now (t .entry)) rows row) (bytesBy (row .kind) (now (t .entry)) rows row (number z)) ⌝ }
+    ensures { λ _. ⌜ now (bytes .exit) ≡ put (now (bytes .entry)) (placesBy (row .kind) (now (t .entry)) rows row)
+        (bytesBy (row .kind) (now (t .entry)) rows row (number z)) ⌝ }
 {
     let kind = row.kind;
     let w = row.width;
@@ -69,7 +70,8 @@ pub fn write_number(
 
 pub fn write_text(t: &[i64], rows: usize, row: Row, text: &[u8], bytes: &mut [u8]) -> Wrote
     requires { ⌜ Ready (row .kind) (now t) rows (length (now bytes)) row ⌝ }
-    ensures { λ r. ⌜ WrittenBy (row .kind) (now (t .entry)) rows row given.Text [] (now (text .entry)) (now (bytes .entry)) (now (bytes .exit)) r ⌝ }
+    ensures { λ r. ⌜ WrittenBy (row .kind) (now (t .entry)) rows row given.Text [] (now (text .entry)) (now (bytes .entry))
+        (now (bytes .exit)) r ⌝ }
 {
     let kind = row.kind;
     let w = row.width;

@@ -169,15 +169,24 @@ module _ (i j before : ℕ) where
       rw (lines-left (b .lines)) (rw (block-widest kind.Single b, flags (b .range), saids-count (b .lines)))
   content-columns n name label p q (multiple s b) =
       rw (lines-left (b .lines))
-      (rw (block-widest (kind.Multiple (spreadOf (partsOf s) (subwidthOf (Option·getD q p .value + 1 - p .value) s))) b, flags (b .range), saids-count (b .lines)))
+      (rw (
+        block-widest (kind.Multiple (spreadOf (partsOf s) (subwidthOf (Option·getD q p .value + 1 - p .value) s))) b,
+        flags (b .range),
+        saids-count (b .lines),
+      ))
   content-columns n name label p q (quantity b) =
       rw (lines-left (b .lines))
-      (rw (block-widest (kind.Quantity (record { decimals = decimalsIn (amounts b); point = pointIn (amounts b) })) b, flags (b .range), saids-count (b .lines)))
+      (rw (
+        block-widest (kind.Quantity (record { decimals = decimalsIn (amounts b); point = pointIn (amounts b) })) b,
+        flags (b .range),
+        saids-count (b .lines),
+      ))
   content-columns n name label p q (character c) = rw (lines-left [], flags none)
   content-columns n name label p q logical = rw (lines-left [], flags none)
 
   pub columns-with : (v : Variable)
-      → columnsIn before (bookWith i j (partsOf (spreadIn (v .content))) (subwidthOf (roomIn v) (spreadIn (v .content))) v) ≡ columnsOf before v
+      → columnsIn before (bookWith i j (partsOf (spreadIn (v .content))) (subwidthOf (roomIn v) (spreadIn (v .content))) v)
+      ≡ columnsOf before v
   columns-with v = content-columns (v .ident) (v .name) (v .label) (v .start) (v .finish) (v .content)
 
 pub columns-same : (before : ℕ) (v : Variable) → columnsIn before (bookOf v) ≡ columnsOf before v

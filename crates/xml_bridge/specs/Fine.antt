@@ -1,4 +1,5 @@
--- A BLOCK WHOSE CHARGES ARE ALL CLEAR IS GOOD, as crate values says it of the blocks of 1.1: its numbers are within the limits of its type, with
+-- A BLOCK WHOSE CHARGES ARE ALL CLEAR IS GOOD, as crate values says it of the blocks of 1.1: its numbers are within the limits of its type,
+-- with
 -- one count of decimals; its range is in order, its lines say different numbers. `fine-values` gives what measuring and the table ask for.
 use mathlib.Core.Path.{_≡_, refl, _∙_, sym, ap}
 use mathlib.Core.Logic.{_⊎_, inl, inr, ⊎-elim}
@@ -89,7 +90,8 @@ module _ (place end : ℕ) (s : List ℕ) where
   amount-some e =
       let u = leading (without 45 s) in
       let v = leading (without 46 (behind (without 45 s))) in
-      let h = ltb-true 0 (length (u ++ v)) (and-right (eqb (length (behind (without 46 (behind (without 45 s))))) 0) (ltb 0 (length (u ++ v))) e) in
+      let h = ltb-true 0 (length (u ++ v)) (and-right (eqb (length (behind (without 46 (behind (without 45 s))))) 0)
+      (ltb 0 (length (u ++ v))) e) in
       by (length u) (length v) (omega (arith, length-append u v))
     where
       by : (m n : ℕ) → 0 < m + n → (0 < m) ⊎ (0 < n)
@@ -158,7 +160,12 @@ not-below (negsuc a) (negsuc b) e = le-leb b a (ltb-false a b e)
 module _ (quantity : Bool) (before : ℕ) where
   no-lines : before ≤ 4096 → GoodLines quantity before (saids [])
   unfolding saids
-  no-lines r = record { few = omega arith; limited = λ i e. absurd (omega arith); differ = λ i j a e. absurd (omega arith); each = good.none }
+  no-lines r = record {
+    few = omega arith;
+    limited = λ i e. absurd (omega arith);
+    differ = λ i j a e. absurd (omega arith);
+    each = good.none;
+  }
 
   pub fine-none : before ≤ 4096 → Fine quantity before (unlisted none)
   unfolding amounts
@@ -200,9 +207,11 @@ module _ (quantity : Bool) (before : ℕ) where
         → eqZ (numberAt (saids l) i) (scaled (x .value)) ≡ false
     unfolding someOf saids numberAt numbers scaledOf
     fresh-at [] e i h = absurd (omega arith)
-    fresh-at (y ∷ l) e zero h = or-none (eqZ (scaled (y .value)) (scaled (x .value))) (someOf (λ l. eqZ (scaled (l .value)) (scaled (x .value))) l) e
+    fresh-at (y ∷ l) e zero h = or-none (eqZ (scaled (y .value)) (scaled (x .value)))
+        (someOf (λ l. eqZ (scaled (l .value)) (scaled (x .value))) l) e
     fresh-at (y ∷ l) e (suc i) h =
-        fresh-at l (or-neither (eqZ (scaled (y .value)) (scaled (x .value))) (someOf (λ l. eqZ (scaled (l .value)) (scaled (x .value))) l) e) i
+        fresh-at l (or-neither (eqZ (scaled (y .value)) (scaled (x .value))) (someOf (λ l. eqZ (scaled (l .value)) (scaled (x .value))) l)
+        e) i
         (omega arith)
 
     each-more : {l : List Said} {s : Said} → EachGood l → GoodLine s → EachGood (l ++ s ∷ [])
@@ -218,7 +227,8 @@ module _ (quantity : Bool) (before : ℕ) where
       differ = λ i j a e.
           ⊎-elim
           (λ q. let m : i < length l = omega arith in rw (last j q, number-before l (saidAs x) i m) (fresh-at (b .lines) r i m))
-          (λ m. let o : i < length l = omega arith in rw (number-before l (saidAs x) i o, number-before l (saidAs x) j m) (f .lines .differ i j a m))
+          (λ m. let o : i < length l = omega arith in
+          rw (number-before l (saidAs x) i o, number-before l (saidAs x) j m) (f .lines .differ i j a m))
           (last-or j e);
       each = each-more (f .lines .each) k;
     })
@@ -357,7 +367,8 @@ module _ (quantity : Bool) where
 
     pub fine-near : (i : ℕ) → i < length (saids (b .lines)) → Near (blockAs b) (numberAt (saids (b .lines)) i)
     unfolding amounts
-    fine-near i h p = near-line (decimalsIn (amounts b)) (b .lines) (every-right (rangeEnds (b .range)) (map (λ x. x .value) (b .lines)) (near-all p)) i h
+    fine-near i h p = near-line (decimalsIn (amounts b)) (b .lines)
+        (every-right (rangeEnds (b .range)) (map (λ x. x .value) (b .lines)) (near-all p)) i h
 
     pub fine-values : (isRanged (b .range) ≡ true) ⊎ (1 ≤ length (b .lines)) → GoodValues quantity before (blockAs b) (saids (b .lines))
     fine-values s = record {

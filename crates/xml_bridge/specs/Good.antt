@@ -1,4 +1,5 @@
--- A VARIABLE OF THE RULE IS GOOD, as crate measures says it of one in the books: its row holds every clause of a well-formed table that speaks
+-- A VARIABLE OF THE RULE IS GOOD, as crate measures says it of one in the books: its row holds every clause of a well-formed table that
+-- speaks
 -- of one row. And variables one after the other in the rule's words and in the books.
 use mathlib.Core.Path.{_≡_, refl, _∙_, sym, ap}
 use mathlib.Core.Logic.{_⊎_, inl, inr}
@@ -31,7 +32,8 @@ none-of e = absurd (omega arith)
 -- ---- what a type has behind its position
 pub data FineContent (before : ℕ) : Content → Type 0 where
   fine-single : {b : Block} → GoodValues false before (blockAs b) (saids (b .lines)) → FineContent before (single b)
-  fine-multiple : {s : Option Spread} {b : Block} → GoodValues false before (blockAs b) (saids (b .lines)) → FineContent before (multiple s b)
+  fine-multiple : {s : Option Spread} {b : Block} → GoodValues false before (blockAs b) (saids (b .lines))
+      → FineContent before (multiple s b)
   fine-quantity : {b : Block} → GoodValues true before (blockAs b) (saids (b .lines)) → FineContent before (quantity b)
   fine-character : {n : Figure} → 1 ≤ n .value → n .value ≤ 4096 → FineContent before (character n)
   fine-logical : FineContent before logical
@@ -129,7 +131,8 @@ module _ (before c w : ℕ) (v : Variable) (few : before ≤ 4096) (f : FineVari
   pub good-book : holds v ≡ true → GoodVariable before (bookOf v)
   good-book h =
       let e = told-exact 0 0 before v (f .low) (f .told) h in
-      variable-good (headWith 0 0 v) (tellingWith (partsOf (spreadIn (v .content))) (subwidthOf (roomIn v) (spreadIn (v .content))) (v .content)) before
+      variable-good (headWith 0 0 v) (tellingWith (partsOf (spreadIn (v .content))) (subwidthOf (roomIn v) (spreadIn (v .content)))
+      (v .content)) before
       (head-good 0 0)
       (record { name = f .texts .name; name-len = f .texts .name-len; label = f .texts .label; label-len = f .texts .label-len })
       (f .ident-some) (f .ident-short) (rw (e .0, e .1) at telling-good) (holds-with 0 0 before v ∙ h)

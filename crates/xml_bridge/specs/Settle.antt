@@ -108,7 +108,8 @@ module _ (i j before : ℕ) where
 
     fields-held : (c w : ℕ) (s : Spread) (b : Block)
         → c ≡ capped (s .count .value) → w ≡ evenOr (room here) c (s .width) → 1 ≤ c → 1 ≤ w
-        → stoodOf before (heldBy before (bookWith i j c w (made (multiple (some s) b))) n) ≡ stoodFrom before (held (made (multiple (some s) b)) n)
+        → stoodOf before (heldBy before (bookWith i j c w (made (multiple (some s) b))) n)
+        ≡ stoodFrom before (held (made (multiple (some s) b)) n)
     fields-held c w s b u y e f =
         by (spread-fate [] ident name i label j here 0 before low (tellingWith c w (multiple (some s) b)) s b (omega arith) u y e f)
       where
@@ -154,7 +155,8 @@ module _ (i j before : ℕ) where
         here : Position
         here = record { start = p; finish = q }
 
-        by : Fate [] ident name i label j (record { start = p; finish = q }) 0 before l (tellingWith c w (multiple (some s) b)) 2 (multiple (some s) b)
+        by : Fate [] ident name i label j (record { start = p; finish = q }) 0 before l (tellingWith c w (multiple (some s) b)) 2
+            (multiple (some s) b)
             → (c ≡ s .count .value) × (w ≡ subwidthOf (room (record { start = p; finish = q })) (some s))
         by (exact (exact-fields m n)) =
             let o : c ≡ s .count .value = u ∙ m in

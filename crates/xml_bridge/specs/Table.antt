@@ -1,4 +1,5 @@
--- THE TABLE BUILT OF AN XML DEFINITION IS WELL FORMED: it is the table of the same variables in the books (crate `built`) but for its mark and
+-- THE TABLE BUILT OF AN XML DEFINITION IS WELL FORMED: it is the table of the same variables in the books (crate `built`) but for its mark
+-- and
 -- for use and filter, of which it says what `kindGood` asks for.
 use mathlib.Core.Path.{_≡_, refl, _∙_, sym, ap, fun-ext}
 use mathlib.Core.Logic.{_⊎_, inl, inr, ⊎-elim}
@@ -24,7 +25,8 @@ use Rattle.layout.specs.declared.Line as cells
 use Rattle.layout.specs.declared.Row.{Row}
 use Rattle.rows.specs.rule.Cells.{rowCells, headerCells}
 use Rattle.widths.specs.rule.Width.{need}
-use Rattle.sound.specs.rule.Sound.{countsGood, placesGood, valueAt, plainAt, linePlain, linesPlain, valuesFit, widest, linesGood, valuesGood}
+use Rattle.sound.specs.rule.Sound.{countsGood, placesGood, valueAt, plainAt, linePlain, linesPlain, valuesFit, widest, linesGood}
+use Rattle.sound.specs.rule.Sound.{valuesGood}
 use Rattle.sound.specs.rule.Sound.{widthsGood, columnsGood, rowGood, linesAt, finishAt, linesBefore, highestFinish, goodAt, identsDiffer}
 use Rattle.sound.specs.rule.Sound.{headCounts, headSums, rowsGood, wellFormed}
 use Rattle.sound.specs.rule.Sound as sound
@@ -97,7 +99,8 @@ pub books-good : {l : List Entry} → FineEntries l → Good (booksFor l)
 books-good nothing = good.none
 books-good (more {l} {v} g f) =
     rw (entries-join l (v ∷ []))
-    (good.more {v = bookOf (v .variable)} (books-good g) (rw (books-lines (variablesOf l)) (f .good)) (books-met (variablesOf l) (v .variable .ident .value) ∙ f .fresh)
+    (good.more {v = bookOf (v .variable)} (books-good g) (rw (books-lines (variablesOf l)) (f .good))
+    (books-met (variablesOf l) (v .variable .ident .value) ∙ f .fresh)
     (rw (count-for l) (f .left)))
 
 alone : {l : List Entry} {v : Entry} → Filters l v → (eqb (v .usage) 0 || eqb (v .filter) 0) ≡ true
@@ -168,7 +171,8 @@ rows-join b [] q = let e : b + 0 ≡ b = omega arith in rw e
 rows-join b (v ∷ p) q =
     let n = length (linesOf (v .variable)) in
     let e : b + n + linesAll (variablesOf p) ≡ b + (n + linesAll (variablesOf p)) = omega arith in
-    rw (rows-join (b + n) p q, e) (sym (append-assoc (rowCells (columnsFor b v)) (rowsFrom (b + n) p) (rowsFrom (b + (n + linesAll (variablesOf p))) q)))
+    rw (rows-join (b + n) p q, e) (sym (append-assoc (rowCells (columnsFor b v)) (rowsFrom (b + n) p)
+    (rowsFrom (b + (n + linesAll (variablesOf p))) q)))
 
 row-length : (c : Columns) → length (rowCells c) ≡ 20
 unfolding rowCells
@@ -203,7 +207,8 @@ module _ (t : List ℤ) (l : List Entry) where
       let b = linesAll (variablesOf (r .before)) in
       let own = rowCells (columnsFor b (r .entry)) in
       let rows : Stands X headerSize (rowsFrom 0 l) =
-      inside table-stands front (rowsFrom 0 l) (allLines (variablesOf l)) headerSize (append-assoc front (rowsFrom 0 l) (allLines (variablesOf l))) refl in
+      inside table-stands front (rowsFrom 0 l) (allLines (variablesOf l)) headerSize
+      (append-assoc front (rowsFrom 0 l) (allLines (variablesOf l))) refl in
       let z : 0 + b ≡ b = omega arith in
       inside rows (rowsFrom 0 (r .before)) own (rowsFrom (b + length (linesOf (r .entry .variable))) (r .behind)) (rowBase i)
       (ap (rowsFrom 0) (r .is) ∙ rows-join 0 (r .before) (r .entry ∷ r .behind) ∙ rw z)
@@ -225,7 +230,10 @@ module _ (t : List ℤ) (l : List Entry) where
   length-both : length (book.tableOf (booksFor l)) ≡ length (tableOf l)
   unfolding tableOf headerCells book.tableOf
   length-both =
-      rw (length-append (book.rowsFrom 0 (booksFor l)) (book.allLines (booksFor l)), length-append (rowsFrom 0 l) (allLines (variablesOf l)))
+      rw (
+        length-append (book.rowsFrom 0 (booksFor l)) (book.allLines (booksFor l)),
+        length-append (rowsFrom 0 l) (allLines (variablesOf l)),
+      )
       (omega (arith, rows-length 0 (booksFor l), rows-count 0 l, count-for l, ap length (books-cells (variablesOf l))))
 
   abbrev rest : List ℤ
@@ -239,7 +247,8 @@ module _ (t : List ℤ) (l : List Entry) where
   rest-x k =
       let a = headerCells (headerFor l) ++ rowsFrom 0 l in
       let n : linesBase (length l) ≡ length a = omega (arith, rows-count 0 l) in
-      ap (λ (s : List ℤ). cell s (linesBase (length l) + k)) (sym (apart (headerCells (headerFor l)) (rowsFrom 0 l) (allLines (variablesOf l)) (drop (0 + length (tableOf l)) t)))
+      ap (λ (s : List ℤ). cell s (linesBase (length l) + k))
+      (sym (apart (headerCells (headerFor l)) (rowsFrom 0 l) (allLines (variablesOf l)) (drop (0 + length (tableOf l)) t)))
       ∙ rw n (getD-append-add a rest k (pos 0))
 
   rest-t : (k : ℕ) → cell T (linesBase (length l) + k) ≡ cell rest k
@@ -252,7 +261,8 @@ module _ (t : List ℤ) (l : List Entry) where
       ap (λ (m : List ℤ). m ++ drop (0 + length (book.tableOf (booksFor l))) t) (books-cells (variablesOf l))
       ∙ ap (λ (n : ℕ). allLines (variablesOf l) ++ drop (0 + n) t) length-both in
       ap (λ (s : List ℤ). cell s (linesBase (length l) + k))
-      (sym (apart (headerCells (book.headerFor (booksFor l))) (book.rowsFrom 0 (booksFor l)) (book.allLines (booksFor l)) (drop (0 + length (book.tableOf (booksFor l))) t)))
+      (sym (apart (headerCells (book.headerFor (booksFor l))) (book.rowsFrom 0 (booksFor l)) (book.allLines (booksFor l))
+      (drop (0 + length (book.tableOf (booksFor l))) t)))
       ∙ rw n (getD-append-add a own k (pos 0) ∙ ap (λ (s : List ℤ). cell s k) e)
 
   agree : (k : ℕ) → linesBase (length l) ≤ k → cell X k ≡ cell T k
@@ -276,13 +286,17 @@ module _ (t : List ℤ) (l : List Entry) where
   values-alike : (r : Row) → valuesGood X (length l) r ≡ valuesGood T (length l) r
   unfolding valuesGood linesGood linesPlain
   values-alike r =
-      ap (λ (f : ℕ → Bool). sound.rangeGood r and (allBelow (r .lines) f and valuesFit (r .kind) (valueAt X (length l) (r .before)) (r .lines) and allDiffer (valueAt X (length l) (r .before)) (r .lines))) (plain-agree (r .before))
-      ∙ ap (λ (f : ℕ → ℤ). sound.rangeGood r and (allBelow (r .lines) (plainAt T (length l) (r .before)) and valuesFit (r .kind) f (r .lines) and allDiffer f (r .lines))) (values-agree (r .before))
+      ap (λ (f : ℕ → Bool). sound.rangeGood r and (allBelow (r .lines) f
+      and valuesFit (r .kind) (valueAt X (length l) (r .before)) (r .lines) and allDiffer (valueAt X (length l) (r .before)) (r .lines)))
+      (plain-agree (r .before))
+      ∙ ap (λ (f : ℕ → ℤ). sound.rangeGood r and (allBelow (r .lines) (plainAt T (length l) (r .before))
+      and valuesFit (r .kind) f (r .lines) and allDiffer f (r .lines))) (values-agree (r .before))
 
   widths-alike : (r : Row) → widthsGood X (length l) r ≡ widthsGood T (length l) r
   unfolding widthsGood widest
   widths-alike r =
-      ap (λ (f : ℕ → ℤ). sound.widthGood (r .kind) (r .width) (max (sound.rangeWidth r) (maxBelow (r .lines) (λ k. need (r .kind) (f k)))) and sound.roomGood (r .kind) r)
+      ap (λ (f : ℕ → ℤ). sound.widthGood (r .kind) (r .width) (max (sound.rangeWidth r) (maxBelow (r .lines) (λ k. need (r .kind) (f k))))
+      and sound.roomGood (r .kind) r)
       (values-agree (r .before))
 
   row-alike : (e before u f : ℕ) (c : Columns) → rowGood X (length l) e before (usedBy u f c) ≡ rowGood T (length l) e before c
@@ -313,10 +327,15 @@ module _ (t : List ℤ) (l : List Entry) where
         both-and (both-and
         (all-of (goodAt X (length l) (linesAll (variablesOf l))) (length l)
         (λ i h. let r = nth′ g i h in
-        rw (before-alike i (omega arith), columns-both r, row-alike (linesAll (variablesOf l)) (linesBefore T i) (r .entry .usage) (r .entry .filter) (columnsAt T (rowBase i)))
+        rw (
+          before-alike i (omega arith),
+          columns-both r,
+          row-alike (linesAll (variablesOf l)) (linesBefore T i) (r .entry .usage) (r .entry .filter) (columnsAt T (rowBase i)),
+        )
         (good-t r)))
         (eq-eqb (linesBefore X (length l)) (linesAll (variablesOf l)) (before-alike (length l) (omega arith) ∙ sum-t)))
-        (eq-eqb (highestFinish X (length l)) (highestIn (variablesOf l)) (max-same (length l) (finishAt X) (finishAt T) finish-alike ∙ high-t))
+        (eq-eqb (highestFinish X (length l)) (highestIn (variablesOf l))
+        (max-same (length l) (finishAt X) (finishAt T) finish-alike ∙ high-t))
       where
         good-t : {i : ℕ} (r : Nth′ l i) → goodAt T (length l) (linesAll (variablesOf l)) i ≡ true
         good-t r = rw (count-for l, books-lines (variablesOf l)) at (row-good t (booksFor l) (book-nth r))
@@ -335,7 +354,11 @@ module _ (t : List ℤ) (l : List Entry) where
 
     counts-x : 1 ≤ length l → headCounts (headerFor l) ≡ true
     unfolding headerFor
-    counts-x h = rw (le-leb 1 (length l) h, le-leb (length l) mostRows (entries-few g .0), le-leb (linesAll (variablesOf l)) mostLines (entries-few g .1))
+    counts-x h = rw (
+      le-leb 1 (length l) h,
+      le-leb (length l) mostRows (entries-few g .0),
+      le-leb (linesAll (variablesOf l)) mostLines (entries-few g .1),
+    )
 
     table-count : length (tableOf l) ≡ lineBase (length l) (linesAll (variablesOf l))
     table-count = sym length-both ∙ table-length (booksFor l) ∙ rw (count-for l, books-lines (variablesOf l))
@@ -345,7 +368,8 @@ module _ (t : List ℤ) (l : List Entry) where
     sums-x h =
         rw (
           eq-eqb (linesBase (length l)) (linesBase (length l)) refl,
-          le-leb (lineBase (length l) (linesAll (variablesOf l))) (length X) (omega (arith, table-count, length-pasted t (tableOf l) 0 (omega arith))),
+          le-leb (lineBase (length l) (linesAll (variablesOf l))) (length X)
+              (omega (arith, table-count, length-pasted t (tableOf l) 0 (omega arith))),
         )
 
     -- ---- use and filter
@@ -357,10 +381,11 @@ module _ (t : List ℤ) (l : List Entry) where
       c = columnsFor (linesAll (variablesOf (r .before))) v
 
       serial : (k : ℕ) (s : Bool) → (not (eqb k 3 || (true && eqb k 4)) || s) ≡ false → (leb 3 k && leb k 4) ≡ true
-      serial k s e = ⊎-elim (λ h. rw (eqb-true k 3 h)) (λ h. rw (eqb-true k 4 h)) (either-true (eqb k 3) (eqb k 4) (by (eqb k 3 || eqb k 4) e)) where
-        by : (q : Bool) → (not q || s) ≡ false → q ≡ true
-        by true e = refl
-        by false e = none-of cc
+      serial k s e = ⊎-elim (λ h. rw (eqb-true k 3 h)) (λ h. rw (eqb-true k 4 h))
+          (either-true (eqb k 3) (eqb k 4) (by (eqb k 3 || eqb k 4) e)) where
+            by : (q : Bool) → (not q || s) ≡ false → q ≡ true
+            by true e = refl
+            by false e = none-of cc
 
       weight : (k : ℕ) (s : Bool) → (not (eqb k 3 || (false && eqb k 4)) || s) ≡ false → eqb k 3 ≡ true
       weight k s e = by (eqb k 3) e where
@@ -383,7 +408,8 @@ module _ (t : List ℤ) (l : List Entry) where
           rw (le-leb (v .usage) 2 (r .fine .known), q .0, q .1, alone (r .fine .filters))
 
       -- the logical that its filter names stands among those before
-      kind-there : (p s : List Entry) (w : Entry) → r .before ≡ p ++ w ∷ s → columnsAt X (rowBase (length p)) .kind ≡ typeOf (w .variable .content)
+      kind-there : (p s : List Entry) (w : Entry) → r .before ≡ p ++ w ∷ s → columnsAt X (rowBase (length p)) .kind
+          ≡ typeOf (w .variable .content)
       unfolding columnsFor columnsOf
       kind-there p s w e =
           let k : length p < length (r .before) = omega (arith, ap length e, length-append p (w ∷ s)) in
@@ -394,7 +420,8 @@ module _ (t : List ℤ) (l : List Entry) where
       filter-x : filterGood X i c ≡ true
       unfolding filterGood columnsFor columnsOf
       filter-x = by (r .fine .filters) where
-        by : Filters (r .before) v → (eqb (v .filter) 0 || (leb (v .filter) i && eqb (columnsAt X (rowBase (v .filter - 1)) .kind) 5)) ≡ true
+        by : Filters (r .before) v → (eqb (v .filter) 0 || (leb (v .filter) i && eqb (columnsAt X (rowBase (v .filter - 1)) .kind) 5))
+            ≡ true
         by (unfiltered e) = rw e
         by (filtered p s w u e f k) =
             let n : length p + 1 - 1 ≡ length p = omega arith in
@@ -410,14 +437,16 @@ module _ (t : List ℤ) (l : List Entry) where
       usage-x = ap (λ (c : Columns). c .usage) (columns-x r)
 
 -- "at most one serial .. and one weight"
-some-last : (k : ℕ) (l : List Entry) (v : Entry) → someOf (λ w. eqb (w .usage) k) (l ++ v ∷ []) ≡ (someOf (λ w. eqb (w .usage) k) l || eqb (v .usage) k)
+some-last : (k : ℕ) (l : List Entry) (v : Entry) → someOf (λ w. eqb (w .usage) k) (l ++ v ∷ [])
+    ≡ (someOf (λ w. eqb (w .usage) k) l || eqb (v .usage) k)
 unfolding someOf
 some-last k [] v = by (eqb (v .usage) k) where
   by : (q : Bool) → (q || false) ≡ q
   by true = refl
   by false = refl
 some-last k (w ∷ l) v = rw (some-last k l v) (by (eqb (w .usage) k)) where
-  by : (q : Bool) → (q || (someOf (λ w. eqb (w .usage) k) l || eqb (v .usage) k)) ≡ ((q || someOf (λ w. eqb (w .usage) k) l) || eqb (v .usage) k)
+  by : (q : Bool) → (q || (someOf (λ w. eqb (w .usage) k) l || eqb (v .usage) k))
+      ≡ ((q || someOf (λ w. eqb (w .usage) k) l) || eqb (v .usage) k)
   by true = refl
   by false = refl
 
@@ -445,10 +474,12 @@ module _ (k : ℕ) where
       by false e ih = omega arith
       by true e ih =
           let u : v .usage ≡ k = eqb-true (v .usage) k e in
-          let z : someOf (λ x. eqb (x .usage) k) l ≡ false = rw u at (fresh (v .usage) (typeOf (v .variable .content)) (omega arith) (w .right)) in
+          let z : someOf (λ x. eqb (x .usage) k) l
+          ≡ false = rw u at (fresh (v .usage) (typeOf (v .variable .content)) (omega arith) (w .right)) in
           omega (arith, none-used g f (λ i r. same i (further r (v ∷ []) refl)) z)
         where
-          fresh : (u t : ℕ) → 1 ≤ u → (ltb 0 u && (not (mayServe u t) || someOf (λ x. eqb (x .usage) u) l)) ≡ false → someOf (λ x. eqb (x .usage) u) l ≡ false
+          fresh : (u t : ℕ) → 1 ≤ u → (ltb 0 u && (not (mayServe u t) || someOf (λ x. eqb (x .usage) u) l)) ≡ false
+              → someOf (λ x. eqb (x .usage) u) l ≡ false
           fresh u t h e = or-neither (not (mayServe u t)) (someOf (λ x. eqb (x .usage) u) l) (rw (lt-ltb 0 u h) at e)
 
 -- ---- "SPECIAL is always 0 here"
@@ -487,7 +518,8 @@ each-plain : {l : List Entry} → FineEntries l → eachOf (λ s. not (s .specia
 unfolding gathered eachOf
 each-plain nothing = refl
 each-plain (more {l} {v} g f) =
-    rw (variables-join l (v ∷ []), gathered-more (variablesOf l) (v .variable)) (each-join (gathered (variablesOf l)) (linesOf (v .variable)) (each-plain g) (f .plain))
+    rw (variables-join l (v ∷ []), gathered-more (variablesOf l) (v .variable))
+    (each-join (gathered (variablesOf l)) (linesOf (v .variable)) (each-plain g) (f .plain))
 
 cells-count : (m : List Line) → length (cellsOf m) ≡ 4 * length m
 unfolding cellsOf lineCells
@@ -522,8 +554,10 @@ module _ (t : List ℤ) (l : List Entry) (g : FineEntries l) where
   unfolding usesGood
   uses-x =
       both-and (all-of (λ i. useGood (X t l) i (columnsAt (X t l) (rowBase i))) (length l) (λ i h. use-x t l g (nth′ g i h)))
-      (and-true _ _ (le-leb _ 1 (once-used 1 g (λ i. isUse (columnsAt (X t l) (rowBase i) .usage) 1) (omega arith) (λ i r. ap (λ (u : ℕ). isUse u 1) (usage-x t l g r))))
-      (le-leb _ 1 (once-used 2 g (λ i. isUse (columnsAt (X t l) (rowBase i) .usage) 2) (omega arith) (λ i r. ap (λ (u : ℕ). isUse u 2) (usage-x t l g r)))))
+      (and-true _ _ (le-leb _ 1 (once-used 1 g (λ i. isUse (columnsAt (X t l) (rowBase i) .usage) 1) (omega arith)
+      (λ i r. ap (λ (u : ℕ). isUse u 1) (usage-x t l g r))))
+      (le-leb _ 1 (once-used 2 g (λ i. isUse (columnsAt (X t l) (rowBase i) .usage) 2) (omega arith)
+      (λ i r. ap (λ (u : ℕ). isUse u 2) (usage-x t l g r)))))
 
   kind-x : kindGood (X t l) (headerFor l) ≡ true
   unfolding kindGood xmlGood headerFor

@@ -37,7 +37,8 @@ module _ (bad : Bool) (d : List ℕ) (m : Manner) (p e : ℕ) (l : List Entry) w
 
 module _ (bad : Bool) (d : List ℕ) (m : Manner) (p e : ℕ) (seen : List ℕ) (y : Tally) (rows rows′ lines lines′ : List ℤ) where
   pub joined-named : (q : Bool) (r : Entered) → q ≡ isNamed d (p + 1) e VARIABLE → q ≡ true
-      → Joined d seen y rows rows′ lines lines′ (λ l. variable bad d m l p e) r → Joined d seen y rows rows′ lines lines′ (begunAt bad d m p e) r
+      → Joined d seen y rows rows′ lines lines′ (λ l. variable bad d m l p e) r
+      → Joined d seen y rows rows′ lines lines′ (begunAt bad d m p e) r
   joined-named q r i t j = record {
     is = λ l b. j .is l b ∙ ap (enteredOf y) (sym (begun-named bad d m p e l (sym i ∙ t)));
     row = λ l b v n o. j .row l b v n (sym (begun-named bad d m p e l (sym i ∙ t)) ∙ o);

@@ -1,4 +1,5 @@
--- The ident of a start tag that was read has four digits at most, so that it is less than 10,000: what crate `xml_laws` asks for. And so THE
+-- The ident of a start tag that was read has four digits at most, so that it is less than 10,000: what crate `xml_laws` asks for. And so
+-- THE
 -- TABLE BUILT OF A DEFINITION IN XML IS WELL FORMED.
 use mathlib.Core.Path.{_≡_, refl, _∙_, sym, ap}
 use mathlib.Core.Bool.{Bool, true, false, cond}
@@ -51,5 +52,6 @@ few bad d old l p e t n f =
     small v w t s i g = rw i at (few-digits d v w s (rw i g))
 
 -- XML-WELL-FORMED: whatever follows it in the lent table
-pub xml-well-formed : (d : List ℕ) (t : List ℤ) (l : List Entry) → outcomeOf d (length t) ≡ Built l → wellFormed (pasted t 0 (tableOf l)) ≡ true
+pub xml-well-formed : (d : List ℕ) (t : List ℤ) (l : List Entry) → outcomeOf d (length t) ≡ Built l → wellFormed (pasted t 0 (tableOf l))
+    ≡ true
 xml-well-formed = read-well-formed few

@@ -76,4 +76,5 @@ pub highest-low : {l : List Entry} → FineEntries l → highestIn (variablesOf 
 unfolding highestIn
 highest-low nothing = omega arith
 highest-low (more {l} {v} g f) =
-    rw (variables-with l v, highest-with (variablesOf l) (v .variable)) (omega (arith, highest-low g, finish-few (linesAll (variablesOf l)) (v .variable) (f .good)))
+    rw (variables-with l v, highest-with (variablesOf l) (v .variable))
+    (omega (arith, highest-low g, finish-few (linesAll (variablesOf l)) (v .variable) (f .good)))

@@ -44,19 +44,23 @@ use Rattle.sheets.specs.Code.{tallyOf, Before, Sofar}
 use Rattle.xml_files.specs.Code.{Fails, Added, Over, OneMore, Turned, runOf, Laid}
 use Rattle.xml_files.proofs.Few.{few}
 use Rattle.xml_files.proofs.Turns.{another-more, another-over}
-use Rattle.xml_files.proofs.Lists.{ident-few, variables-with, lines-with, highest-with, cells-with, cells-long, some-with, take-pasted}
+use Rattle.xml_files.proofs.Lists.{ident-few, variables-with, lines-with, highest-with, cells-with, cells-long, some-with}
+use Rattle.xml_files.proofs.Lists.{take-pasted}
 
 -- ---- where the rule's reader stands: before the first variable, or with turns enough left (the 513th variable is refused)
 module _ (bad : Bool) (d : List ℕ) (m : Manner) (at₀ : ℕ) where
   pub data From : List Entry → ℕ → Type 0 where
     first : From [] at₀
-    later : {l : List Entry} {at : ℕ} (f : ℕ) → 1 ≤ length l → mostRows < f + length l → variables bad d m at₀ ≡ repeat f (another bad d m) l at → From l at
+    later : {l : List Entry} {at : ℕ} (f : ℕ) → 1 ≤ length l → mostRows < f + length l → variables bad d m at₀
+        ≡ repeat f (another bad d m) l at → From l at
 
-  repeat-again : (f : ℕ) (l k : List Entry) (at n : ℕ) → another bad d m l at ≡ Is (Again k) n → repeat (suc f) (another bad d m) l at ≡ repeat f (another bad d m) k n
+  repeat-again : (f : ℕ) (l k : List Entry) (at n : ℕ) → another bad d m l at ≡ Is (Again k) n → repeat (suc f) (another bad d m) l at
+      ≡ repeat f (another bad d m) k n
   unfolding repeat
   repeat-again f l k at n e = rw e
 
-  repeat-done : (f : ℕ) (l k : List Entry) (at n : ℕ) → another bad d m l at ≡ Is (Done k) n → repeat (suc f) (another bad d m) l at ≡ Is k n
+  repeat-done : (f : ℕ) (l k : List Entry) (at n : ℕ) → another bad d m l at ≡ Is (Done k) n → repeat (suc f) (another bad d m) l at
+      ≡ Is k n
   unfolding repeat
   repeat-done f l k at n e = rw e
 
@@ -64,26 +68,32 @@ module _ (bad : Bool) (d : List ℕ) (m : Manner) (at₀ : ℕ) where
   unfolding repeat
   repeat-not f l at g e = rw e
 
-  bind-stops : {A B C : Type 0} (x : Result A) (g : A → Reader B) (k : B → Reader C) {f : Fault} → bind x g ≡ Not f → bind x (λ a n. bind (g a n) k) ≡ Not f
+  bind-stops : {A B C : Type 0} (x : Result A) (g : A → Reader B) (k : B → Reader C) {f : Fault} → bind x g ≡ Not f
+      → bind x (λ a n. bind (g a n) k) ≡ Not f
   bind-stops (Is a n) g k e = rw e
   bind-stops (Not h) g k {f} e = let u : h ≡ f = cc in ap Not u
 
-  from-more : (l : List Entry) (at : ℕ) (v : Entry) (n : ℕ) → From l at → length l < mostRows → Added bad d m l at v n → From (l ++ v ∷ []) n
+  from-more : (l : List Entry) (at : ℕ) (v : Entry) (n : ℕ) → From l at → length l < mostRows → Added bad d m l at v n
+      → From (l ++ v ∷ []) n
   unfolding variables
   from-more l at v n first h a = later {l = v ∷ []} {at = n} (suc mostRows) (omega arith) (omega arith) (rw (a .open-is, a .read))
   from-more l at v n (later zero s e q) h a = absurd (omega arith)
   from-more l at v n (later (suc f) s e q) h a =
       let k = length-append l (v ∷ []) in
-      later {l = l ++ v ∷ []} {at = n} f (omega arith) (omega arith) (q ∙ repeat-again f l (l ++ v ∷ []) at n (another-more bad d m l at v n a))
+      later {l = l ++ v ∷ []} {at = n} f (omega arith) (omega arith)
+      (q ∙ repeat-again f l (l ++ v ∷ []) at n (another-more bad d m l at v n a))
 
-  from-over : (l : List Entry) (at n : ℕ) → From l at → length l ≤ mostRows → 1 ≤ length l → Over bad d at n → variables bad d m at₀ ≡ Is l n
+  from-over : (l : List Entry) (at n : ℕ) → From l at → length l ≤ mostRows → 1 ≤ length l → Over bad d at n → variables bad d m at₀
+      ≡ Is l n
   from-over l at n first h k o = absurd (omega arith)
   from-over l at n (later zero s e q) h k o = absurd (omega arith)
   from-over l at n (later (suc f) s e q) h k o = q ∙ repeat-done f l l at n (another-over bad d m l at n o)
 
-  from-fails : (l : List Entry) (at : ℕ) (g : Fault) → From l at → length l ≤ mostRows → Fails bad d m l at g → variables bad d m at₀ ≡ Not g
+  from-fails : (l : List Entry) (at : ℕ) (g : Fault) → From l at → length l ≤ mostRows → Fails bad d m l at g → variables bad d m at₀
+      ≡ Not g
   unfolding variables
-  from-fails l at g first h e = bind-stops (within bad d RECORD at) (λ o. due bad d VARIABLE o (variable bad d m [])) (λ v. repeat (suc mostRows) (another bad d m) (v ∷ [])) e
+  from-fails l at g first h e = bind-stops (within bad d RECORD at) (λ o. due bad d VARIABLE o (variable bad d m []))
+      (λ v. repeat (suc mostRows) (another bad d m) (v ∷ [])) e
   from-fails l at g (later zero s k q) h e = absurd (omega arith)
   from-fails [] at g (later (suc f) s k q) h e = absurd (omega arith)
   from-fails (w ∷ l) at g (later (suc f) s k q) h e = q ∙ repeat-not f (w ∷ l) at g e
@@ -97,7 +107,8 @@ pub record Ran (bad : Bool) (d : List ℕ) (m : Manner) (at₀ at : ℕ) (y : Ta
   pub next : at ≤ length d
   pub seen-long : length seen ≡ 10000
 
-pub ran-none : (bad : Bool) (d : List ℕ) (m : Manner) (at : ℕ) (y : Tally) (seen : List ℕ) (rows lines : List ℤ) → seen ≡ zeros 10000 → length seen ≡ 10000
+pub ran-none : (bad : Bool) (d : List ℕ) (m : Manner) (at : ℕ) (y : Tally) (seen : List ℕ) (rows lines : List ℤ) → seen ≡ zeros 10000
+    → length seen ≡ 10000
     → y ≡ tallyOf [] → at ≤ length d → Ran bad d m at at y seen rows lines
 unfolding tallyOf allLines linesAll someOf
 ran-none bad d m at y seen rows lines e h q k = record {
@@ -116,7 +127,8 @@ ran-none bad d m at y seen rows lines e h q k = record {
 }
 
 -- the ident of one more is marked
-module _ (seen : List ℕ) (l : List Entry) (v : Entry) (met : Idents seen l) (long : length seen ≡ 10000) (small : v .variable .ident .value < 10000) where
+module _ (seen : List ℕ) (l : List Entry) (v : Entry) (met : Idents seen l) (long : length seen ≡ 10000)
+    (small : v .variable .ident .value < 10000) where
   idents-more : Idents (set seen (v .variable .ident .value) 1) (l ++ v ∷ [])
   idents-more k =
       by (eqb (v .variable .ident .value) k) refl
@@ -131,10 +143,12 @@ module _ (seen : List ℕ) (l : List Entry) (v : Entry) (met : Idents seen l) (l
           → marked (set seen (v .variable .ident .value) 1) k ≡ (someOf (λ w. eqb (w .ident .value) k) (variablesOf l) || b)
       by true f =
           let j : k ≡ v .variable .ident .value = sym (eqb-true (v .variable .ident .value) k f) in
-          rw (j, getD-set-same seen (v .variable .ident .value) 1 0 (omega arith)) (sym (or-true (someOf (λ w. eqb (w .ident .value) (v .variable .ident .value)) (variablesOf l))))
+          rw (j, getD-set-same seen (v .variable .ident .value) 1 0 (omega arith))
+          (sym (or-true (someOf (λ w. eqb (w .ident .value) (v .variable .ident .value)) (variablesOf l))))
       by false f =
           let j : k ≡ v .variable .ident .value → ⊥ = λ w. eqb-false (v .variable .ident .value) k f (sym w) in
-          rw (getD-set-other seen (v .variable .ident .value) k 1 0 j) (met k ∙ or-false (someOf (λ w. eqb (w .ident .value) k) (variablesOf l)))
+          rw (getD-set-other seen (v .variable .ident .value) k 1 0 j)
+          (met k ∙ or-false (someOf (λ w. eqb (w .ident .value) k) (variablesOf l)))
 
   idents-as : (i : ℕ) → i ≡ v .variable .ident .value → Idents (set seen i 1) (l ++ v ∷ [])
   idents-as i e = rw e idents-more
@@ -142,7 +156,8 @@ module _ (seen : List ℕ) (l : List Entry) (v : Entry) (met : Idents seen l) (l
 pub moved-rows : {rows rows′ : List ℤ} {a b : ℕ} {k : List Entry} → rows′ ≡ rows → b ≡ a → RowsOf rows a k → RowsOf rows′ b k
 moved-rows e f h = rw (e, f) h
 
-lines-more : (l : List Entry) (v : Entry) (lines lines′ : List ℤ) → lines′ ≡ pasted lines (lineSize * linesAll (variablesOf l)) (cellsOf (linesOf (v .variable)))
+lines-more : (l : List Entry) (v : Entry) (lines lines′ : List ℤ) → lines′
+    ≡ pasted lines (lineSize * linesAll (variablesOf l)) (cellsOf (linesOf (v .variable)))
     → lineSize * linesAll (variablesOf l) ≤ length lines → take (lineSize * linesAll (variablesOf l)) lines ≡ allLines (variablesOf l)
     → take (lineSize * linesAll (variablesOf (l ++ v ∷ []))) lines′ ≡ allLines (variablesOf (l ++ v ∷ []))
 lines-more l v lines lines′ q h e =
@@ -150,7 +165,8 @@ lines-more l v lines lines′ q h e =
     let s = cellsOf (linesOf (v .variable)) in
     let c = cells-long (linesOf (v .variable)) in
     let u : lineSize * (linesAll (variablesOf l) + length (linesOf (v .variable))) ≡ k + length s = omega arith in
-    rw (variables-with l v, lines-with (variablesOf l) (v .variable), cells-with (variablesOf l) (v .variable), u, q) (take-pasted lines s (allLines (variablesOf l)) k h e)
+    rw (variables-with l v, lines-with (variablesOf l) (v .variable), cells-with (variablesOf l) (v .variable), u, q)
+    (take-pasted lines s (allLines (variablesOf l)) k h e)
 
 finish-for : (b : ℕ) (v : Entry) → columnsFor b v .finish ≡ finishIn (v .variable)
 unfolding columnsFor columnsOf
@@ -165,11 +181,19 @@ unfolding tallyOf
 rows-is y l tally = ap (λ (z : Tally). z .rows) tally
 
 module _ (y : Tally) (l : List Entry) (v : Entry) (tally : y ≡ tallyOf l) where
-  tally-more : (z : Tally) → z ≡ tallyWith y (columnsFor (y .lines) v) (y .lines + length (linesOf (v .variable))) → z ≡ tallyOf (l ++ v ∷ [])
+  tally-more : (z : Tally) → z ≡ tallyWith y (columnsFor (y .lines) v) (y .lines + length (linesOf (v .variable))) → z
+      ≡ tallyOf (l ++ v ∷ [])
   unfolding tallyOf tallyWith
   tally-more z q =
       q
-      ∙ rw (tally, length-append l (v ∷ []), variables-with l v, lines-with (variablesOf l) (v .variable), highest-with (variablesOf l) (v .variable), finish-for (linesAll (variablesOf l)) v)
+      ∙ rw (
+        tally,
+        length-append l (v ∷ []),
+        variables-with l v,
+        lines-with (variablesOf l) (v .variable),
+        highest-with (variablesOf l) (v .variable),
+        finish-for (linesAll (variablesOf l)) v,
+      )
 
 module _ (bad : Bool) (d : List ℕ) (m : Manner) (long : length d ≤ 1048576) (at₀ at : ℕ) (y : Tally) (seen : List ℕ) (rows lines : List ℤ)
     (r : Ran bad d m at₀ at y seen rows lines) (wide : length rows ≡ rowSize * mostRows) (many : length lines ≡ lineSize * mostLines) where
@@ -216,7 +240,8 @@ module _ (bad : Bool) (d : List ℕ) (m : Manner) (long : length d ≤ 1048576) 
 
       held-now : RowsOf rows′ (z .rows) (l ++ v ∷ [])
       held-now =
-          let q = o .row-is ∙ ap (λ (b : ℕ). pasted rows (rowSize * y .rows) (rowCells (columnsFor b v))) (lines-is y l (r .before .tally)) in
+          let q = o .row-is ∙ ap (λ (b : ℕ). pasted rows (rowSize * y .rows) (rowCells (columnsFor b v)))
+          (lines-is y l (r .before .tally)) in
           moved-rows q rows-now (rows-more rows (y .rows) l v wide left-now (r .before .held))
 
       before-now : Before d (set seen i 1) z rows′ (l ++ v ∷ [])
@@ -230,7 +255,8 @@ module _ (bad : Bool) (d : List ℕ) (m : Manner) (long : length d ≤ 1048576) 
 
       lines-now : take (lineSize * linesAll (variablesOf (l ++ v ∷ []))) lines′ ≡ allLines (variablesOf (l ++ v ∷ []))
       lines-now =
-          lines-more l v lines lines′ (o .line-is ∙ ap (λ (b : ℕ). pasted lines (lineSize * b) (cellsOf (linesOf (o .entry .variable)))) (lines-is y l (r .before .tally)))
+          lines-more l v lines lines′ (o .line-is
+          ∙ ap (λ (b : ℕ). pasted lines (lineSize * b) (cellsOf (linesOf (o .entry .variable)))) (lines-is y l (r .before .tally)))
           (omega (arith, entries-few (r .before .fine) .1)) (r .lines-are)
 
       pub ran-more : Onward i z n rows′ lines′

@@ -39,7 +39,8 @@ filters-few (more {l} {v = w} g f) i v a = by (λ j x b. filters-few g j x b) i 
   by ih i v (old a) = omega (arith, ih i v a, length-append l (w ∷ []))
   by ih i v (new e) = omega (arith, filter-few (f .filters), length-append l (w ∷ []))
 
-pub lying-here : (d : List ℕ) (rows : List ℤ) (count : ℕ) (l : List Entry) → length rows ≡ rowSize * mostRows → RowsOf rows count l → FineEntries l → Named d l
+pub lying-here : (d : List ℕ) (rows : List ℤ) (count : ℕ) (l : List Entry) → length rows ≡ rowSize * mostRows → RowsOf rows count l
+    → FineEntries l → Named d l
     → Lying (length d) rows count
 lying-here d rows count l wide h g n = record {
   room = wide;
@@ -81,7 +82,8 @@ module _ (latin : Bool) (d : List ℕ) (y : Tally) (rows : List ℤ) where
     unfolding judgeNames
     good-outcome l h k n = rw (← (j .is l h), le-ltb r (length l) (omega (arith, h .counted)))
 
-    bad-outcome : (l : List Entry) → RowsOf rows (y .rows) l → r < y .rows → (n : ℕ) → judgeNames latin d n true l ≡ Refusal 9 (columnIn rows r 14)
+    bad-outcome : (l : List Entry) → RowsOf rows (y .rows) l → r < y .rows → (n : ℕ) → judgeNames latin d n true l
+        ≡ Refusal 9 (columnIn rows r 14)
     unfolding judgeNames
     bad-outcome l h k n = rw (← (j .is l h), lt-ltb r (length l) (omega (arith, h .counted))) (ap (Refusal 9) (place-here h r k))
 

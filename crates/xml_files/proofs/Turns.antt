@@ -65,12 +65,14 @@ another-more bad d m l at v n a =
     (due-bind bad d VARIABLE (a .place) (a .end) (variable bad d m l) (λ v k. Is (Again (l ++ v ∷ [])) k)
     ∙ ap (λ (r : Result Entry). bind r (λ v k. Is (Again (l ++ v ∷ [])) k)) (a .read))
 
-pub another-over : (bad : Bool) (d : List ℕ) (m : Manner) (l : List Entry) (at n : ℕ) → Over bad d at n → another bad d m l at ≡ Is (Done l) n
+pub another-over : (bad : Bool) (d : List ℕ) (m : Manner) (l : List Entry) (at n : ℕ) → Over bad d at n → another bad d m l at
+    ≡ Is (Done l) n
 unfolding another
 another-over bad d m l at n o = rw (o .open-is)
 
 module _ (bad : Bool) (d : List ℕ) (m : Manner) (at : ℕ) where
-  start-fails : (p e : ℕ) (f : Fault) (l : List Entry) → within bad d RECORD at ≡ Is (start p) e → begunAt bad d m p e l ≡ Not f → Fails bad d m l at f
+  start-fails : (p e : ℕ) (f : Fault) (l : List Entry) → within bad d RECORD at ≡ Is (start p) e → begunAt bad d m p e l ≡ Not f
+      → Fails bad d m l at f
   unfolding another
   start-fails p e f [] o b = rw o b
   start-fails p e f (w ∷ l) o b =
@@ -88,14 +90,21 @@ module _ (bad : Bool) (d : List ℕ) (m : Manner) (at : ℕ) where
       one-more : (i : ℕ) (z : Tally) (n : ℕ) → r ≡ entered.Is i z n → (l : List Entry) → Before d seen y rows l
           → OneMore bad d m seen y at rows rows′ lines lines′ l i z n
       one-more i z n q l b = by (begunAt bad d m p e l) refl (sym (j .is l b) ∙ q) where
-        by : (k : Result Entry) → begunAt bad d m p e l ≡ k → enteredOf y k ≡ entered.Is i z n → OneMore bad d m seen y at rows rows′ lines lines′ l i z n
+        by : (k : Result Entry) → begunAt bad d m p e l ≡ k → enteredOf y k ≡ entered.Is i z n
+            → OneMore bad d m seen y at rows rows′ lines lines′ l i z n
         by (Is v o) g h =
             let a : v .variable .ident .value ≡ i = cc in
             let c : tallyWith y (columnsFor (y .lines) v) (y .lines + length (linesOf (v .variable))) ≡ z = cc in
             let t : o ≡ n = cc in
             record {
               entry = v;
-              added = record { place = p; end = e; open-is = open-start (within bad d RECORD at) (sym found ∙ s); read = g ∙ ap (λ (k : ℕ). Is v k) t };
+              added = record {
+                place = p;
+                end = e;
+                open-is = open-start (within bad d RECORD at) (sym found ∙ s);
+                read = g
+                    ∙ ap (λ (k : ℕ). Is v k) t;
+              };
               ident-is = sym a;
               tally-is = sym c;
               row-is = j .row l b v o g;
@@ -103,7 +112,8 @@ module _ (bad : Bool) (d : List ℕ) (m : Manner) (at : ℕ) where
             }
         by (Not f) g h = never cc
 
-      pub turned-more : (i : ℕ) (z : Tally) (n : ℕ) → r ≡ entered.Is i z n → Turned bad d m seen y at rows rows′ lines lines′ (turns.More i z n)
+      pub turned-more : (i : ℕ) (z : Tally) (n : ℕ) → r ≡ entered.Is i z n
+          → Turned bad d m seen y at rows rows′ lines lines′ (turns.More i z n)
       turned-more i z n q = record {
         more = λ {i = i₂} {z = z₂} {n = n₂} t l b.
             let u : i ≡ i₂ = cc in
@@ -118,20 +128,30 @@ module _ (bad : Bool) (d : List ℕ) (m : Manner) (at : ℕ) where
       turned-fails f q = record {
         more = λ t. never cc;
         over = λ t. never cc;
-        fails = λ {f = g} t l b. let u : f ≡ g = cc in start-fails p e g l (open-start (within bad d RECORD at) (sym found ∙ s)) (by l b (begunAt bad d m p e l) refl (sym (j .is l b) ∙ q) ∙ ap Not u);
+        fails = λ {f = g} t l b. let u : f ≡ g = cc in
+            start-fails p e g l (open-start (within bad d RECORD at) (sym found ∙ s))
+            (by l b (begunAt bad d m p e l) refl (sym (j .is l b) ∙ q) ∙ ap Not u);
       } where
-        by : (l : List Entry) → Before d seen y rows l → (k : Result Entry) → begunAt bad d m p e l ≡ k → enteredOf y k ≡ entered.Not f → begunAt bad d m p e l ≡ Not f
+        by : (l : List Entry) → Before d seen y rows l → (k : Result Entry) → begunAt bad d m p e l ≡ k → enteredOf y k ≡ entered.Not f
+            → begunAt bad d m p e l ≡ Not f
         by l b (Is v o) g h = never cc
         by l b (Not k) g h = let a : k ≡ f = cc in g ∙ ap Not a
 
-    pub turned-over : (p n : ℕ) → x ≡ opened.Shut p n → 1 ≤ y .rows → rows′ ≡ rows → lines′ ≡ lines → Turned bad d m seen y at rows rows′ lines lines′ (turns.Over n)
+    pub turned-over : (p n : ℕ) → x ≡ opened.Shut p n → 1 ≤ y .rows → rows′ ≡ rows → lines′ ≡ lines
+        → Turned bad d m seen y at rows rows′ lines lines′ (turns.Over n)
     turned-over p n s h a b = record {
       more = λ t. never cc;
-      over = λ {n = k} t. let u : n ≡ k = cc in (h, record { place = p; open-is = open-shut (within bad d RECORD at) (sym found ∙ s) ∙ ap (λ (k : ℕ). Is (shut p) k) u }, a, b);
+      over = λ {n = k} t. let u : n ≡ k = cc in (
+        h,
+        record { place = p; open-is = open-shut (within bad d RECORD at) (sym found ∙ s) ∙ ap (λ (k : ℕ). Is (shut p) k) u },
+        a,
+        b,
+      );
       fails = λ t. never cc;
     }
 
-    pub turned-none : (p n : ℕ) → x ≡ opened.Shut p n → y .rows ≡ 0 → Turned bad d m seen y at rows rows′ lines lines′ (turns.Not (fault 2 p))
+    pub turned-none : (p n : ℕ) → x ≡ opened.Shut p n → y .rows ≡ 0
+        → Turned bad d m seen y at rows rows′ lines lines′ (turns.Not (fault 2 p))
     unfolding tallyOf
     turned-none p n s h = record {
       more = λ t. never cc;

@@ -65,13 +65,23 @@ prefaced-is (Is m n) e = ap prefaceRead e
 prefaced-is (Not f) e = ap prefaceRead e
 
 -- ---- what the rooms come to
-pub rooms-moved : {o p : ℕ → Outcome} {rows lines : List ℤ} {r : Rooms} → ((n : ℕ) → o n ≡ p n) → RoomsRead p rows lines r → RoomsRead o rows lines r
+pub rooms-moved : {o p : ℕ → Outcome} {rows lines : List ℤ} {r : Rooms} → ((n : ℕ) → o n ≡ p n) → RoomsRead p rows lines r
+    → RoomsRead o rows lines r
 rooms-moved h w = record {
-  stands = λ e. let s = w .stands e in record { read = s .read; fine = s .fine; few = s .few; count = s .count; many = s .many; cells = s .cells; outcome = λ n. h n ∙ s .outcome n };
+  stands = λ e. let s = w .stands e in record {
+    read = s .read;
+    fine = s .fine;
+    few = s .few;
+    count = s .count;
+    many = s .many;
+    cells = s .cells;
+    outcome = λ n. h n ∙ s .outcome n;
+  };
   refuses = λ e n. h n ∙ w .refuses e n;
 }
 
-pub rooms-refused : {o : ℕ → Outcome} {rows lines : List ℤ} (k p : ℕ) → ((n : ℕ) → o n ≡ Refusal k p) → RoomsRead o rows lines (rooms.Refused k p)
+pub rooms-refused : {o : ℕ → Outcome} {rows lines : List ℤ} (k p : ℕ) → ((n : ℕ) → o n ≡ Refusal k p)
+    → RoomsRead o rows lines (rooms.Refused k p)
 rooms-refused k p h = record {
   stands = λ e. never cc;
   refuses = λ {k = u} {p = v} e n.
@@ -118,7 +128,8 @@ module _ (bad : Bool) (d : List ℕ) (long : length d ≤ 1048576) (m : Manner) 
       by (Is l k) i j = never cc
       by (Not g) i j = let a : g ≡ f = cc in i ∙ ap Not a
 
-    pub body-not : (latin : Bool) (f : Fault) → q ≡ run.Not f → RoomsRead (λ n. settled latin d n (bodyOf bad d m at)) rows lines (rooms.Refused (f .number) (f .place))
+    pub body-not : (latin : Bool) (f : Fault) → q ≡ run.Not f
+        → RoomsRead (λ n. settled latin d n (bodyOf bad d m at)) rows lines (rooms.Refused (f .number) (f .place))
     unfolding bodyOf
     body-not latin f e = rooms-refused (f .number) (f .place) (λ n. rw (run-refused f e))
 
@@ -142,7 +153,8 @@ module _ (bad : Bool) (d : List ℕ) (long : length d ≤ 1048576) (m : Manner) 
       cells-are : cellsIn markXml y rows lines ≡ tableOf (s .read)
       unfolding cellsIn headerBy tallyOf headerFor tableOf headerCells allLines rowsFrom
       cells-are = ap (λ (z : Tally). cellsIn markXml z rows lines) (s .tally) ∙ held-parts (s .read) (s .held .held) (s .lines-are) where
-        held-parts : (l : List Entry) → take (rowSize * length l) rows ≡ rowsFrom 0 l → take (lineSize * linesAll (variablesOf l)) lines ≡ allLines (variablesOf l)
+        held-parts : (l : List Entry) → take (rowSize * length l) rows ≡ rowsFrom 0 l → take (lineSize * linesAll (variablesOf l)) lines
+            ≡ allLines (variablesOf l)
             → headerCells (headerFor l) ++ (take (rowSize * length l) rows ++ take (lineSize * linesAll (variablesOf l)) lines) ≡ tableOf l
         held-parts l a b = rw (a, b) refl
 
@@ -155,7 +167,8 @@ module _ (bad : Bool) (d : List ℕ) (long : length d ≤ 1048576) (m : Manner) 
       lines-here = ap (λ (z : Tally). z .lines) (s .tally)
 
       module _ (latin : Bool) (x : Reading) (shut : x ≡ readingOf (closing bad d k)) where
-        pub body-ends : (f : Fault) → x ≡ Refused f → RoomsRead (λ n. settled latin d n (bodyOf bad d m at)) rows lines (rooms.Refused (f .number) (f .place))
+        pub body-ends : (f : Fault) → x ≡ Refused f
+            → RoomsRead (λ n. settled latin d n (bodyOf bad d m at)) rows lines (rooms.Refused (f .number) (f .place))
         unfolding bodyOf
         body-ends f i = rooms-refused (f .number) (f .place) (λ n. rw (s .are, sym (passed-is (closing bad d k) shut) ∙ ap passed i))
 
@@ -173,22 +186,33 @@ module _ (bad : Bool) (d : List ℕ) (long : length d ≤ 1048576) (m : Manner) 
         } where
           stands-as : (z : Tally) → z ≡ y → ((n : ℕ) → settled latin d n (bodyOf bad d m at) ≡ fitting n (s .read))
               → Standing (λ n. settled latin d n (bodyOf bad d m at)) rows lines z
-          stands-as z u h = rw u (record { read = s .read; fine = s .fine; few = few-here; count = rows-are; many = lines-here; cells = cells-are; outcome = h })
+          stands-as z u h = rw u (record {
+            read = s .read;
+            fine = s .fine;
+            few = few-here;
+            count = rows-are;
+            many = lines-here;
+            cells = cells-are;
+            outcome = h;
+          })
 
 -- ---- behind the declaration
 pub ends-in : (d : List ℕ) (p : Prefaced) {m : code.Manner} {n : ℕ} → Ends d p → p ≡ prefaced.Is m n → n ≤ length d
 ends-in d (prefaced.Is m k) {n = n} h e = let b : k ≡ n = cc in omega (arith, h)
 ends-in d (prefaced.Not f) h e = never cc
 
-module _ (bad latin : Bool) (d : List ℕ) (at : ℕ) (p : Prefaced) (says : p ≡ prefacedOf (preface bad d latin at)) (rows lines : List ℤ) where
-  pub sheet-not : (f : Fault) → p ≡ prefaced.Not f → RoomsRead (λ n. settled latin d n (sheet bad d latin at)) rows lines (rooms.Refused (f .number) (f .place))
-  unfolding sheet
-  sheet-not f e = rooms-refused (f .number) (f .place) (λ n. rw (sym (prefaced-is (preface bad d latin at) (sym e ∙ says))))
+module _ (bad latin : Bool) (d : List ℕ) (at : ℕ) (p : Prefaced) (says : p ≡ prefacedOf (preface bad d latin at)) (rows lines : List ℤ)
+  where
+    pub sheet-not : (f : Fault) → p ≡ prefaced.Not f
+        → RoomsRead (λ n. settled latin d n (sheet bad d latin at)) rows lines (rooms.Refused (f .number) (f .place))
+    unfolding sheet
+    sheet-not f e = rooms-refused (f .number) (f .place) (λ n. rw (sym (prefaced-is (preface bad d latin at) (sym e ∙ says))))
 
-  pub sheet-here : (m : code.Manner) (k : ℕ) (r : Rooms) → p ≡ prefaced.Is m k → RoomsRead (λ n. settled latin d n (bodyOf bad d (ruleOf m) k)) rows lines r
-      → RoomsRead (λ n. settled latin d n (sheet bad d latin at)) rows lines r
-  unfolding sheet bodyOf
-  sheet-here m k r e w = rooms-moved (λ n. rw (sym (prefaced-is (preface bad d latin at) (sym e ∙ says)))) w
+    pub sheet-here : (m : code.Manner) (k : ℕ) (r : Rooms) → p ≡ prefaced.Is m k
+        → RoomsRead (λ n. settled latin d n (bodyOf bad d (ruleOf m) k)) rows lines r
+        → RoomsRead (λ n. settled latin d n (sheet bad d latin at)) rows lines r
+    unfolding sheet bodyOf
+    sheet-here m k r e w = rooms-moved (λ n. rw (sym (prefaced-is (preface bad d latin at) (sym e ∙ says)))) w
 
 -- ---- the whole
 start-few : (d : List ℕ) → startOf d ≤ length d
@@ -201,9 +225,11 @@ start-few d = by (stands (239 ∷ 187 ∷ 191 ∷ []) d) refl where
 pub declared-in : (d : List ℕ) (latin : Bool) (at : ℕ) → declarationOf d ≡ prolog.Read latin at → at ≤ length d
 unfolding declarationOf
 declared-in d latin at = by (stands XML (drop (startOf d) d)) where
-  by : (b : Bool) → cond b (tellOf false d (startOf d) (declaration (ltb 0 (startOf d))) false (startOf d)) (prolog.Read false (startOf d)) ≡ prolog.Read latin at
+  by : (b : Bool) → cond b (tellOf false d (startOf d) (declaration (ltb 0 (startOf d))) false (startOf d)) (prolog.Read false (startOf d))
+      ≡ prolog.Read latin at
       → at ≤ length d
-  by true e = rw (ap reach e) at (reaches false d (startOf d) (tells false d (startOf d) (declaration (ltb 0 (startOf d))) false (startOf d)) (start-few d))
+  by true e = rw (ap reach e) at (reaches false d (startOf d)
+      (tells false d (startOf d) (declaration (ltb 0 (startOf d))) false (startOf d)) (start-few d))
   by false e = let u : startOf d ≡ at = cc in omega (arith, start-few d)
 
 pub cut-in : (latin : Bool) (d : List ℕ) (at q : ℕ) → at ≤ length d → q ≡ firstBad latin d at → at ≤ q
@@ -218,7 +244,8 @@ module _ (d : List ℕ) (long : length d ≤ 1048576) (p : Prolog) (says : p ≡
   unfolding outcomeOf
   whole-not k q e = rooms-refused k q (λ n. rw (le-ltb 1048576 (length d) long, sym says ∙ e))
 
-  pub whole-here : (latin : Bool) (at q : ℕ) (bad : Bool) (r : Rooms) → p ≡ prolog.Read latin at → q ≡ firstBad latin d at → bad ≡ ltb q (length d)
+  pub whole-here : (latin : Bool) (at q : ℕ) (bad : Bool) (r : Rooms) → p ≡ prolog.Read latin at → q ≡ firstBad latin d at → bad
+      ≡ ltb q (length d)
       → RoomsRead (λ n. settled latin (take q d) n (sheet bad (take q d) latin at)) rows lines r → RoomsRead (outcomeOf d) rows lines r
   unfolding outcomeOf sheetOf
   whole-here latin at q bad r e f g w = rooms-moved (λ n. rw (le-ltb 1048576 (length d) long, sym says ∙ e, ← f, ← g)) w

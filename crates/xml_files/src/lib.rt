@@ -44,7 +44,8 @@ fn begin_variable(
     requires { ⌜ (length (now d) ≤ 1048576) × (place + 1 ≤ end) × (end ≤ length (now d)) ⌝ }
     requires { ⌜ (length (now lines) ≡ lineSize * mostLines) × (length (now marks) ≡ 16384) ⌝ }
     requires { ⌜ Sofar (now d) (now seen) y (now rows) ⌝ }
-    ensures { λ r. ⌜ Joined (now (d .entry)) (now (seen .entry)) y (now (rows .entry)) (now (rows .exit)) (now (lines .entry)) (now (lines .exit)) (begunAt bad (now (d .entry)) (ruleOf m) place end) r ⌝ }
+    ensures { λ r. ⌜ Joined (now (d .entry)) (now (seen .entry)) y (now (rows .entry)) (now (rows .exit)) (now (lines .entry))
+        (now (lines .exit)) (begunAt bad (now (d .entry)) (ruleOf m) place end) r ⌝ }
 {
     if !tags::is_named(d, place + 1, end, b"variable") {
         return Entered::Not(elements::misplaced(bad, d, place, end));
@@ -80,7 +81,8 @@ fn one_variable(
     requires { ⌜ (length (now d) ≤ 1048576) × (at ≤ length (now d)) ⌝ }
     requires { ⌜ (length (now lines) ≡ lineSize * mostLines) × (length (now marks) ≡ 16384) ⌝ }
     requires { ⌜ Sofar (now d) (now seen) y (now rows) ⌝ }
-    ensures { λ r. ⌜ Turned bad (now (d .entry)) (ruleOf m) (now (seen .entry)) y at (now (rows .entry)) (now (rows .exit)) (now (lines .entry)) (now (lines .exit)) r ⌝ }
+    ensures { λ r. ⌜ Turned bad (now (d .entry)) (ruleOf m) (now (seen .entry)) y at (now (rows .entry)) (now (rows .exit))
+        (now (lines .entry)) (now (lines .exit)) r ⌝ }
 {
     match elements::find_open(bad, d, at, b"record") {
         Open::Start { place, end } => match begin_variable(
@@ -211,7 +213,8 @@ fn read_body(
     requires { ⌜ (length (now d) ≤ 1048576) × (at ≤ length (now d)) ⌝ }
     requires { ⌜ (length (now rows) ≡ rowSize * mostRows) × (length (now lines) ≡ lineSize * mostLines) × (length (now marks) ≡ 16384) ⌝ }
     requires { ⌜ now seen ≡ zeros 10000 ⌝ }
-    ensures { λ r. ⌜ RoomsRead (λ n. settled latin (now (d .entry)) n (bodyOf bad (now (d .entry)) (ruleOf m) at)) (now (rows .exit)) (now (lines .exit)) r ⌝ }
+    ensures { λ r. ⌜ RoomsRead (λ n. settled latin (now (d .entry)) n (bodyOf bad (now (d .entry)) (ruleOf m) at)) (now (rows .exit))
+        (now (lines .exit)) r ⌝ }
 {
     match read_variables(powers, bad, d, at, m, rows, lines, marks, seen) {
         Run::Is { tally, next } => match prefaces::read_closing(bad, d, next) {
@@ -246,7 +249,8 @@ fn read_sheet(
     requires { ⌜ (length (now d) ≤ 1048576) × (at ≤ length (now d)) ⌝ }
     requires { ⌜ (length (now rows) ≡ rowSize * mostRows) × (length (now lines) ≡ lineSize * mostLines) × (length (now marks) ≡ 16384) ⌝ }
     requires { ⌜ now seen ≡ zeros 10000 ⌝ }
-    ensures { λ r. ⌜ RoomsRead (λ n. settled latin (now (d .entry)) n (sheet bad (now (d .entry)) latin at)) (now (rows .exit)) (now (lines .exit)) r ⌝ }
+    ensures { λ r. ⌜ RoomsRead (λ n. settled latin (now (d .entry)) n (sheet bad (now (d .entry)) latin at)) (now (rows .exit))
+        (now (lines .exit)) r ⌝ }
 {
     match prefaces::read_preface(bad, latin, d, at) {
         Prefaced::Is { manner, next } => read_body(

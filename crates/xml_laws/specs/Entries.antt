@@ -31,15 +31,18 @@ use Rattle.xml_reading.specs.rule.Word.{VARIABLE, NAME, LABEL, POSITION, FILTER
 use Rattle.xml_reading.specs.rule.Open.{Open, start, shut, within, misplaced, either, due, over, unknownAt, onTag, entered}
 use Rattle.xml_reading.specs.rule.Element.{figureOf, text, position, spread, size}
 use Rattle.xml_reading.specs.rule.Block.{rich, values}
-use Rattle.xml_reading.specs.rule.Role.{Entry, Title, variablesOf, typeAt, useAt, mayServe, useWrong, sameName, countNamed, filterFrom, filterOf, hasServed, title, naming, filter}
+use Rattle.xml_reading.specs.rule.Role.{Entry, Title, variablesOf, typeAt, useAt, mayServe, useWrong, sameName, countNamed, filterFrom}
+use Rattle.xml_reading.specs.rule.Role.{filterOf, hasServed, title, naming, filter}
 use Rattle.xml_reading.specs.rule.Variable.{Manner, Then, with, inside, filtered, spreading, block, ended, content, variable}
 use Rattle.elements.proofs.Bounds.{tag-within}
 use Rattle.xml_bridge.specs.Book.{saids, blockAs}
 use Rattle.xml_bridge.specs.Settle.{Told, as-single, as-multiple, as-quantity, as-character, as-logical}
-use Rattle.xml_bridge.specs.Good.{FineContent, fine-single, fine-multiple, fine-quantity, fine-character, fine-logical, FineVariable, good-book}
+use Rattle.xml_bridge.specs.Good.{FineContent, fine-single, fine-multiple, fine-quantity, fine-character, fine-logical, FineVariable}
+use Rattle.xml_bridge.specs.Good.{good-book}
 use Rattle.xml_bridge.specs.Table.{Filters, FineEntry, FineEntries, entries-count, entries-few}
 use Rattle.xml_bridge.specs.Table as table
-use Rattle.xml_laws.specs.Reads.{judged-is, moved, clear-head, clear-tail, clear-right, opened, bound, Lying, text-long, Positioned, position-fine}
+use Rattle.xml_laws.specs.Reads.{judged-is, moved, clear-head, clear-tail, clear-right, opened, bound, Lying, text-long, Positioned}
+use Rattle.xml_laws.specs.Reads.{position-fine}
 use Rattle.xml_laws.specs.Reads.{Parted, spread-fine, Sized, size-fine, within-long, misplaced-never}
 use Rattle.xml_laws.specs.Parts.{afterContent, afterFilter, afterPosition, afterLabel, afterName, afterTitle, variable-is}
 use Rattle.xml_laws.specs.Values.{Sofar, values-fine, good-values}
@@ -57,7 +60,8 @@ module _ (bad : Bool) (d : List ℕ) where
     pub start-is : o ≡ start place
     pub then-is : k place n ≡ Is a m
 
-  pub due-is : {A : Type 0} (w : List ℕ) (o : Open) (k : ℕ → Reader A) (n : ℕ) {a : A} {m : ℕ} → due bad d w o k n ≡ Is a m → Due w o k n a m
+  pub due-is : {A : Type 0} (w : List ℕ) (o : Open) (k : ℕ → Reader A) (n : ℕ) {a : A} {m : ℕ} → due bad d w o k n ≡ Is a m
+      → Due w o k n a m
   due-is {A} w (start p) k n {a} {m} f = by (isNamed d (p + 1) n w) f where
     by : (q : Bool) → cond q (k p n) (misplaced bad d {A = A} p n) ≡ Is a m → Due w (start p) k n a m
     by true f = record { place = p; start-is = refl; then-is = f }
@@ -92,8 +96,10 @@ module _ (bad : Bool) (d : List ℕ) where
     by false false true = omega arith
     by false false false = omega arith
 
-  title-charged : (l : List Entry) (x : Figure) (u c t : ℕ) (k : ℕ) → Clear (identCharges (variablesOf l) x ++ unknownAt k ∷ fault 52 c when useWrong l u t ∷ [])
-      → (1 ≤ x .value) × (x .digits ≤ 4) × (someOf (λ v. eqb (v .ident .value) (x .value)) (variablesOf l) ≡ false) × (length l < mostRows) × (useWrong l u t ≡ false)
+  title-charged : (l : List Entry) (x : Figure) (u c t : ℕ) (k : ℕ)
+      → Clear (identCharges (variablesOf l) x ++ unknownAt k ∷ fault 52 c when useWrong l u t ∷ [])
+      → (1 ≤ x .value) × (x .digits ≤ 4) × (someOf (λ v. eqb (v .ident .value) (x .value)) (variablesOf l) ≡ false) × (length l < mostRows)
+      × (useWrong l u t ≡ false)
   unfolding identCharges
   title-charged l x u c t k (clear a (clear b (clear e (clear f (clear g (clear h r)))))) =
       (some-one (x .value) a, ltb-false 4 (x .digits) b, e, rw (entries-count l) at (leb-false mostRows (length (variablesOf l)) f), h)
@@ -150,34 +156,48 @@ module _ (bad : Bool) (d : List ℕ) where
   logical-from : (f : Text → Bool) (i : ℕ) (l : List Entry) → eqb (filterFrom f i l) 0 ≡ false → Logical i l (filterFrom f i l)
   unfolding filterFrom
   logical-from f i [] e = never cc
-  logical-from f i (v ∷ l) e = by (f (v .variable .name) && eqb (typeOf (v .variable .content)) 5) refl e (λ g. logical-from f (i + 1) l g) where
-    by : (q : Bool) → (f (v .variable .name) && eqb (typeOf (v .variable .content)) 5) ≡ q → eqb (cond q (i + 1) (filterFrom f (i + 1) l)) 0 ≡ false
-        → (eqb (filterFrom f (i + 1) l) 0 ≡ false → Logical (i + 1) l (filterFrom f (i + 1) l)) → Logical i (v ∷ l) (cond q (i + 1) (filterFrom f (i + 1) l))
-    by true g e ih = record {
-      front = [];
-      row = v;
-      rest = l;
-      is = refl;
-      count = omega arith;
-      typed = eqb-true (typeOf (v .variable .content)) 5 (and-right (f (v .variable .name)) (eqb (typeOf (v .variable .content)) 5) g);
-    }
-    by false g e ih =
-        let o = ih e in
-        record { front = v ∷ o .front; row = o .row; rest = o .rest; is = ap (λ (m : List Entry). v ∷ m) (o .is); count = o .count ∙ omega arith; typed = o .typed }
+  logical-from f i (v ∷ l) e = by (f (v .variable .name) && eqb (typeOf (v .variable .content)) 5) refl e (λ g. logical-from f (i + 1) l g)
+    where
+      by : (q : Bool) → (f (v .variable .name) && eqb (typeOf (v .variable .content)) 5) ≡ q
+          → eqb (cond q (i + 1) (filterFrom f (i + 1) l)) 0
+          ≡ false
+          → (eqb (filterFrom f (i + 1) l) 0 ≡ false → Logical (i + 1) l (filterFrom f (i + 1) l))
+          → Logical i (v ∷ l) (cond q (i + 1) (filterFrom f (i + 1) l))
+      by true g e ih = record {
+        front = [];
+        row = v;
+        rest = l;
+        is = refl;
+        count = omega arith;
+        typed = eqb-true (typeOf (v .variable .content)) 5 (and-right (f (v .variable .name)) (eqb (typeOf (v .variable .content)) 5) g);
+      }
+      by false g e ih =
+          let o = ih e in
+          record {
+            front = v ∷ o .front;
+            row = o .row;
+            rest = o .rest;
+            is = ap (λ (m : List Entry). v ∷ m) (o .is);
+            count = o .count
+                ∙ omega arith;
+            typed = o .typed;
+          }
 
   pub data Filter (l : List Entry) (usage : ℕ) : ℕ → Type 0 where
     no-filter : Filter l usage 0
     one-filter : {f : ℕ} → usage ≡ 0 → Logical 0 l f → Filter l usage f
 
   module _ (latin standard : Bool) (l : List Entry) (name : Text) (usage : ℕ) where
-    filter-named : (t : Text) → eqb (filterOf latin standard d l name usage t) 0 ≡ false → Filter l usage (filterOf latin standard d l name usage t)
+    filter-named : (t : Text) → eqb (filterOf latin standard d l name usage t) 0 ≡ false
+        → Filter l usage (filterOf latin standard d l name usage t)
     unfolding filterOf
-    filter-named t = by (eqb usage 0) (not (sameName latin standard d t name) && eqb (countNamed (sameName latin standard d t) l) 1) refl where
-      by : (p q : Bool) → eqb usage 0 ≡ p → eqb (cond (p && q) (filterFrom (sameName latin standard d t) 0 l) 0) 0 ≡ false
-          → Filter l usage (cond (p && q) (filterFrom (sameName latin standard d t) 0 l) 0)
-      by true true g e = one-filter (eqb-true usage 0 g) (logical-from (sameName latin standard d t) 0 l e)
-      by true false g e = never cc
-      by false q g e = never cc
+    filter-named t = by (eqb usage 0) (not (sameName latin standard d t name) && eqb (countNamed (sameName latin standard d t) l) 1) refl
+      where
+        by : (p q : Bool) → eqb usage 0 ≡ p → eqb (cond (p && q) (filterFrom (sameName latin standard d t) 0 l) 0) 0 ≡ false
+            → Filter l usage (cond (p && q) (filterFrom (sameName latin standard d t) 0 l) 0)
+        by true true g e = one-filter (eqb-true usage 0 g) (logical-from (sameName latin standard d t) 0 l e)
+        by true false g e = never cc
+        by false q g e = never cc
 
     pub filter-fine : (p e : ℕ) {f n : ℕ} → filter bad d latin standard l name usage p e ≡ Is f n → Filter l usage f
     unfolding filter
@@ -198,25 +218,31 @@ module _ (bad : Bool) (d : List ℕ) where
           let r : e ≡ n = cc in
           moved (λ (x : Then ℕ) (n : ℕ). Filter l usage (x .it) × (1 ≤ n) × (n ≤ length d)) q r (no-filter, g, h)
 
-      read : (p : ℕ) → bind (filter bad d (m .latin) (m .standard) l name usage p e) (λ f k. bind (within bad d VARIABLE k) λ o j. Is (with f o) j) ≡ Is x n
+      read : (p : ℕ) → bind (filter bad d (m .latin) (m .standard) l name usage p e)
+          (λ f k. bind (within bad d VARIABLE k) λ o j. Is (with f o) j) ≡ Is x n
           → Filter l usage (x .it) × (1 ≤ n) × (n ≤ length d)
       read p f =
           let b = bound (filter bad d (m .latin) (m .standard) l name usage p e) _ x n f in
           let c = bound (within bad d VARIABLE (b .place)) _ x n (b .then-is) in
           let q : with (b .value) (c .value) ≡ x = cc in
           let r : c .place ≡ n = cc in
-          moved (λ (x : Then ℕ) (n : ℕ). Filter l usage (x .it) × (1 ≤ n) × (n ≤ length d)) q r
-          (filter-fine (m .latin) (m .standard) l name usage p e (b .first-is), within-long bad d VARIABLE (b .place) (c .first-is) .0, within-long bad d VARIABLE (b .place) (c .first-is) .1)
+          moved (λ (x : Then ℕ) (n : ℕ). Filter l usage (x .it) × (1 ≤ n) × (n ≤ length d)) q r (
+            filter-fine (m .latin) (m .standard) l name usage p e (b .first-is),
+            within-long bad d VARIABLE (b .place) (c .first-is) .0,
+            within-long bad d VARIABLE (b .place) (c .first-is) .1,
+          )
 
       by : (old : Bool) (o : Open)
           → cond old (λ n. Is (with 0 o) n)
-          (either bad d FILTER o (λ p n. bind (filter bad d (m .latin) (m .standard) l name usage p n) λ f k. bind (within bad d VARIABLE k) λ o j. Is (with f o) j)
+          (either bad d FILTER o (λ p n. bind (filter bad d (m .latin) (m .standard) l name usage p n) λ f k. bind (within bad d VARIABLE k)
+          λ o j. Is (with f o) j)
           (λ n. Is (with 0 o) n)) e ≡ Is x n
           → Filter l usage (x .it) × (1 ≤ n) × (n ≤ length d)
       by true o f = none-there o f
       by false (shut p) f = none-there (shut p) f
       by false (start p) f = on (isNamed d (p + 1) e FILTER) f where
-        on : (q : Bool) → cond q (bind (filter bad d (m .latin) (m .standard) l name usage p e) (λ f k. bind (within bad d VARIABLE k) λ o j. Is (with f o) j)) (Is (with 0 (start p)) e) ≡ Is x n
+        on : (q : Bool) → cond q (bind (filter bad d (m .latin) (m .standard) l name usage p e)
+            (λ f k. bind (within bad d VARIABLE k) λ o j. Is (with f o) j)) (Is (with 0 (start p)) e) ≡ Is x n
             → Filter l usage (x .it) × (1 ≤ n) × (n ≤ length d)
         on true f = read p f
         on false f = none-there (start p) f
@@ -272,11 +298,13 @@ module _ (bad : Bool) (d : List ℕ) where
           let r : e ≡ n = cc in
           moved (λ (x : Then (Option Spread)) (n : ℕ). PartsFor (x .it)) q r (record { count = 0; width = 0; parts = bits })
 
-      by : (o : Open) → either bad d SPREAD o (λ p′ n. bind (spread bad d (room p) p′ n) λ s k. bind (within bad d VARIABLE k) λ o j. Is (with (some s) o) j)
+      by : (o : Open) → either bad d SPREAD o (λ p′ n. bind (spread bad d (room p) p′ n) λ s k. bind (within bad d VARIABLE k) λ o j. Is
+          (with (some s) o) j)
           (λ n. Is (with none o) n) e ≡ Is x n → PartsFor (x .it)
       by (shut q) f = none-there (shut q) f
       by (start q) f = on (isNamed d (q + 1) e SPREAD) f where
-        on : (t : Bool) → cond t (bind (spread bad d (room p) q e) λ s k. bind (within bad d VARIABLE k) λ o j. Is (with (some s) o) j) (Is (with none (start q)) e) ≡ Is x n
+        on : (t : Bool) → cond t (bind (spread bad d (room p) q e) λ s k. bind (within bad d VARIABLE k) λ o j. Is (with (some s) o) j)
+            (Is (with none (start q)) e) ≡ Is x n
             → PartsFor (x .it)
         on false f = none-there (start q) f
         on true f =
@@ -299,40 +327,82 @@ module _ (bad : Bool) (d : List ℕ) where
           let b = bound (block bad d m false before o e) _ c n f in
           let z = ended-is m (single (b .value)) (b .place) (b .then-is) in
           let s = block-fine false o e (b .first-is) in
-          moved (Contained l u p before) (z .0) refl (record { subfields = 0; subwidth = 0; told = as-single; fine = fine-single (good-values bad d long s); right = right 1 g; plain = s .plain; next = z .1 })
+          moved (Contained l u p before) (z .0) refl
+          (record {
+            subfields = 0;
+            subwidth = 0;
+            told = as-single;
+            fine = fine-single (good-values bad d long s);
+            right = right 1 g;
+            plain = s .plain;
+            next = z .1;
+          })
 
-      two : bind (spreading bad d m (room p) o e) (λ s n. bind (block bad d m false before (s .behind) n) λ b. ended bad d m (multiple (s .it) b)) ≡ Is c n → eqb t 2 ≡ true → Contained l u p before c n
+      two : bind (spreading bad d m (room p) o e)
+          (λ s n. bind (block bad d m false before (s .behind) n) λ b. ended bad d m (multiple (s .it) b)) ≡ Is c n → eqb t 2 ≡ true
+          → Contained l u p before c n
       two f g =
           let a = bound (spreading bad d m (room p) o e) _ c n f in
           let b = bound (block bad d m false before (a .value .behind) (a .place)) _ c n (a .then-is) in
           let z = ended-is m (multiple (a .value .it) (b .value)) (b .place) (b .then-is) in
           let s = block-fine false (a .value .behind) (a .place) (b .first-is) in
           let y = spreading-fine o e (a .first-is) in
-          moved (Contained l u p before) (z .0) refl (record { subfields = y .count; subwidth = y .width; told = as-multiple (y .parts); fine = fine-multiple (good-values bad d long s); right = right 2 g; plain = s .plain; next = z .1 })
+          moved (Contained l u p before) (z .0) refl
+          (record {
+            subfields = y .count;
+            subwidth = y .width;
+            told = as-multiple (y .parts);
+            fine = fine-multiple
+                (good-values bad d long s);
+            right = right 2 g;
+            plain = s .plain;
+            next = z .1;
+          })
 
       three : bind (block bad d m true before o e) (λ b. ended bad d m (quantity b)) ≡ Is c n → eqb t 3 ≡ true → Contained l u p before c n
       three f g =
           let b = bound (block bad d m true before o e) _ c n f in
           let z = ended-is m (quantity (b .value)) (b .place) (b .then-is) in
           let s = block-fine true o e (b .first-is) in
-          moved (Contained l u p before) (z .0) refl (record { subfields = 0; subwidth = 0; told = as-quantity; fine = fine-quantity (good-values bad d long s); right = right 3 g; plain = s .plain; next = z .1 })
+          moved (Contained l u p before) (z .0) refl
+          (record {
+            subfields = 0;
+            subwidth = 0;
+            told = as-quantity;
+            fine = fine-quantity (good-values bad d long s);
+            right = right 3 g;
+            plain = s .plain;
+            next = z .1;
+          })
 
-      four : bind (due bad d SIZE o (size bad d) e) (λ x. ended bad d m (character x)) ≡ Is c n → eqb t 4 ≡ true → Contained l u p before c n
+      four : bind (due bad d SIZE o (size bad d) e) (λ x. ended bad d m (character x)) ≡ Is c n → eqb t 4 ≡ true
+          → Contained l u p before c n
       four f g =
           let b = bound (due bad d SIZE o (size bad d) e) _ c n f in
           let z = ended-is m (character (b .value)) (b .place) (b .then-is) in
           let x = due-is SIZE o (size bad d) e (b .first-is) in
           let s = size-fine bad d (x .place) e h (x .then-is) in
-          moved (Contained l u p before) (z .0) refl (record { subfields = 0; subwidth = 0; told = as-character; fine = fine-character (s .some) (s .few); right = right 4 g; plain = refl; next = z .1 })
+          moved (Contained l u p before) (z .0) refl
+          (record {
+            subfields = 0;
+            subwidth = 0;
+            told = as-character;
+            fine = fine-character (s .some) (s .few);
+            right = right 4 g;
+            plain = refl;
+            next = z .1;
+          })
 
       five : bind (over bad d o e) (λ a j. Is logical j) ≡ Is c n → eqb t 3 ≡ false → eqb t 4 ≡ false → Contained l u p before c n
       five f a b =
           let z = over-is logical o e f in
-          moved (Contained l u p before) (z .0) (z .1) (record { subfields = 0; subwidth = 0; told = as-logical; fine = fine-logical; right = idle l u t a b w; plain = refl; next = k })
+          moved (Contained l u p before) (z .0) (z .1)
+          (record { subfields = 0; subwidth = 0; told = as-logical; fine = fine-logical; right = idle l u t a b w; plain = refl; next = k })
 
       by : (q r s z : Bool) → eqb t 1 ≡ q → eqb t 2 ≡ r → eqb t 3 ≡ s → eqb t 4 ≡ z
           → cond {A = Reader Content} q (λ e. bind (block bad d m false before o e) λ b. ended bad d m (single b))
-          (cond r (λ e. bind (spreading bad d m (room p) o e) λ s n. bind (block bad d m false before (s .behind) n) λ b. ended bad d m (multiple (s .it) b))
+          (cond r (λ e. bind (spreading bad d m (room p) o e) λ s n. bind (block bad d m false before (s .behind) n) λ b. ended bad d m
+          (multiple (s .it) b))
           (cond s (λ e. bind (block bad d m true before o e) λ b. ended bad d m (quantity b))
           (cond z (λ e. bind (due bad d SIZE o (size bad d) e) λ x. ended bad d m (character x))
           (λ e. bind (over bad d o e) λ a j. Is logical j)))) e ≡ Is c n
@@ -364,7 +434,8 @@ module _ (bad : Bool) (d : List ℕ) where
     unfolding naming
     naming-long p e {t} {n} f =
         let b = bound (text bad d NAME 0 p e) _ t n f in
-        let j = judged-is (fault 52 (b .value .place) when hasServed (m .latin) (m .standard) d l (b .value) ∷ []) (b .value) (b .place) (b .then-is) in
+        let j = judged-is (fault 52 (b .value .place) when hasServed (m .latin) (m .standard) d l (b .value) ∷ []) (b .value) (b .place)
+        (b .then-is) in
         moved (Lying bad d) (j .0) (j .1) (text-long bad d NAME 0 p e (b .first-is))
 
     filters-of : {u f : ℕ} (v : Entry) → v .usage ≡ u → v .filter ≡ f → Filter l u f → Filters l v
@@ -372,9 +443,11 @@ module _ (bad : Bool) (d : List ℕ) where
     filters-of v a b (one-filter e x) = table.filtered (x .front) (x .rest) (x .row) (a ∙ e) (x .is) (b ∙ x .count ∙ omega arith) (x .typed)
 
     module _ (t : Title) (n₀ : ℕ) (tf : Titled (m .old) l t n₀) (short : t .ident .value < 10000) where
-      module _ (name label : Text) (p : Position) (n₁ : ℕ) (nb : name .place + name .length ≤ length d) (lb : label .place + label .length ≤ length d)
+      module _ (name label : Text) (p : Position) (n₁ : ℕ) (nb : name .place + name .length ≤ length d)
+          (lb : label .place + label .length ≤ length d)
           (pf : Positioned bad d p n₁) where
-        fine-made : (f : ℕ) (c : Content) {j : ℕ} → holds (variableOf (t .ident) name label p c) ≡ true → Filter l (t .usage) f → Contained l (t .usage) p before c j
+        fine-made : (f : ℕ) (c : Content) {j : ℕ} → holds (variableOf (t .ident) name label p c) ≡ true → Filter l (t .usage) f
+            → Contained l (t .usage) p before c j
             → FineEntry l (record { variable = variableOf (t .ident) name label p c; usage = t .usage; filter = f })
         fine-made f c h flt cf = record {
           good = good-book before (cf .subfields) (cf .subwidth) (variableOf (t .ident) name label p c) (entries-few g .1) (record {
@@ -419,26 +492,31 @@ module _ (bad : Bool) (d : List ℕ) where
             let w = bound (content bad d m p before (t .type) (s .value .behind) (s .place)) _ v n (s .then-is) in
             let rr = within-long bad d VARIABLE e (r .first-is) in
             let ff = filtered-fine m l name (t .usage) (r .value) (r .place) (rr .0) (rr .1) (s .first-is) in
-            let cf = content-fine long m l (t .usage) p before (entries-few g .1) (room-some p (pf .ordered)) (room-few p (pf .from-one) (pf .low)) (t .type)
+            let cf = content-fine long m l (t .usage) p before (entries-few g .1) (room-some p (pf .ordered))
+            (room-few p (pf .from-one) (pf .low)) (t .type)
             (s .value .behind) (s .place) (ff .1) (ff .2) (tf .right) (w .first-is) in
             content-read (s .value .it) (w .value) (w .place) (ff .0) cf (w .then-is)
 
-      label-read : (name label : Text) (e : ℕ) {v : Entry} {n : ℕ} → name .place + name .length ≤ length d → label .place + label .length ≤ length d
+      label-read : (name label : Text) (e : ℕ) {v : Entry} {n : ℕ} → name .place + name .length ≤ length d → label .place + label .length
+          ≤ length d
           → afterLabel bad d m l t name label e ≡ Is v n → Read l v n
       unfolding afterLabel
       label-read name label e {v} {n} nb lb z =
           let k = bound (within bad d VARIABLE e) _ v n z in
           let o = bound (due bad d POSITION (k .value) (position bad d) (k .place)) _ v n (k .then-is) in
           let pp = due-is POSITION (k .value) (position bad d) (k .place) (o .first-is) in
-          position-read name label (o .value) (o .place) nb lb (position-fine bad d (pp .place) (k .place) (pp .then-is)) (o .place) (o .then-is)
+          position-read name label (o .value) (o .place) nb lb (position-fine bad d (pp .place) (k .place) (pp .then-is)) (o .place)
+          (o .then-is)
 
-      name-read : (name : Text) (e : ℕ) {v : Entry} {n : ℕ} → name .place + name .length ≤ length d → afterName bad d m l t name e ≡ Is v n → Read l v n
+      name-read : (name : Text) (e : ℕ) {v : Entry} {n : ℕ} → name .place + name .length ≤ length d → afterName bad d m l t name e ≡ Is v n
+          → Read l v n
       unfolding afterName
       name-read name e {v} {n} nb z =
           let k = bound (within bad d VARIABLE e) _ v n z in
           let o = bound (due bad d LABEL (k .value) (text bad d LABEL (rich (m .languages))) (k .place)) _ v n (k .then-is) in
           let pp = due-is LABEL (k .value) (text bad d LABEL (rich (m .languages))) (k .place) (o .first-is) in
-          label-read name (o .value) (o .place) nb (text-long bad d LABEL (rich (m .languages)) (pp .place) (k .place) (pp .then-is) .inside) (o .then-is)
+          label-read name (o .value) (o .place) nb
+          (text-long bad d LABEL (rich (m .languages)) (pp .place) (k .place) (pp .then-is) .inside) (o .then-is)
 
       title-read : (e : ℕ) {v : Entry} {n : ℕ} → afterTitle bad d m l t e ≡ Is v n → Read l v n
       unfolding afterTitle
@@ -451,4 +529,5 @@ module _ (bad : Bool) (d : List ℕ) where
     pub entry-read : (q e : ℕ) {v : Entry} {n : ℕ} → variable bad d m l q e ≡ Is v n → Read l v n
     entry-read q e {v} {n} f =
         let a = bound (title bad d (m .old) l q e) (afterTitle bad d m l) v n (sym (variable-is bad d m l q e) ∙ f) in
-        title-read (a .value) (a .place) (title-fine (m .old) l q e (a .first-is)) (few q e (a .value) (a .place) (a .first-is)) (a .place) (a .then-is)
+        title-read (a .value) (a .place) (title-fine (m .old) l q e (a .first-is)) (few q e (a .value) (a .place) (a .first-is)) (a .place)
+        (a .then-is)

@@ -1,4 +1,5 @@
--- A variable of the rule step by step: what is still to be read behind its start tag, its name, its label, its position, its filter, its values.
+-- A variable of the rule step by step: what is still to be read behind its start tag, its name, its label, its position, its filter, its
+-- values.
 use mathlib.Core.Path.{_≡_, refl}
 use mathlib.Core.Bool.{Bool}
 use mathlib.Core.List.{List}
@@ -19,7 +20,8 @@ module _ (bad : Bool) (d : List ℕ) (m : Manner) (l : List Entry) (t : Title) w
   module _ (name label : Text) (p : Position) where
     -- width, once its end tag is read
     unfoldable pub afterContent : ℕ → Content → Reader Entry
-    afterContent f c n = bind (held (variableOf (t .ident) name label p c) n) λ v k. Is (record { variable = v; usage = t .usage; filter = f }) k
+    afterContent f c n = bind (held (variableOf (t .ident) name label p c) n) λ v k. Is
+        (record { variable = v; usage = t .usage; filter = f }) k
 
     unfoldable pub afterFilter : Then ℕ → Reader Entry
     afterFilter x n = bind (content bad d m p (linesAll (variablesOf l)) (t .type) (x .behind) n) (afterContent (x .it))
@@ -31,7 +33,8 @@ module _ (bad : Bool) (d : List ℕ) (m : Manner) (l : List Entry) (t : Title) w
   afterLabel name label n = bind (within bad d VARIABLE n) λ o k. bind (due bad d POSITION o (position bad d) k) (afterPosition name label)
 
   unfoldable pub afterName : Text → Reader Entry
-  afterName name n = bind (within bad d VARIABLE n) λ o k. bind (due bad d LABEL o (text bad d LABEL (rich (m .languages))) k) (afterLabel name)
+  afterName name n = bind (within bad d VARIABLE n) λ o k. bind (due bad d LABEL o (text bad d LABEL (rich (m .languages))) k)
+      (afterLabel name)
 
   unfoldable pub afterTitle : Reader Entry
   afterTitle n = bind (within bad d VARIABLE n) λ o k. bind (due bad d NAME o (naming bad d (m .latin) (m .standard) l) k) afterName

@@ -1,4 +1,5 @@
--- What was read and judged with nothing at fault: texts, position, spread, size. Each lies within the file and holds what its charges ask for.
+-- What was read and judged with nothing at fault: texts, position, spread, size. Each lies within the file and holds what its charges ask
+-- for.
 use mathlib.Core.Path.{_≡_, refl, _∙_, sym, ap}
 use mathlib.Core.Logic.{_⊎_, inl, inr, ⊎-elim}
 use mathlib.Core.Bool.{Bool, true, false, cond, not}
@@ -47,7 +48,8 @@ use Rattle.contents.specs.rule.Content.{begun}
 use Rattle.contents.specs.declared.Going.{Going}
 use Rattle.contents.specs.declared.Step.{Step}
 use Rattle.contents.specs.declared.Step.the-variants as step
-use Rattle.contents.specs.rule.Step.{bracketAt, returnAt, onChar, referAt, onNote, noteAt, onOther, otherAt, kindOf, startAt, onEnd, closeAt, onAngle, markAt, stepOf}
+use Rattle.contents.specs.rule.Step.{bracketAt, returnAt, onChar, referAt, onNote, noteAt, onOther, otherAt, kindOf, startAt, onEnd}
+use Rattle.contents.specs.rule.Step.{closeAt, onAngle, markAt, stepOf}
 use Rattle.contents.proofs.Goes.{Goes, stay, on, Reached, content-reached, step-on}
 use Rattle.tokens.specs.rule.Gap.{fault}
 use Rattle.tokens.specs.declared.Fault.{Fault}
@@ -99,7 +101,8 @@ pub record Opened {A : Type 0} (t : Tag) (k : Held → Bool → ℕ → Reader A
   pub tag-is : t ≡ tag.Read held empty place next
   pub then-is : k held empty place next ≡ Is a n
 
-pub opened : {A : Type 0} (bad : Bool) (d : List ℕ) (t : Tag) (k : Held → Bool → ℕ → Reader A) (a : A) (n : ℕ) → onTag bad d t k ≡ Is a n → Opened t k a n
+pub opened : {A : Type 0} (bad : Bool) (d : List ℕ) (t : Tag) (k : Held → Bool → ℕ → Reader A) (a : A) (n : ℕ) → onTag bad d t k ≡ Is a n
+    → Opened t k a n
 opened bad d (tag.Read h em q m) k a n e = record { held = h; empty = em; place = q; next = m; tag-is = refl; then-is = e }
 opened bad d (tag.Fault j q) k a n e = never cc
 
@@ -115,7 +118,8 @@ bound (Not f) k b n e = never cc
 
 -- ---- nothing inside
 module _ (bad : Bool) (d : List ℕ) where
-  pub nothing-long : (w : List ℕ) (em : Bool) (n : ℕ) {l : List Charge} {m : ℕ} → n ≤ length d → nothing bad d w em n ≡ Is l m → Clear l → m ≤ length d
+  pub nothing-long : (w : List ℕ) (em : Bool) (n : ℕ) {l : List Charge} {m : ℕ} → n ≤ length d → nothing bad d w em n ≡ Is l m → Clear l → m
+      ≤ length d
   unfolding nothing
   nothing-long w true n {m = m} h e c = let q : n ≡ m = cc in omega arith
   nothing-long w false n {l} {m} h e c = by (pairOf bad d n w) refl e where
@@ -133,7 +137,8 @@ module _ (bad : Bool) (d : List ℕ) where
     pub inside : t .place + t .length ≤ length d
     pub next : n ≤ length d
 
-  pub body-long : (w : List ℕ) (m : ℕ) (em : Bool) (n : ℕ) {b : Body} {k : ℕ} → n ≤ length d → body bad d w m em n ≡ Is b k → Clear (b .charges) → Lying (b .text) k
+  pub body-long : (w : List ℕ) (m : ℕ) (em : Bool) (n : ℕ) {b : Body} {k : ℕ} → n ≤ length d → body bad d w m em n ≡ Is b k
+      → Clear (b .charges) → Lying (b .text) k
   unfolding body
   body-long w m true n {b} {k} h e c =
       let q : bodyOf n n true [] ≡ b = cc in
@@ -175,7 +180,8 @@ module _ (bad : Bool) (d : List ℕ) where
   some-value : (n : ℕ) → eqb n 0 ≡ false → 1 ≤ n
   some-value n e = let h = eqb-false n 0 e in omega arith
 
-  charged : (a b : Figure) (l : List Charge) → Clear (positionCharges a b ++ l) → (1 ≤ a .value) × (a .value ≤ b .value) × (b .value ≤ 16384)
+  charged : (a b : Figure) (l : List Charge) → Clear (positionCharges a b ++ l) → (1 ≤ a .value) × (a .value ≤ b .value)
+      × (b .value ≤ 16384)
   unfolding positionCharges
   charged a b l (clear x (clear y (clear z (clear w r)))) =
       (some-value (a .value) x, ltb-false (b .value) (a .value) y, ltb-false 16384 (b .value) w)
@@ -188,10 +194,12 @@ module _ (bad : Bool) (d : List ℕ) where
       let a = figureOf d (h .a) (h .ae) in
       let c = givenAt (h .b) (figureOf d (h .b) (h .be)) in
       let b = bound (nothing bad d POSITION (o .empty) (o .next)) _ q n (o .then-is) in
-      let j = judged-is (positionCharges a (Option·getD c a) ++ unknownAt (h .unknown) ∷ b .value) (record { start = a; finish = c }) (b .place) (b .then-is) in
+      let j = judged-is (positionCharges a (Option·getD c a) ++ unknownAt (h .unknown) ∷ b .value) (record { start = a; finish = c })
+      (b .place) (b .then-is) in
       let k = charged a (Option·getD c a) (unknownAt (h .unknown) ∷ b .value) (j .2) in
       let t = tag-within bad d p START FINISH [] 1 1 0 1 e h (o .empty) (o .place) (o .next) (o .tag-is) in
-      let m = nothing-long POSITION (o .empty) (o .next) (t .2) (b .first-is) (clear-tail (clear-right (positionCharges a (Option·getD c a)) (unknownAt (h .unknown) ∷ b .value) (j .2))) in
+      let m = nothing-long POSITION (o .empty) (o .next) (t .2) (b .first-is)
+      (clear-tail (clear-right (positionCharges a (Option·getD c a)) (unknownAt (h .unknown) ∷ b .value) (j .2))) in
       moved Positioned (j .0) (j .1) (record { from-one = k .0; ordered = k .1; low = k .2; next = m })
 
   -- ---- spread
@@ -229,7 +237,8 @@ module _ (bad : Bool) (d : List ℕ) where
       let c = capped-low (a .value) (omega (arith, divides room (a .value) h s m)) in
       fields {s = record { count = a; width = none }} refl refl (capped-some (a .value) s) (rw c (shares room (a .value) h s m))
   parted room a (some w) l h k (clear x (clear y r)) =
-      fields {s = record { count = a; width = some w }} refl refl (capped-some (a .value) (some-value (a .value) x)) (capped-some (w .value) (some-value (w .value) y))
+      fields {s = record { count = a; width = some w }} refl refl (capped-some (a .value) (some-value (a .value) x))
+      (capped-some (w .value) (some-value (w .value) y))
 
   pub spread-fine : (room p e : ℕ) {s : Spread} {n : ℕ} → 1 ≤ room → room ≤ 16384 → spread bad d room p e ≡ Is s n → Parted room s n
   unfolding spread
@@ -239,9 +248,11 @@ module _ (bad : Bool) (d : List ℕ) where
       let a = figureOf d (h .a) (h .ae) in
       let c = givenAt (h .b) (figureOf d (h .b) (h .be)) in
       let b = bound (nothing bad d SPREAD (o .empty) (o .next)) _ s n (o .then-is) in
-      let j = judged-is (spreadCharges room a c ++ unknownAt (h .unknown) ∷ b .value) (record { count = a; width = c }) (b .place) (b .then-is) in
+      let j = judged-is (spreadCharges room a c ++ unknownAt (h .unknown) ∷ b .value) (record { count = a; width = c }) (b .place)
+      (b .then-is) in
       let t = tag-within bad d p SUBFIELDS WIDTH [] 1 1 0 1 e h (o .empty) (o .place) (o .next) (o .tag-is) in
-      let m = nothing-long SPREAD (o .empty) (o .next) (t .2) (b .first-is) (clear-tail (clear-right (spreadCharges room a c) (unknownAt (h .unknown) ∷ b .value) (j .2))) in
+      let m = nothing-long SPREAD (o .empty) (o .next) (t .2) (b .first-is)
+      (clear-tail (clear-right (spreadCharges room a c) (unknownAt (h .unknown) ∷ b .value) (j .2))) in
       moved (Parted room) (j .0) (j .1) (record { parts = parted room a c (unknownAt (h .unknown) ∷ b .value) u v (j .2); next = m })
 
   -- ---- where a tag is due
@@ -274,7 +285,8 @@ module _ (bad : Bool) (d : List ℕ) where
   step-plain : (w : List ℕ) (g : Going) → g .inside ≡ false → Steps g (stepOf bad d 0 w g)
   unfolding stepOf markAt referAt bracketAt returnAt noteAt startAt kindOf otherAt closeAt
   step-plain w g e =
-      by (leb (length d) (g .next)) (eqb (getD d (g .next) 0) 60) (eqb (getD d (g .next) 0) 38) (eqb (getD d (g .next) 0) 93) (eqb (getD d (g .next) 0) 13)
+      by (leb (length d) (g .next)) (eqb (getD d (g .next) 0) 60) (eqb (getD d (g .next) 0) 38) (eqb (getD d (g .next) 0) 93)
+      (eqb (getD d (g .next) 0) 13)
     where
       noted : (k : Skip) → Steps g (onNote g k)
       noted (skip.Past n) = goes e
@@ -294,7 +306,8 @@ module _ (bad : Bool) (d : List ℕ) where
       begun-at false z q = other (bareOf bad d (g .next) z)
       begun-at true z q = never cc
 
-      shut-at : (i : Bool) (z : ℕ) → i ≡ false → Steps g (cond i (onOut g (shutOf bad d (g .next) z grammar.text)) (onEnd g (shutOf bad d (g .next) z w)))
+      shut-at : (i : Bool) (z : ℕ) → i ≡ false → Steps g
+          (cond i (onOut g (shutOf bad d (g .next) z grammar.text)) (onEnd g (shutOf bad d (g .next) z w)))
       shut-at false z q = ended (shutOf bad d (g .next) z w)
       shut-at true z q = never cc
 
@@ -328,7 +341,8 @@ module _ (bad : Bool) (d : List ℕ) where
       by false false false false true = goes e
       by false false false false false = goes e
 
-  goes-plain : {w : List ℕ} {g k : Going} {cs : List Sign} → Goes false bad d 0 w g k cs → g .inside ≡ false → (k .inside ≡ false) × (g .next ≤ k .next)
+  goes-plain : {w : List ℕ} {g k : Going} {cs : List Sign} → Goes false bad d 0 w g k cs → g .inside ≡ false → (k .inside ≡ false)
+      × (g .next ≤ k .next)
   goes-plain stay e = (e, omega arith)
   goes-plain {w = w} {g = g} (on {h = h} {s = s} f r) e =
       let t = step-on bad d 0 w g h s f in
@@ -375,7 +389,8 @@ module _ (bad : Bool) (d : List ℕ) where
         absurd (omega (arith, cut-behind SIZE n p u i))
     by (content.Fault j p) i e = never cc
 
-  sized : (u : ℕ) (em : Bool) (n k : ℕ) (b : Body) {x : Figure} {m : ℕ} → 1 ≤ n → n ≤ length d → body bad d SIZE 0 em n ≡ Is b k → sizeIn bad d u b k ≡ Is x m → Sized x m
+  sized : (u : ℕ) (em : Bool) (n k : ℕ) (b : Body) {x : Figure} {m : ℕ} → 1 ≤ n → n ≤ length d → body bad d SIZE 0 em n ≡ Is b k
+      → sizeIn bad d u b k ≡ Is x m → Sized x m
   unfolding sizeIn
   sized u em n k b {x} {m} h l f g = by (b .whole) refl g where
     v : ℕ
@@ -396,7 +411,8 @@ module _ (bad : Bool) (d : List ℕ) where
     fits false g = never cc
 
     by : (q : Bool) → b .whole ≡ q
-        → cond q (cond (fitsOf 1 (heard (take (z - v) (drop v d)) 0)) (judged (sizeCharges y ++ unknownAt u ∷ b .charges) y k) (Not (fault 2 v)))
+        → cond q (cond (fitsOf 1 (heard (take (z - v) (drop v d)) 0)) (judged (sizeCharges y ++ unknownAt u ∷ b .charges) y k)
+        (Not (fault 2 v)))
         (judged (unknownAt u ∷ b .charges) y k) ≡ Is x m → Sized x m
     by true i g = fits (fitsOf 1 (heard (take (z - v) (drop v d)) 0)) g
     by false i g =

@@ -24,7 +24,8 @@ use Rattle.xml_reading.specs.rule.Open.{Open, start, shut, within, due}
 use Rattle.xml_reading.specs.rule.Role.{Entry, Title, title}
 use Rattle.xml_reading.specs.rule.Variable.{Manner, variable}
 use Rattle.xml_reading.specs.rule.Sheet.{Survey, preface, onOpen, another, variables, closing, sheet}
-use Rattle.xml_reading.specs.rule.Whole.{tableOf, Outcome, Built, Refusal, fitting, namesOf, placeOf, judgeNames, settled, sheetOf, declared, outcomeOf}
+use Rattle.xml_reading.specs.rule.Whole.{tableOf, Outcome, Built, Refusal, fitting, namesOf, placeOf, judgeNames, settled, sheetOf}
+use Rattle.xml_reading.specs.rule.Whole.{declared, outcomeOf}
 use Rattle.xml_bridge.specs.Table.{FineEntries, nothing, more, table-well-formed}
 use Rattle.xml_laws.specs.Reads.{moved, bound, within-long}
 use Rattle.xml_laws.specs.Entries.{due-is, Read, entry-read}
@@ -32,7 +33,8 @@ use Rattle.xml_laws.specs.Entries.{due-is, Read, entry-read}
 -- each name lies within the file
 pub data Named (d : List ℕ) : List Entry → Type 0 where
   none-named : Named d []
-  more-named : {l : List Entry} (v : Entry) → Named d l → v .variable .name .place + v .variable .name .length ≤ length d → Named d (l ++ v ∷ [])
+  more-named : {l : List Entry} (v : Entry) → Named d l → v .variable .name .place + v .variable .name .length ≤ length d
+      → Named d (l ++ v ∷ [])
 
 module _ (bad : Bool) (d : List ℕ) (long : length d ≤ 1048576)
     (few : (old : Bool) (l : List Entry) (p e : ℕ) (t : Title) (n : ℕ) → title bad d old l p e ≡ Is t n → t .ident .value < 10000) where
@@ -43,7 +45,8 @@ module _ (bad : Bool) (d : List ℕ) (long : length d ≤ 1048576)
     pub next : n ≤ length d
 
   module _ (m : Manner) where
-    joined : (l : List Entry) (p e : ℕ) {v : Entry} {n : ℕ} → FineEntries l → Named d l → variable bad d m l p e ≡ Is v n → Gathered (l ++ v ∷ []) n
+    joined : (l : List Entry) (p e : ℕ) {v : Entry} {n : ℕ} → FineEntries l → Named d l → variable bad d m l p e ≡ Is v n
+        → Gathered (l ++ v ∷ []) n
     joined l p e {v} g s f =
         let r = entry-read bad d long m l g (λ p e t n. few (m .old) l p e t n) p e f in
         record { fine = more g (r .fine); named = more-named v s (r .name); some = omega (arith, length-append l (v ∷ [])); next = r .next }
@@ -52,7 +55,8 @@ module _ (bad : Bool) (d : List ℕ) (long : length d ≤ 1048576)
       onward : {l : List Entry} {n : ℕ} → Gathered l n → Kept (Again l) n
       over : {l : List Entry} {n : ℕ} → Gathered l n → Kept (Done l) n
 
-    step-fine : (l : List Entry) (e : ℕ) → Gathered l e → {x : Next (List Entry) (List Entry)} {n : ℕ} → another bad d m l e ≡ Is x n → Kept x n
+    step-fine : (l : List Entry) (e : ℕ) → Gathered l e → {x : Next (List Entry) (List Entry)} {n : ℕ} → another bad d m l e ≡ Is x n
+        → Kept x n
     unfolding another
     step-fine l e s {x} {n} f =
         let o = bound (within bad d RECORD e) _ x n f in
@@ -70,7 +74,8 @@ module _ (bad : Bool) (d : List ℕ) (long : length d ≤ 1048576)
             let r : o .place ≡ n = cc in
             moved Kept q r (onward (joined l (g .place) k (s .fine) (s .named) (o .first-is)))
 
-    pub all-fine : (f : ℕ) (l : List Entry) (e : ℕ) → Gathered l e → {k : List Entry} {n : ℕ} → repeat f (another bad d m) l e ≡ Is k n → Gathered k n
+    pub all-fine : (f : ℕ) (l : List Entry) (e : ℕ) → Gathered l e → {k : List Entry} {n : ℕ} → repeat f (another bad d m) l e ≡ Is k n
+        → Gathered k n
     unfolding repeat
     all-fine zero l e s g = never cc
     all-fine (suc f) l e s {k} {n} g =
@@ -94,7 +99,8 @@ module _ (bad : Bool) (d : List ℕ) (long : length d ≤ 1048576)
         let x = due-is bad d VARIABLE (o .value) (variable bad d m []) (o .place) (c .first-is) in
         all-fine (suc mostRows) (c .value ∷ []) (c .place) (joined [] (x .place) (o .place) nothing none-named (x .then-is)) (c .then-is)
 
-  pub sheet-fine : (latin : Bool) (e : ℕ) {s : Survey} {n : ℕ} → sheet bad d latin e ≡ Is s n → FineEntries (s .entries) × (1 ≤ length (s .entries))
+  pub sheet-fine : (latin : Bool) (e : ℕ) {s : Survey} {n : ℕ} → sheet bad d latin e ≡ Is s n → FineEntries (s .entries)
+      × (1 ≤ length (s .entries))
   unfolding sheet
   sheet-fine latin e {s} {n} f =
       let a = bound (preface bad d latin e) _ s n f in
@@ -104,7 +110,8 @@ module _ (bad : Bool) (d : List ℕ) (long : length d ≤ 1048576)
       let q : record { manner = a .value; entries = b .value } ≡ s = cc in
       same (b .value) s (ap (λ (s : Survey). s .entries) q) (g .fine, g .some)
     where
-      same : (v : List Entry) (s : Survey) → v ≡ s .entries → FineEntries v × (1 ≤ length v) → FineEntries (s .entries) × (1 ≤ length (s .entries))
+      same : (v : List Entry) (s : Survey) → v ≡ s .entries → FineEntries v × (1 ≤ length v) → FineEntries (s .entries)
+          × (1 ≤ length (s .entries))
       same v s e h = rw (← e) h
 
 -- ---- THE TABLE
@@ -115,25 +122,31 @@ fitting-built n v l = by (ltb n (length (tableOf v))) refl where
   by true i e = never cc
   by false i e = (cc, ltb-false n (length (tableOf v)) i)
 
-named-built : (latin : Bool) (d : List ℕ) (n : ℕ) (standard : Bool) (v l : List Entry) → judgeNames latin d n standard v ≡ Built l → (v ≡ l) × (length (tableOf v) ≤ n)
+named-built : (latin : Bool) (d : List ℕ) (n : ℕ) (standard : Bool) (v l : List Entry) → judgeNames latin d n standard v ≡ Built l → (v ≡ l)
+    × (length (tableOf v) ≤ n)
 unfolding judgeNames
 named-built latin d n false v l e = fitting-built n v l e
 named-built latin d n true v l e = by (ltb (nameFault (namesOf latin d v)) (length v)) e where
-  by : (b : Bool) → cond b (Refusal 9 (placeOf v (nameFault (namesOf latin d v)))) (fitting n v) ≡ Built l → (v ≡ l) × (length (tableOf v) ≤ n)
+  by : (b : Bool) → cond b (Refusal 9 (placeOf v (nameFault (namesOf latin d v)))) (fitting n v) ≡ Built l → (v ≡ l)
+      × (length (tableOf v) ≤ n)
   by true i = never cc
   by false i = fitting-built n v l i
 
 -- every title has an ident of at most four digits
 abbrev pub Few : Type 0
-Few = (bad : Bool) (d : List ℕ) (old : Bool) (l : List Entry) (p e : ℕ) (t : Title) (n : ℕ) → title bad d old l p e ≡ Is t n → t .ident .value < 10000
+Few = (bad : Bool) (d : List ℕ) (old : Bool) (l : List Entry) (p e : ℕ) (t : Title) (n : ℕ) → title bad d old l p e ≡ Is t n
+    → t .ident .value < 10000
 
-pub built-fine : Few → (d : List ℕ) (n : ℕ) (l : List Entry) → outcomeOf d n ≡ Built l → FineEntries l × (1 ≤ length l) × (length (tableOf l) ≤ n)
+pub built-fine : Few → (d : List ℕ) (n : ℕ) (l : List Entry) → outcomeOf d n ≡ Built l → FineEntries l × (1 ≤ length l)
+    × (length (tableOf l) ≤ n)
 unfolding outcomeOf sheetOf
 built-fine few d n l = by (ltb 1048576 (length d)) refl where
-  same : (v : List Entry) → v ≡ l → FineEntries v × (1 ≤ length v) × (length (tableOf v) ≤ n) → FineEntries l × (1 ≤ length l) × (length (tableOf l) ≤ n)
+  same : (v : List Entry) → v ≡ l → FineEntries v × (1 ≤ length v) × (length (tableOf v) ≤ n) → FineEntries l × (1 ≤ length l)
+      × (length (tableOf l) ≤ n)
   same v e h = rw (← e) h
 
-  whole : (latin : Bool) (at : ℕ) (c : List ℕ) (bad : Bool) → length c ≤ 1048576 → (r : Result Survey) → sheet bad c latin at ≡ r → settled latin c n r ≡ Built l
+  whole : (latin : Bool) (at : ℕ) (c : List ℕ) (bad : Bool) → length c ≤ 1048576 → (r : Result Survey) → sheet bad c latin at ≡ r
+      → settled latin c n r ≡ Built l
       → FineEntries l × (1 ≤ length l) × (length (tableOf l) ≤ n)
   whole latin at c bad h (Is s k) i e =
       let q = named-built latin c n (s .manner .standard) (s .entries) l e in
@@ -150,12 +163,14 @@ built-fine few d n l = by (ltb 1048576 (length d)) refl where
       whole latin at (take k d) (ltb k (length d)) (short k h) (sheet (ltb k (length d)) (take k d) latin at) refl e
   told h (prolog.Fault k p) e = never cc
 
-  by : (b : Bool) → ltb 1048576 (length d) ≡ b → cond b (Refusal 1 0) (declared d n (declarationOf d)) ≡ Built l → FineEntries l × (1 ≤ length l) × (length (tableOf l) ≤ n)
+  by : (b : Bool) → ltb 1048576 (length d) ≡ b → cond b (Refusal 1 0) (declared d n (declarationOf d)) ≡ Built l → FineEntries l
+      × (1 ≤ length l) × (length (tableOf l) ≤ n)
   by true i e = never cc
   by false i e = told (ltb-false 1048576 (length d) i) (declarationOf d) e
 
 -- THE TABLE BUILT IS WELL FORMED, for every definition in XML that is read
-pub read-well-formed : Few → (d : List ℕ) (t : List ℤ) (l : List Entry) → outcomeOf d (length t) ≡ Built l → wellFormed (pasted t 0 (tableOf l)) ≡ true
+pub read-well-formed : Few → (d : List ℕ) (t : List ℤ) (l : List Entry) → outcomeOf d (length t) ≡ Built l
+    → wellFormed (pasted t 0 (tableOf l)) ≡ true
 read-well-formed few d t l e =
     let g = built-fine few d (length t) l e in
     table-well-formed t l (g .0) (g .1) (g .2)

@@ -27,13 +27,15 @@ use Rattle.reading.specs.rule.Least.{Charge, _when_, judged}
 use Rattle.reading.specs.rule.Values.{formIs, large, unlike, lineCharges, withLine, rangeFrom, unlisted}
 use Rattle.bridge.specs.Lowest.{never, Clear, clear}
 use Rattle.xml_reading.specs.rule.Word.{VALUES, RANGE, VALUE, FROM, TO, CODE}
-use Rattle.xml_reading.specs.rule.Open.{Open, start, shut, within, misplaced, onBare, either, due, refuse, unknownAt, onTag, nothing, enter, entered}
+use Rattle.xml_reading.specs.rule.Open.{Open, start, shut, within, misplaced, onBare, either, due, refuse, unknownAt, onTag, nothing, enter}
+use Rattle.xml_reading.specs.rule.Open.{entered}
 use Rattle.xml_reading.specs.rule.Element.{Body, charsOf, amountIn, body}
 use Rattle.xml_reading.specs.rule.Block.{rich, pairCharges, range, line, lined, onOpen, another, first, values}
 use Rattle.xml_bridge.specs.Book.{saidAs, saids, isRanged, blockAs}
 use Rattle.xml_bridge.specs.Fine.{Sound, amount-sound, Fine, fine-none, fine-range, fine-line, fine-values}
 use Rattle.elements.proofs.Bounds.{tag-within}
-use Rattle.xml_laws.specs.Reads.{judged-is, moved, clear-head, clear-tail, clear-right, opened, bound, nothing-long, Lying, body-long, within-long, misplaced-never}
+use Rattle.xml_laws.specs.Reads.{judged-is, moved, clear-head, clear-tail, clear-right, opened, bound, nothing-long, Lying, body-long}
+use Rattle.xml_laws.specs.Reads.{within-long, misplaced-never}
 
 module _ (bad : Bool) (d : List ℕ) (long : length d ≤ 1048576) where
   -- ---- a range
@@ -45,14 +47,16 @@ module _ (bad : Bool) (d : List ℕ) (long : length d ≤ 1048576) where
     pub next : n ≤ length d
 
   charged : (quantity : Bool) (a b : Amount) (l : List Charge) → Clear (pairCharges quantity a b ++ l)
-      → (formIs quantity a ≡ true) × (formIs quantity b ≡ true) × (unlike a b ≡ false) × (ltZ (scaled b) (scaled a) ≡ false) × (large quantity a ≡ false) × (large quantity b ≡ false)
+      → (formIs quantity a ≡ true) × (formIs quantity b ≡ true) × (unlike a b ≡ false) × (ltZ (scaled b) (scaled a) ≡ false)
+      × (large quantity a ≡ false) × (large quantity b ≡ false)
   unfolding pairCharges
   charged quantity a b l (clear x (clear y (clear z (clear w (clear u (clear v r)))))) =
       let f = not-false (formIs quantity a) x in
       let g = not-false (formIs quantity b) y in
       (f, g, both (unlike a b) f g z, both (ltZ (scaled b) (scaled a)) f g w, u, v)
     where
-      both : (q : Bool) → formIs quantity a ≡ true → formIs quantity b ≡ true → ((formIs quantity a && formIs quantity b) && q) ≡ false → q ≡ false
+      both : (q : Bool) → formIs quantity a ≡ true → formIs quantity b ≡ true → ((formIs quantity a && formIs quantity b) && q) ≡ false → q
+          ≡ false
       both q f g e = rw (f, g) at e
 
   pub range-fine : (quantity : Bool) (p e : ℕ) {r : Range} {n : ℕ} → range bad d quantity p e ≡ Is r n → Ranged quantity r n
@@ -66,7 +70,8 @@ module _ (bad : Bool) (d : List ℕ) (long : length d ≤ 1048576) where
       let j = judged-is (pairCharges quantity a c ++ unknownAt (h .unknown) ∷ b .value) (rangeFrom a c) (b .place) (b .then-is) in
       let k = charged quantity a c (unknownAt (h .unknown) ∷ b .value) (j .2) in
       let t = tag-within bad d p FROM TO [] 2 2 0 2 e h (o .empty) (o .place) (o .next) (o .tag-is) in
-      let m = nothing-long bad d RANGE (o .empty) (o .next) (t .2) (b .first-is) (clear-tail (clear-right (pairCharges quantity a c) (unknownAt (h .unknown) ∷ b .value) (j .2))) in
+      let m = nothing-long bad d RANGE (o .empty) (o .next) (t .2) (b .first-is)
+      (clear-tail (clear-right (pairCharges quantity a c) (unknownAt (h .unknown) ∷ b .value) (j .2))) in
       moved (Ranged quantity) (j .0) (j .1) (record {
         from = amount-sound quantity (h .a) (h .ae) (charsOf d (h .a) (h .ae)) (k .0) (k .4);
         to = amount-sound quantity (h .b) (h .be) (charsOf d (h .b) (h .be)) (k .1) (k .5);
@@ -86,7 +91,8 @@ module _ (bad : Bool) (d : List ℕ) (long : length d ≤ 1048576) where
     pub next : n ≤ length d
 
   line-charged : (quantity : Bool) (before : ℕ) (b : Block) (a : Amount) (l : List Charge) → Clear (lineCharges quantity before b a ++ l)
-      → (formIs quantity a ≡ true) × (someOf (unlike a) (amounts b) ≡ false) × (someOf (λ l. eqZ (scaled (l .value)) (scaled a)) (b .lines) ≡ false)
+      → (formIs quantity a ≡ true) × (someOf (unlike a) (amounts b) ≡ false)
+      × (someOf (λ l. eqZ (scaled (l .value)) (scaled a)) (b .lines) ≡ false)
       × (large quantity a ≡ false) × (before + length (b .lines) < 4096)
   unfolding lineCharges
   line-charged quantity before b a l (clear x (clear y (clear z (clear w (clear u r))))) =
@@ -100,7 +106,8 @@ module _ (bad : Bool) (d : List ℕ) (long : length d ≤ 1048576) where
       let h = o .held in
       let a = amountIn d (h .a) (h .ae) in
       let c = bound (body bad d VALUE (rich languages) (o .empty) (o .next)) _ x n (o .then-is) in
-      let j = judged-is (lineCharges quantity before b a ++ unknownAt (h .unknown) ∷ c .value .charges) (record { value = a; text = c .value .text; special = false }) (c .place) (c .then-is) in
+      let j = judged-is (lineCharges quantity before b a ++ unknownAt (h .unknown) ∷ c .value .charges)
+      (record { value = a; text = c .value .text; special = false }) (c .place) (c .then-is) in
       let k = line-charged quantity before b a (unknownAt (h .unknown) ∷ c .value .charges) (j .2) in
       let t = tag-within bad d p CODE [] [] 2 0 0 1 e h (o .empty) (o .place) (o .next) (o .tag-is) in
       let y = body-long bad d VALUE (rich languages) (o .empty) (o .next) (t .2) (c .first-is)
@@ -123,10 +130,12 @@ module _ (bad : Bool) (d : List ℕ) (long : length d ≤ 1048576) where
     pub plain : eachOf (λ s. not (s .special)) (b .lines) ≡ true
     pub next : n ≤ length d
 
-  each-last : (l : List Line) (x : Line) → eachOf (λ s. not (s .special)) l ≡ true → x .special ≡ false → eachOf (λ s. not (s .special)) (l ++ x ∷ []) ≡ true
+  each-last : (l : List Line) (x : Line) → eachOf (λ s. not (s .special)) l ≡ true → x .special ≡ false
+      → eachOf (λ s. not (s .special)) (l ++ x ∷ []) ≡ true
   unfolding eachOf
   each-last [] x h e = rw e
-  each-last (y ∷ l) x h e = and-true (not (y .special)) _ (and-left (not (y .special)) _ h) (each-last l x (and-right (not (y .special)) _ h) e)
+  each-last (y ∷ l) x h e = and-true (not (y .special)) _ (and-left (not (y .special)) _ h)
+      (each-last l x (and-right (not (y .special)) _ h) e)
 
   module _ (languages quantity : Bool) (before : ℕ) (low : before ≤ 4096) where
     lined-fine : (b : Block) (p e : ℕ) {c : Block} {n : ℕ} → Fine quantity before b → eachOf (λ s. not (s .special)) (b .lines) ≡ true
@@ -144,7 +153,8 @@ module _ (bad : Bool) (d : List ℕ) (long : length d ≤ 1048576) where
         })
 
     -- behind a start tag that is due
-    named-then : {A : Type 0} (w : List ℕ) (p n : ℕ) (k : ℕ → Reader A) {a : A} {m : ℕ} → due bad d w (start p) k n ≡ Is a m → k p n ≡ Is a m
+    named-then : {A : Type 0} (w : List ℕ) (p n : ℕ) (k : ℕ → Reader A) {a : A} {m : ℕ} → due bad d w (start p) k n ≡ Is a m → k p n
+        ≡ Is a m
     named-then {A} w p n k {a} {m} f = by (isNamed d (p + 1) n w) f where
       by : (q : Bool) → cond q (k p n) (misplaced bad d {A = A} p n) ≡ Is a m → k p n ≡ Is a m
       by true f = f
@@ -157,11 +167,13 @@ module _ (bad : Bool) (d : List ℕ) (long : length d ≤ 1048576) where
         by (o .value) (o .place) (o .then-is)
       where
         by : (x : Open) (k : ℕ)
-            → either bad d RANGE x (λ p m. bind (range bad d quantity p m) λ r m. Is (unlisted (some r)) m) (due bad d VALUE x (lined bad d languages quantity before (unlisted none))) k ≡ Is b n
+            → either bad d RANGE x (λ p m. bind (range bad d quantity p m) λ r m. Is (unlisted (some r)) m)
+            (due bad d VALUE x (lined bad d languages quantity before (unlisted none))) k ≡ Is b n
             → Sofar quantity before b n
         by (shut p) k f = never cc
         by (start p) k f = on (isNamed d (p + 1) k RANGE) f where
-          on : (q : Bool) → cond q (bind (range bad d quantity p k) λ r m. Is (unlisted (some r)) m) (due bad d VALUE (start p) (lined bad d languages quantity before (unlisted none)) k) ≡ Is b n → Sofar quantity before b n
+          on : (q : Bool) → cond q (bind (range bad d quantity p k) λ r m. Is (unlisted (some r)) m)
+              (due bad d VALUE (start p) (lined bad d languages quantity before (unlisted none)) k) ≡ Is b n → Sofar quantity before b n
           on true f =
               let o = bound (range bad d quantity p k) _ b n f in
               let r = range-fine quantity p k (o .first-is) in
@@ -173,14 +185,16 @@ module _ (bad : Bool) (d : List ℕ) (long : length d ≤ 1048576) where
                 plain = refl;
                 next = r .next;
               })
-          on false f = lined-fine (unlisted none) p k (fine-none quantity before low) refl (named-then VALUE p k (lined bad d languages quantity before (unlisted none)) f)
+          on false f = lined-fine (unlisted none) p k (fine-none quantity before low) refl
+              (named-then VALUE p k (lined bad d languages quantity before (unlisted none)) f)
 
     -- another line keeps it so
     data Kept : Next Block Block → ℕ → Type 0 where
       onward : {c : Block} {n : ℕ} → Sofar quantity before c n → Kept (Again c) n
       over : {c : Block} {n : ℕ} → Sofar quantity before c n → Kept (Done c) n
 
-    step-fine : (b : Block) (e : ℕ) → Sofar quantity before b e → {x : Next Block Block} {n : ℕ} → another bad d languages quantity before b e ≡ Is x n → Kept x n
+    step-fine : (b : Block) (e : ℕ) → Sofar quantity before b e → {x : Next Block Block} {n : ℕ}
+        → another bad d languages quantity before b e ≡ Is x n → Kept x n
     unfolding another
     step-fine b e s {x} {n} f =
         let o = bound (within bad d VALUES e) _ x n f in
@@ -207,7 +221,8 @@ module _ (bad : Bool) (d : List ℕ) (long : length d ≤ 1048576) where
         by (o .value) (step-fine b e s (o .first-is)) (o .then-is) (λ x k t q. lines-fine f x k t q)
       where
         by : (x : Next Block Block) {k : ℕ} → Kept x k → turn (repeat f (another bad d languages quantity before)) x k ≡ Is c n
-            → ((b : Block) (e : ℕ) → Sofar quantity before b e → repeat f (another bad d languages quantity before) b e ≡ Is c n → Sofar quantity before c n)
+            → ((b : Block) (e : ℕ) → Sofar quantity before b e → repeat f (another bad d languages quantity before) b e ≡ Is c n
+            → Sofar quantity before c n)
             → Sofar quantity before c n
         by (Again y) {k} (onward t) g ih = ih y k t g
         by (Done y) {k} (over t) g ih =
@@ -224,5 +239,6 @@ module _ (bad : Bool) (d : List ℕ) (long : length d ≤ 1048576) where
         let y = bound (first bad d languages quantity before (x .place)) _ b n (x .then-is) in
         lines-fine (suc mostLines) (y .value) (y .place) (first-fine (x .place) (y .first-is)) (y .then-is)
 
-  pub good-values : {quantity : Bool} {before n : ℕ} {b : Block} → Sofar quantity before b n → GoodValues quantity before (blockAs b) (saids (b .lines))
+  pub good-values : {quantity : Bool} {before n : ℕ} {b : Block} → Sofar quantity before b n
+      → GoodValues quantity before (blockAs b) (saids (b .lines))
   good-values {quantity} {before} {b = b} s = fine-values quantity before b (s .fine) (s .some)

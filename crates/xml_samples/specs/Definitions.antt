@@ -74,7 +74,8 @@ unfolding classOf upperOf countFrom digitsOf anyBelow maxBelow signedOf numberOf
     tailOf-in-prologs kindOf-in-forms useOf fitsOf isNamed slotOf formOf stretchFits putOf missesOf shutOf turnOf turnsOf missedOf
     closedOf-in-pairs pairOf-in-pairs textOf standAt standOf shutOf-in-pairs contentFrom signsOf signsBy signsFrom textStep textFrom
     textOf-in-contents signsAt bytesOf-in-contents bracketAt returnAt referAt noteAt pairAt breakAt languageAt otherAt kindOf-in-contents
-    startAt closeAt markAt stepOf pairCharges range line another first values charsOf figureOf-in-xml_reading amountIn body text position spread
+    startAt closeAt markAt stepOf pairCharges range line another first values charsOf figureOf-in-xml_reading amountIn body text position
+    spread
     sizeIn size within nothing typeAt useAt mayServe useWrong signsIn sameSigns alike sameName isNameOf hasServed countNamed filterFrom
     filterOf title naming filter saysWord root manner perhaps heading survey titles record-tag preface another-in-xml_reading variables
     closing sheet filtered spreading content variable columnsFor headerFor-in-xml_reading rowsFrom-in-xml_reading tableOf-in-xml_reading

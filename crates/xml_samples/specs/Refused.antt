@@ -250,7 +250,8 @@ pub refused-52 :
     × RefusedAt 52 (first "<filter>") "a</filter>"
     × RefusedAt 52 (weight "</variable><variable ident=\"2\" type=\"logical\"><name>b</name><label/><position start=\"2\"/><filter>")
     "a</filter>"
-    × RefusedAt 52 (first "</variable><variable ident=\"2\" type=\"character\" use=\"serial\"><name/><label/><position start=\"2\"/><filter>")
+    × RefusedAt 52
+    (first "</variable><variable ident=\"2\" type=\"character\" use=\"serial\"><name/><label/><position start=\"2\"/><filter>")
     "a</filter>"
     × RefusedAt 52 (served "</variable><variable ident=\"3\" type=\"logical\"><name>") "a</name>"
 unfolding definitions

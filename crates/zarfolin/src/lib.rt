@@ -388,7 +388,8 @@ pub extern "C" fn zarfolin_read_value(
     list: &mut [i64],
     answer: &mut [i64; 4],
 ) -> u64
-    ensures { λ r. ⌜ ValueTold (now (table .entry)) row (now (bytes .entry)) (now (list .entry)) (now (list .exit)) (now (answer .exit)) r ⌝ }
+    ensures { λ r. ⌜ ValueTold (now (table .entry)) row (now (bytes .entry)) (now (list .entry)) (now (list .exit)) (now (answer .exit))
+        r ⌝ }
 {
     tell(
         answer,
@@ -444,7 +445,8 @@ pub extern "C" fn zarfolin_export(
     out: &mut [u8],
     answer: &mut [i64; 5],
 ) -> u64
-    ensures { λ r. ⌜ ExportTold (now (def .entry)) (now (table .entry)) (now (d .entry)) (now (out .entry)) (now (out .exit)) (now (answer .exit)) r ⌝ }
+    ensures { λ r. ⌜ ExportTold (now (def .entry)) (now (table .entry)) (now (d .entry)) (now (out .entry)) (now (out .exit))
+        (now (answer .exit)) r ⌝ }
 {
     let e = exports::write_export(def, table, d, out);
     tell_five(answer, export_cells(e), export_length(e))
@@ -459,7 +461,8 @@ pub extern "C" fn zarfolin_import(
     out: &mut [u8],
     answer: &mut [i64; 4],
 ) -> u64
-    ensures { λ r. ⌜ ImportTold (now (def .entry)) (now (table .entry)) (now (text .entry)) (now (out .entry)) (now (out .exit)) (now (answer .exit)) r ⌝ }
+    ensures { λ r. ⌜ ImportTold (now (def .entry)) (now (table .entry)) (now (text .entry)) (now (out .entry)) (now (out .exit))
+        (now (answer .exit)) r ⌝ }
 {
     tell(
         answer,
@@ -623,7 +626,8 @@ pub extern "C" fn zarfolin_read_record(
     list: &mut [i64],
     answer: &mut [i64; 4],
 ) -> u64
-    ensures { λ r. ⌜ WholeTold (now (table .entry)) (now (bytes .entry)) (now (out .entry)) (now (out .exit)) (now (list .entry)) (now (list .exit)) (now (answer .exit)) r ⌝ }
+    ensures { λ r. ⌜ WholeTold (now (table .entry)) (now (bytes .entry)) (now (out .entry)) (now (out .exit)) (now (list .entry))
+        (now (list .exit)) (now (answer .exit)) r ⌝ }
 {
     tell(
         answer,
@@ -689,7 +693,8 @@ pub extern "C" fn zarfolin_mend(
     list: &mut [i64],
     answer: &mut [i64; 4],
 ) -> u64
-    ensures { λ r. ⌜ MendTold (now (table .entry)) (now (d .entry)) (now (out .entry)) (now (out .exit)) (now (list .entry)) (now (list .exit)) (now (answer .exit)) r ⌝ }
+    ensures { λ r. ⌜ MendTold (now (table .entry)) (now (d .entry)) (now (out .entry)) (now (out .exit)) (now (list .entry))
+        (now (list .exit)) (now (answer .exit)) r ⌝ }
 {
     tell(answer, mend_cells(mends::mend(table, d, out, list)))
 }

@@ -13,16 +13,42 @@ use Rattle.amounts.proofs.find_mark.Statement.{statement}
 use Rattle.amounts.proofs.find_mark.Tie as tie
 
 returns : tie.Need-returns
-returns c = (first-on (c .before .before .before .before .before .before .args .s .now) (c .before .before .before .before .before .before .args .at) _ _ (sym (c .before .before .before .before .next-char .ensures) ∙ c .before .before .code .given .1) .1, λ cs h. let f = heard-first (c .before .before .before .before .before .before .args .s .now) (c .before .before .before .before .before .before .args .at) (sym (c .before .before .before .before .next-char .ensures) ∙ c .before .before .code .given .1) h in let m = mark-there (c .before .before .before .before .before .before .args .mark) (f .split) (c .if1 .taken) in (m .0, f .left ∙ ap All (sym (m .1))))
+returns c = (
+  first-on (c .before .before .before .before .before .before .args .s .now)
+      (c .before .before .before .before .before .before .args .at) _ _
+      (sym (c .before .before .before .before .next-char .ensures) ∙ c .before .before .code .given .1) .1,
+  λ cs h. let f = heard-first (c .before .before .before .before .before .before .args .s .now)
+      (c .before .before .before .before .before .before .args .at)
+      (sym (c .before .before .before .before .next-char .ensures) ∙ c .before .before .code .given .1) h in
+      let m = mark-there (c .before .before .before .before .before .before .args .mark) (f .split)
+      (c .if1 .taken) in (m .0, f .left ∙ ap All (sym (m .1))),
+)
 
 returns-2 : tie.Need-returns-2
-returns-2 c = (c .before .before .before .before .before .before .pre, λ cs h. let f = heard-first (c .before .before .before .before .before .before .args .s .now) (c .before .before .before .before .before .before .args .at) (sym (c .before .before .before .before .next-char .ensures) ∙ c .before .before .code .given .1) h in let m = mark-other (c .before .before .before .before .before .before .args .mark) (f .split) (c .if1 .left) in (m .0, h ∙ ap All (sym (m .1))))
+returns-2 c = (
+  c .before .before .before .before .before .before .pre,
+  λ cs h. let f = heard-first (c .before .before .before .before .before .before .args .s .now)
+      (c .before .before .before .before .before .before .args .at)
+      (sym (c .before .before .before .before .next-char .ensures) ∙ c .before .before .code .given .1) h in
+      let m = mark-other (c .before .before .before .before .before .before .args .mark) (f .split)
+      (c .if1 .left) in (m .0, h ∙ ap All (sym (m .1))),
+)
 
 returns-3 : tie.Need-returns-3
-returns-3 c = (c .before .before .before .before .pre, λ cs h. let m = mark-none (c .before .before .before .before .args .mark) (heard-none (c .before .before .before .before .args .s .now) (c .before .before .before .before .args .at) (sym (c .before .before .next-char .ensures) ∙ c .enum-told .given .1) h) in (m .0, h ∙ ap All (sym (m .1))))
+returns-3 c = (
+  c .before .before .before .before .pre,
+  λ cs h. let m = mark-none (c .before .before .before .before .args .mark)
+      (heard-none (c .before .before .before .before .args .s .now) (c .before .before .before .before .args .at)
+      (sym (c .before .before .next-char .ensures) ∙ c .enum-told .given .1) h) in (m .0, h ∙ ap All (sym (m .1))),
+)
 
 returns-4 : tie.Need-returns-4
-returns-4 c = (c .before .before .before .before .pre, λ cs h. heard-ill (c .before .before .before .before .args .s .now) (c .before .before .before .before .args .at) (sym (c .before .before .next-char .ensures) ∙ c .enum-told2 .given .1) h)
+returns-4 c = (
+  c .before .before .before .before .pre,
+  λ cs h. heard-ill (c .before .before .before .before .args .s .now) (c .before .before .before .before .args .at)
+      (sym (c .before .before .next-char .ensures) ∙ c .enum-told2 .given .1) h,
+)
 
 pub find-mark-spec : {M : Type 1} → statement M
-find-mark-spec = tie.close (tie.spec (λ c κs. search needs) (λ c. search needs) returns (λ c. search needs) (λ c. search needs) returns-2 returns-3 returns-4)
+find-mark-spec = tie.close (tie.spec (λ c κs. search needs) (λ c. search needs) returns (λ c. search needs) (λ c. search needs) returns-2
+    returns-3 returns-4)

@@ -12,13 +12,18 @@ use Rattle.amounts.proofs.is_over.Statement.{statement}
 use Rattle.amounts.proofs.is_over.Tie as tie
 
 returns : tie.Need-returns
-returns c = λ cs h. let f = heard-first (c .before .before .before .before .args .s .now) (c .before .before .before .before .args .at) (sym (c .before .before .next-char .ensures) ∙ c .enum-told .given .1) h in rw (f .split, ne-eqb (suc (length (f .rest))) 0 (λ q. omega arith))
+returns c = λ cs h. let f = heard-first (c .before .before .before .before .args .s .now) (c .before .before .before .before .args .at)
+    (sym (c .before .before .next-char .ensures) ∙ c .enum-told .given .1) h in
+    rw (f .split, ne-eqb (suc (length (f .rest))) 0 (λ q. omega arith))
 
 returns-2 : tie.Need-returns-2
-returns-2 c = λ cs h. rw (heard-none (c .before .before .before .before .args .s .now) (c .before .before .before .before .args .at) (sym (c .before .before .next-char .ensures) ∙ c .enum-told2 .given .1) h)
+returns-2 c = λ cs h. rw (heard-none (c .before .before .before .before .args .s .now) (c .before .before .before .before .args .at)
+    (sym (c .before .before .next-char .ensures) ∙ c .enum-told2 .given .1) h)
 
 returns-3 : tie.Need-returns-3
-returns-3 c = λ cs h. heard-ill (c .before .before .before .before .args .s .now) (c .before .before .before .before .args .at) (sym (c .before .before .next-char .ensures) ∙ c .enum-told3 .given .1) h
+returns-3 c = λ cs h. heard-ill (c .before .before .before .before .args .s .now) (c .before .before .before .before .args .at)
+    (sym (c .before .before .next-char .ensures) ∙ c .enum-told3 .given .1) h
 
 pub is-over-spec : {M : Type 1} → statement M
-is-over-spec = tie.close (tie.spec (λ c κs. search needs) (λ c. search needs) (λ c. search needs) (λ c. search needs) returns returns-2 returns-3)
+is-over-spec = tie.close (tie.spec (λ c κs. search needs) (λ c. search needs) (λ c. search needs) (λ c. search needs) returns returns-2
+    returns-3)

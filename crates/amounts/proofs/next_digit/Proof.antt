@@ -28,19 +28,52 @@ next-char-requires : tie.Need-next-char-requires Inv-loop μ-loop
 next-char-requires c κs = c .loop .inv .0
 
 returns : tie.Need-returns Inv-loop μ-loop
-returns c = let o = first-on (c .before .before .before .before .before .before .before .before .args .s .now) (c .before .before .before .before .before .before .loop .n) _ _ (sym (c .before .before .before .before .before .next-char .ensures) ∙ c .before .before .before .code .given .1) in (ahead-one (c .before .before .before .before .before .before .before .before .args .at) (length (c .before .before .before .before .before .before .before .before .args .s .now)) (omega (arith, o .0)) (o .1), λ cs h. left-digit (c .before .before .before .before .before .before .before .before .args .s .now) (digitsIn cs) (c .before .before .before .before .before .before .loop .inv .2 cs h) (sym (c .before .before .before .before .before .next-char .ensures) ∙ c .before .before .before .code .given .1) (sym (c .before .is-digit .ensures) ∙ c .if1 .taken) cs refl)
+returns c = let o = first-on (c .before .before .before .before .before .before .before .before .args .s .now)
+    (c .before .before .before .before .before .before .loop .n) _ _
+    (sym (c .before .before .before .before .before .next-char .ensures)
+    ∙ c .before .before .before .code .given .1) in (
+      ahead-one (c .before .before .before .before .before .before .before .before .args .at)
+          (length (c .before .before .before .before .before .before .before .before .args .s .now)) (omega (arith, o .0)) (o .1),
+      λ cs h. left-digit (c .before .before .before .before .before .before .before .before .args .s .now) (digitsIn cs)
+          (c .before .before .before .before .before .before .loop .inv .2 cs h)
+          (sym (c .before .before .before .before .before .next-char .ensures) ∙ c .before .before .before .code .given .1)
+          (sym (c .before .is-digit .ensures) ∙ c .if1 .taken) cs refl,
+    )
 
 loop-less : tie.Need-loop-less Inv-loop μ-loop
-loop-less c = let o = first-on (c .before .before .before .before .before .before .before .before .args .s .now) (c .before .before .before .before .before .before .loop .n) _ _ (sym (c .before .before .before .before .before .next-char .ensures) ∙ c .before .before .before .code .given .1) in omega (arith, o .0, o .1)
+loop-less c = let o = first-on (c .before .before .before .before .before .before .before .before .args .s .now)
+    (c .before .before .before .before .before .before .loop .n) _ _
+    (sym (c .before .before .before .before .before .next-char .ensures) ∙ c .before .before .before .code .given .1) in
+    omega (arith, o .0, o .1)
 
 loop-again : tie.Need-loop-again Inv-loop μ-loop
-loop-again c = let o = first-on (c .before .before .before .before .before .before .before .before .args .s .now) (c .before .before .before .before .before .before .loop .n) _ _ (sym (c .before .before .before .before .before .next-char .ensures) ∙ c .before .before .before .code .given .1) in (o .1, omega (arith, o .0), λ cs h. left-other (c .before .before .before .before .before .before .before .before .args .s .now) (digitsIn cs) (c .before .before .before .before .before .before .loop .inv .2 cs h) (sym (c .before .before .before .before .before .next-char .ensures) ∙ c .before .before .before .code .given .1) (sym (c .before .is-digit .ensures) ∙ c .if1 .left))
+loop-again c = let o = first-on (c .before .before .before .before .before .before .before .before .args .s .now)
+    (c .before .before .before .before .before .before .loop .n) _ _
+    (sym (c .before .before .before .before .before .next-char .ensures) ∙ c .before .before .before .code .given .1) in (
+      o .1,
+      omega (arith, o .0),
+      λ cs h. left-other (c .before .before .before .before .before .before .before .before .args .s .now) (digitsIn cs)
+          (c .before .before .before .before .before .before .loop .inv .2 cs h)
+          (sym (c .before .before .before .before .before .next-char .ensures) ∙ c .before .before .before .code .given .1)
+          (sym (c .before .is-digit .ensures) ∙ c .if1 .left),
+    )
 
 returns-2 : tie.Need-returns-2 Inv-loop μ-loop
-returns-2 c = (ahead-none (c .before .before .before .before .before .args .at) (length (c .before .before .before .before .before .args .s .now)), λ cs h. left-end (c .before .before .before .before .before .args .s .now) (digitsIn cs) (c .before .before .before .loop .inv .2 cs h) (sym (c .before .before .next-char .ensures) ∙ c .enum-told .given .1) cs refl)
+returns-2 c = (
+  ahead-none (c .before .before .before .before .before .args .at)
+      (length (c .before .before .before .before .before .args .s .now)),
+  λ cs h. left-end (c .before .before .before .before .before .args .s .now) (digitsIn cs) (c .before .before .before .loop .inv .2 cs h)
+      (sym (c .before .before .next-char .ensures) ∙ c .enum-told .given .1) cs refl,
+)
 
 returns-3 : tie.Need-returns-3 Inv-loop μ-loop
-returns-3 c = (ahead-none (c .before .before .before .before .before .args .at) (length (c .before .before .before .before .before .args .s .now)), λ cs h. heard-ill (c .before .before .before .before .before .args .s .now) (c .before .before .before .loop .n) (sym (c .before .before .next-char .ensures) ∙ c .enum-told2 .given .1) (c .before .before .before .loop .inv .2 cs h .left))
+returns-3 c = (
+  ahead-none (c .before .before .before .before .before .args .at)
+      (length (c .before .before .before .before .before .args .s .now)),
+  λ cs h. heard-ill (c .before .before .before .before .before .args .s .now) (c .before .before .before .loop .n)
+      (sym (c .before .before .next-char .ensures) ∙ c .enum-told2 .given .1) (c .before .before .before .loop .inv .2 cs h .left),
+)
 
 pub next-digit-spec : {M : Type 1} → statement M
-next-digit-spec = tie.close (tie.spec Inv-loop μ-loop loop-holds next-char-requires (λ c. search needs) (λ c κs. search needs) returns loop-less loop-again (λ c. search needs) returns-2 (λ c. search needs) returns-3)
+next-digit-spec = tie.close (tie.spec Inv-loop μ-loop loop-holds next-char-requires (λ c. search needs) (λ c κs. search needs) returns
+    loop-less loop-again (λ c. search needs) returns-2 (λ c. search needs) returns-3)

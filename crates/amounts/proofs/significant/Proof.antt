@@ -24,16 +24,32 @@ next-digit-requires : tie.Need-next-digit-requires Inv-loop μ-loop
 next-digit-requires c κs = c .loop .inv .0
 
 returns : tie.Need-returns Inv-loop μ-loop
-returns c = (c .before .before .before .before .before .loop .inv .0, λ cs h. zeros-over (c .before .before .before .before .before .before .before .args .s .now) cs (c .before .before .before .before .before .loop .inv .1 cs h) (c .before .before .before .before .next-digit .ensures .1) (c .before .before .code .given .1) (c .if1 .taken))
+returns c = (
+  c .before .before .before .before .before .loop .inv .0,
+  λ cs h. zeros-over (c .before .before .before .before .before .before .before .args .s .now) cs
+      (c .before .before .before .before .before .loop .inv .1 cs h) (c .before .before .before .before .next-digit .ensures .1)
+      (c .before .before .code .given .1) (c .if1 .taken),
+)
 
 loop-less : tie.Need-loop-less Inv-loop μ-loop
-loop-less c = let o = c .before .before .before .before .next-digit .ensures .0 _ _ (c .before .before .code .given .1) in omega (arith, o .0, o .1)
+loop-less c = let o = c .before .before .before .before .next-digit .ensures .0 _ _ (c .before .before .code .given .1) in
+    omega (arith, o .0, o .1)
 
 loop-again : tie.Need-loop-again Inv-loop μ-loop
-loop-again c = (c .before .before .before .before .next-digit .ensures .0 _ _ (c .before .before .code .given .1) .1, λ cs h. zeros-next (c .before .before .before .before .before .before .before .args .s .now) cs (c .before .before .before .before .before .loop .inv .1 cs h) (c .before .before .before .before .next-digit .ensures .1) (c .before .before .code .given .1) (c .if1 .left))
+loop-again c = (
+  c .before .before .before .before .next-digit .ensures .0 _ _ (c .before .before .code .given .1) .1,
+  λ cs h. zeros-next (c .before .before .before .before .before .before .before .args .s .now) cs
+      (c .before .before .before .before .before .loop .inv .1 cs h) (c .before .before .before .before .next-digit .ensures .1)
+      (c .before .before .code .given .1) (c .if1 .left),
+)
 
 returns-2 : tie.Need-returns-2 Inv-loop μ-loop
-returns-2 c = (c .before .before .before .loop .inv .0, λ cs h. zeros-end (c .before .before .before .before .before .args .s .now) cs (c .before .before .before .loop .inv .1 cs h) (c .before .before .next-digit .ensures .1) (c .enum-told .given .1))
+returns-2 c = (
+  c .before .before .before .loop .inv .0,
+  λ cs h. zeros-end (c .before .before .before .before .before .args .s .now) cs (c .before .before .before .loop .inv .1 cs h)
+      (c .before .before .next-digit .ensures .1) (c .enum-told .given .1),
+)
 
 pub significant-spec : {M : Type 1} → statement M
-significant-spec = tie.close (tie.spec Inv-loop μ-loop loop-holds next-digit-requires (λ c. search needs) returns loop-less loop-again (λ c. search needs) returns-2)
+significant-spec = tie.close (tie.spec Inv-loop μ-loop loop-holds next-digit-requires (λ c. search needs) returns loop-less loop-again
+    (λ c. search needs) returns-2)

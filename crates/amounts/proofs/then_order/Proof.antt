@@ -31,4 +31,5 @@ unfolding orderThen
 returns-5 c = rw (c .enum-told3 .given .1)
 
 pub then-order-spec : {M : Type 1} → statement M
-then-order-spec = tie.close (tie.spec (λ c. search needs) (λ c. search needs) returns (λ c. search needs) returns-2 returns-3 returns-4 returns-5)
+then-order-spec = tie.close (tie.spec (λ c. search needs) (λ c. search needs) returns (λ c. search needs) returns-2 returns-3 returns-4
+    returns-5)

@@ -45,4 +45,5 @@ returns c =
     rw (a .0, b .1, e .0, f .1, g, z) (rw (some-both (leading u) (leading t)))
 
 pub value-in-spec : {M : Type 1} → statement M
-value-in-spec = tie.close (tie.spec find-mark-requires read-digits-requires find-mark-requires-2 read-digits-requires-2 is-over-requires returns)
+value-in-spec = tie.close (tie.spec find-mark-requires read-digits-requires find-mark-requires-2 read-digits-requires-2 is-over-requires
+    returns)

@@ -10,15 +10,28 @@ use Rattle.angles.proofs.read_close.Tie as tie
 
 returns : tie.Need-returns
 unfolding closeOf
-returns c = rw (le-leb (length (c .before .before .before .args .d .now)) (c .before .before .before .args .at + 2) (omega arith), c .end-fault .ensures)
+returns c = rw (
+  le-leb (length (c .before .before .before .args .d .now)) (c .before .before .before .args .at + 2) (omega arith),
+  c .end-fault .ensures,
+)
 
 returns-2 : tie.Need-returns-2
 unfolding closeOf
-returns-2 c = rw (lt-leb (length (c .before .before .before .before .before .before .args .d .now)) (c .before .before .before .before .before .before .args .at + 2) (omega arith), sym (c .before .before .starts-name .ensures) ∙ c .before .if2 .taken, c .run .ensures .0)
+returns-2 c = rw (
+  lt-leb (length (c .before .before .before .before .before .before .args .d .now))
+      (c .before .before .before .before .before .before .args .at + 2) (omega arith),
+  sym (c .before .before .starts-name .ensures) ∙ c .before .if2 .taken,
+  c .run .ensures .0,
+)
 
 returns-3 : tie.Need-returns-3
 unfolding closeOf
-returns-3 c = rw (lt-leb (length (c .before .before .before .before .before .args .d .now)) (c .before .before .before .before .before .args .at + 2) (omega arith), sym (c .before .starts-name .ensures) ∙ c .if2 .left)
+returns-3 c = rw (
+  lt-leb (length (c .before .before .before .before .before .args .d .now))
+      (c .before .before .before .before .before .args .at + 2) (omega arith),
+  sym (c .before .starts-name .ensures) ∙ c .if2 .left,
+)
 
 pub read-close-spec : {M : Type 1} → statement M
-read-close-spec = tie.close (tie.spec (λ c. search needs) (λ c κs. search needs) returns (λ c. search needs) (λ c κs. search needs) (λ c κs. search needs) returns-2 returns-3)
+read-close-spec = tie.close (tie.spec (λ c. search needs) (λ c κs. search needs) returns (λ c. search needs) (λ c κs. search needs)
+    (λ c κs. search needs) returns-2 returns-3)

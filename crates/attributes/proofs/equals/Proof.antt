@@ -10,15 +10,28 @@ use Rattle.attributes.proofs.equals.Tie as tie
 
 returns : tie.Need-returns
 unfolding equalsOf
-returns c = rw (le-leb (length (c .before .before .before .args .d .now)) (c .before .before .before .args .m) (omega arith), c .end-fault .ensures)
+returns c = rw (
+  le-leb (length (c .before .before .before .args .d .now)) (c .before .before .before .args .m) (omega arith),
+  c .end-fault .ensures,
+)
 
 returns-2 : tie.Need-returns-2
 unfolding equalsOf
-returns-2 c = rw (lt-leb (length (c .before .before .before .before .before .before .args .d .now)) (c .before .before .before .before .before .before .args .m) (omega arith), eq-eqb _ 61 (c .before .before .if2 .taken), ← (c .before .run .ensures .0)) (c .valued .ensures)
+returns-2 c = rw (
+  lt-leb (length (c .before .before .before .before .before .before .args .d .now))
+      (c .before .before .before .before .before .before .args .m) (omega arith),
+  eq-eqb _ 61 (c .before .before .if2 .taken),
+  ← (c .before .run .ensures .0),
+) (c .valued .ensures)
 
 returns-3 : tie.Need-returns-3
 unfolding equalsOf
-returns-3 c = rw (lt-leb (length (c .before .before .before .before .args .d .now)) (c .before .before .before .before .args .m) (omega arith), ne-eqb _ 61 (c .if2 .left))
+returns-3 c = rw (
+  lt-leb (length (c .before .before .before .before .args .d .now)) (c .before .before .before .before .args .m)
+      (omega arith),
+  ne-eqb _ 61 (c .if2 .left),
+)
 
 pub equals-spec : {M : Type 1} → statement M
-equals-spec = tie.close (tie.spec (λ c κs. search needs) returns (λ c. search needs) (λ c. search needs) (λ c κs. search needs) (λ c κs. search needs) returns-2 returns-3)
+equals-spec = tie.close (tie.spec (λ c κs. search needs) returns (λ c. search needs) (λ c. search needs) (λ c κs. search needs)
+    (λ c κs. search needs) returns-2 returns-3)

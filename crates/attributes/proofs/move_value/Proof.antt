@@ -10,29 +10,62 @@ use Rattle.attributes.proofs.move_value.Tie as tie
 
 returns : tie.Need-returns
 unfolding valueMove
-returns c = rw (le-leb (length (c .before .before .before .args .d .now)) (c .before .before .before .args .at) (omega arith), c .end-fault .ensures)
+returns c = rw (
+  le-leb (length (c .before .before .before .args .d .now)) (c .before .before .before .args .at) (omega arith),
+  c .end-fault .ensures,
+)
 
 returns-2 : tie.Need-returns-2
 unfolding valueMove
-returns-2 c = rw (lt-leb (length (c .before .before .before .before .args .d .now)) (c .before .before .before .before .args .at) (omega arith), eq-eqb _ _ (c .if2 .taken))
+returns-2 c = rw (
+  lt-leb (length (c .before .before .before .before .args .d .now)) (c .before .before .before .before .args .at)
+      (omega arith),
+  eq-eqb _ _ (c .if2 .taken),
+)
 
 returns-3 : tie.Need-returns-3
 unfolding valueMove
-returns-3 c = rw (lt-leb (length (c .before .before .before .before .before .args .d .now)) (c .before .before .before .before .before .args .at) (omega arith), ne-eqb _ _ (c .before .if2 .left), eq-eqb _ 60 (c .if3 .taken))
+returns-3 c = rw (
+  lt-leb (length (c .before .before .before .before .before .args .d .now))
+      (c .before .before .before .before .before .args .at) (omega arith),
+  ne-eqb _ _ (c .before .if2 .left),
+  eq-eqb _ 60 (c .if3 .taken),
+)
 
 returns-4 : tie.Need-returns-4
 unfolding valueMove
 returns-4 c =
-    rw (lt-leb (length (c .before .before .before .before .before .before .before .before .before .before .args .d .now)) (c .before .before .before .before .before .before .before .before .before .before .args .at) (omega arith), ne-eqb _ _ (c .before .before .before .before .before .before .if2 .left), ne-eqb _ 60 (c .before .before .before .before .before .if3 .left), eq-eqb _ 38 (c .before .before .before .before .if4 .taken), sym (c .before .before .before .reference .ensures) ∙ c .before .next .given .1)
+    rw (
+      lt-leb (length (c .before .before .before .before .before .before .before .before .before .before .args .d .now))
+          (c .before .before .before .before .before .before .before .before .before .before .args .at) (omega arith),
+      ne-eqb _ _ (c .before .before .before .before .before .before .if2 .left),
+      ne-eqb _ 60 (c .before .before .before .before .before .if3 .left),
+      eq-eqb _ 38 (c .before .before .before .before .if4 .taken),
+      sym (c .before .before .before .reference .ensures) ∙ c .before .next .given .1,
+    )
 
 returns-5 : tie.Need-returns-5
 unfolding valueMove
 returns-5 c =
-    rw (lt-leb (length (c .before .before .before .before .before .before .before .before .before .args .d .now)) (c .before .before .before .before .before .before .before .before .before .args .at) (omega arith), ne-eqb _ _ (c .before .before .before .before .before .if2 .left), ne-eqb _ 60 (c .before .before .before .before .if3 .left), eq-eqb _ 38 (c .before .before .before .if4 .taken), sym (c .before .before .reference .ensures) ∙ c .enum-told .given .1)
+    rw (
+      lt-leb (length (c .before .before .before .before .before .before .before .before .before .args .d .now))
+          (c .before .before .before .before .before .before .before .before .before .args .at) (omega arith),
+      ne-eqb _ _ (c .before .before .before .before .before .if2 .left),
+      ne-eqb _ 60 (c .before .before .before .before .if3 .left),
+      eq-eqb _ 38 (c .before .before .before .if4 .taken),
+      sym (c .before .before .reference .ensures) ∙ c .enum-told .given .1,
+    )
 
 returns-6 : tie.Need-returns-6
 unfolding valueMove
-returns-6 c = rw (lt-leb (length (c .before .before .before .before .before .before .args .d .now)) (c .before .before .before .before .before .before .args .at) (omega arith), ne-eqb _ _ (c .before .before .if2 .left), ne-eqb _ 60 (c .before .if3 .left), ne-eqb _ 38 (c .if4 .left))
+returns-6 c = rw (
+  lt-leb (length (c .before .before .before .before .before .before .args .d .now))
+      (c .before .before .before .before .before .before .args .at) (omega arith),
+  ne-eqb _ _ (c .before .before .if2 .left),
+  ne-eqb _ 60 (c .before .if3 .left),
+  ne-eqb _ 38 (c .if4 .left),
+)
 
 pub move-value-spec : {M : Type 1} → statement M
-move-value-spec = tie.close (tie.spec (λ c κs. search needs) returns (λ c. search needs) returns-2 returns-3 (λ c κs. search needs) (λ c. search needs) returns-4 (λ c. search needs) returns-5 (λ c. search needs) returns-6)
+move-value-spec = tie.close (tie.spec (λ c κs. search needs) returns (λ c. search needs) returns-2 returns-3 (λ c κs. search needs)
+    (λ c. search needs) returns-4 (λ c. search needs) returns-5 (λ c. search needs) returns-6)

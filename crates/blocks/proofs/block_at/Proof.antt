@@ -7,18 +7,25 @@ use Rattle.blocks.proofs.block_at.Tie as tie
 
 read-values-requires : tie.Need-read-values-requires
 read-values-requires c κs =
-    let o = begun-is _ (c .before .before .before .before .before .before .before .before .first-at .ensures) (c .before .before .before .block .given .1) in
-    ((o .next, c .before .before .before .before .before .before .before .before .before .before .before .before .before .pre .0 .1), opened-standing o)
+    let o = begun-is _ (c .before .before .before .before .before .before .before .before .first-at .ensures)
+    (c .before .before .before .block .given .1) in (
+      (o .next, c .before .before .before .before .before .before .before .before .before .before .before .before .before .pre .0 .1),
+      opened-standing o,
+    )
 
 returns : tie.Need-returns
 returns c =
-    let o = begun-is _ (c .before .before .before .before .before .before .before .before .before .before .before .before .first-at .ensures) (c .before .before .before .before .before .before .before .block .given .1) in
+    let o = begun-is _
+    (c .before .before .before .before .before .before .before .before .before .before .before .before .first-at .ensures)
+    (c .before .before .before .before .before .before .before .block .given .1) in
     rw (o .reads) (c .before .before .before .read-values .ensures (o .block) _ 4097 (o .lines) (omega arith))
 
 returns-2 : tie.Need-returns-2
-returns-2 c = closed-not (rw (begun-refused _ (c .before .before .before .before .before .before .first-at .ensures) (c .before .f .given .1)))
+returns-2 c = closed-not (rw (begun-refused _ (c .before .before .before .before .before .before .first-at .ensures)
+    (c .before .f .given .1)))
 
 pub block-at-spec : {M : Type 1} → statement M
 block-at-spec =
     tie.close
-    (tie.spec (λ c κs. search needs) (λ c. search needs) read-values-requires (λ c. search needs) (λ c. search needs) (λ c. search needs) returns (λ c. search needs) (λ c. search needs) returns-2)
+    (tie.spec (λ c κs. search needs) (λ c. search needs) read-values-requires (λ c. search needs) (λ c. search needs) (λ c. search needs)
+    returns (λ c. search needs) (λ c. search needs) returns-2)

@@ -12,7 +12,8 @@ first-tag-requires c κs =
 
 returns : tie.Need-returns
 returns c =
-    rw (first-start _ _ _ _ _ _ (sym (c .before .before .before .before .before .before .before .before .before .find-open .ensures .0) ∙ c .before .before .before .before .before .before .before .place .given .1)) (c .before .before .before .first-tag .ensures)
+    rw (first-start _ _ _ _ _ _ (sym (c .before .before .before .before .before .before .before .before .before .find-open .ensures .0)
+    ∙ c .before .before .before .before .before .before .before .place .given .1)) (c .before .before .before .first-tag .ensures)
 
 returns-2 : tie.Need-returns-2
 returns-2 c = begun-not (first-shut _ _ _ _ _ _ (sym (c .before .before .before .find-open .ensures .0) ∙ c .before .place2 .given .1))
@@ -23,4 +24,5 @@ returns-3 c = begun-not (first-not _ _ _ _ _ _ (sym (c .before .before .before .
 pub first-at-spec : {M : Type 1} → statement M
 first-at-spec =
     tie.close
-    (tie.spec (λ c. search needs) (λ c κs. search needs) (λ c. search needs) first-tag-requires (λ c. search needs) (λ c. search needs) (λ c. search needs) (λ c. search needs) returns returns-2 returns-3)
+    (tie.spec (λ c. search needs) (λ c κs. search needs) (λ c. search needs) first-tag-requires (λ c. search needs) (λ c. search needs)
+    (λ c. search needs) (λ c. search needs) returns returns-2 returns-3)

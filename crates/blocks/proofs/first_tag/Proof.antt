@@ -12,16 +12,21 @@ value-tag-requires c κs =
 returns : tie.Need-returns
 returns c =
     let p = c .before .before .before .before .before .before .before .pre in
-    first-range _ _ _ _ _ (p .1 .1) (p .1 .0) (p .1 .2) _ _ _ _ _ (p .0 .1) (sym (c .before .before .before .is-named .ensures) ∙ c .before .before .if1 .taken)
+    first-range _ _ _ _ _ (p .1 .1) (p .1 .0) (p .1 .2) _ _ _ _ _ (p .0 .1)
+    (sym (c .before .before .before .is-named .ensures) ∙ c .before .before .if1 .taken)
     (c .before .range-at .ensures) (c .listed .ensures)
 
 returns-2 : tie.Need-returns-2
 returns-2 c =
     let p = c .before .before .before .before .before .before .before .before .before .before .before .before .before .pre in
-    let l = empty-lines _ _ _ _ _ (p .1 .1) (p .1 .0) (p .1 .2) (c .before .before .before .before .before .before .before .empty-block .ensures) in
-    first-line _ _ _ _ _ (sym (c .before .before .before .before .before .before .before .before .before .is-named .ensures) ∙ c .before .before .before .before .before .before .before .before .if1 .left) (c .before .before .before .before .value-tag .ensures _ _ l) (c .listed2 .ensures)
+    let l = empty-lines _ _ _ _ _ (p .1 .1) (p .1 .0) (p .1 .2)
+    (c .before .before .before .before .before .before .before .empty-block .ensures) in
+    first-line _ _ _ _ _ (sym (c .before .before .before .before .before .before .before .before .before .is-named .ensures)
+    ∙ c .before .before .before .before .before .before .before .before .if1 .left)
+    (c .before .before .before .before .value-tag .ensures _ _ l) (c .listed2 .ensures)
 
 pub first-tag-spec : {M : Type 1} → statement M
 first-tag-spec =
     tie.close
-    (tie.spec (λ c. search needs) (λ c. search needs) (λ c κs. search needs) (λ c κs. search needs) (λ c κs. search needs) returns (λ c κs. search needs) value-tag-requires (λ c. search needs) (λ c κs. search needs) (λ c. search needs) (λ c. search needs) returns-2)
+    (tie.spec (λ c. search needs) (λ c. search needs) (λ c κs. search needs) (λ c κs. search needs) (λ c κs. search needs) returns
+    (λ c κs. search needs) value-tag-requires (λ c. search needs) (λ c κs. search needs) (λ c. search needs) (λ c. search needs) returns-2)

@@ -12,7 +12,10 @@ returns c = rw (lt-ltb _ _ (c .before .before .if1 .taken), sym (c .before .form
 returns-2 : tie.Need-returns-2
 unfolding pairOf
 returns-2 c =
-    rw (lt-ltb _ _ (c .before .before .before .before .if1 .taken), sym (c .before .before .before .formed .ensures) ∙ not-false _ (c .before .before .if2 .left))
+    rw (
+      lt-ltb _ _ (c .before .before .before .before .if1 .taken),
+      sym (c .before .before .before .formed .ensures) ∙ not-false _ (c .before .before .if2 .left),
+    )
     (c .turn .ensures ∙ rw (c .before .judge-range .ensures))
 
 returns-3 : tie.Need-returns-3
@@ -21,4 +24,5 @@ returns-3 c = rw (le-ltb _ _ (c .before .if1 .left)) (c .judge-range2 .ensures)
 
 pub judge-pair-spec : {M : Type 1} → statement M
 judge-pair-spec =
-    tie.close (tie.spec (λ c κs. search needs) returns (λ c κs. search needs) (λ c κs. search needs) returns-2 (λ c κs. search needs) returns-3)
+    tie.close (tie.spec (λ c κs. search needs) returns (λ c κs. search needs) (λ c κs. search needs) returns-2 (λ c κs. search needs)
+    returns-3)

@@ -5,8 +5,11 @@ use Rattle.blocks.proofs.place_line.Tie as tie
 
 returns : tie.Need-returns
 returns c =
-    let e = sym (c .before .before .before .before .before .before .before .stand-line .ensures .0) ∙ c .before .before .enum-told .given .1 in
-    (rw e (c .unless .ensures ∙ rw (c .before .grown .ensures)), c .before .before .before .before .before .before .before .stand-line .ensures .1)
+    let e = sym (c .before .before .before .before .before .before .before .stand-line .ensures .0)
+    ∙ c .before .before .enum-told .given .1 in (
+      rw e (c .unless .ensures ∙ rw (c .before .grown .ensures)),
+      c .before .before .before .before .before .before .before .stand-line .ensures .1,
+    )
 
 returns-2 : tie.Need-returns-2
 returns-2 c =
@@ -16,4 +19,5 @@ returns-2 c =
 pub place-line-spec : {M : Type 1} → statement M
 place-line-spec =
     tie.close
-    (tie.spec (λ c κs. c .before .before .before .pre) (λ c. search needs) (λ c κs. search needs) (λ c κs. search needs) (λ c. search needs) (λ c. search needs) (λ c. search needs) returns (λ c. search needs) (λ c. search needs) returns-2)
+    (tie.spec (λ c κs. c .before .before .before .pre) (λ c. search needs) (λ c κs. search needs) (λ c κs. search needs) (λ c. search needs)
+    (λ c. search needs) (λ c. search needs) returns (λ c. search needs) (λ c. search needs) returns-2)

@@ -5,24 +5,39 @@ use Rattle.blocks.proofs.range_at.Statement.{statement}
 use Rattle.blocks.proofs.range_at.Tie as tie
 
 pass-pair-requires : tie.Need-pass-pair-requires
-pass-pair-requires c κs = range-next _ _ (c .before .before .before .before .before .before .before .before .before .args .quantity) _ _ (c .before .before .before .before .before .before .before .before .before .pre) (sym (c .before .before .before .before .read-tag .ensures) ∙ c .before .before .held .given .1)
+pass-pair-requires c κs = range-next _ _ (c .before .before .before .before .before .before .before .before .before .args .quantity) _ _
+    (c .before .before .before .before .before .before .before .before .before .pre)
+    (sym (c .before .before .before .before .read-tag .ensures) ∙ c .before .before .held .given .1)
 
 settle-range-requires : tie.Need-settle-range-requires
-settle-range-requires c κs = range-slots _ _ (c .before .before .before .before .before .before .before .before .before .before .before .before .before .args .quantity) _ _ (c .before .before .before .before .before .before .before .before .before .before .before .before .before .pre) (sym (c .before .before .before .before .before .before .before .before .read-tag .ensures) ∙ c .before .before .before .before .before .before .held .given .1)
+settle-range-requires c κs = range-slots _ _
+    (c .before .before .before .before .before .before .before .before .before .before .before .before .before .args .quantity) _ _
+    (c .before .before .before .before .before .before .before .before .before .before .before .before .before .pre)
+    (sym (c .before .before .before .before .before .before .before .before .read-tag .ensures)
+    ∙ c .before .before .before .before .before .before .held .given .1)
 
 returns : tie.Need-returns
 returns c =
     c .settle-range .ensures
-    ∙ range-found _ _ _ _ _ (c .before .before .before .before .before .before .before .before .before .before .before .before .before .before .pre) (sym (c .before .before .before .before .before .before .before .before .before .read-tag .ensures) ∙ c .before .before .before .before .before .before .before .held .given .1) (sym (c .before .before .before .before .pass-pair .ensures) ∙ c .before .before .found .given .1)
+    ∙ range-found _ _ _ _ _
+    (c .before .before .before .before .before .before .before .before .before .before .before .before .before .before .pre)
+    (sym (c .before .before .before .before .before .before .before .before .before .read-tag .ensures)
+    ∙ c .before .before .before .before .before .before .before .held .given .1)
+    (sym (c .before .before .before .before .pass-pair .ensures) ∙ c .before .before .found .given .1)
 
 returns-2 : tie.Need-returns-2
 returns-2 c =
-    range-not _ _ _ _ _ (c .before .before .before .before .before .before .before .before .before .before .before .before .before .pre) (sym (c .before .before .before .before .before .before .before .before .read-tag .ensures) ∙ c .before .before .before .before .before .before .held .given .1) (sym (c .before .before .before .pass-pair .ensures) ∙ c .before .f .given .1)
+    range-not _ _ _ _ _ (c .before .before .before .before .before .before .before .before .before .before .before .before .before .pre)
+    (sym (c .before .before .before .before .before .before .before .before .read-tag .ensures)
+    ∙ c .before .before .before .before .before .before .held .given .1)
+    (sym (c .before .before .before .pass-pair .ensures) ∙ c .before .f .given .1)
 
 returns-3 : tie.Need-returns-3
-returns-3 c = range-fault _ _ _ _ _ (c .before .before .before .before .before .before .before .before .pre) (sym (c .before .before .before .read-tag .ensures) ∙ c .before .number .given .1)
+returns-3 c = range-fault _ _ _ _ _ (c .before .before .before .before .before .before .before .before .pre)
+    (sym (c .before .before .before .read-tag .ensures) ∙ c .before .number .given .1)
 
 pub range-at-spec : {M : Type 1} → statement M
 range-at-spec =
     tie.close
-    (tie.spec (λ c. search needs) (λ c. search needs) (λ c. search needs) (λ c κs. search needs) (λ c. search needs) (λ c. search needs) pass-pair-requires (λ c. search needs) settle-range-requires (λ c. search needs) (λ c. search needs) returns returns-2 returns-3)
+    (tie.spec (λ c. search needs) (λ c. search needs) (λ c. search needs) (λ c κs. search needs) (λ c. search needs) (λ c. search needs)
+    pass-pair-requires (λ c. search needs) settle-range-requires (λ c. search needs) (λ c. search needs) returns returns-2 returns-3)

@@ -18,42 +18,60 @@ loop-holds c = ran-first (c .before .before .pre .1) (c .before .before .pre .0 
 
 value-tag-requires : tie.Need-value-tag-requires Inv-loop μ-loop
 value-tag-requires c κs =
-    let w = rw (c .before .before .before .place .given .1) at (c .before .before .before .before .before .find-open .ensures .1) in
-    ((w .1, w .2, c .before .before .before .before .before .before .before .before .before .before .pre .0 .1), c .before .before .before .before .before .before .before .loop .inv .standing)
+    let w = rw (c .before .before .before .place .given .1) at (c .before .before .before .before .before .find-open .ensures .1) in (
+      (w .1, w .2, c .before .before .before .before .before .before .before .before .before .before .pre .0 .1),
+      c .before .before .before .before .before .before .before .loop .inv .standing,
+    )
 
 loop-less : tie.Need-loop-less Inv-loop μ-loop
 loop-less c =
-    let h = ran-less (c .before .before .before .before .before .before .before .before .before .before .before .before .before .before .loop .inv) (sym (c .before .before .before .before .before .before .before .before .before .before .before .before .find-open .ensures .0) ∙ c .before .before .before .before .before .before .before .before .before .before .place .given .1) (c .before .before .before .before .before .before .value-tag .ensures) (c .before .y .given .1) in
+    let h = ran-less
+    (c .before .before .before .before .before .before .before .before .before .before .before .before .before .before .loop .inv)
+    (sym (c .before .before .before .before .before .before .before .before .before .before .before .before .find-open .ensures .0)
+    ∙ c .before .before .before .before .before .before .before .before .before .before .place .given .1)
+    (c .before .before .before .before .before .before .value-tag .ensures) (c .before .y .given .1) in
     omega arith
 
 loop-again : tie.Need-loop-again Inv-loop μ-loop
 loop-again c =
-    ran-more (c .before .before .before .before .before .before .before .before .before .before .before .before .before .before .loop .inv) (sym (c .before .before .before .before .before .before .before .before .before .before .before .before .find-open .ensures .0) ∙ c .before .before .before .before .before .before .before .before .before .before .place .given .1) (c .before .before .before .before .before .before .value-tag .ensures) (c .before .y .given .1)
+    ran-more (c .before .before .before .before .before .before .before .before .before .before .before .before .before .before .loop .inv)
+    (sym (c .before .before .before .before .before .before .before .before .before .before .before .before .find-open .ensures .0)
+    ∙ c .before .before .before .before .before .before .before .before .before .before .place .given .1)
+    (c .before .before .before .before .before .before .value-tag .ensures) (c .before .y .given .1)
 
 returns : tie.Need-returns Inv-loop μ-loop
 returns c =
-    ran-not (c .before .before .before .before .before .before .before .before .before .before .before .before .before .before .loop .inv) (sym (c .before .before .before .before .before .before .before .before .before .before .before .before .find-open .ensures .0) ∙ c .before .before .before .before .before .before .before .before .before .before .place .given .1) (c .before .before .before .before .before .before .value-tag .ensures) (c .before .f .given .1)
+    ran-not (c .before .before .before .before .before .before .before .before .before .before .before .before .before .before .loop .inv)
+    (sym (c .before .before .before .before .before .before .before .before .before .before .before .before .find-open .ensures .0)
+    ∙ c .before .before .before .before .before .before .before .before .before .before .place .given .1)
+    (c .before .before .before .before .before .before .value-tag .ensures) (c .before .f .given .1)
 
 returns-2 : tie.Need-returns-2 Inv-loop μ-loop
 returns-2 c =
     let w = rw (c .before .next .given .1) at (c .before .before .before .find-open .ensures .1) in
-    ran-over (c .before .before .before .before .before .loop .inv) (sym (c .before .before .before .find-open .ensures .0) ∙ c .before .next .given .1) (w .2)
+    ran-over (c .before .before .before .before .before .loop .inv)
+    (sym (c .before .before .before .find-open .ensures .0) ∙ c .before .next .given .1) (w .2)
 
 returns-3 : tie.Need-returns-3 Inv-loop μ-loop
-returns-3 c = ran-none (c .before .before .before .before .before .loop .inv) (sym (c .before .before .before .find-open .ensures .0) ∙ c .before .f2 .given .1)
+returns-3 c = ran-none (c .before .before .before .before .before .loop .inv)
+    (sym (c .before .before .before .find-open .ensures .0) ∙ c .before .f2 .given .1)
 
 same-length : tie.Need-same-length Inv-loop μ-loop
 same-length c =
     let g = c .before .before .before .before .before .lines .given in
-    let h = c .before .before .before .before .before .before .before .before .before .before .before .before .before .before .loop .inv .standing .lines .holds .kept in
-    let k = c .before .before .before .before .before .before .before .before .before .before .before .before .before .before .before .before .before .pre .1 .lines .holds .kept in
+    let h = c .before .before .before .before .before .before .before .before .before .before .before .before .before .before .loop .inv
+    .standing .lines .holds .kept in
+    let k = c .before .before .before .before .before .before .before .before .before .before .before .before .before .before .before
+    .before .before .pre .1 .lines .holds .kept in
     search needs
 
 same-length-2 : tie.Need-same-length-2 Inv-loop μ-loop
 same-length-2 c =
     let g = c .before .before .before .before .marks .given in
-    let h = c .before .before .before .before .before .before .before .before .before .before .before .before .before .before .loop .inv .standing .lines .holds .slots in
-    let k = c .before .before .before .before .before .before .before .before .before .before .before .before .before .before .before .before .before .pre .1 .lines .holds .slots in
+    let h = c .before .before .before .before .before .before .before .before .before .before .before .before .before .before .loop .inv
+    .standing .lines .holds .slots in
+    let k = c .before .before .before .before .before .before .before .before .before .before .before .before .before .before .before
+    .before .before .pre .1 .lines .holds .slots in
     search needs
 
 same-length-3 : tie.Need-same-length-3 Inv-loop μ-loop
@@ -92,7 +110,11 @@ read-values-spec =
     (λ c. search needs)
     value-tag-requires
     (λ c. search needs)
-    (λ c. omega (arith, c .before .before .before .before .before .before .before .before .before .before .before .before .before .before .loop .inv .standing .lines .holds .most))
+    (λ c. omega (
+      arith,
+      c .before .before .before .before .before .before .before .before .before .before .before .before .before .before .loop .inv
+          .standing .lines .holds .most,
+    ))
     loop-less
     loop-again
     (λ c. search needs)

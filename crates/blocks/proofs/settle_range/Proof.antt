@@ -9,7 +9,8 @@ below-in-requires : tie.Need-below-in-requires
 below-in-requires c κs =
     let p = c .before .before .before .pre in
     let a = c .before .before .before .args in
-    below-asks (a .d .now) (a .quantity) (a .h) (p .0) (p .1) (c .before .amount-at .ensures (p .0 .fits)) (c .amount-at2 .ensures (p .1 .fits))
+    below-asks (a .d .now) (a .quantity) (a .h) (p .0) (p .1) (c .before .amount-at .ensures (p .0 .fits))
+    (c .amount-at2 .ensures (p .1 .fits))
 
 returns : tie.Need-returns
 unfolding settledOf
@@ -17,7 +18,10 @@ returns c =
     let p = c .before .before .before .before .before .before .before .before .before .before .before .pre in
     let a = c .before .before .before .before .before .before .before .before .before .before .before .args in
     let e =
-    sym (range-settled (a .d .now) (a .quantity) (a .h) (p .0) (p .1) (c .before .before .before .before .before .before .before .before .before .amount-at .ensures (p .0 .fits)) (c .before .before .before .before .before .before .before .before .amount-at2 .ensures (p .1 .fits)) (a .next) (c .before .before .before .before .before .before .before .below-in .ensures))
+    sym (range-settled (a .d .now) (a .quantity) (a .h) (p .0) (p .1)
+    (c .before .before .before .before .before .before .before .before .before .amount-at .ensures (p .0 .fits))
+    (c .before .before .before .before .before .before .before .before .amount-at2 .ensures (p .1 .fits)) (a .next)
+    (c .before .before .before .before .before .before .before .below-in .ensures))
     ∙ sym (c .before .before .before .before .before .before .judge-pair .ensures) ∙ c .before .before .before .before .block .given .1 in
     rw e (c .unless .ensures ∙ rw (c .before .lower .ensures, c .before .before .fault-at .ensures))
 
@@ -27,11 +31,16 @@ returns-2 c =
     let p = c .before .before .before .before .before .before .before .before .pre in
     let a = c .before .before .before .before .before .before .before .before .args in
     let e =
-    sym (range-settled (a .d .now) (a .quantity) (a .h) (p .0) (p .1) (c .before .before .before .before .before .before .amount-at .ensures (p .0 .fits)) (c .before .before .before .before .before .amount-at2 .ensures (p .1 .fits)) (a .next) (c .before .before .before .before .below-in .ensures))
+    sym (range-settled (a .d .now) (a .quantity) (a .h) (p .0) (p .1)
+    (c .before .before .before .before .before .before .amount-at .ensures (p .0 .fits))
+    (c .before .before .before .before .before .amount-at2 .ensures (p .1 .fits)) (a .next)
+    (c .before .before .before .before .below-in .ensures))
     ∙ sym (c .before .before .before .judge-pair .ensures) ∙ c .before .f .given .1 in
     rw e
 
 pub settle-range-spec : {M : Type 1} → statement M
 settle-range-spec =
     tie.close
-    (tie.spec (λ c κs. (c .before .pre .0 .ends, c .before .pre .0 .within)) (λ c κs. (c .before .before .pre .1 .ends, c .before .before .pre .1 .within)) below-in-requires (λ c κs. search needs) (λ c. search needs) (λ c κs. search needs) (λ c κs. search needs) (λ c κs. search needs) (λ c. search needs) returns returns-2)
+    (tie.spec (λ c κs. (c .before .pre .0 .ends, c .before .pre .0 .within))
+    (λ c κs. (c .before .before .pre .1 .ends, c .before .before .pre .1 .within)) below-in-requires (λ c κs. search needs)
+    (λ c. search needs) (λ c κs. search needs) (λ c κs. search needs) (λ c κs. search needs) (λ c. search needs) returns returns-2)

@@ -5,20 +5,34 @@ use Rattle.blocks.proofs.values_at.Statement.{statement}
 use Rattle.blocks.proofs.values_at.Tie as tie
 
 returns : tie.Need-returns
-returns c = closed-not (values-unknown _ _ _ _ _ _ _ (sym (c .before .before .before .before .before .read-bare .ensures) ∙ c .before .before .before .held .given .1) (c .if1 .taken))
+returns c = closed-not (values-unknown _ _ _ _ _ _ _
+    (sym (c .before .before .before .before .before .read-bare .ensures) ∙ c .before .before .before .held .given .1) (c .if1 .taken))
 
 returns-2 : tie.Need-returns-2
-returns-2 c = closed-not (values-empty _ _ _ _ _ _ _ (sym (c .before .before .before .before .before .before .read-bare .ensures) ∙ c .before .before .before .before .held .given .1) (c .before .if1 .left) (c .if2 .taken))
+returns-2 c = closed-not (values-empty _ _ _ _ _ _ _
+    (sym (c .before .before .before .before .before .before .read-bare .ensures) ∙ c .before .before .before .before .held .given .1)
+    (c .before .if1 .left) (c .if2 .taken))
 
 block-at-requires : tie.Need-block-at-requires
 block-at-requires c κs =
     let a = c .before .before .before .before .before .before .before .before .before .before .before .args in
-    let p = c .before .before .before .before .before .before .before .before .before .before .before .pre in
-    ((bare-next _ _ (a .languages) (a .quantity) (a .before) _ _ (sym (c .before .before .before .before .before .before .before .before .read-bare .ensures) ∙ c .before .before .before .before .before .before .held .given .1) (p .0 .0), p .0 .1), p .1)
+    let p = c .before .before .before .before .before .before .before .before .before .before .before .pre in (
+      (
+        bare-next _ _ (a .languages) (a .quantity) (a .before) _ _
+            (sym (c .before .before .before .before .before .before .before .before .read-bare .ensures)
+            ∙ c .before .before .before .before .before .before .held .given .1) (p .0 .0),
+        p .0 .1,
+      ),
+      p .1,
+    )
 
 returns-3 : tie.Need-returns-3
 returns-3 c =
-    rw (values-open _ _ _ _ _ _ _ (sym (c .before .before .before .before .before .before .before .before .before .before .before .before .read-bare .ensures) ∙ c .before .before .before .before .before .before .before .before .before .before .held .given .1) (c .before .before .before .before .before .before .before .if1 .left) (c .before .before .before .before .before .before .if2 .left)) (c .before .before .before .block-at .ensures)
+    rw (values-open _ _ _ _ _ _ _
+    (sym (c .before .before .before .before .before .before .before .before .before .before .before .before .read-bare .ensures)
+    ∙ c .before .before .before .before .before .before .before .before .before .before .held .given .1)
+    (c .before .before .before .before .before .before .before .if1 .left) (c .before .before .before .before .before .before .if2 .left))
+    (c .before .before .before .block-at .ensures)
 
 returns-4 : tie.Need-returns-4
 returns-4 c = closed-not (values-fault _ _ _ _ _ _ _ (sym (c .before .before .before .read-bare .ensures) ∙ c .before .number .given .1))
@@ -26,4 +40,5 @@ returns-4 c = closed-not (values-fault _ _ _ _ _ _ _ (sym (c .before .before .be
 pub values-at-spec : {M : Type 1} → statement M
 values-at-spec =
     tie.close
-    (tie.spec (λ c κs. search needs) (λ c. search needs) returns returns-2 block-at-requires (λ c. search needs) (λ c. search needs) (λ c. search needs) returns-3 returns-4)
+    (tie.spec (λ c κs. search needs) (λ c. search needs) returns returns-2 block-at-requires (λ c. search needs) (λ c. search needs)
+    (λ c. search needs) returns-3 returns-4)

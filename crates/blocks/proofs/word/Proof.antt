@@ -7,7 +7,11 @@ use Rattle.blocks.proofs.word.Tie as tie
 returns : tie.Need-returns
 unfolding wordOf
 returns c =
-    rw (c .before .before .before .amount-at .ensures (c .before .before .before .before .before .pre .fits), c .lower .ensures, c .before .before .fault-at .ensures)
+    rw (
+      c .before .before .before .amount-at .ensures (c .before .before .before .before .before .pre .fits),
+      c .lower .ensures,
+      c .before .before .fault-at .ensures,
+    )
 
 pub word-spec : {M : Type 1} → statement M
 word-spec =

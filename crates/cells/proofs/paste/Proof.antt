@@ -37,7 +37,8 @@ loop-again c =
     let j = c .before .before .loop .j in (
       omega arith,
       simp length-set (c .before .before .loop .inv .1),
-      rw (toZ-ofZ (sfits-of (c .x .given)), add-one j, c .before .before .loop .inv .2) (Seq.paste-suc (c .before .before .before .args .t .now) at src j (pos 0) (omega arith) (omega arith)),
+      rw (toZ-ofZ (sfits-of (c .x .given)), add-one j, c .before .before .loop .inv .2)
+          (Seq.paste-suc (c .before .before .before .args .t .now) at src j (pos 0) (omega arith) (omega arith)),
     )
 
 -- src/lib.rt:85:1
@@ -54,4 +55,5 @@ returns c =
 
 pub paste-spec : {M : Type 1} → statement M
 paste-spec =
-    tie.close (tie.spec Inv-loop μ-loop loop-holds (λ c. omega arith) (λ c. omega arith) (λ c. omega arith) (λ c. omega arith) (λ c. omega arith) (λ c. omega arith) (λ c. omega arith) loop-again same-length returns)
+    tie.close (tie.spec Inv-loop μ-loop loop-holds (λ c. omega arith) (λ c. omega arith) (λ c. omega arith) (λ c. omega arith)
+    (λ c. omega arith) (λ c. omega arith) (λ c. omega arith) loop-again same-length returns)

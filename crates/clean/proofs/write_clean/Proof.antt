@@ -15,20 +15,25 @@ measure-requires c κs = (c .before .before .before .classes .ensures, c .before
 returns : tie.Need-returns
 unfolding writtenOf outAfter
 returns c =
-    let e = too-large _ (length (c .before .before .before .before .before .before .before .before .args .out .now)) _ (c .before .measure .ensures) (c .if1 .taken) in
+    let e = too-large _ (length (c .before .before .before .before .before .before .before .before .args .out .now)) _
+    (c .before .measure .ensures) (c .if1 .taken) in
     (rw e, rw e)
 
 returns-2 : tie.Need-returns-2
 unfolding writtenOf outAfter
 returns-2 c =
-    let e = too-short _ (length (c .before .before .before .before .before .before .before .before .before .args .out .now)) _ (c .before .before .measure .ensures) (c .before .if1 .left) (c .if2 .taken) in
+    let e = too-short _ (length (c .before .before .before .before .before .before .before .before .before .args .out .now)) _
+    (c .before .before .measure .ensures) (c .before .if1 .left) (c .if2 .taken) in
     (rw e, rw e)
 
 add-send-clean : tie.Need-add-send-clean
 add-send-clean c = omega (arith, c .before .before .before .if1 .left)
 
 send-clean-requires : tie.Need-send-clean-requires
-send-clean-requires c κs = (c .before .before .before .before .before .before .before .before .before .classes .ensures, c .before .before .before .before .before .before .before .before .powers .ensures)
+send-clean-requires c κs = (
+  c .before .before .before .before .before .before .before .before .before .classes .ensures,
+  c .before .before .before .before .before .before .before .before .powers .ensures,
+)
 
 same-length : tie.Need-same-length
 same-length c = c .before .before .send-clean .ensures .room
@@ -36,8 +41,15 @@ same-length c = c .before .before .send-clean .ensures .room
 returns-3 : tie.Need-returns-3
 unfolding writtenOf outAfter
 returns-3 c =
-    let e = fits _ (length (c .before .before .before .before .before .before .before .before .before .before .before .before .before .before .before .args .out .now)) _ (c .before .before .before .before .before .before .before .before .measure .ensures) (c .before .before .before .before .before .before .before .if1 .left) (c .before .before .before .before .before .before .if2 .left) in
-    (rw (e .0) (ap written.Done (e .1)), rw (e .0) (stored (c .before .before .send-clean .ensures) refl (e .1) (c .before .before .before .before .before .before .if2 .left)))
+    let e = fits _
+    (length (c .before .before .before .before .before .before .before .before .before .before .before .before .before .before .before .args
+    .out .now)) _ (c .before .before .before .before .before .before .before .before .measure .ensures)
+    (c .before .before .before .before .before .before .before .if1 .left)
+    (c .before .before .before .before .before .before .if2 .left) in (
+      rw (e .0) (ap written.Done (e .1)),
+      rw (e .0)
+          (stored (c .before .before .send-clean .ensures) refl (e .1) (c .before .before .before .before .before .before .if2 .left)),
+    )
 
 pub write-clean-spec : {M : Type 1} → statement M
 write-clean-spec =

@@ -13,9 +13,14 @@ returns : tie.Need-returns
 unfolding writingOf
 returns c =
     let a = c .before .before .before .before .before .before .before .before .before .args in
-    let e : againstOf (a .d .now) (a .t .now) ≡ Same = sym (c .before .before .before .before .before .before .judge-against .ensures) ∙ c .before .before .before .before .enum-told .given .1 in
+    let e : againstOf (a .d .now) (a .t .now) ≡ Same = sym (c .before .before .before .before .before .before .judge-against .ensures)
+    ∙ c .before .before .before .before .enum-told .given .1 in
     let f = same-clean (a .d .now) (a .t .now) (length (a .out .now)) e in
-    record { says = rw (e, f) (c .before .before .write-clean .ensures .0); leaves = rw (e, f) (c .before .before .write-clean .ensures .1) }
+    record {
+      says = rw (e, f) (c .before .before .write-clean .ensures .0);
+      leaves = rw (e, f)
+          (c .before .before .write-clean .ensures .1);
+    }
 
 returns-2 : tie.Need-returns-2
 unfolding writingOf writtenOf outAfter

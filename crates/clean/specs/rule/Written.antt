@@ -1,4 +1,5 @@
--- "Refusals: 40 the table is not the one this definition yields, 41 the clean text passes 1,048,576 bytes, 42 output room too short, judged in
+-- "Refusals: 40 the table is not the one this definition yields, 41 the clean text passes 1,048,576 bytes, 42 output room too short, judged
+-- in
 -- that order after 1 to 9." "Answer: the length; output beyond is kept, and all of it on a refusal."
 use mathlib.Core.Path.{_≡_}
 use mathlib.Core.Bool.{cond}

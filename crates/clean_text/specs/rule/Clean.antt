@@ -10,7 +10,8 @@ use Rattle.fields.specs.rule.Number.{padded}
 use Rattle.statements.specs.rule.Words.{SSS, VERSION, ONE-ONE, DATE, TIME, ORIGIN, USER, STANDARD, NAMES, SURVEY, TITLE, RECORD, VARIABLE}
 use Rattle.statements.specs.rule.Words.{NAME, LABEL, TYPE, SINGLE, MULTIPLE, QUANTITY, CHARACTER, LOGICAL, POSITION, TO, SPREAD, OF, SIZE}
 use Rattle.statements.specs.rule.Words.{VALUES, WITH, SPECIAL, END}
-use Rattle.survey.specs.rule.Survey.{Figure, Amount, Text, Range, Line, Block, Spread, Content, single, multiple, quantity, character, logical}
+use Rattle.survey.specs.rule.Survey.{Figure, Amount, Text, Range, Line, Block, Spread, Content, single, multiple, quantity, character}
+use Rattle.survey.specs.rule.Survey.{logical}
 use Rattle.survey.specs.rule.Survey.{Variable, Heading, Survey}
 use Rattle.clean_text.specs.rule.Span.{spanOf}
 

@@ -11,10 +11,15 @@ mark-legal-requires : tie.Need-mark-legal-requires
 mark-legal-requires c κs = (c .before .before .pre .0, c .before .before .pre .1 .few)
 
 count-marked-requires : tie.Need-count-marked-requires
-count-marked-requires c κs = omega (arith, c .before .before .before .mark-legal .kept .1 .1 .1 .0, c .before .before .before .before .before .before .pre .1 .few)
+count-marked-requires c κs = omega (
+  arith,
+  c .before .before .before .mark-legal .kept .1 .1 .1 .0,
+  c .before .before .before .before .before .before .pre .1 .few,
+)
 
 returns : tie.Need-returns
-returns c = c .count-marked .ensures ∙ count-marked (c .before .before .before .before .before .before .before .pre .1) _ (c .before .before .before .before .mark-legal .kept .1 .1 .1 .0) (c .before .before .before .before .mark-legal .ensures)
+returns c = c .count-marked .ensures ∙ count-marked (c .before .before .before .before .before .before .before .pre .1) _
+    (c .before .before .before .before .mark-legal .kept .1 .1 .1 .0) (c .before .before .before .before .mark-legal .ensures)
 
 pub count-categories-spec : {M : Type 1} → statement M
 count-categories-spec =

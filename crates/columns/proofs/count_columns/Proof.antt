@@ -31,10 +31,20 @@ few : (c : tie.Start Inv-loop μ-loop) → c .args .h .rows ≤ 512
 few c = rw (tested-rows (c .pre .0)) (table-ready (c .args .t .now) (c .pre .0 .good) (lengthOf (c .args .t .now)) (omega arith) .few)
 
 count-row-requires : tie.Need-count-row-requires Inv-loop μ-loop
-count-row-requires c κs = (c .before .before .before .before .before .pre .0, c .before .if1 .taken, c .before .before .before .loop .inv .2 ∙ c .before .before .before .before .before .pre .1)
+count-row-requires c κs = (
+  c .before .before .before .before .before .pre .0,
+  c .before .if1 .taken,
+  c .before .before .before .loop .inv .2 ∙ c .before .before .before .before .before .pre .1,
+)
 
 add-k : tie.Need-add-k Inv-loop μ-loop
-add-k c = omega (arith, c .before .before .count-row .ensures .1, c .before .before .before .before .before .before .loop .inv .1, c .before .before .before .before .if1 .taken, few (c .before .before .before .before .before .before .before .before))
+add-k c = omega (
+  arith,
+  c .before .before .count-row .ensures .1,
+  c .before .before .before .before .before .before .loop .inv .1,
+  c .before .before .before .before .if1 .taken,
+  few (c .before .before .before .before .before .before .before .before),
+)
 
 add-i : tie.Need-add-i Inv-loop μ-loop
 add-i c = omega (arith, c .before .before .before .before .if1 .taken)

@@ -13,7 +13,8 @@ use Rattle.columns.proofs.count_marked.Tie as tie
 
 abbrev Inv-loop : tie.InvT-loop
 Inv-loop marks k₀ c₀ k c =
-    (k ≤ c) × (c ≤ length marks + 1) × (k + length (markedFrom true marks marks c (length marks - c)) ≡ length (markedEntries true marks marks))
+    (k ≤ c) × (c ≤ length marks + 1) × (k + length (markedFrom true marks marks c (length marks - c))
+    ≡ length (markedEntries true marks marks))
 
 abbrev μ-loop : tie.MeasureT-loop
 μ-loop marks k₀ c₀ k c = length marks - c
@@ -28,7 +29,8 @@ shared-slice-read-if1 : tie.Need-shared-slice-read-if1 Inv-loop μ-loop
 shared-slice-read-if1 c = c .before .loop-test .taken
 
 add-k : tie.Need-add-k Inv-loop μ-loop
-add-k c = let l = c .before .before .before .loop in omega (arith, l .inv .0, c .before .before .loop-test .taken, c .before .before .before .before .pre)
+add-k c = let l = c .before .before .before .loop in
+    omega (arith, l .inv .0, c .before .before .loop-test .taken, c .before .before .before .before .pre)
 
 loop-less : tie.Need-loop-less Inv-loop μ-loop
 loop-less c = omega (arith, c .before .before .loop-test .taken)

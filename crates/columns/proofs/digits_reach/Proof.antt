@@ -16,11 +16,19 @@ returns-2 c = rw (ne-eqb (c .before .before .args .w) 1 (c .before .if1 .left), 
 
 returns-3 : tie.Need-returns-3
 unfolding digitsReach
-returns-3 c = rw (ne-eqb (c .before .before .before .args .w) 1 (c .before .before .if1 .left), ne-eqb (c .before .before .before .args .w) 2 (c .before .if2 .left), eq-eqb (c .before .before .before .args .w) 3 (c .if3 .taken))
+returns-3 c = rw (
+  ne-eqb (c .before .before .before .args .w) 1 (c .before .before .if1 .left),
+  ne-eqb (c .before .before .before .args .w) 2 (c .before .if2 .left),
+  eq-eqb (c .before .before .before .args .w) 3 (c .if3 .taken),
+)
 
 returns-4 : tie.Need-returns-4
 unfolding digitsReach
-returns-4 c = rw (ne-eqb (c .before .before .before .args .w) 1 (c .before .before .if1 .left), ne-eqb (c .before .before .before .args .w) 2 (c .before .if2 .left), ne-eqb (c .before .before .before .args .w) 3 (c .if3 .left))
+returns-4 c = rw (
+  ne-eqb (c .before .before .before .args .w) 1 (c .before .before .if1 .left),
+  ne-eqb (c .before .before .before .args .w) 2 (c .before .if2 .left),
+  ne-eqb (c .before .before .before .args .w) 3 (c .if3 .left),
+)
 
 pub digits-reach-spec : {M : Type 1} → statement M
 digits-reach-spec =

@@ -15,16 +15,19 @@ counted : (c : tie.After-count-of) → c .count-of .result ≡ countOf (c .befor
 counted c = c .count-of .ensures ∙ ap countOf (toZ-ofZ (c .before .before .before .fits .z))
 
 returns : tie.Need-returns
-returns c = rw (counted (c .before)) (ends-at (c .before .before .before .before .args .z) _ (rw (counted (c .before)) at (c .if2 .taken)) (c .before .before .before .before .pre))
+returns c = rw (counted (c .before)) (ends-at (c .before .before .before .before .args .z) _ (rw (counted (c .before)) at (c .if2 .taken))
+    (c .before .before .before .before .pre))
 
 returns-2 : tie.Need-returns-2
 returns-2 c =
     ends-past (c .before .before .before .before .args .z) _
-    (sym (c .before .before .before .not-above .ensures ∙ ap (λ (z : ℤ). leZ (pos 0) z) (toZ-ofZ (c .before .before .before .before .fits .z))) ∙ c .before .before .if1 .taken)
+    (sym (c .before .before .before .not-above .ensures
+    ∙ ap (λ (z : ℤ). leZ (pos 0) z) (toZ-ofZ (c .before .before .before .before .fits .z))) ∙ c .before .before .if1 .taken)
     (rw (counted (c .before)) at (c .if2 .left))
 
 returns-3 : tie.Need-returns-3
-returns-3 c = ends-none (c .before .before .args .z) _ (sym (c .before .not-above .ensures ∙ ap (λ (z : ℤ). leZ (pos 0) z) (toZ-ofZ (c .before .before .fits .z))) ∙ c .if1 .left)
+returns-3 c = ends-none (c .before .before .args .z) _
+    (sym (c .before .not-above .ensures ∙ ap (λ (z : ℤ). leZ (pos 0) z) (toZ-ofZ (c .before .before .fits .z))) ∙ c .if1 .left)
 
 pub end-of-spec : {M : Type 1} → statement M
 end-of-spec = tie.close (tie.spec (λ c κs. search needs) (λ c κs. search needs) (λ c. search needs) returns returns-2 returns-3)

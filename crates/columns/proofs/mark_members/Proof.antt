@@ -16,7 +16,8 @@ use Rattle.columns.proofs.mark_members.Statement.{statement}
 use Rattle.columns.proofs.mark_members.Tie as tie
 
 abbrev Inv-loop : tie.InvT-loop
-Inv-loop list n marks₀ k₀ marks k = (k ≤ n) × (length marks ≡ length marks₀) × Besides (λ x. anyBelow k (λ j. eqZ (cell list j) x)) marks₀ marks
+Inv-loop list n marks₀ k₀ marks k = (k ≤ n) × (length marks ≡ length marks₀)
+    × Besides (λ x. anyBelow k (λ j. eqZ (cell list j) x)) marks₀ marks
 
 abbrev μ-loop : tie.MeasureT-loop
 μ-loop list n marks₀ k₀ marks k = n - k
@@ -43,8 +44,13 @@ loop-again : tie.Need-loop-again Inv-loop μ-loop
 loop-again c =
     let a = c .before .before .before .before .before .before .before .before .args in
     let l = c .before .before .before .before .before .before .loop in
-    let z : toZ w64 (ofZ w64 (cell (a .list .now) (l .k))) ≡ cell (a .list .now) (l .k) = rw (toZ-ofZ (sfits-of (c .before .before .before .mark-one-arg2 .given))) in
-    (omega arith, c .before .before .mark-one .kept .0 ∙ l .inv .1, besides-more (λ j x. eqZ (cell (a .list .now) j) x) (l .k) _ _ _ (l .inv .1) (l .inv .2) (besides-is z (c .before .before .mark-one .ensures)))
+    let z : toZ w64 (ofZ w64 (cell (a .list .now) (l .k)))
+    ≡ cell (a .list .now) (l .k) = rw (toZ-ofZ (sfits-of (c .before .before .before .mark-one-arg2 .given))) in (
+      omega arith,
+      c .before .before .mark-one .kept .0 ∙ l .inv .1,
+      besides-more (λ j x. eqZ (cell (a .list .now) j) x) (l .k) _ _ _ (l .inv .1) (l .inv .2)
+          (besides-is z (c .before .before .mark-one .ensures)),
+    )
 
 same-length : tie.Need-same-length Inv-loop μ-loop
 same-length c = c .before .loop .inv .1

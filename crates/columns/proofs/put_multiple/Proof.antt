@@ -22,24 +22,99 @@ read-row-requires : tie.Need-read-row-requires
 read-row-requires c κs = readable-ready (c .before .before .before .before .before .pre .0 .0)
 
 mark-legal-requires : tie.Need-mark-legal-requires
-mark-legal-requires c κs = (c .before .before .before .before .before .before .before .before .pre .0 .0 .facts .lines, c .before .before .before .before .before .before .before .before .pre .1 .0 .0 .few)
+mark-legal-requires c κs = (
+  c .before .before .before .before .before .before .before .before .pre .0 .0 .facts .lines,
+  c .before .before .before .before .before .before .before .before .pre .1 .0 .0 .few,
+)
 
 -- the list has room for the set
-room : (c : tie.After-read-row) → let a = c .before .before .before .before .before .before .args in length (membersOf (readingOf (a .t .now) (a .rows) (a .row) (a .bytes .now))) ≤ length (a .list .now)
-room c = let a = c .before .before .before .before .before .before .args in omega (arith, row-many (a .t .now) (a .rows) (a .row) (a .bytes .now) (readable-ready (c .before .before .before .before .before .before .pre .0 .0)), c .before .before .before .before .before .before .pre .0 .1)
+room : (c : tie.After-read-row) → let a = c .before .before .before .before .before .before .args in
+    length (membersOf (readingOf (a .t .now) (a .rows) (a .row) (a .bytes .now))) ≤ length (a .list .now)
+room c = let a = c .before .before .before .before .before .before .args in
+    omega (
+      arith,
+      row-many (a .t .now) (a .rows) (a .row) (a .bytes .now)
+          (readable-ready (c .before .before .before .before .before .before .pre .0 .0)),
+      c .before .before .before .before .before .before .pre .0 .1,
+    )
 
 mark-members-requires : tie.Need-mark-members-requires
 mark-members-requires c κs =
-    let n = read-members (c .before .before .before .before .before .before .before .before .before .before .before .before .read-row .ensures) (room (c .before .before .before .before .before .before .before .before .before .before .before .before)) in
-    (omega (arith, c .before .members-in .ensures, n, room (c .before .before .before .before .before .before .before .before .before .before .before .before), c .before .before .before .before .before .before .before .before .before .before .before .before .read-row .kept .1 .1 .1 .1 .0), omega (arith, c .before .before .before .before .before .clear .kept .0, c .before .before .before .before .before .before .before .before .before .before .before .before .before .before .before .before .before .before .pre .1 .0 .1, c .before .before .before .before .before .before .before .before .before .before .before .before .before .before .before .before .before .before .pre .1 .0 .0 .few))
+    let n = read-members
+    (c .before .before .before .before .before .before .before .before .before .before .before .before .read-row .ensures)
+    (room (c .before .before .before .before .before .before .before .before .before .before .before .before)) in (
+      omega (
+        arith,
+        c .before .members-in .ensures,
+        n,
+        room (c .before .before .before .before .before .before .before .before .before .before .before .before),
+        c .before .before .before .before .before .before .before .before .before .before .before .before .read-row .kept .1 .1 .1 .1 .0,
+      ),
+      omega (
+        arith,
+        c .before .before .before .before .before .clear .kept .0,
+        c .before .before .before .before .before .before .before .before .before .before .before .before .before .before .before .before
+            .before .before .pre .1 .0 .1,
+        c .before .before .before .before .before .before .before .before .before .before .before .before .before .before .before .before
+            .before .before .pre .1 .0 .0 .few,
+      ),
+    )
 
 put-members-requires : tie.Need-put-members-requires
 put-members-requires c κs =
-    let made = multiple-made (c .before .before .before .before .before .before .before .before .before .before .before .before .before .before .before .before .before .before .before .before .before .before .before .before .before .pre .1 .0 .0) (c .before .before .before .before .before .before .before .before .before .before .before .before .before .before .before .before .before .before .before .read-row .ensures) (room (c .before .before .before .before .before .before .before .before .before .before .before .before .before .before .before .before .before .before .before)) (c .before .before .before .before .before .before .before .before .before .before .before .before .before .before .before .before .mark-legal .kept .1 .1 .1 .0) (c .before .before .before .before .before .before .before .before .before .before .before .before .before .before .before .before .mark-legal .ensures) (c .before .before .before .before .before .before .before .before .before .before .before .before .clear .ensures) (c .before .before .before .before .before .before .mark-members .kept .1 .1 .0) (c .before .before .before .before .before .before .before .before .before .before .before .before .clear .kept .0 ∙ c .before .before .before .before .before .before .before .before .before .before .before .before .before .before .before .before .before .before .before .before .before .before .before .before .before .pre .1 .0 .1) (c .before .before .before .before .before .before .before .before .members-in .ensures) (c .before .before .before .before .before .before .mark-members .ensures) (c .before .is-set .ensures) in
-    (omega (arith, c .before .before .before .before .before .before .before .before .before .before .before .before .before .before .before .before .mark-legal .kept .1 .1 .1 .0, c .before .before .before .before .before .before .before .before .before .before .before .before .clear .kept .0, c .before .before .before .before .before .before .mark-members .kept .1 .1 .0, c .before .before .before .before .before .before .before .before .before .before .before .before .before .before .before .before .before .before .before .before .before .before .before .before .before .pre .1 .0 .1), room-as (sym (ap (λ (es : List Entry). length es) made ∙ length-members _ _)) (c .before .before .before .before .before .before .before .before .before .before .before .before .before .before .before .before .before .before .before .before .before .before .before .before .before .pre .1 .1))
+    let made = multiple-made
+    (c .before .before .before .before .before .before .before .before .before .before .before .before .before .before .before .before
+    .before .before .before .before .before .before .before .before .before .pre .1 .0 .0)
+    (c .before .before .before .before .before .before .before .before .before .before .before .before .before .before .before .before
+    .before .before .before .read-row .ensures) (room
+    (c .before .before .before .before .before .before .before .before .before .before .before .before .before .before .before .before
+    .before .before .before))
+    (c .before .before .before .before .before .before .before .before .before .before .before .before .before .before .before .before
+    .mark-legal .kept .1 .1 .1 .0)
+    (c .before .before .before .before .before .before .before .before .before .before .before .before .before .before .before .before
+    .mark-legal .ensures)
+    (c .before .before .before .before .before .before .before .before .before .before .before .before .clear .ensures)
+    (c .before .before .before .before .before .before .mark-members .kept .1 .1 .0)
+    (c .before .before .before .before .before .before .before .before .before .before .before .before .clear .kept .0
+    ∙ c .before .before .before .before .before .before .before .before .before .before .before .before .before .before .before .before
+    .before .before .before .before .before .before .before .before .before .pre .1 .0 .1)
+    (c .before .before .before .before .before .before .before .before .members-in .ensures)
+    (c .before .before .before .before .before .before .mark-members .ensures) (c .before .is-set .ensures) in (
+      omega (
+        arith,
+        c .before .before .before .before .before .before .before .before .before .before .before .before .before .before .before .before
+            .mark-legal .kept .1 .1 .1 .0,
+        c .before .before .before .before .before .before .before .before .before .before .before .before .clear .kept .0,
+        c .before .before .before .before .before .before .mark-members .kept .1 .1 .0,
+        c .before .before .before .before .before .before .before .before .before .before .before .before .before .before .before .before
+            .before .before .before .before .before .before .before .before .before .pre .1 .0 .1,
+      ),
+      room-as (sym (ap (λ (es : List Entry). length es) made ∙ length-members _ _))
+          (c .before .before .before .before .before .before .before .before .before .before .before .before .before .before .before .before
+          .before .before .before .before .before .before .before .before .before .pre .1 .1),
+    )
 
 returns : tie.Need-returns
-returns c = put-as (multiple-made (c .before .before .before .before .before .before .before .before .before .before .before .before .before .before .before .before .before .before .before .before .before .before .before .before .before .before .before .before .pre .1 .0 .0) (c .before .before .before .before .before .before .before .before .before .before .before .before .before .before .before .before .before .before .before .before .before .before .read-row .ensures) (room (c .before .before .before .before .before .before .before .before .before .before .before .before .before .before .before .before .before .before .before .before .before .before)) (c .before .before .before .before .before .before .before .before .before .before .before .before .before .before .before .before .before .before .before .mark-legal .kept .1 .1 .1 .0) (c .before .before .before .before .before .before .before .before .before .before .before .before .before .before .before .before .before .before .before .mark-legal .ensures) (c .before .before .before .before .before .before .before .before .before .before .before .before .before .before .before .clear .ensures) (c .before .before .before .before .before .before .before .before .before .mark-members .kept .1 .1 .0) (c .before .before .before .before .before .before .before .before .before .before .before .before .before .before .before .clear .kept .0 ∙ c .before .before .before .before .before .before .before .before .before .before .before .before .before .before .before .before .before .before .before .before .before .before .before .before .before .before .before .before .pre .1 .0 .1) (c .before .before .before .before .before .before .before .before .before .before .before .members-in .ensures) (c .before .before .before .before .before .before .before .before .before .mark-members .ensures) (c .before .before .before .before .is-set .ensures)) (c .before .before .put-members .ensures)
+returns c = put-as
+    (multiple-made
+    (c .before .before .before .before .before .before .before .before .before .before .before .before .before .before .before .before
+    .before .before .before .before .before .before .before .before .before .before .before .before .pre .1 .0 .0)
+    (c .before .before .before .before .before .before .before .before .before .before .before .before .before .before .before .before
+    .before .before .before .before .before .before .read-row .ensures)
+    (room (c .before .before .before .before .before .before .before .before .before .before .before .before .before .before .before .before
+    .before .before .before .before .before .before))
+    (c .before .before .before .before .before .before .before .before .before .before .before .before .before .before .before .before
+    .before .before .before .mark-legal .kept .1 .1 .1 .0)
+    (c .before .before .before .before .before .before .before .before .before .before .before .before .before .before .before .before
+    .before .before .before .mark-legal .ensures)
+    (c .before .before .before .before .before .before .before .before .before .before .before .before .before .before .before .clear
+    .ensures) (c .before .before .before .before .before .before .before .before .before .mark-members .kept .1 .1 .0)
+    (c .before .before .before .before .before .before .before .before .before .before .before .before .before .before .before .clear .kept
+    .0 ∙ c .before .before .before .before .before .before .before .before .before .before .before .before .before .before .before .before
+    .before .before .before .before .before .before .before .before .before .before .before .before .pre .1 .0 .1)
+    (c .before .before .before .before .before .before .before .before .before .before .before .members-in .ensures)
+    (c .before .before .before .before .before .before .before .before .before .mark-members .ensures)
+    (c .before .before .before .before .is-set .ensures)) (c .before .before .put-members .ensures)
 
 pub put-multiple-spec : {M : Type 1} → statement M
 put-multiple-spec =

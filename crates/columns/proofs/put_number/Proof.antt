@@ -17,7 +17,10 @@ use Rattle.columns.proofs.put_number.Statement.{statement}
 use Rattle.columns.proofs.put_number.Tie as tie
 
 power-requires : tie.Need-power-requires
-power-requires c κs = (c .before .before .before .pre .0, rw (c .decimals-of .ensures) (power-good (c .before .before .before .pre .1 .0) .0))
+power-requires c κs = (
+  c .before .before .before .pre .0,
+  rw (c .decimals-of .ensures) (power-good (c .before .before .before .pre .1 .0) .0),
+)
 
 read-row-requires : tie.Need-read-row-requires
 read-row-requires c κs = readable-ready (c .before .before .before .before .before .pre .1 .0)
@@ -29,19 +32,26 @@ made c =
     let a = c .before .before .before .before .before .before .before .before .before .args in
     let f = readingOf (a .t .now) (a .rows) (a .row) (a .bytes .now) in
     c .number-entry .ensures
-    ∙ ap (λ (x : Answer). answerEntry (c .before .before .before .before .before .power .result) x) (c .before .before .before .read-row .ensures .answer)
+    ∙ ap (λ (x : Answer). answerEntry (c .before .before .before .before .before .power .result) x)
+    (c .before .before .before .read-row .ensures .answer)
     ∙ answer-entry (c .before .before .before .before .before .power .result) (a .row .start - 1) (length (a .list .now)) f
-    ∙ ap (λ (p : ℕ). numberEntry p f) (c .before .before .before .before .before .power .ensures ∙ ap (λ (k : ℕ). 10 ^ k) (c .before .before .before .before .before .before .decimals-of .ensures))
+    ∙ ap (λ (p : ℕ). numberEntry p f) (c .before .before .before .before .before .power .ensures
+    ∙ ap (λ (k : ℕ). 10 ^ k) (c .before .before .before .before .before .before .decimals-of .ensures))
 
 put-entry-requires : tie.Need-put-entry-requires
 put-entry-requires c κs =
-    let p = c .before .before .before .before .before .before .before .before .before .pre in
-    (rw (made c) (entry-good (p .1 .0) (c .before .before .before .before .before .before .before .before .before .args .bytes .now) (10 ^ decimalsBy (c .before .before .before .before .before .before .before .before .before .args .row .kind)) (power-good (p .1 .0) .1)), p .1 .1)
+    let p = c .before .before .before .before .before .before .before .before .before .pre in (
+      rw (made c) (entry-good (p .1 .0) (c .before .before .before .before .before .before .before .before .before .args .bytes .now)
+          (10 ^ decimalsBy (c .before .before .before .before .before .before .before .before .before .args .row .kind))
+          (power-good (p .1 .0) .1)),
+      p .1 .1,
+    )
 
 returns : tie.Need-returns
 returns c =
     let a = c .before .before .before .before .before .before .before .before .before .before .before .before .args in
-    c .before .before .put-entry .ensures ∙ ap (λ (e : Entry). putEntries (a .out .now) (a .flags) (a .values) (e ∷ [])) (made (c .before .before .before))
+    c .before .before .put-entry .ensures ∙ ap (λ (e : Entry). putEntries (a .out .now) (a .flags) (a .values) (e ∷ []))
+    (made (c .before .before .before))
 
 pub put-number-spec : {M : Type 1} → statement M
 put-number-spec =

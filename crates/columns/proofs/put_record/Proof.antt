@@ -17,7 +17,8 @@ use Rattle.columns.proofs.put_record.Tie as tie
 
 abbrev Inv-loop : tie.InvT-loop
 Inv-loop powers t h bytes list₀ allowed₀ present₀ out₀ flags values k₀ i₀ list allowed present out k i =
-    (i ≤ h .rows) × (length list ≡ length list₀) × (length allowed ≡ length allowed₀) × (length present ≡ length present₀) × (length out ≡ length out₀)
+    (i ≤ h .rows) × (length list ≡ length list₀) × (length allowed ≡ length allowed₀) × (length present ≡ length present₀)
+    × (length out ≡ length out₀)
     × (k + length (columnsFrom t (h .rows) i (h .rows - i)) ≡ length (columnsFrom t (h .rows) 0 (h .rows)))
     × (putEntries out (flags + k) (values + 8 * k) (entriesOf t (h .rows) bytes (columnsFrom t (h .rows) i (h .rows - i)))
     ≡ putEntries out₀ flags values (entriesOf t (h .rows) bytes (columnsFrom t (h .rows) 0 (h .rows))))
@@ -30,32 +31,75 @@ loop-holds c = (omega arith, refl, refl, refl, refl, rw sub-zero (omega arith), 
 
 -- the columns of the next row are among those that are left
 module _ (c : tie.After-put-row-arg4 Inv-loop μ-loop) where
-  next : length (columnsFrom (c .before .before .before .before .before .before .before .before .before .before .before .args .t .now) (c .before .before .before .before .before .before .before .before .before .before .before .args .h .rows) (c .before .before .before .before .before .before .loop .i) (c .before .before .before .before .before .before .before .before .before .before .before .args .h .rows - c .before .before .before .before .before .before .loop .i))
-      ≡ length (rowColumns (c .before .before .before .before .before .before .before .before .before .before .before .args .t .now) (c .before .before .before .before .before .before .before .before .before .before .before .args .h .rows) (c .before .before .before .before .before .before .loop .i)) + length (columnsFrom (c .before .before .before .before .before .before .before .before .before .before .before .args .t .now) (c .before .before .before .before .before .before .before .before .before .before .before .args .h .rows) (c .before .before .before .before .before .before .loop .i + 1) (c .before .before .before .before .before .before .before .before .before .before .before .args .h .rows - (c .before .before .before .before .before .before .loop .i + 1)))
-  next = left-count (c .before .before .before .before .before .before .before .before .before .before .before .args .t .now) (c .before .before .before .before .before .before .before .before .before .before .before .args .h .rows) (c .before .before .before .before .before .before .before .before .before .before .before .args .bytes .now) (c .before .before .before .before .before .before .loop .i) (c .before .before .before .before .if1 .taken)
+  next : length (columnsFrom (c .before .before .before .before .before .before .before .before .before .before .before .args .t .now)
+      (c .before .before .before .before .before .before .before .before .before .before .before .args .h .rows)
+      (c .before .before .before .before .before .before .loop .i)
+      (c .before .before .before .before .before .before .before .before .before .before .before .args .h .rows -
+      c .before .before .before .before .before .before .loop .i))
+      ≡ length (rowColumns (c .before .before .before .before .before .before .before .before .before .before .before .args .t .now)
+      (c .before .before .before .before .before .before .before .before .before .before .before .args .h .rows)
+      (c .before .before .before .before .before .before .loop .i))
+      + length (columnsFrom (c .before .before .before .before .before .before .before .before .before .before .before .args .t .now)
+      (c .before .before .before .before .before .before .before .before .before .before .before .args .h .rows)
+      (c .before .before .before .before .before .before .loop .i + 1)
+      (c .before .before .before .before .before .before .before .before .before .before .before .args .h .rows -
+      (c .before .before .before .before .before .before .loop .i + 1)))
+  next = left-count (c .before .before .before .before .before .before .before .before .before .before .before .args .t .now)
+      (c .before .before .before .before .before .before .before .before .before .before .before .args .h .rows)
+      (c .before .before .before .before .before .before .before .before .before .before .before .args .bytes .now)
+      (c .before .before .before .before .before .before .loop .i) (c .before .before .before .before .if1 .taken)
 
 add-put-row : tie.Need-add-put-row Inv-loop μ-loop
-add-put-row c = let p = c .before .before .before .before .before .before .before .before .before .before .before .pre .1 .1 in omega (arith, c .before .before .before .before .before .before .loop .inv .5, p .behind, p .inside)
+add-put-row c = let p = c .before .before .before .before .before .before .before .before .before .before .before .pre .1 .1 in
+    omega (arith, c .before .before .before .before .before .before .loop .inv .5, p .behind, p .inside)
 
 mul-put-row : tie.Need-mul-put-row Inv-loop μ-loop
-mul-put-row c = let p = c .before .before .before .before .before .before .before .before .before .before .before .pre .1 .1 in omega (arith, c .before .before .before .before .before .before .loop .inv .5, p .behind, p .inside)
+mul-put-row c = let p = c .before .before .before .before .before .before .before .before .before .before .before .pre .1 .1 in
+    omega (arith, c .before .before .before .before .before .before .loop .inv .5, p .behind, p .inside)
 
 add-put-row-2 : tie.Need-add-put-row-2 Inv-loop μ-loop
-add-put-row-2 c = let p = c .before .before .before .before .before .before .before .before .before .before .before .pre .1 .1 in omega (arith, c .before .before .before .before .before .before .loop .inv .5, p .behind, p .inside)
+add-put-row-2 c = let p = c .before .before .before .before .before .before .before .before .before .before .before .pre .1 .1 in
+    omega (arith, c .before .before .before .before .before .before .loop .inv .5, p .behind, p .inside)
 
 put-row-requires : tie.Need-put-row-requires Inv-loop μ-loop
 put-row-requires c κs =
     let p = c .before .before .before .before .before .before .before .before .before .before .before .pre in
     let l = c .before .before .before .before .before .before .loop in (
-      record { tens = p .0 .tens; tested = p .0 .tested; room = l .inv .1 ∙ p .0 .room; marks = l .inv .2 ∙ p .0 .marks; marks-too = l .inv .3 ∙ p .0 .marks-too },
-      ((c .before .before .before .before .if1 .taken, p .1 .0), record { behind = omega (arith, next c, l .inv .5, p .1 .1 .behind); inside = omega (arith, next c, l .inv .4, l .inv .5, p .1 .1 .inside) }),
+      record {
+        tens = p .0 .tens;
+        tested = p .0 .tested;
+        room = l .inv .1 ∙ p .0 .room;
+        marks = l .inv .2
+            ∙ p .0 .marks;
+        marks-too = l .inv .3 ∙ p .0 .marks-too;
+      },
+      (
+        (c .before .before .before .before .if1 .taken, p .1 .0),
+        record {
+          behind = omega (arith, next c, l .inv .5, p .1 .1 .behind);
+          inside = omega
+              (arith, next c, l .inv .4, l .inv .5, p .1 .1 .inside);
+        },
+      ),
     )
 
 add-k : tie.Need-add-k Inv-loop μ-loop
 add-k c =
-    let p = c .before .before .before .before .before .before .before .before .before .before .before .before .before .before .before .before .before .before .before .pre .1 .1 in
-    let a = c .before .before .before .before .before .before .before .before .before .before .before .before .before .before .before .before .before .before .before .args in
-    omega (arith, c .before .before .before .before .before .before .before .put-row .ensures .count, length-entries (a .t .now) (a .h .rows) (a .bytes .now) (rowColumns (a .t .now) (a .h .rows) (c .before .before .before .before .before .before .before .before .before .before .before .before .before .before .loop .i)), next (c .before .before .before .before .before .before .before .before), c .before .before .before .before .before .before .before .before .before .before .before .before .before .before .loop .inv .5, p .behind, p .inside)
+    let p = c .before .before .before .before .before .before .before .before .before .before .before .before .before .before .before
+    .before .before .before .before .pre .1 .1 in
+    let a = c .before .before .before .before .before .before .before .before .before .before .before .before .before .before .before
+    .before .before .before .before .args in
+    omega (
+      arith,
+      c .before .before .before .before .before .before .before .put-row .ensures .count,
+      length-entries (a .t .now) (a .h .rows) (a .bytes .now)
+          (rowColumns (a .t .now) (a .h .rows)
+          (c .before .before .before .before .before .before .before .before .before .before .before .before .before .before .loop .i)),
+      next (c .before .before .before .before .before .before .before .before),
+      c .before .before .before .before .before .before .before .before .before .before .before .before .before .before .loop .inv .5,
+      p .behind,
+      p .inside,
+    )
 
 add-i : tie.Need-add-i Inv-loop μ-loop
 add-i c = omega (arith, c .before .before .before .before .before .before .before .before .before .before .before .before .if1 .taken)
@@ -65,9 +109,11 @@ loop-less c = omega (arith, c .before .before .before .before .before .before .b
 
 loop-again : tie.Need-loop-again Inv-loop μ-loop
 loop-again c =
-    let a = c .before .before .before .before .before .before .before .before .before .before .before .before .before .before .before .before .before .before .before .args in
+    let a = c .before .before .before .before .before .before .before .before .before .before .before .before .before .before .before
+    .before .before .before .before .args in
     let l = c .before .before .before .before .before .before .before .before .before .before .before .before .before .before .loop in
-    let p = c .before .before .before .before .before .before .before .before .before .before .before .before .before .before .before .before .before .before .before .pre .1 .1 in
+    let p = c .before .before .before .before .before .before .before .before .before .before .before .before .before .before .before
+    .before .before .before .before .pre .1 .1 in
     let t = a .t .now in
     let v = a .h .rows in
     let b = a .bytes .now in
@@ -76,8 +122,10 @@ loop-again c =
     let n = length-entries t v b (rowColumns t v (l .i)) in
     let m = length-entries t v b (columnsFrom t v (l .i + 1) (v - (l .i + 1))) in
     let k = c .before .before .before .before .before .before .before .put-row .ensures .count in
-    let f : a .flags + (l .k + c .before .before .before .before .before .before .before .put-row .result) ≡ a .flags + l .k + length xs = omega (arith, k) in
-    let w : a .values + 8 * (l .k + c .before .before .before .before .before .before .before .put-row .result) ≡ a .values + 8 * l .k + 8 * length xs = omega (arith, k) in (
+    let f : a .flags + (l .k + c .before .before .before .before .before .before .before .put-row .result) ≡ a .flags + l .k
+    + length xs = omega (arith, k) in
+    let w : a .values + 8 * (l .k + c .before .before .before .before .before .before .before .put-row .result) ≡ a .values + 8 * l .k
+    + 8 * length xs = omega (arith, k) in (
       omega (arith, c .before .before .before .before .before .before .before .before .before .before .before .before .if1 .taken),
       c .before .before .before .before .before .before .before .put-row .kept .1 .1 .1 .1 .1 .0 ∙ l .inv .1,
       c .before .before .before .before .before .before .before .put-row .kept .1 .1 .1 .1 .1 .1 .0 ∙ l .inv .2,
@@ -85,8 +133,11 @@ loop-again c =
       c .before .before .before .before .before .before .before .put-row .kept .1 .1 .1 .1 .1 .1 .1 .1 .0 ∙ l .inv .4,
       omega (arith, next (c .before .before .before .before .before .before .before .before), k, n, l .inv .5),
       rw (c .before .before .before .before .before .before .before .put-row .ensures .leaves, f, w)
-          (entries-then (l .out) (a .flags + l .k) (a .values + 8 * l .k) xs ys (omega (arith, n, m, next (c .before .before .before .before .before .before .before .before), l .inv .5, p .behind))
-          ∙ ap (λ (es : List Entry). putEntries (l .out) (a .flags + l .k) (a .values + 8 * l .k) es) (sym (left-on t v b (l .i) (c .before .before .before .before .before .before .before .before .before .before .before .before .if1 .taken))) ∙ l .inv .6),
+          (entries-then (l .out) (a .flags + l .k) (a .values + 8 * l .k) xs ys
+          (omega (arith, n, m, next (c .before .before .before .before .before .before .before .before), l .inv .5, p .behind))
+          ∙ ap (λ (es : List Entry). putEntries (l .out) (a .flags + l .k) (a .values + 8 * l .k) es)
+          (sym (left-on t v b (l .i)
+          (c .before .before .before .before .before .before .before .before .before .before .before .before .if1 .taken))) ∙ l .inv .6),
     )
 
 same-length : tie.Need-same-length Inv-loop μ-loop
@@ -106,7 +157,8 @@ returns c =
     let a = c .before .before .before .before .before .before .before .args in
     let l = c .before .before .loop in
     sym (entries-none (l .out) (a .flags + l .k) (a .values + 8 * l .k))
-    ∙ ap (λ (es : List Entry). putEntries (l .out) (a .flags + l .k) (a .values + 8 * l .k) es) (sym (left-none (a .t .now) (a .h .rows) (a .bytes .now) (l .i) (c .if1 .left)))
+    ∙ ap (λ (es : List Entry). putEntries (l .out) (a .flags + l .k) (a .values + 8 * l .k) es)
+    (sym (left-none (a .t .now) (a .h .rows) (a .bytes .now) (l .i) (c .if1 .left)))
     ∙ l .inv .6
 
 pub put-record-spec : {M : Type 1} → statement M

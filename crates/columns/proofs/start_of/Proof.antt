@@ -16,14 +16,17 @@ counted c = c .count-of .ensures ∙ ap countOf (toZ-ofZ (c .before .before .bef
 
 -- it is above 0
 above : (c : tie.After-count-of) → leZ (c .before .before .before .args .z) (pos 0) ≡ false
-above c = sym (c .before .before .not-above .ensures ∙ ap (λ (z : ℤ). leZ z (pos 0)) (toZ-ofZ (c .before .before .before .fits .z))) ∙ c .before .if1 .left
+above c = sym (c .before .before .not-above .ensures ∙ ap (λ (z : ℤ). leZ z (pos 0)) (toZ-ofZ (c .before .before .before .fits .z)))
+    ∙ c .before .if1 .left
 
 returns : tie.Need-returns
-returns c = starts-low _ _ (sym (c .before .not-above .ensures ∙ ap (λ (z : ℤ). leZ z (pos 0)) (toZ-ofZ (c .before .before .fits .z))) ∙ c .if1 .taken)
+returns c = starts-low _ _ (sym (c .before .not-above .ensures ∙ ap (λ (z : ℤ). leZ z (pos 0)) (toZ-ofZ (c .before .before .fits .z)))
+    ∙ c .if1 .taken)
 
 returns-2 : tie.Need-returns-2
 returns-2 c =
-    rw (counted (c .before)) (starts-at (c .before .before .before .before .args .z) _ (above (c .before)) (rw (counted (c .before)) at (c .if2 .taken)) (c .before .before .before .before .pre))
+    rw (counted (c .before)) (starts-at (c .before .before .before .before .args .z) _ (above (c .before))
+    (rw (counted (c .before)) at (c .if2 .taken)) (c .before .before .before .before .pre))
 
 returns-3 : tie.Need-returns-3
 returns-3 c = starts-past (c .before .before .before .before .args .z) _ (above (c .before)) (rw (counted (c .before)) at (c .if2 .left))

@@ -22,7 +22,8 @@ shared-slice-read-special : tie.Need-shared-slice-read-special Inv-loop μ-loop
 shared-slice-read-special c = omega (arith, c .before .loop-test .taken)
 
 returns : tie.Need-returns Inv-loop μ-loop
-returns c = sym (c .before .before .before .before .loop .inv ∙ next-special _ _ (c .before .before .before .loop-test .taken) ∙ rw (sym (c .before .special .ensures), c .if1 .taken))
+returns c = sym (c .before .before .before .before .loop .inv ∙ next-special _ _ (c .before .before .before .loop-test .taken)
+    ∙ rw (sym (c .before .special .ensures), c .if1 .taken))
 
 add-i : tie.Need-add-i Inv-loop μ-loop
 add-i c = omega (arith, c .before .before .before .loop-test .taken)
@@ -31,7 +32,8 @@ loop-less : tie.Need-loop-less Inv-loop μ-loop
 loop-less c = omega (arith, c .before .before .before .loop-test .taken)
 
 loop-again : tie.Need-loop-again Inv-loop μ-loop
-loop-again c = c .before .before .before .before .loop .inv ∙ next-special _ _ (c .before .before .before .loop-test .taken) ∙ rw (sym (c .before .special .ensures), c .if1 .left)
+loop-again c = c .before .before .before .before .loop .inv ∙ next-special _ _ (c .before .before .before .loop-test .taken)
+    ∙ rw (sym (c .before .special .ensures), c .if1 .left)
 
 returns-2 : tie.Need-returns-2 Inv-loop μ-loop
 returns-2 c = sym (c .before .loop .inv ∙ over-special _ _ (c .loop-test .left))

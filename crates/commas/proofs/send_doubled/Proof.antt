@@ -10,7 +10,8 @@ use Rattle.commas.proofs.send_doubled.Tie as tie
 
 returns : tie.Need-returns
 unfolding doubledByte
-returns c = sent-as (then (c .before .before .before .before .before .before .before .send-byte .ensures) (c .before .before .send-byte2 .ensures)) (rw (c .before .before .before .before .if1 .taken))
+returns c = sent-as (then (c .before .before .before .before .before .before .before .send-byte .ensures)
+    (c .before .before .send-byte2 .ensures)) (rw (c .before .before .before .before .if1 .taken))
 
 returns-2 : tie.Need-returns-2
 unfolding doubledByte

@@ -10,10 +10,16 @@ use Rattle.commas.proofs.send_field.Statement.{statement}
 use Rattle.commas.proofs.send_field.Tie as tie
 
 returns : tie.Need-returns
-returns c = sent-as (c .before .before .send-bytes .ensures) (field-plain _ (sym (c .before .before .before .before .before .needs-quotes .ensures) ∙ not-true _ (c .before .before .before .before .if1 .taken)))
+returns c = sent-as (c .before .before .send-bytes .ensures)
+    (field-plain _ (sym (c .before .before .before .before .before .needs-quotes .ensures)
+    ∙ not-true _ (c .before .before .before .before .if1 .taken)))
 
 returns-2 : tie.Need-returns-2
-returns-2 c = sent-as (then (c .before .before .before .before .before .before .before .before .before .before .send-byte .ensures) (then (c .before .before .before .before .before .before .send-inside .ensures) (c .before .before .send-byte2 .ensures))) (field-quoted _ (sym (c .before .before .before .before .before .before .before .before .before .before .before .before .before .needs-quotes .ensures) ∙ not-false _ (c .before .before .before .before .before .before .before .before .before .before .before .before .if1 .left)))
+returns-2 c = sent-as (then (c .before .before .before .before .before .before .before .before .before .before .send-byte .ensures)
+    (then (c .before .before .before .before .before .before .send-inside .ensures) (c .before .before .send-byte2 .ensures)))
+    (field-quoted _
+    (sym (c .before .before .before .before .before .before .before .before .before .before .before .before .before .needs-quotes .ensures)
+    ∙ not-false _ (c .before .before .before .before .before .before .before .before .before .before .before .before .if1 .left)))
 
 pub send-field-spec : {M : Type 1} → statement M
 send-field-spec =

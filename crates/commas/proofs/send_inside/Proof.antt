@@ -29,7 +29,8 @@ loop-less : tie.Need-loop-less Inv-loop μ-loop
 loop-less c = omega (arith, c .before .before .before .before .before .loop-test .taken)
 
 loop-again : tie.Need-loop-again Inv-loop μ-loop
-loop-again c = less-owed (c .before .before .before .before .before .before .loop .inv) (next-doubled _ _ (c .before .before .before .before .before .loop-test .taken)) (c .before .before .send-doubled .ensures)
+loop-again c = less-owed (c .before .before .before .before .before .before .loop .inv)
+    (next-doubled _ _ (c .before .before .before .before .before .loop-test .taken)) (c .before .before .send-doubled .ensures)
 
 same-length : tie.Need-same-length Inv-loop μ-loop
 same-length c = c .before .loop .inv .same-room

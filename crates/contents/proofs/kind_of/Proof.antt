@@ -14,11 +14,13 @@ returns c = rw (← (c .before .before .before .is-named .ensures)) (rw (c .if1 
 
 returns-2 : tie.Need-returns-2
 unfolding kindOf
-returns-2 c = rw (← (c .before .before .before .before .is-named .ensures), ← (c .before .before .is-named2 .ensures)) (rw (c .before .if1 .left, c .if2 .taken))
+returns-2 c = rw (← (c .before .before .before .before .is-named .ensures), ← (c .before .before .is-named2 .ensures))
+    (rw (c .before .if1 .left, c .if2 .taken))
 
 returns-3 : tie.Need-returns-3
 unfolding kindOf
-returns-3 c = rw (← (c .before .before .before .before .is-named .ensures), ← (c .before .before .is-named2 .ensures)) (rw (c .before .if1 .left, c .if2 .left))
+returns-3 c = rw (← (c .before .before .before .before .is-named .ensures), ← (c .before .before .is-named2 .ensures))
+    (rw (c .before .if1 .left, c .if2 .left))
 
 pub kind-of-spec : {M : Type 1} → statement M
 kind-of-spec =

@@ -19,31 +19,47 @@ over a b n e h = omega arith
 returns : tie.Need-returns
 returns c =
     let a = c .before .before .before .before .before .args in
-    rw (c .say-next .ensures) (tell-next (a .latin) (a .d .now) (a .c) (less _ _ _ (c .before .before .before .encoded-long .ensures .0) (c .before .if1 .taken)) (c .before .before .before .before .before .pre .0) (c .before .before .before .before .before .pre .1))
+    rw (c .say-next .ensures) (tell-next (a .latin) (a .d .now) (a .c)
+    (less _ _ _ (c .before .before .before .encoded-long .ensures .0) (c .before .if1 .taken))
+    (c .before .before .before .before .before .pre .0) (c .before .before .before .before .before .pre .1))
 
 say-first-requires : tie.Need-say-first-requires
-say-first-requires c κs = let x = c .before .before .before .next-heard .ensures .small in omega (arith, ap heardCode (c .before .code .given .1))
+say-first-requires c κs = let x = c .before .before .before .next-heard .ensures .small in
+    omega (arith, ap heardCode (c .before .code .given .1))
 
 returns-2 : tie.Need-returns-2
 returns-2 c =
     let a = c .before .before .before .before .before .before .before .before .before .args in
-    rw (c .say-whole .ensures) (tell-break (a .latin) (a .d .now) (a .c) (over _ _ _ (c .before .before .before .before .before .before .before .encoded-long .ensures .0) (c .before .before .before .before .before .if1 .left)) _ (hear-is (c .before .before .k .given .1) (c .before .before .before .before .next-heard .ensures)))
+    rw (c .say-whole .ensures) (tell-break (a .latin) (a .d .now) (a .c)
+    (over _ _ _ (c .before .before .before .before .before .before .before .encoded-long .ensures .0)
+    (c .before .before .before .before .before .if1 .left)) _
+    (hear-is (c .before .before .k .given .1) (c .before .before .before .before .next-heard .ensures)))
 
 returns-3 : tie.Need-returns-3
 returns-3 c =
     let a = c .before .before .before .before .before .before .before .before .before .args in
     let b = c .say-byte .ensures .1 in
-    rw (c .say-byte .ensures .0) (tell-byte (a .latin) (a .d .now) (a .c) (over _ _ _ (c .before .before .before .before .before .before .before .encoded-long .ensures .0) (c .before .before .before .before .before .if1 .left)) _ _ (hear-is (c .before .before .byte .given .1) (c .before .before .before .before .next-heard .ensures)) (rw (c .say-byte .ensures .0) at b))
+    rw (c .say-byte .ensures .0) (tell-byte (a .latin) (a .d .now) (a .c)
+    (over _ _ _ (c .before .before .before .before .before .before .before .encoded-long .ensures .0)
+    (c .before .before .before .before .before .if1 .left)) _ _
+    (hear-is (c .before .before .byte .given .1) (c .before .before .before .before .next-heard .ensures))
+    (rw (c .say-byte .ensures .0) at b))
 
 returns-4 : tie.Need-returns-4
 returns-4 c =
     let a = c .before .before .before .before .before .before .before .before .before .args in
-    rw (c .say-first .ensures) (tell-code (a .latin) (a .d .now) (a .c) (over _ _ _ (c .before .before .before .before .before .before .before .encoded-long .ensures .0) (c .before .before .before .before .before .if1 .left)) _ _ (hear-is (c .before .before .code .given .1) (c .before .before .before .before .next-heard .ensures)))
+    rw (c .say-first .ensures) (tell-code (a .latin) (a .d .now) (a .c)
+    (over _ _ _ (c .before .before .before .before .before .before .before .encoded-long .ensures .0)
+    (c .before .before .before .before .before .if1 .left)) _ _
+    (hear-is (c .before .before .code .given .1) (c .before .before .before .before .next-heard .ensures)))
 
 returns-5 : tie.Need-returns-5
 returns-5 c =
     let a = c .before .before .before .before .before .before .before .args in
-    tell-over (a .latin) (a .d .now) (a .c) (over _ _ _ (c .before .before .before .before .before .encoded-long .ensures .0) (c .before .before .before .if1 .left)) (hear-is (c .enum-told .given .1) (c .before .before .next-heard .ensures))
+    tell-over (a .latin) (a .d .now) (a .c) (over _ _ _ (c .before .before .before .before .before .encoded-long .ensures .0)
+    (c .before .before .before .if1 .left)) (hear-is (c .enum-told .given .1) (c .before .before .next-heard .ensures))
 
 pub next-sign-spec : {M : Type 1} → statement M
-next-sign-spec = tie.close (tie.spec (λ c κs. search needs) (λ c κs. search needs) returns (λ c κs. search needs) (λ c. search needs) (λ c κs. search needs) (λ c. search needs) (λ c κs. search needs) (λ c. search needs) say-first-requires (λ c. search needs) returns-2 returns-3 returns-4 returns-5)
+next-sign-spec = tie.close (tie.spec (λ c κs. search needs) (λ c κs. search needs) returns (λ c κs. search needs) (λ c. search needs)
+    (λ c κs. search needs) (λ c. search needs) (λ c κs. search needs) (λ c. search needs) say-first-requires (λ c. search needs) returns-2
+    returns-3 returns-4 returns-5)

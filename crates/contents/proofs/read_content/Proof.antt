@@ -37,4 +37,5 @@ returns c =
     sym (c .before .before .before .before .loop .inv .0 ∙ over-is (c .before .c .given .1) s)
 
 pub read-content-spec : {M : Type 1} → statement M
-read-content-spec = tie.close (tie.spec Inv-loop μ-loop loop-holds (λ c κs. search needs) (λ c. search needs) loop-less loop-again (λ c. search needs) returns)
+read-content-spec = tie.close (tie.spec Inv-loop μ-loop loop-holds (λ c κs. search needs) (λ c. search needs) loop-less loop-again
+    (λ c. search needs) returns)

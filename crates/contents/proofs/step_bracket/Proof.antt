@@ -18,4 +18,5 @@ returns-2 c = rw (sym (c .before .before .is-there .ensures) ∙ c .before .if1 
 
 pub step-bracket-spec : {M : Type 1} → statement M
 step-bracket-spec =
-    tie.close (tie.spec (λ c. search needs) (λ c κs. search needs) (λ c κs. search needs) returns (λ c. search needs) (λ c κs. search needs) returns-2)
+    tie.close (tie.spec (λ c. search needs) (λ c κs. search needs) (λ c κs. search needs) returns (λ c. search needs) (λ c κs. search needs)
+    returns-2)

@@ -11,14 +11,20 @@ use Rattle.contents.proofs.step_break.Tie as tie
 
 returns : tie.Need-returns
 unfolding breakAt
-returns c = rw (sym (c .before .before .before .before .before .before .read-bare .ensures) ∙ c .before .before .before .before .held .given .1) (rw (c .before .if1 .taken, ← (c .before .before .first-of .ensures)) (c .go-on .ensures))
+returns c = rw (sym (c .before .before .before .before .before .before .read-bare .ensures)
+    ∙ c .before .before .before .before .held .given .1)
+    (rw (c .before .if1 .taken, ← (c .before .before .first-of .ensures)) (c .go-on .ensures))
 
 step-pair-requires : tie.Need-step-pair-requires
-step-pair-requires c κs = let a = c .before .before .before .before .before .before .before .args in bare-on (a .bad) (a .d .now) (a .g .next) (a .e) _ _ _ _ (c .before .before .before .before .before .before .before .pre) (sym (c .before .before .before .before .before .read-bare .ensures) ∙ c .before .before .before .held .given .1)
+step-pair-requires c κs = let a = c .before .before .before .before .before .before .before .args in
+    bare-on (a .bad) (a .d .now) (a .g .next) (a .e) _ _ _ _ (c .before .before .before .before .before .before .before .pre)
+    (sym (c .before .before .before .before .before .read-bare .ensures) ∙ c .before .before .before .held .given .1)
 
 returns-2 : tie.Need-returns-2
 unfolding breakAt
-returns-2 c = rw (sym (c .before .before .before .before .before .before .read-bare .ensures) ∙ c .before .before .before .before .held .given .1) (rw (c .before .if1 .left, ← (c .before .before .first-of .ensures)) (c .step-pair .ensures))
+returns-2 c = rw (sym (c .before .before .before .before .before .before .read-bare .ensures)
+    ∙ c .before .before .before .before .held .given .1)
+    (rw (c .before .if1 .left, ← (c .before .before .first-of .ensures)) (c .step-pair .ensures))
 
 returns-3 : tie.Need-returns-3
 unfolding breakAt
@@ -26,4 +32,5 @@ returns-3 c = rw (sym (c .before .before .before .read-bare .ensures) ∙ c .bef
 
 pub step-break-spec : {M : Type 1} → statement M
 step-break-spec =
-    tie.close (tie.spec (λ c κs. search needs) (λ c. search needs) (λ c κs. search needs) (λ c κs. search needs) returns step-pair-requires (λ c. search needs) returns-2 returns-3)
+    tie.close (tie.spec (λ c κs. search needs) (λ c. search needs) (λ c κs. search needs) (λ c κs. search needs) returns step-pair-requires
+    (λ c. search needs) returns-2 returns-3)

@@ -10,7 +10,8 @@ use Rattle.contents.proofs.step_language.Tie as tie
 
 returns : tie.Need-returns
 unfolding languageAt
-returns c = rw (sym (c .before .before .before .before .read-tag .ensures) ∙ c .before .before .held .given .1) (rw (← (c .first-of .ensures)))
+returns c = rw (sym (c .before .before .before .before .read-tag .ensures) ∙ c .before .before .held .given .1)
+    (rw (← (c .first-of .ensures)))
 
 returns-2 : tie.Need-returns-2
 unfolding languageAt
@@ -18,4 +19,5 @@ returns-2 c = rw (sym (c .before .before .before .read-tag .ensures) ∙ c .befo
 
 pub step-language-spec : {M : Type 1} → statement M
 step-language-spec =
-    tie.close (tie.spec (λ c. search needs) (λ c. search needs) (λ c. search needs) (λ c κs. search needs) (λ c. search needs) (λ c κs. search needs) (λ c. search needs) returns returns-2)
+    tie.close (tie.spec (λ c. search needs) (λ c. search needs) (λ c. search needs) (λ c κs. search needs) (λ c. search needs)
+    (λ c κs. search needs) (λ c. search needs) returns returns-2)

@@ -18,4 +18,5 @@ returns-2 c = rw (sym (c .before .before .before .before .comment .ensures) ∙ 
 
 pub step-note-spec : {M : Type 1} → statement M
 step-note-spec =
-    tie.close (tie.spec (λ c. search needs) (λ c κs. search needs) (λ c. search needs) (λ c κs. search needs) (λ c. search needs) (λ c κs. search needs) returns returns-2)
+    tie.close (tie.spec (λ c. search needs) (λ c κs. search needs) (λ c. search needs) (λ c κs. search needs) (λ c. search needs)
+    (λ c κs. search needs) returns returns-2)

@@ -22,4 +22,5 @@ returns-3 c = rw (sym (c .before .before .before .read-pair .ensures) ∙ c .bef
 
 pub step-pair-spec : {M : Type 1} → statement M
 step-pair-spec =
-    tie.close (tie.spec (λ c. search needs) (λ c κs. search needs) (λ c. search needs) (λ c κs. search needs) (λ c. search needs) (λ c. search needs) returns returns-2 returns-3)
+    tie.close (tie.spec (λ c. search needs) (λ c κs. search needs) (λ c. search needs) (λ c κs. search needs) (λ c. search needs)
+    (λ c. search needs) returns returns-2 returns-3)

@@ -18,4 +18,5 @@ returns-2 c = rw (sym (c .before .before .before .reference .ensures) ∙ c .bef
 
 pub step-refer-spec : {M : Type 1} → statement M
 step-refer-spec =
-    tie.close (tie.spec (λ c κs. search needs) (λ c. search needs) (λ c κs. search needs) (λ c. search needs) (λ c κs. search needs) returns returns-2)
+    tie.close (tie.spec (λ c κs. search needs) (λ c. search needs) (λ c κs. search needs) (λ c. search needs) (λ c κs. search needs) returns
+    returns-2)

@@ -20,24 +20,32 @@ loop-holds : tie.Need-loop-holds Inv-loop μ-loop
 loop-holds c = (refl, c .before .pre)
 
 returns : tie.Need-returns Inv-loop μ-loop
-returns c = let a = c .before .before .before .before .before .before .args in sym (c .before .before .before .before .loop .inv .0 ∙ text-end (a .d .now) (c .before .before .before .before .loop .g) (omega arith))
+returns c = let a = c .before .before .before .before .before .before .args in
+    sym (c .before .before .before .before .loop .inv .0 ∙ text-end (a .d .now) (c .before .before .before .before .loop .g) (omega arith))
 
 loop-less : tie.Need-loop-less Inv-loop μ-loop
 loop-less c =
     let a = c .before .before .before .before .before .before .before .before .args in
-    let o = step-on false (a .d .now) 2 [] (c .before .before .before .before .before .before .loop .g) _ _ (sym (c .before .before .before .step-alone .ensures) ∙ c .before .going .given .1) in
+    let o = step-on false (a .d .now) 2 [] (c .before .before .before .before .before .before .loop .g) _ _
+    (sym (c .before .before .before .step-alone .ensures) ∙ c .before .going .given .1) in
     omega arith
 
 loop-again : tie.Need-loop-again Inv-loop μ-loop
 loop-again c =
     let a = c .before .before .before .before .before .before .before .before .args in
-    let e = (sym (c .before .before .before .step-alone .ensures) ∙ c .before .going .given .1) in
-    (c .before .before .before .before .before .before .loop .inv .0 ∙ text-next (a .d .now) (c .before .before .before .before .before .before .loop .g) _ _ (omega arith) e, step-on false (a .d .now) 2 [] (c .before .before .before .before .before .before .loop .g) _ _ e .1)
+    let e = (sym (c .before .before .before .step-alone .ensures) ∙ c .before .going .given .1) in (
+      c .before .before .before .before .before .before .loop .inv .0
+          ∙ text-next (a .d .now) (c .before .before .before .before .before .before .loop .g) _ _ (omega arith) e,
+      step-on false (a .d .now) 2 [] (c .before .before .before .before .before .before .loop .g) _ _ e .1,
+    )
 
 returns-2 : tie.Need-returns-2 Inv-loop μ-loop
 returns-2 c =
     let a = c .before .before .before .before .before .before .before .args in
-    sym (c .before .before .before .before .before .loop .inv .0 ∙ text-over (a .d .now) (c .before .before .before .before .before .loop .g) _ (omega arith) (sym (c .before .before .step-alone .ensures) ∙ c .enum-told .given .1))
+    sym (c .before .before .before .before .before .loop .inv .0
+    ∙ text-over (a .d .now) (c .before .before .before .before .before .loop .g) _ (omega arith)
+    (sym (c .before .before .step-alone .ensures) ∙ c .enum-told .given .1))
 
 pub text-in-spec : {M : Type 1} → statement M
-text-in-spec = tie.close (tie.spec Inv-loop μ-loop loop-holds returns (λ c κs. search needs) (λ c. search needs) loop-less loop-again (λ c. search needs) returns-2)
+text-in-spec = tie.close (tie.spec Inv-loop μ-loop loop-holds returns (λ c κs. search needs) (λ c. search needs) loop-less loop-again
+    (λ c. search needs) returns-2)

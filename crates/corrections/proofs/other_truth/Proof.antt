@@ -12,13 +12,15 @@ returns : tie.Need-returns
 returns c = bad-row _ _ _ (admitted (c .before .before .before .pre) .formed) _ (c .before .before .read .ensures) (c .if1 .taken)
 
 read-requires-2 : tie.Need-read-requires-2
-read-requires-2 c κs = row-stands _ _ [] (admitted (c .before .before .before .pre) .formed) _ (c .before .before .read .ensures) (c .if1 .left)
+read-requires-2 c κs = row-stands _ _ [] (admitted (c .before .before .before .pre) .formed) _ (c .before .before .read .ensures)
+    (c .if1 .left)
 
 returns-2 : tie.Need-returns-2
 returns-2 c =
     let a = admitted (c .before .before .before .before .before .pre) in
     c .kind-number .ensures
-    ∙ bad-kind _ _ _ (a .formed) _ (c .before .before .before .before .read .ensures) (c .before .before .if1 .left) (rw (c .before .before .before .before .read .ensures) (a .long)) _ (c .before .read2 .ensures)
+    ∙ bad-kind _ _ _ (a .formed) _ (c .before .before .before .before .read .ensures) (c .before .before .if1 .left)
+    (rw (c .before .before .before .before .read .ensures) (a .long)) _ (c .before .read2 .ensures)
 
 pub other-truth-spec : {M : Type 1} → statement M
 other-truth-spec = tie.close (tie.spec (λ c κs. search needs) returns read-requires-2 (λ c κs. search needs) returns-2)

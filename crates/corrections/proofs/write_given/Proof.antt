@@ -6,13 +6,17 @@ use Rattle.corrections.proofs.write_given.Statement.{statement}
 use Rattle.corrections.proofs.write_given.Tie as tie
 
 returns : tie.Need-returns
-returns c = given-written _ _ _ (c .before .before .before .before .before .before .before .before .before .before .args .table .now) (0 ∷ []) (rw (c .before .before .before .before .before .before .asked .given .1) at (c .before .before .before .before .before .before .before .before .asked-of .ensures)) (c .before .before .write-asked .ensures)
+returns c = given-written _ _ _ (c .before .before .before .before .before .before .before .before .before .before .args .table .now)
+    (0 ∷ []) (rw (c .before .before .before .before .before .before .asked .given .1) at
+    (c .before .before .before .before .before .before .before .before .asked-of .ensures)) (c .before .before .write-asked .ensures)
 
 returns-2 : tie.Need-returns-2
-returns-2 c = given-no-truth _ _ _ (rw (c .before .enum-told .given .1) at (c .before .before .before .asked-of .ensures)) (c .other-truth .ensures)
+returns-2 c = given-no-truth _ _ _ (rw (c .before .enum-told .given .1) at (c .before .before .before .asked-of .ensures))
+    (c .other-truth .ensures)
 
 returns-3 : tie.Need-returns-3
-returns-3 c = given-no-kind _ _ _ (rw (c .before .enum-told2 .given .1) at (c .before .before .before .asked-of .ensures)) (c .other-kind .ensures)
+returns-3 c = given-no-kind _ _ _ (rw (c .before .enum-told2 .given .1) at (c .before .before .before .asked-of .ensures))
+    (c .other-kind .ensures)
 
 pub write-given-spec : {M : Type 1} → statement M
 write-given-spec =

@@ -7,7 +7,13 @@ use Rattle.csv_fields.proofs.bare_field.Statement.{statement}
 use Rattle.csv_fields.proofs.bare_field.Tie as tie
 
 returns : tie.Need-returns
-returns c = rw ((c .field-of) .ensures) (found-by (bare-stands ((c .before .before .bare-to) .ensures)) (bare-ends ((c .before .before .bare-to) .ensures)) (omega arith) _ ((c .before .stop-at) .ensures), ahead-by _ ((c .before .before .before .before .args) .at) ((c .before .before .bare-to) .result) ((c .before .before .before .before .args) .at) ((c .before .before .bare-to) .result) _ ((c .before .before .bare-to) .ensures .on) _ ((c .before .stop-at) .ensures))
+returns c = rw ((c .field-of) .ensures) (
+  found-by (bare-stands ((c .before .before .bare-to) .ensures))
+      (bare-ends ((c .before .before .bare-to) .ensures)) (omega arith) _ ((c .before .stop-at) .ensures),
+  ahead-by _ ((c .before .before .before .before .args) .at) ((c .before .before .bare-to) .result)
+      ((c .before .before .before .before .args) .at) ((c .before .before .bare-to) .result) _ ((c .before .before .bare-to) .ensures .on) _
+      ((c .before .stop-at) .ensures),
+)
 
 pub bare-field-spec : {M : Type 1} → statement M
 bare-field-spec =

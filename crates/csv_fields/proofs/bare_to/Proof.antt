@@ -30,7 +30,8 @@ loop-less : tie.Need-loop-less Inv-loop μ-loop
 loop-less c = omega (arith, (c .before .before .before .loop-test) .taken)
 
 loop-again : tie.Need-loop-again Inv-loop μ-loop
-loop-again c = bared-more ((c .before .before .before .before .loop) .inv) ((c .before .before .before .loop-test) .taken) (sym ((c .before .special) .ensures) ∙ (c .if1) .left)
+loop-again c = bared-more ((c .before .before .before .before .loop) .inv) ((c .before .before .before .loop-test) .taken)
+    (sym ((c .before .special) .ensures) ∙ (c .if1) .left)
 
 returns-2 : tie.Need-returns-2 Inv-loop μ-loop
 returns-2 c = bared-to ((c .before .loop) .inv) (λ h. absurd (omega (arith, (c .loop-test) .left)))

@@ -6,7 +6,8 @@ use mathlib.Core.Bool.{true, false}
 use borrow.Author.Tests.{not-true, not-false}
 use Prim.Native.Nat.{_+_, _-_, _≤_}
 use lib.ListN.{length}
-use Rattle.csv_fields.specs.Page.{InsideTo, inside-none, inside-two, inside-closed, inside-open, found-by, ahead-by, quote-at, not-quote}
+use Rattle.csv_fields.specs.Page.{InsideTo, inside-none, inside-two, inside-closed, inside-open, found-by, ahead-by, quote-at}
+use Rattle.csv_fields.specs.Page.{not-quote}
 use Rattle.csv_fields.proofs.quoted_field.Statement.{statement}
 use Rattle.csv_fields.proofs.quoted_field.Tie as tie
 
@@ -30,18 +31,30 @@ add-k c = omega (arith, (c .if1) .left)
 
 returns-2 : tie.Need-returns-2 Inv-loop μ-loop
 returns-2 c =
-    let k = inside-closed ((c .before .before .before .before .before .before .loop) .inv) ((c .before .before .before .before .before .quote-to) .ensures) (omega (arith, (c .before .before .before .before .if1) .left)) (not-quote _ _ (sym ((c .before .before .before .is-quote) .ensures) ∙ not-true _ ((c .before .before .if2) .taken))) in
-    let o : (c .before .before .before .before .before .before .before .before .args) .at ≤ (c .before .before .before .before .before .quote-to) .result + 1 = omega (arith, k .stands .on) in
-    rw ((c .field-of) .ensures) (found-by (k .stands) (k .reads) (omega arith) _ ((c .before .stop-at) .ensures), ahead-by _ ((c .before .before .before .before .before .before .before .before .args) .at) ((c .before .before .before .before .before .quote-to) .result + 1) ((c .before .before .before .before .before .before .before .before .args) .at) ((c .before .before .before .before .before .quote-to) .result) _ o _ ((c .before .stop-at) .ensures))
+    let k = inside-closed ((c .before .before .before .before .before .before .loop) .inv)
+    ((c .before .before .before .before .before .quote-to) .ensures) (omega (arith, (c .before .before .before .before .if1) .left))
+    (not-quote _ _ (sym ((c .before .before .before .is-quote) .ensures) ∙ not-true _ ((c .before .before .if2) .taken))) in
+    let o : (c .before .before .before .before .before .before .before .before .args) .at
+    ≤ (c .before .before .before .before .before .quote-to) .result + 1 = omega (arith, k .stands .on) in
+    rw ((c .field-of) .ensures) (
+      found-by (k .stands) (k .reads) (omega arith) _ ((c .before .stop-at) .ensures),
+      ahead-by _ ((c .before .before .before .before .before .before .before .before .args) .at)
+          ((c .before .before .before .before .before .quote-to) .result + 1)
+          ((c .before .before .before .before .before .before .before .before .args) .at)
+          ((c .before .before .before .before .before .quote-to) .result) _ o _ ((c .before .stop-at) .ensures),
+    )
 
 add-i : tie.Need-add-i Inv-loop μ-loop
 add-i c = let q = quote-at _ _ (sym ((c .before .is-quote) .ensures) ∙ not-false _ ((c .if2) .left)) in omega (arith, q .0)
 
 loop-less : tie.Need-loop-less Inv-loop μ-loop
-loop-less c = let q = quote-at _ _ (sym ((c .before .is-quote) .ensures) ∙ not-false _ ((c .if2) .left)) in omega (arith, q .0, (c .before .before .before .quote-to) .ensures .on)
+loop-less c = let q = quote-at _ _ (sym ((c .before .is-quote) .ensures) ∙ not-false _ ((c .if2) .left)) in
+    omega (arith, q .0, (c .before .before .before .quote-to) .ensures .on)
 
 loop-again : tie.Need-loop-again Inv-loop μ-loop
-loop-again c = let q = quote-at _ _ (sym ((c .before .is-quote) .ensures) ∙ not-false _ ((c .if2) .left)) in inside-two ((c .before .before .before .before .loop) .inv) ((c .before .before .before .quote-to) .ensures) (omega (arith, (c .before .before .if1) .left)) (q .0) (q .1)
+loop-again c = let q = quote-at _ _ (sym ((c .before .is-quote) .ensures) ∙ not-false _ ((c .if2) .left)) in
+    inside-two ((c .before .before .before .before .loop) .inv) ((c .before .before .before .quote-to) .ensures)
+    (omega (arith, (c .before .before .if1) .left)) (q .0) (q .1)
 
 pub quoted-field-spec : {M : Type 1} → statement M
 quoted-field-spec =

@@ -10,19 +10,37 @@ returns : tie.Need-returns
 returns c = stop-end ((c .before .args) .d .now) ((c .before .args) .i) ((c .if1) .taken)
 
 returns-2 : tie.Need-returns-2
-returns-2 c = (stop-comma ((c .before .before .before .args) .d .now) ((c .before .before .before .args) .i) (omega (arith, (c .before .before .if1) .left)) ((c .if2) .taken), omega arith, omega (arith, (c .before .before .if1) .left))
+returns-2 c = (
+  stop-comma ((c .before .before .before .args) .d .now) ((c .before .before .before .args) .i)
+      (omega (arith, (c .before .before .if1) .left)) ((c .if2) .taken),
+  omega arith,
+  omega (arith, (c .before .before .if1) .left),
+)
 
 returns-3 : tie.Need-returns-3
-returns-3 c = stop-other ((c .before .before .before .before .before .args) .d .now) ((c .before .before .before .before .before .args) .i) (omega (arith, (c .before .before .before .before .if1) .left)) ((c .before .before .if2) .left) ((c .if3) .taken)
+returns-3 c = stop-other ((c .before .before .before .before .before .args) .d .now) ((c .before .before .before .before .before .args) .i)
+    (omega (arith, (c .before .before .before .before .if1) .left)) ((c .before .before .if2) .left) ((c .if3) .taken)
 
 returns-4 : tie.Need-returns-4
-returns-4 c = stop-cut ((c .before .before .before .before .before .before .args) .d .now) ((c .before .before .before .before .before .before .args) .i) (omega (arith, (c .before .before .before .before .before .if1) .left)) ((c .before .if3) .left) ((c .if4) .taken)
+returns-4 c = stop-cut ((c .before .before .before .before .before .before .args) .d .now)
+    ((c .before .before .before .before .before .before .args) .i) (omega (arith, (c .before .before .before .before .before .if1) .left))
+    ((c .before .if3) .left) ((c .if4) .taken)
 
 returns-5 : tie.Need-returns-5
-returns-5 c = (stop-last ((c .before .before .before .before .before .before .before .before .args) .d .now) ((c .before .before .before .before .before .before .before .before .args) .i) (omega (arith, (c .before .before .before .before .before .before .before .if1) .left)) ((c .before .before .before .if3) .left) (omega (arith, (c .before .before .if4) .left)) ((c .if5) .taken), omega arith, omega (arith, (c .before .before .if4) .left))
+returns-5 c = (
+  stop-last ((c .before .before .before .before .before .before .before .before .args) .d .now)
+      ((c .before .before .before .before .before .before .before .before .args) .i)
+      (omega (arith, (c .before .before .before .before .before .before .before .if1) .left)) ((c .before .before .before .if3) .left)
+      (omega (arith, (c .before .before .if4) .left)) ((c .if5) .taken),
+  omega arith,
+  omega (arith, (c .before .before .if4) .left),
+)
 
 returns-6 : tie.Need-returns-6
-returns-6 c = stop-lone ((c .before .before .before .before .before .before .before .before .args) .d .now) ((c .before .before .before .before .before .before .before .before .args) .i) (omega (arith, (c .before .before .before .before .before .before .before .if1) .left)) ((c .before .before .before .if3) .left) (omega (arith, (c .before .before .if4) .left)) ((c .if5) .left)
+returns-6 c = stop-lone ((c .before .before .before .before .before .before .before .before .args) .d .now)
+    ((c .before .before .before .before .before .before .before .before .args) .i)
+    (omega (arith, (c .before .before .before .before .before .before .before .if1) .left)) ((c .before .before .before .if3) .left)
+    (omega (arith, (c .before .before .if4) .left)) ((c .if5) .left)
 
 pub stop-at-spec : {M : Type 1} → statement M
 stop-at-spec =

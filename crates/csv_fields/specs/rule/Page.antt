@@ -1,5 +1,6 @@
 -- Comma-separated text read (document 02, C-23): "Read text of C-16's shape". Fields are parted by commas, CR LF ends every line. A field
--- stands in quotes, where a quote is written as two, or as it is, and then it holds no comma, quote, CR or LF. Anything else is malformed: a
+-- stands in quotes, where a quote is written as two, or as it is, and then it holds no comma, quote, CR or LF. Anything else is malformed:
+-- a
 -- quote inside an unquoted field, anything but a comma or CR LF behind a closing quote, a CR or LF outside quotes that is not CR LF, quotes
 -- that don't close, a text that ends within a line. 44 is the comma, 34 the quote, 13 CR, 10 LF. Beside it stands the grammar: csv_laws.
 use mathlib.Core.Bool.{Bool, cond, _||_}

@@ -19,7 +19,8 @@ pub data IsLine : List (List ℕ) → List ℕ → Type 0 where
 
 pub data IsText : List (List (List ℕ)) → List ℕ → Type 0 where
   no-line : {s : List ℕ} → s ≡ [] → IsText [] s
-  and-lines : {fs : List (List ℕ)} {ls : List (List (List ℕ))} {u w s : List ℕ} → IsLine fs u → IsText ls w → s ≡ u ++ w → IsText (fs ∷ ls) s
+  and-lines : {fs : List (List ℕ)} {ls : List (List (List ℕ))} {u w s : List ℕ} → IsLine fs u → IsText ls w → s ≡ u ++ w
+      → IsText (fs ∷ ls) s
 
 -- lines with nothing malformed behind them
 unfoldable pub allOf : List (List (List ℕ)) → Lines

@@ -20,22 +20,26 @@ loop-holds c = found-clear _ _ (c .plain-to .ensures)
 
 returns : tie.Need-returns Inv-loop μ-loop
 returns c = record {
-  is = c .terminator-at .ensures ∙ sym (c .before .before .before .before .loop .inv ∙ found-cr _ _ (c .before .before .before .loop-test .taken) (c .before .if1 .taken));
+  is = c .terminator-at .ensures ∙ sym (c .before .before .before .before .loop .inv
+      ∙ found-cr _ _ (c .before .before .before .loop-test .taken) (c .before .if1 .taken));
   few = rw (c .terminator-at .ensures) (at-few _ _ _);
 }
 
 returns-2 : tie.Need-returns-2 Inv-loop μ-loop
 returns-2 c = record {
-  is = c .terminator-at2 .ensures ∙ sym (c .before .before .before .before .before .loop .inv ∙ found-lf _ _ (c .before .before .before .before .loop-test .taken) (c .before .before .if1 .left) (c .before .if2 .taken));
+  is = c .terminator-at2 .ensures ∙ sym (c .before .before .before .before .before .loop .inv
+      ∙ found-lf _ _ (c .before .before .before .before .loop-test .taken) (c .before .before .if1 .left) (c .before .if2 .taken));
   few = rw (c .terminator-at2 .ensures) (at-few _ _ _);
 }
 
 loop-again : tie.Need-loop-again Inv-loop μ-loop
-loop-again c = c .before .before .before .before .loop .inv ∙ found-on _ _ (c .before .before .before .loop-test .taken) (c .before .if1 .left) (c .if2 .left)
+loop-again c = c .before .before .before .before .loop .inv
+    ∙ found-on _ _ (c .before .before .before .loop-test .taken) (c .before .if1 .left) (c .if2 .left)
 
 returns-3 : tie.Need-returns-3 Inv-loop μ-loop
 returns-3 c = record { is = sym (c .before .loop .inv ∙ found-none _ _ (c .loop-test .left)); few = omega arith }
 
 pub find-terminator-spec : {M : Type 1} → statement M
 find-terminator-spec =
-    tie.close (tie.spec Inv-loop μ-loop (λ c κs. omega arith) loop-holds (λ c. omega arith) (λ c κs. search needs) returns (λ c κs. search needs) returns-2 (λ c. omega arith) (λ c. omega arith) loop-again returns-3)
+    tie.close (tie.spec Inv-loop μ-loop (λ c κs. omega arith) loop-holds (λ c. omega arith) (λ c κs. search needs) returns
+    (λ c κs. search needs) returns-2 (λ c. omega arith) (λ c. omega arith) loop-again returns-3)

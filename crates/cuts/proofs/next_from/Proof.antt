@@ -22,14 +22,17 @@ loop-holds : tie.Need-loop-holds Inv-loop μ-loop
 loop-holds c = next-some _ _ _ (c .before .if1 .left) ∙ end-unbroken _ _ _ _ _ (c .unbroken-to .ensures)
 
 returns-2 : tie.Need-returns-2 Inv-loop μ-loop
-returns-2 c = sym (c .before .before .before .before .loop .inv ∙ end-here _ _ _ _ (c .before .before .before .loop-test .taken) (sym (c .before .before .begins-at .ensures) ∙ c .before .if2 .taken))
+returns-2 c = sym (c .before .before .before .before .loop .inv
+    ∙ end-here _ _ _ _ (c .before .before .before .loop-test .taken) (sym (c .before .before .begins-at .ensures) ∙ c .before .if2 .taken))
 
 loop-again : tie.Need-loop-again Inv-loop μ-loop
-loop-again c = c .before .before .before .loop .inv ∙ end-on _ _ _ _ (c .before .before .loop-test .taken) (sym (c .before .begins-at .ensures) ∙ c .if2 .left)
+loop-again c = c .before .before .before .loop .inv
+    ∙ end-on _ _ _ _ (c .before .before .loop-test .taken) (sym (c .before .begins-at .ensures) ∙ c .if2 .left)
 
 returns-3 : tie.Need-returns-3 Inv-loop μ-loop
 returns-3 c = sym (c .before .loop .inv ∙ end-none _ _ _ _ (c .loop-test .left))
 
 pub next-from-spec : {M : Type 1} → statement M
 next-from-spec =
-    tie.close (tie.spec Inv-loop μ-loop returns (λ c κs. omega arith) loop-holds (λ c κs. search needs) (λ c. omega arith) returns-2 (λ c. omega arith) (λ c. omega arith) loop-again returns-3)
+    tie.close (tie.spec Inv-loop μ-loop returns (λ c κs. omega arith) loop-holds (λ c κs. search needs) (λ c. omega arith) returns-2
+    (λ c. omega arith) (λ c. omega arith) loop-again returns-3)

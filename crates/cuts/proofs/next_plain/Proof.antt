@@ -14,7 +14,8 @@ returns c e = let z : _≡_ {A = ℕ} 0 1 = cc in absurd (omega arith)
 returns-2 : tie.Need-returns-2
 returns-2 c e =
     let a = c .before .before .before .before .before .before .args in
-    plain-next (a .d .now) (a .w) (a .from) (a .size) (c .before .before .before .before .before .before .pre .0 .low) (omega arith) (sym (c .before .before .before .begins-at .ensures) ∙ c .before .before .if2 .taken) (c .all-plain .ensures e)
+    plain-next (a .d .now) (a .w) (a .from) (a .size) (c .before .before .before .before .before .before .pre .0 .low) (omega arith)
+    (sym (c .before .before .before .begins-at .ensures) ∙ c .before .before .if2 .taken) (c .all-plain .ensures e)
 
 returns-3 : tie.Need-returns-3
 returns-3 c e = let z : _≡_ {A = ℕ} 0 1 = cc in absurd (omega arith)

@@ -1,4 +1,5 @@
--- "`zarfolin_decode_text` serves both kinds: in XML any stretch of the definition that is content as of a label, else 3; the encoding is the
+-- "`zarfolin_decode_text` serves both kinds: in XML any stretch of the definition that is content as of a label, else 3; the encoding is
+-- the
 -- declaration's where that is not refused, else UTF-8." A 1.1 definition's texts as C-17 has them.
 use mathlib.Core.Path.{_≡_}
 use mathlib.Core.Bool.{cond}

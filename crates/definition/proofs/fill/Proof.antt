@@ -15,7 +15,8 @@ use Rattle.definition.proofs.fill.Tie as tie
 by-room : (y : Tally) (n : ℕ) → fillSays y n ≡ cond (filledIn y n) (answer.Read (y .rows) (y .lines)) (answer.Refused 10 0)
 unfolding fillSays filledIn
 by-room y n = by (ltb n (lineBase (y .rows) (y .lines))) where
-  by : (b : Bool) → cond b (answer.Refused 10 0) (answer.Read (y .rows) (y .lines)) ≡ cond (cond b false true) (answer.Read (y .rows) (y .lines)) (answer.Refused 10 0)
+  by : (b : Bool) → cond b (answer.Refused 10 0) (answer.Read (y .rows) (y .lines))
+      ≡ cond (cond b false true) (answer.Read (y .rows) (y .lines)) (answer.Refused 10 0)
   by true = refl
   by false = refl
 

@@ -23,28 +23,58 @@ returns c =
 
 read-in-requires : tie.Need-read-in-requires
 unfolding zeros
-read-in-requires c κs = (c .before .before .before .before .before .before .before .classes .ensures, (c .before .before .before .before .before .before .powers .ensures, (c .before .before .before .before .before .before .before .before .if1 .left, ((refl, refl, refl), refl))))
+read-in-requires c κs = (
+  c .before .before .before .before .before .before .before .classes .ensures,
+  (
+    c .before .before .before .before .before .before .powers .ensures,
+    (c .before .before .before .before .before .before .before .before .if1 .left, ((refl, refl, refl), refl)),
+  ),
+)
 
 compare-requires : tie.Need-compare-requires
 compare-requires c κs =
-    let k = c .before .before .before .before .before .before .before .before .before .read-in .kept in
-    (omega arith, (c .before .before .before .before .before .before .before .before .before .read-in .ensures .stands (c .before .before .before .y .given .1) .few, (k .1 .1 .1 .0, k .1 .1 .1 .1 .0)))
+    let k = c .before .before .before .before .before .before .before .before .before .read-in .kept in (
+      omega arith,
+      (
+        c .before .before .before .before .before .before .before .before .before .read-in .ensures .stands
+            (c .before .before .before .y .given .1) .few,
+        (k .1 .1 .1 .0, k .1 .1 .1 .1 .0),
+      ),
+    )
 
 returns-2 : tie.Need-returns-2
 unfolding againstOf outcomeIn
 returns-2 c =
-    let t = c .before .before .before .before .before .before .before .before .before .before .before .before .before .before .before .before .before .before .before .before .before .args .t .now in
-    let e : ltb 1048576 (length (c .before .before .before .before .before .before .before .before .before .before .before .before .before .before .before .before .before .before .before .before .before .args .d .now)) ≡ false = le-ltb _ _ (c .before .before .before .before .before .before .before .before .before .before .before .before .before .before .before .before .before .before .before .if1 .left) in
-    let s = c .before .before .before .before .before .before .before .before .before .before .read-in .ensures .stands (c .before .before .before .before .y .given .1) in
-    rw (← against-same (c .before .before .before .before .before .before .before .before .before .before .before .before .before .before .before .before .before .before .before .before .before .args .d .now) (lineBase mostRows mostLines) t) (rw e (c .compare .ensures ∙ held-says _ _ _ _ s t))
+    let t = c .before .before .before .before .before .before .before .before .before .before .before .before .before .before .before
+    .before .before .before .before .before .before .args .t .now in
+    let e : ltb 1048576
+    (length (c .before .before .before .before .before .before .before .before .before .before .before .before .before .before .before
+    .before .before .before .before .before .before .args .d .now))
+    ≡ false = le-ltb _ _
+    (c .before .before .before .before .before .before .before .before .before .before .before .before .before .before .before .before
+    .before .before .before .if1 .left) in
+    let s = c .before .before .before .before .before .before .before .before .before .before .read-in .ensures .stands
+    (c .before .before .before .before .y .given .1) in
+    rw (← against-same
+    (c .before .before .before .before .before .before .before .before .before .before .before .before .before .before .before .before
+    .before .before .before .before .before .args .d .now) (lineBase mostRows mostLines) t)
+    (rw e (c .compare .ensures ∙ held-says _ _ _ _ s t))
 
 returns-3 : tie.Need-returns-3
 unfolding againstOf outcomeIn heldIn
 returns-3 c =
-    let t = c .before .before .before .before .before .before .before .before .before .before .before .before .before .before .before .before .before .before .args .t .now in
-    let e : ltb 1048576 (length (c .before .before .before .before .before .before .before .before .before .before .before .before .before .before .before .before .before .before .args .d .now)) ≡ false = le-ltb _ _ (c .before .before .before .before .before .before .before .before .before .before .before .before .before .before .before .before .if1 .left) in
-    let q = c .before .before .before .before .before .before .before .read-in .ensures .refuses (c .before .number .given .1) (lineBase mostRows mostLines) in
-    rw (← against-same (c .before .before .before .before .before .before .before .before .before .before .before .before .before .before .before .before .before .before .args .d .now) (lineBase mostRows mostLines) t) (rw e (sym (ap (λ (w : Outcome). heldIn w t) q)))
+    let t = c .before .before .before .before .before .before .before .before .before .before .before .before .before .before .before
+    .before .before .before .args .t .now in
+    let e : ltb 1048576
+    (length (c .before .before .before .before .before .before .before .before .before .before .before .before .before .before .before
+    .before .before .before .args .d .now)) ≡ false = le-ltb _ _
+    (c .before .before .before .before .before .before .before .before .before .before .before .before .before .before .before .before .if1
+    .left) in
+    let q = c .before .before .before .before .before .before .before .read-in .ensures .refuses (c .before .number .given .1)
+    (lineBase mostRows mostLines) in
+    rw (← against-same
+    (c .before .before .before .before .before .before .before .before .before .before .before .before .before .before .before .before
+    .before .before .args .d .now) (lineBase mostRows mostLines) t) (rw e (sym (ap (λ (w : Outcome). heldIn w t) q)))
 
 pub judge-against-spec : {M : Type 1} → statement M
 judge-against-spec =

@@ -11,7 +11,8 @@ use Rattle.definition.proofs.names_fault.Statement.{statement}
 use Rattle.definition.proofs.names_fault.Tie as tie
 
 abbrev Inv-loop : tie.InvT-loop
-Inv-loop classes d rows count keys₀ i₀ keys i = (i ≤ count) × (length keys ≡ 512) × ((j : ℕ) → j < i → getD keys j 0 ≡ keyOf 0 0 (nameIn d rows j))
+Inv-loop classes d rows count keys₀ i₀ keys i = (i ≤ count) × (length keys ≡ 512)
+    × ((j : ℕ) → j < i → getD keys j 0 ≡ keyOf 0 0 (nameIn d rows j))
 
 abbrev μ-loop : tie.MeasureT-loop
 μ-loop classes d rows count keys₀ i₀ keys i = count - i
@@ -25,13 +26,17 @@ loop-again c =
     let v = c .before .before .before .loop .inv in (
       omega arith,
       length-set (c .before .before .before .loop .keys) (c .before .before .before .loop .i) (c .name-key .result) ∙ v .1,
-      keys-more (λ j. keyOf 0 0 (nameIn (c .before .before .before .before .before .args .d .now) (c .before .before .before .before .before .args .rows .now) j)) (c .before .before .before .loop .keys) (c .before .before .before .loop .i) (c .name-key .result) (omega (arith, v .1)) (v .2) (c .name-key .ensures ∙ rw (c .before .name-place .ensures)),
+      keys-more (λ j. keyOf 0 0 (nameIn (c .before .before .before .before .before .args .d .now)
+          (c .before .before .before .before .before .args .rows .now) j)) (c .before .before .before .loop .keys)
+          (c .before .before .before .loop .i) (c .name-key .result) (omega (arith, v .1)) (v .2)
+          (c .name-key .ensures ∙ rw (c .before .name-place .ensures)),
     )
 
 returns : tie.Need-returns Inv-loop μ-loop
 returns c =
     let v = c .before .before .before .loop .inv in
-    names-judged _ _ _ (c .before .before .before .before .before .args .count) (c .before .before .before .loop .i) _ (omega arith) (v .2) (c .first-fault .ensures)
+    names-judged _ _ _ (c .before .before .before .before .before .args .count) (c .before .before .before .loop .i) _ (omega arith) (v .2)
+    (c .first-fault .ensures)
 
 pub names-fault-spec : {M : Type 1} → statement M
 names-fault-spec =

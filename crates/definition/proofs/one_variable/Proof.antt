@@ -14,29 +14,51 @@ variable-on-requires c κs =
     (p .0, (p .1 .0, (p .1 .1 .0, ((p .1 .1 .1 .1 .0 .1, p .1 .1 .1 .0 .1, p .1 .1 .1 .1 .0 .2), p .1 .1 .1 .1 .1))))
 
 -- the variable behind its columns
-told-here : (c : tie.After-put-row-arg) → Told (entryOf (c .before .before .before .before .before .before .before .before .before .before .before .before .before .args .d .now) (c .before .before .before .before .before .before .before .before .before .before .before .before .before .args .at) (marked (c .before .before .before .before .before .before .before .before .before .before .before .before .before .args .seen .now)) (c .before .before .before .before .before .before .before .before .before .before .before .before .before .args .y .rows) (c .before .before .before .before .before .before .before .before .before .before .before .before .before .args .y .lines)) (c .before .before .before .before .before .before .before .before .before .before .before .before .before .args .y .lines) (c .before .before .columns .given .0 .0) (c .before .before .columns .given .0 .1 .0) (c .before .before .columns .given .0 .1 .1 .0)
-told-here c = told _ _ _ _ _ _ (c .before .before .before .before .before .before .before .variable-on .ensures .0) (c .before .before .columns .given .1)
+told-here : (c : tie.After-put-row-arg) → Told (entryOf
+    (c .before .before .before .before .before .before .before .before .before .before .before .before .before .args .d .now)
+    (c .before .before .before .before .before .before .before .before .before .before .before .before .before .args .at)
+    (marked (c .before .before .before .before .before .before .before .before .before .before .before .before .before .args .seen .now))
+    (c .before .before .before .before .before .before .before .before .before .before .before .before .before .args .y .rows)
+    (c .before .before .before .before .before .before .before .before .before .before .before .before .before .args .y .lines))
+    (c .before .before .before .before .before .before .before .before .before .before .before .before .before .args .y .lines)
+    (c .before .before .columns .given .0 .0) (c .before .before .columns .given .0 .1 .0) (c .before .before .columns .given .0 .1 .1 .0)
+told-here c = told _ _ _ _ _ _ (c .before .before .before .before .before .before .before .variable-on .ensures .0)
+    (c .before .before .columns .given .1)
 
-left : (c : tie.After-put-row-arg) → c .before .before .before .before .before .before .before .before .before .before .before .before .before .args .y .rows < 512
-left c = let p = c .before .before .before .before .before .before .before .before .before .before .before .before .before .pre in left-here _ _ _ (c .before .before .before .before .before .before .before .before .before .before .before .before .before .args .y) (p .1 .1 .0) (p .1 .1 .1 .0 .1) _ _ _ (told-here c)
+left : (c : tie.After-put-row-arg)
+    → c .before .before .before .before .before .before .before .before .before .before .before .before .before .args .y .rows < 512
+left c = let p = c .before .before .before .before .before .before .before .before .before .before .before .before .before .pre in
+    left-here _ _ _ (c .before .before .before .before .before .before .before .before .before .before .before .before .before .args .y)
+    (p .1 .1 .0) (p .1 .1 .1 .0 .1) _ _ _ (told-here c)
 
 mul-put-row : tie.Need-mul-put-row
 mul-put-row c = omega (arith, left c)
 
 put-row-requires : tie.Need-put-row-requires
 put-row-requires c κs =
-    let p = c .before .before .before .before .before .before .before .before .before .before .before .before .before .pre in
-    (small-here _ _ _ (c .before .before .before .before .before .before .before .before .before .before .before .before .before .args .y) (p .1 .1 .0) (p .1 .1 .1 .0 .1) _ _ _ (told-here c), omega (arith, left c))
+    let p = c .before .before .before .before .before .before .before .before .before .before .before .before .before .pre in (
+      small-here _ _ _ (c .before .before .before .before .before .before .before .before .before .before .before .before .before .args .y)
+          (p .1 .1 .0) (p .1 .1 .1 .0 .1) _ _ _ (told-here c),
+      omega (arith, left c),
+    )
 
 tally-with-requires : tie.Need-tally-with-requires
 tally-with-requires c κs = left (c .before .before)
 
 returns : tie.Need-returns
 returns c =
-    let p = c .before .before .before .before .before .before .before .before .before .before .before .before .before .before .before .before .before .pre in
+    let p = c .before .before .before .before .before .before .before .before .before .before .before .before .before .before .before
+    .before .before .pre in
     let k = told-here (c .before .before .before .before) in (
-      turn-here _ _ _ (c .before .before .before .before .before .before .before .before .before .before .before .before .before .before .before .before .before .args .y) (p .1 .1 .0) (p .1 .1 .1 .0 .1) _ _ _ k _ _ (c .before .tally-with .ensures) (c .follow .ensures),
-      (row-here _ _ _ (c .before .before .before .before .before .before .before .before .before .before .before .before .before .before .before .before .before .args .y) (p .1 .1 .0) (p .1 .1 .1 .0 .1) _ _ _ k _ _ (c .before .before .before .put-row .ensures), c .before .before .before .before .before .before .before .before .before .before .before .variable-on .ensures .1),
+      turn-here _ _ _
+          (c .before .before .before .before .before .before .before .before .before .before .before .before .before .before .before .before
+          .before .args .y) (p .1 .1 .0) (p .1 .1 .1 .0 .1) _ _ _ k _ _ (c .before .tally-with .ensures) (c .follow .ensures),
+      (
+        row-here _ _ _
+            (c .before .before .before .before .before .before .before .before .before .before .before .before .before .before .before
+            .before .before .args .y) (p .1 .1 .0) (p .1 .1 .1 .0 .1) _ _ _ k _ _ (c .before .before .before .put-row .ensures),
+        c .before .before .before .before .before .before .before .before .before .before .before .variable-on .ensures .1,
+      ),
     )
 
 returns-2 : tie.Need-returns-2

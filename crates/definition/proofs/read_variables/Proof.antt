@@ -14,7 +14,8 @@ use Rattle.definition.proofs.read_variables.Tie as tie
 
 abbrev Inv-loop : tie.InvT-loop
 Inv-loop classes powers d rows₀ lines₀ marks₀ seen₀ at₀ y₀ rows lines marks seen at y =
-    Ran d at₀ rows₀ lines₀ at y seen rows lines × (length rows ≡ rowSize * mostRows) × (length lines ≡ lineSize * mostLines) × (length marks ≡ 16384)
+    Ran d at₀ rows₀ lines₀ at y seen rows lines × (length rows ≡ rowSize * mostRows) × (length lines ≡ lineSize * mostLines)
+    × (length marks ≡ 16384)
 
 abbrev μ-loop : tie.MeasureT-loop
 μ-loop classes powers d rows₀ lines₀ marks₀ seen₀ at₀ y₀ rows lines marks seen at y = 512 - y .rows
@@ -28,14 +29,78 @@ loop-holds c =
 one-variable-requires : tie.Need-one-variable-requires Inv-loop μ-loop
 one-variable-requires c κs =
     let p = c .before .before .before .before .before .before .before .before .pre in
-    let i = c .before .before .before .before .loop .inv in
-    (p .0, (p .1 .0, (p .1 .1 .0, (ran-few (c .before .before .before .before .before .before .before .before .args .d .now) (c .before .before .before .before .before .before .before .before .args .t) (c .before .before .before .before .before .before .before .before .args .rows .now) (c .before .before .before .before .before .before .before .before .args .lines .now) (c .before .before .before .before .loop .at) (c .before .before .before .before .loop .y) (c .before .before .before .before .loop .seen) (c .before .before .before .before .loop .rows) (c .before .before .before .before .loop .lines) (c .before .before .before .before .loop .inv .0) (c .before .before .before .before .before .before .before .before .pre .1 .1 .0) (c .before .before .before .before .before .before .before .before .pre .1 .1 .1 .0 .0) (c .before .before .before .before .before .before .before .before .pre .1 .1 .1 .0 .1), ((i .1, i .2, i .3), i .0 .seen-long)))))
+    let i = c .before .before .before .before .loop .inv in (
+      p .0,
+      (
+        p .1 .0,
+        (
+          p .1 .1 .0,
+          (
+            ran-few (c .before .before .before .before .before .before .before .before .args .d .now)
+                (c .before .before .before .before .before .before .before .before .args .t)
+                (c .before .before .before .before .before .before .before .before .args .rows .now)
+                (c .before .before .before .before .before .before .before .before .args .lines .now)
+                (c .before .before .before .before .loop .at) (c .before .before .before .before .loop .y)
+                (c .before .before .before .before .loop .seen) (c .before .before .before .before .loop .rows)
+                (c .before .before .before .before .loop .lines) (c .before .before .before .before .loop .inv .0)
+                (c .before .before .before .before .before .before .before .before .pre .1 .1 .0)
+                (c .before .before .before .before .before .before .before .before .pre .1 .1 .1 .0 .0)
+                (c .before .before .before .before .before .before .before .before .pre .1 .1 .1 .0 .1),
+            ((i .1, i .2, i .3), i .0 .seen-long),
+          ),
+        ),
+      ),
+    )
 
-onward : (c : tie.After-known-told Inv-loop μ-loop) → Onward (c .before .before .before .before .before .before .before .before .before .before .before .before .before .before .before .before .args .d .now) (c .before .before .before .before .before .before .before .before .before .before .before .before .before .before .before .before .args .t) (c .before .before .before .before .before .before .before .before .before .before .before .before .before .before .before .before .args .rows .now) (c .before .before .before .before .before .before .before .before .before .before .before .before .before .before .before .before .args .lines .now) (c .before .before .before .before .before .before .before .before .before .before .before .before .loop .at) (c .before .before .before .before .before .before .before .before .before .before .before .before .loop .y) (c .before .before .before .before .before .before .before .before .before .before .before .before .loop .seen) (c .before .before .before .before .before .before .before .before .before .before .before .before .loop .rows) (c .before .before .before .before .before .before .before .before .before .before .before .before .loop .lines) (c .before .before .before .before .before .before .before .before .before .before .before .before .loop .inv .0) (c .before .before .before .before .before .before .before .before .before .before .before .before .before .before .before .before .pre .1 .1 .0) (c .before .before .before .before .before .before .before .before .before .before .before .before .before .before .before .before .pre .1 .1 .1 .0 .0) (c .before .before .before .before .before .before .before .before .before .before .before .before .before .before .before .before .pre .1 .1 .1 .0 .1) (c .before .ident .given .0 .0) (c .before .ident .given .0 .1 .0) (c .before .ident .given .0 .1 .1 .0) (c .before .before .before .before .before .before .before .one-variable .last .1 .1 .1 .1 .1 .1 .0) (c .before .before .before .before .before .before .before .one-variable .last .1 .1 .1 .1 .1 .1 .1 .0)
-onward c = ran-more (c .before .before .before .before .before .before .before .before .before .before .before .before .before .before .before .before .args .d .now) (c .before .before .before .before .before .before .before .before .before .before .before .before .before .before .before .before .args .t) (c .before .before .before .before .before .before .before .before .before .before .before .before .before .before .before .before .args .rows .now) (c .before .before .before .before .before .before .before .before .before .before .before .before .before .before .before .before .args .lines .now) (c .before .before .before .before .before .before .before .before .before .before .before .before .loop .at) (c .before .before .before .before .before .before .before .before .before .before .before .before .loop .y) (c .before .before .before .before .before .before .before .before .before .before .before .before .loop .seen) (c .before .before .before .before .before .before .before .before .before .before .before .before .loop .rows) (c .before .before .before .before .before .before .before .before .before .before .before .before .loop .lines) (c .before .before .before .before .before .before .before .before .before .before .before .before .loop .inv .0) (c .before .before .before .before .before .before .before .before .before .before .before .before .before .before .before .before .pre .1 .1 .0) (c .before .before .before .before .before .before .before .before .before .before .before .before .before .before .before .before .pre .1 .1 .1 .0 .0) (c .before .before .before .before .before .before .before .before .before .before .before .before .before .before .before .before .pre .1 .1 .1 .0 .1) _ _ _ (c .before .before .before .before .before .before .before .one-variable .ensures .0) (c .before .before .before .before .before .before .before .one-variable .ensures .1 .0) (c .before .before .before .before .before .before .before .one-variable .ensures .1 .1) _ _ _ (c .before .ident .given .1)
+onward : (c : tie.After-known-told Inv-loop μ-loop)
+    → Onward (c .before .before .before .before .before .before .before .before .before .before .before .before .before .before .before
+    .before .args .d .now)
+    (c .before .before .before .before .before .before .before .before .before .before .before .before .before .before .before .before .args
+    .t) (c .before .before .before .before .before .before .before .before .before .before .before .before .before .before .before .before
+    .args .rows .now)
+    (c .before .before .before .before .before .before .before .before .before .before .before .before .before .before .before .before .args
+    .lines .now) (c .before .before .before .before .before .before .before .before .before .before .before .before .loop .at)
+    (c .before .before .before .before .before .before .before .before .before .before .before .before .loop .y)
+    (c .before .before .before .before .before .before .before .before .before .before .before .before .loop .seen)
+    (c .before .before .before .before .before .before .before .before .before .before .before .before .loop .rows)
+    (c .before .before .before .before .before .before .before .before .before .before .before .before .loop .lines)
+    (c .before .before .before .before .before .before .before .before .before .before .before .before .loop .inv .0)
+    (c .before .before .before .before .before .before .before .before .before .before .before .before .before .before .before .before .pre
+    .1 .1 .0)
+    (c .before .before .before .before .before .before .before .before .before .before .before .before .before .before .before .before .pre
+    .1 .1 .1 .0 .0)
+    (c .before .before .before .before .before .before .before .before .before .before .before .before .before .before .before .before .pre
+    .1 .1 .1 .0 .1) (c .before .ident .given .0 .0) (c .before .ident .given .0 .1 .0) (c .before .ident .given .0 .1 .1 .0)
+    (c .before .before .before .before .before .before .before .one-variable .last .1 .1 .1 .1 .1 .1 .0)
+    (c .before .before .before .before .before .before .before .one-variable .last .1 .1 .1 .1 .1 .1 .1 .0)
+onward c = ran-more
+    (c .before .before .before .before .before .before .before .before .before .before .before .before .before .before .before .before .args
+    .d .now) (c .before .before .before .before .before .before .before .before .before .before .before .before .before .before .before
+    .before .args .t)
+    (c .before .before .before .before .before .before .before .before .before .before .before .before .before .before .before .before .args
+    .rows .now)
+    (c .before .before .before .before .before .before .before .before .before .before .before .before .before .before .before .before .args
+    .lines .now) (c .before .before .before .before .before .before .before .before .before .before .before .before .loop .at)
+    (c .before .before .before .before .before .before .before .before .before .before .before .before .loop .y)
+    (c .before .before .before .before .before .before .before .before .before .before .before .before .loop .seen)
+    (c .before .before .before .before .before .before .before .before .before .before .before .before .loop .rows)
+    (c .before .before .before .before .before .before .before .before .before .before .before .before .loop .lines)
+    (c .before .before .before .before .before .before .before .before .before .before .before .before .loop .inv .0)
+    (c .before .before .before .before .before .before .before .before .before .before .before .before .before .before .before .before .pre
+    .1 .1 .0)
+    (c .before .before .before .before .before .before .before .before .before .before .before .before .before .before .before .before .pre
+    .1 .1 .1 .0 .0)
+    (c .before .before .before .before .before .before .before .before .before .before .before .before .before .before .before .before .pre
+    .1 .1 .1 .0 .1) _ _ _ (c .before .before .before .before .before .before .before .one-variable .ensures .0)
+    (c .before .before .before .before .before .before .before .one-variable .ensures .1 .0)
+    (c .before .before .before .before .before .before .before .one-variable .ensures .1 .1) _ _ _ (c .before .ident .given .1)
 
 slice-write-seen : tie.Need-slice-write-seen Inv-loop μ-loop
-slice-write-seen c = omega (arith, onward c .small, c .before .before .before .before .before .before .before .before .before .before .before .before .loop .inv .0 .seen-long)
+slice-write-seen c = omega (
+  arith,
+  onward c .small,
+  c .before .before .before .before .before .before .before .before .before .before .before .before .loop .inv .0 .seen-long,
+)
 
 loop-less : tie.Need-loop-less Inv-loop μ-loop
 loop-less c = omega (arith, onward c .further, onward c .left)
@@ -62,11 +127,58 @@ same-length-3 : tie.Need-same-length-3 Inv-loop μ-loop
 same-length-3 c = search needs
 
 same-length-4 : tie.Need-same-length-4 Inv-loop μ-loop
-same-length-4 c = c .before .before .before .before .before .before .before .before .before .before .before .before .loop .inv .0 .seen-long ∙ sym (zeros-long _ (c .before .before .before .before .before .before .before .before .before .before .before .before .before .before .before .before .pre .1 .1 .1 .1))
+same-length-4 c = c .before .before .before .before .before .before .before .before .before .before .before .before .loop .inv .0 .seen-long
+    ∙ sym (zeros-long _
+    (c .before .before .before .before .before .before .before .before .before .before .before .before .before .before .before .before .pre
+    .1 .1 .1 .1))
 
 returns : tie.Need-returns Inv-loop μ-loop
-returns c =
-    (run-over (c .before .before .before .before .before .before .before .before .before .before .before .before .before .before .before .before .args .d .now) (c .before .before .before .before .before .before .before .before .before .before .before .before .before .before .before .before .args .t) (c .before .before .before .before .before .before .before .before .before .before .before .before .before .before .before .before .args .rows .now) (c .before .before .before .before .before .before .before .before .before .before .before .before .before .before .before .before .args .lines .now) (c .before .before .before .before .before .before .before .before .before .before .before .before .loop .at) (c .before .before .before .before .before .before .before .before .before .before .before .before .loop .y) (c .before .before .before .before .before .before .before .before .before .before .before .before .loop .seen) (c .before .before .before .before .before .before .before .before .before .before .before .before .loop .rows) (c .before .before .before .before .before .before .before .before .before .before .before .before .loop .lines) (c .before .before .before .before .before .before .before .before .before .before .before .before .loop .inv .0) (c .before .before .before .before .before .before .before .before .before .before .before .before .before .before .before .before .pre .1 .1 .0) (c .before .before .before .before .before .before .before .before .before .before .before .before .before .before .before .before .pre .1 .1 .1 .0 .0) (c .before .before .before .before .before .before .before .before .before .before .before .before .before .before .before .before .pre .1 .1 .1 .0 .1) _ _ _ (c .before .before .before .before .before .before .before .one-variable .ensures .0) (c .before .before .before .before .before .before .before .one-variable .ensures .1 .0) (c .before .before .before .before .before .before .before .one-variable .ensures .1 .1) _ _ (c .before .tally .given .1), laid-over (c .before .before .before .before .before .before .before .before .before .before .before .before .before .before .before .before .args .d .now) (c .before .before .before .before .before .before .before .before .before .before .before .before .before .before .before .before .args .t) (c .before .before .before .before .before .before .before .before .before .before .before .before .before .before .before .before .args .rows .now) (c .before .before .before .before .before .before .before .before .before .before .before .before .before .before .before .before .args .lines .now) (c .before .before .before .before .before .before .before .before .before .before .before .before .loop .at) (c .before .before .before .before .before .before .before .before .before .before .before .before .loop .y) (c .before .before .before .before .before .before .before .before .before .before .before .before .loop .seen) (c .before .before .before .before .before .before .before .before .before .before .before .before .loop .rows) (c .before .before .before .before .before .before .before .before .before .before .before .before .loop .lines) (c .before .before .before .before .before .before .before .before .before .before .before .before .loop .inv .0) (c .before .before .before .before .before .before .before .before .before .before .before .before .before .before .before .before .pre .1 .1 .0) (c .before .before .before .before .before .before .before .before .before .before .before .before .before .before .before .before .pre .1 .1 .1 .0 .0) (c .before .before .before .before .before .before .before .before .before .before .before .before .before .before .before .before .pre .1 .1 .1 .0 .1) _ _ _ (c .before .before .before .before .before .before .before .one-variable .ensures .0) (c .before .before .before .before .before .before .before .one-variable .ensures .1 .0) (c .before .before .before .before .before .before .before .one-variable .ensures .1 .1) _ _ (c .before .tally .given .1))
+returns c = (
+  run-over
+      (c .before .before .before .before .before .before .before .before .before .before .before .before .before .before .before .before
+      .args .d .now)
+      (c .before .before .before .before .before .before .before .before .before .before .before .before .before .before .before .before
+      .args .t)
+      (c .before .before .before .before .before .before .before .before .before .before .before .before .before .before .before .before
+      .args .rows .now)
+      (c .before .before .before .before .before .before .before .before .before .before .before .before .before .before .before .before
+      .args .lines .now) (c .before .before .before .before .before .before .before .before .before .before .before .before .loop .at)
+      (c .before .before .before .before .before .before .before .before .before .before .before .before .loop .y)
+      (c .before .before .before .before .before .before .before .before .before .before .before .before .loop .seen)
+      (c .before .before .before .before .before .before .before .before .before .before .before .before .loop .rows)
+      (c .before .before .before .before .before .before .before .before .before .before .before .before .loop .lines)
+      (c .before .before .before .before .before .before .before .before .before .before .before .before .loop .inv .0)
+      (c .before .before .before .before .before .before .before .before .before .before .before .before .before .before .before .before
+      .pre .1 .1 .0)
+      (c .before .before .before .before .before .before .before .before .before .before .before .before .before .before .before .before
+      .pre .1 .1 .1 .0 .0)
+      (c .before .before .before .before .before .before .before .before .before .before .before .before .before .before .before .before
+      .pre .1 .1 .1 .0 .1) _ _ _ (c .before .before .before .before .before .before .before .one-variable .ensures .0)
+      (c .before .before .before .before .before .before .before .one-variable .ensures .1 .0)
+      (c .before .before .before .before .before .before .before .one-variable .ensures .1 .1) _ _ (c .before .tally .given .1),
+  laid-over
+      (c .before .before .before .before .before .before .before .before .before .before .before .before .before .before .before .before
+      .args .d .now)
+      (c .before .before .before .before .before .before .before .before .before .before .before .before .before .before .before .before
+      .args .t)
+      (c .before .before .before .before .before .before .before .before .before .before .before .before .before .before .before .before
+      .args .rows .now)
+      (c .before .before .before .before .before .before .before .before .before .before .before .before .before .before .before .before
+      .args .lines .now) (c .before .before .before .before .before .before .before .before .before .before .before .before .loop .at)
+      (c .before .before .before .before .before .before .before .before .before .before .before .before .loop .y)
+      (c .before .before .before .before .before .before .before .before .before .before .before .before .loop .seen)
+      (c .before .before .before .before .before .before .before .before .before .before .before .before .loop .rows)
+      (c .before .before .before .before .before .before .before .before .before .before .before .before .loop .lines)
+      (c .before .before .before .before .before .before .before .before .before .before .before .before .loop .inv .0)
+      (c .before .before .before .before .before .before .before .before .before .before .before .before .before .before .before .before
+      .pre .1 .1 .0)
+      (c .before .before .before .before .before .before .before .before .before .before .before .before .before .before .before .before
+      .pre .1 .1 .1 .0 .0)
+      (c .before .before .before .before .before .before .before .before .before .before .before .before .before .before .before .before
+      .pre .1 .1 .1 .0 .1) _ _ _ (c .before .before .before .before .before .before .before .one-variable .ensures .0)
+      (c .before .before .before .before .before .before .before .one-variable .ensures .1 .0)
+      (c .before .before .before .before .before .before .before .one-variable .ensures .1 .1) _ _ (c .before .tally .given .1),
+)
 
 enum-known-f : tie.Need-enum-known-f Inv-loop μ-loop
 enum-known-f c = search needs
@@ -81,11 +193,56 @@ same-length-7 : tie.Need-same-length-7 Inv-loop μ-loop
 same-length-7 c = search needs
 
 same-length-8 : tie.Need-same-length-8 Inv-loop μ-loop
-same-length-8 c = c .before .before .before .before .before .before .before .before .before .before .before .before .loop .inv .0 .seen-long ∙ sym (zeros-long _ (c .before .before .before .before .before .before .before .before .before .before .before .before .before .before .before .before .pre .1 .1 .1 .1))
+same-length-8 c = c .before .before .before .before .before .before .before .before .before .before .before .before .loop .inv .0 .seen-long
+    ∙ sym (zeros-long _
+    (c .before .before .before .before .before .before .before .before .before .before .before .before .before .before .before .before .pre
+    .1 .1 .1 .1))
 
 returns-2 : tie.Need-returns-2 Inv-loop μ-loop
-returns-2 c =
-    (run-not (c .before .before .before .before .before .before .before .before .before .before .before .before .before .before .before .before .args .d .now) (c .before .before .before .before .before .before .before .before .before .before .before .before .before .before .before .before .args .t) (c .before .before .before .before .before .before .before .before .before .before .before .before .before .before .before .before .args .rows .now) (c .before .before .before .before .before .before .before .before .before .before .before .before .before .before .before .before .args .lines .now) (c .before .before .before .before .before .before .before .before .before .before .before .before .loop .at) (c .before .before .before .before .before .before .before .before .before .before .before .before .loop .y) (c .before .before .before .before .before .before .before .before .before .before .before .before .loop .seen) (c .before .before .before .before .before .before .before .before .before .before .before .before .loop .rows) (c .before .before .before .before .before .before .before .before .before .before .before .before .loop .lines) (c .before .before .before .before .before .before .before .before .before .before .before .before .loop .inv .0) (c .before .before .before .before .before .before .before .before .before .before .before .before .before .before .before .before .pre .1 .1 .0) (c .before .before .before .before .before .before .before .before .before .before .before .before .before .before .before .before .pre .1 .1 .1 .0 .0) (c .before .before .before .before .before .before .before .before .before .before .before .before .before .before .before .before .pre .1 .1 .1 .0 .1) _ _ _ (c .before .before .before .before .before .before .before .one-variable .ensures .0) (c .before .before .before .before .before .before .before .one-variable .ensures .1 .0) (c .before .before .before .before .before .before .before .one-variable .ensures .1 .1) _ (c .before .f .given .1), laid-not (c .before .before .before .before .before .before .before .before .before .before .before .before .before .before .before .before .args .d .now) (c .before .before .before .before .before .before .before .before .before .before .before .before .before .before .before .before .args .t) (c .before .before .before .before .before .before .before .before .before .before .before .before .before .before .before .before .args .rows .now) (c .before .before .before .before .before .before .before .before .before .before .before .before .before .before .before .before .args .lines .now) (c .before .before .before .before .before .before .before .before .before .before .before .before .loop .at) (c .before .before .before .before .before .before .before .before .before .before .before .before .loop .y) (c .before .before .before .before .before .before .before .before .before .before .before .before .loop .seen) (c .before .before .before .before .before .before .before .before .before .before .before .before .loop .rows) (c .before .before .before .before .before .before .before .before .before .before .before .before .loop .lines) (c .before .before .before .before .before .before .before .before .before .before .before .before .loop .inv .0) (c .before .before .before .before .before .before .before .before .before .before .before .before .before .before .before .before .pre .1 .1 .0) (c .before .before .before .before .before .before .before .before .before .before .before .before .before .before .before .before .pre .1 .1 .1 .0 .0) (c .before .before .before .before .before .before .before .before .before .before .before .before .before .before .before .before .pre .1 .1 .1 .0 .1) _ _ _ (c .before .before .before .before .before .before .before .one-variable .ensures .0) (c .before .before .before .before .before .before .before .one-variable .ensures .1 .0) (c .before .before .before .before .before .before .before .one-variable .ensures .1 .1) _ (c .before .f .given .1))
+returns-2 c = (
+  run-not (c .before .before .before .before .before .before .before .before .before .before .before .before .before .before .before
+      .before .args .d .now)
+      (c .before .before .before .before .before .before .before .before .before .before .before .before .before .before .before .before
+      .args .t)
+      (c .before .before .before .before .before .before .before .before .before .before .before .before .before .before .before .before
+      .args .rows .now)
+      (c .before .before .before .before .before .before .before .before .before .before .before .before .before .before .before .before
+      .args .lines .now) (c .before .before .before .before .before .before .before .before .before .before .before .before .loop .at)
+      (c .before .before .before .before .before .before .before .before .before .before .before .before .loop .y)
+      (c .before .before .before .before .before .before .before .before .before .before .before .before .loop .seen)
+      (c .before .before .before .before .before .before .before .before .before .before .before .before .loop .rows)
+      (c .before .before .before .before .before .before .before .before .before .before .before .before .loop .lines)
+      (c .before .before .before .before .before .before .before .before .before .before .before .before .loop .inv .0)
+      (c .before .before .before .before .before .before .before .before .before .before .before .before .before .before .before .before
+      .pre .1 .1 .0)
+      (c .before .before .before .before .before .before .before .before .before .before .before .before .before .before .before .before
+      .pre .1 .1 .1 .0 .0)
+      (c .before .before .before .before .before .before .before .before .before .before .before .before .before .before .before .before
+      .pre .1 .1 .1 .0 .1) _ _ _ (c .before .before .before .before .before .before .before .one-variable .ensures .0)
+      (c .before .before .before .before .before .before .before .one-variable .ensures .1 .0)
+      (c .before .before .before .before .before .before .before .one-variable .ensures .1 .1) _ (c .before .f .given .1),
+  laid-not (c .before .before .before .before .before .before .before .before .before .before .before .before .before .before .before
+      .before .args .d .now)
+      (c .before .before .before .before .before .before .before .before .before .before .before .before .before .before .before .before
+      .args .t)
+      (c .before .before .before .before .before .before .before .before .before .before .before .before .before .before .before .before
+      .args .rows .now)
+      (c .before .before .before .before .before .before .before .before .before .before .before .before .before .before .before .before
+      .args .lines .now) (c .before .before .before .before .before .before .before .before .before .before .before .before .loop .at)
+      (c .before .before .before .before .before .before .before .before .before .before .before .before .loop .y)
+      (c .before .before .before .before .before .before .before .before .before .before .before .before .loop .seen)
+      (c .before .before .before .before .before .before .before .before .before .before .before .before .loop .rows)
+      (c .before .before .before .before .before .before .before .before .before .before .before .before .loop .lines)
+      (c .before .before .before .before .before .before .before .before .before .before .before .before .loop .inv .0)
+      (c .before .before .before .before .before .before .before .before .before .before .before .before .before .before .before .before
+      .pre .1 .1 .0)
+      (c .before .before .before .before .before .before .before .before .before .before .before .before .before .before .before .before
+      .pre .1 .1 .1 .0 .0)
+      (c .before .before .before .before .before .before .before .before .before .before .before .before .before .before .before .before
+      .pre .1 .1 .1 .0 .1) _ _ _ (c .before .before .before .before .before .before .before .one-variable .ensures .0)
+      (c .before .before .before .before .before .before .before .one-variable .ensures .1 .0)
+      (c .before .before .before .before .before .before .before .one-variable .ensures .1 .1) _ (c .before .f .given .1),
+)
 
 pub read-variables-spec : {M : Type 1} → statement M
 read-variables-spec =

@@ -15,7 +15,8 @@ returns-2 : tie.Need-returns-2
 returns-2 c =
     let a = c .before .before .before .before .before .before .before .args in
     let s : a .standard ≡ true = not-false _ (c .before .before .before .before .before .if1 .left) in
-    rw s (bad-settled (a .d .now) (a .y) (a .rows .now) _ (c .before .before .before .before .names-fault .ensures) _ _ (c .before .before .if2 .taken) (c .before .name-place .ensures) (c .quote-before .ensures))
+    rw s (bad-settled (a .d .now) (a .y) (a .rows .now) _ (c .before .before .before .before .names-fault .ensures) _ _
+    (c .before .before .if2 .taken) (c .before .name-place .ensures) (c .quote-before .ensures))
 
 returns-3 : tie.Need-returns-3
 returns-3 c =

@@ -18,19 +18,30 @@ returns c = rw (c .before .if1 .taken) (c .lying .ensures)
 lying-requires-2 : tie.Need-lying-requires-2
 lying-requires-2 c κs =
     let a = c .before .before .before .before .before .before .before .args in
-    content-within (a .bad) (a .d .now) (a .mode) (a .w .now) (a .at) _ _ _ (c .before .before .before .before .before .before .before .pre) (sym (c .before .before .before .read-content .ensures) ∙ c .before .end .given .1) .0
+    content-within (a .bad) (a .d .now) (a .mode) (a .w .now) (a .at) _ _ _ (c .before .before .before .before .before .before .before .pre)
+    (sym (c .before .before .before .read-content .ensures) ∙ c .before .end .given .1) .0
 
 returns-2 : tie.Need-returns-2
 unfolding body foundOf named
-returns-2 c = rw (c .before .before .before .before .before .if1 .left, sym (c .before .before .before .before .read-content .ensures) ∙ c .before .before .end .given .1) (c .lying2 .ensures)
+returns-2 c = rw (
+  c .before .before .before .before .before .if1 .left,
+  sym (c .before .before .before .before .read-content .ensures) ∙ c .before .before .end .given .1,
+) (c .lying2 .ensures)
 
 returns-3 : tie.Need-returns-3
 unfolding body
-returns-3 c = rw (c .before .before .before .before .before .if1 .left, sym (c .before .before .before .before .read-content .ensures) ∙ c .before .before .place .given .1) (c .lying3 .ensures)
+returns-3 c = rw (
+  c .before .before .before .before .before .if1 .left,
+  sym (c .before .before .before .before .read-content .ensures) ∙ c .before .before .place .given .1,
+) (c .lying3 .ensures)
 
 returns-4 : tie.Need-returns-4
 unfolding body
-returns-4 c = rw (c .before .before .before .before .if1 .left, sym (c .before .before .before .read-content .ensures) ∙ c .before .number .given .1)
+returns-4 c = rw (
+  c .before .before .before .before .if1 .left,
+  sym (c .before .before .before .read-content .ensures) ∙ c .before .number .given .1,
+)
 
 pub body-at-spec : {M : Type 1} → statement M
-body-at-spec = tie.close (tie.spec (λ c κs. search needs) returns (λ c κs. search needs) (λ c. search needs) lying-requires-2 (λ c. search needs) (λ c κs. search needs) (λ c. search needs) returns-2 returns-3 returns-4)
+body-at-spec = tie.close (tie.spec (λ c κs. search needs) returns (λ c κs. search needs) (λ c. search needs) lying-requires-2
+    (λ c. search needs) (λ c κs. search needs) (λ c. search needs) returns-2 returns-3 returns-4)

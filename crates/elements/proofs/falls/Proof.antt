@@ -35,4 +35,5 @@ returns c =
     ∙ rw (true-figure (a .d .now) (a .w) (a .k) q, true-figure (a .d .now) (a .v) (a .e) p)
 
 pub falls-spec : {M : Type 1} → statement M
-falls-spec = tie.close (tie.spec sub-less-in part-less-in-start part-less-in-end sub-less-in-2 part-less-in-start-2 part-less-in-end-2 (λ c κs. search needs) returns)
+falls-spec = tie.close (tie.spec sub-less-in part-less-in-start part-less-in-end sub-less-in-2 part-less-in-start-2 part-less-in-end-2
+    (λ c κs. search needs) returns)

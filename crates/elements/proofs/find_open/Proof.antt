@@ -11,7 +11,8 @@ use Rattle.elements.proofs.find_open.Statement.{statement}
 use Rattle.elements.proofs.find_open.Tie as tie
 
 shut-at-requires : tie.Need-shut-at-requires
-shut-at-requires c κs = let a = c .before .before .before .before .before .before .args in close-long (a .bad) (a .d .now) (a .at) _ _ (sym (c .before .before .before .find-stand .ensures) ∙ c .before .place2 .given .1)
+shut-at-requires c κs = let a = c .before .before .before .before .before .before .args in
+    close-long (a .bad) (a .d .now) (a .at) _ _ (sym (c .before .before .before .find-stand .ensures) ∙ c .before .place2 .given .1)
 
 returns : tie.Need-returns
 unfolding within
@@ -40,4 +41,5 @@ unfolding within
 returns-5 c = (rw (sym (c .before .before .before .find-stand .ensures) ∙ c .before .p3 .given .1), tt)
 
 pub find-open-spec : {M : Type 1} → statement M
-find-open-spec = tie.close (tie.spec (λ c κs. search needs) (λ c. search needs) (λ c. search needs) shut-at-requires (λ c. search needs) (λ c. search needs) (λ c. search needs) returns returns-2 returns-3 returns-4 returns-5)
+find-open-spec = tie.close (tie.spec (λ c κs. search needs) (λ c. search needs) (λ c. search needs) shut-at-requires (λ c. search needs)
+    (λ c. search needs) (λ c. search needs) returns returns-2 returns-3 returns-4 returns-5)

@@ -23,13 +23,22 @@ returns c l h i =
     let x = figureOf (a .d .now) (a .h .a) (a .h .ae) in
     c .located .ensures
     ∙ rw (eq-eqb (a .h .b) 0 (c .before .before .if1 .taken))
-    (position-ruled x none (a .next) (a .h .ae) (a .h .ae) p p (sym (le-ltb (x .value) (x .value) (omega arith))) l h i (c .before .locations-fault .ensures))
+    (position-ruled x none (a .next) (a .h .ae) (a .h .ae) p p (sym (le-ltb (x .value) (x .value) (omega arith))) l h i
+    (c .before .locations-fault .ensures))
 
 figure-at-requires-2 : tie.Need-figure-at-requires-2
-figure-at-requires-2 c κs = let t = there (c .before .before .before .before .args .d .now) 1 1 0 (c .before .before .before .before .pre .1) (ne-eqb (c .before .before .before .before .args .h .b) 0 (c .if1 .left)) in (t .ends, t .within)
+figure-at-requires-2 c κs = let t = there (c .before .before .before .before .args .d .now) 1 1 0
+    (c .before .before .before .before .pre .1) (ne-eqb (c .before .before .before .before .args .h .b) 0 (c .if1 .left)) in (
+      t .ends,
+      t .within,
+    )
 
 falls-requires : tie.Need-falls-requires
-falls-requires c κs = (c .before .before .before .before .before .pre .0, there (c .before .before .before .before .before .args .d .now) 1 1 0 (c .before .before .before .before .before .pre .1) (ne-eqb (c .before .before .before .before .before .args .h .b) 0 (c .before .if1 .left)))
+falls-requires c κs = (
+  c .before .before .before .before .before .pre .0,
+  there (c .before .before .before .before .before .args .d .now) 1 1 0 (c .before .before .before .before .before .pre .1)
+      (ne-eqb (c .before .before .before .before .before .args .h .b) 0 (c .before .if1 .left)),
+)
 
 returns-2 : tie.Need-returns-2
 returns-2 c l h i =
@@ -37,10 +46,14 @@ returns-2 c l h i =
     let n = ne-eqb (a .h .b) 0 (c .before .before .before .before .if1 .left) in
     let x = figureOf (a .d .now) (a .h .a) (a .h .ae) in
     let y = figureOf (a .d .now) (a .h .b) (a .h .be) in
-    let p = c .before .before .before .before .before .before .figure-at .ensures (inl (c .before .before .before .before .before .before .before .before .pre .0 .fits)) in
-    let q = c .before .before .before .figure-at2 .ensures (inl (there (a .d .now) 1 1 0 (c .before .before .before .before .before .before .before .before .pre .1) n .fits)) in
+    let p = c .before .before .before .before .before .before .figure-at .ensures
+    (inl (c .before .before .before .before .before .before .before .before .pre .0 .fits)) in
+    let q = c .before .before .before .figure-at2 .ensures
+    (inl (there (a .d .now) 1 1 0 (c .before .before .before .before .before .before .before .before .pre .1) n .fits)) in
     c .located2 .ensures
-    ∙ rw n (position-ruled x (some y) (a .next) (a .h .ae) (a .h .be) p q (c .before .before .falls .ensures) l h i (c .before .locations-fault2 .ensures))
+    ∙ rw n (position-ruled x (some y) (a .next) (a .h .ae) (a .h .be) p q (c .before .before .falls .ensures) l h i
+    (c .before .locations-fault2 .ensures))
 
 pub locate-spec : {M : Type 1} → statement M
-locate-spec = tie.close (tie.spec figure-at-requires (λ c κs. search needs) (λ c κs. search needs) returns figure-at-requires-2 falls-requires (λ c κs. search needs) (λ c κs. search needs) returns-2)
+locate-spec = tie.close (tie.spec figure-at-requires (λ c κs. search needs) (λ c κs. search needs) returns figure-at-requires-2
+    falls-requires (λ c κs. search needs) (λ c κs. search needs) returns-2)

@@ -9,8 +9,15 @@ use Rattle.elements.proofs.locations_fault.Tie as tie
 
 returns : tie.Need-returns
 returns c =
-    rw (← (c .before .before .before .before .before .before .before .before .before .charge .ensures), ← (c .before .before .before .before .before .before .before .before .charge2 .ensures), ← (c .before .before .before .before .before .before .charge3 .ensures), ← (c .before .before .before .before .charge4 .ensures))
-    (rw (← (c .before .before .before .lower .ensures), ← (c .before .before .lower2 .ensures), ← (c .before .lower3 .ensures)) (c .lower4 .ensures))
+    rw (
+      ← (c .before .before .before .before .before .before .before .before .before .charge .ensures),
+      ← (c .before .before .before .before .before .before .before .before .charge2 .ensures),
+      ← (c .before .before .before .before .before .before .charge3 .ensures),
+      ← (c .before .before .before .before .charge4 .ensures),
+    )
+    (rw (← (c .before .before .before .lower .ensures), ← (c .before .before .lower2 .ensures), ← (c .before .lower3 .ensures))
+    (c .lower4 .ensures))
 
 pub locations-fault-spec : {M : Type 1} → statement M
-locations-fault-spec = tie.close (tie.spec (λ c κs. search needs) (λ c κs. search needs) (λ c κs. search needs) (λ c κs. search needs) (λ c κs. search needs) (λ c κs. search needs) (λ c κs. search needs) (λ c κs. search needs) returns)
+locations-fault-spec = tie.close (tie.spec (λ c κs. search needs) (λ c κs. search needs) (λ c κs. search needs) (λ c κs. search needs)
+    (λ c κs. search needs) (λ c κs. search needs) (λ c κs. search needs) (λ c κs. search needs) returns)

@@ -17,7 +17,9 @@ read-tag-requires c κs = c .before .before .before .before .pre
 position-held-requires : tie.Need-position-held-requires
 position-held-requires c κs =
     let a = c .before .before .before .before .before .before .before .before .args in
-    let t = tag-tells (a .d .now) 1 1 0 (a .bad) (a .place) (a .end) START FINISH [] 1 (c .before .before .before .before .before .before .before .before .pre) (sym (c .before .before .before .read-tag .ensures) ∙ c .before .held .given .1) in
+    let t = tag-tells (a .d .now) 1 1 0 (a .bad) (a .place) (a .end) START FINISH [] 1
+    (c .before .before .before .before .before .before .before .before .pre)
+    (sym (c .before .before .before .read-tag .ensures) ∙ c .before .held .given .1) in
     ((first-there (a .d .now) 1 1 0 t, t .slots .b), t .next)
 
 returns : tie.Need-returns
@@ -29,4 +31,5 @@ unfolding position
 returns-2 c = rw (sym (c .before .before .before .read-tag .ensures) ∙ c .before .number .given .1)
 
 pub position-at-spec : {M : Type 1} → statement M
-position-at-spec = tie.close (tie.spec (λ c. search needs) (λ c. search needs) (λ c. search needs) read-tag-requires (λ c. search needs) position-held-requires (λ c. search needs) returns returns-2)
+position-at-spec = tie.close (tie.spec (λ c. search needs) (λ c. search needs) (λ c. search needs) read-tag-requires (λ c. search needs)
+    position-held-requires (λ c. search needs) returns returns-2)

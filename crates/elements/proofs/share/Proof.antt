@@ -20,18 +20,24 @@ returns : tie.Need-returns
 returns c l h i =
     let a = c .before .before .before .before .before .args in
     rw (eq-eqb (a .h .b) 0 (c .before .if1 .taken))
-    (c .share-even .ensures (figureOf (a .d .now) (a .h .a) (a .h .ae)) (a .h .ae) l (c .before .before .before .figure-at .ensures (inl (c .before .before .before .before .before .pre .0 .0 .fits))) h i)
+    (c .share-even .ensures (figureOf (a .d .now) (a .h .a) (a .h .ae)) (a .h .ae) l
+    (c .before .before .before .figure-at .ensures (inl (c .before .before .before .before .before .pre .0 .0 .fits))) h i)
 
 figure-at-requires-2 : tie.Need-figure-at-requires-2
-figure-at-requires-2 c κs = let t = there (c .before .before .before .before .args .d .now) 1 1 0 (c .before .before .before .before .pre .0 .1) (ne-eqb (c .before .before .before .before .args .h .b) 0 (c .if1 .left)) in (t .ends, t .within)
+figure-at-requires-2 c κs = let t = there (c .before .before .before .before .args .d .now) 1 1 0
+    (c .before .before .before .before .pre .0 .1)
+    (ne-eqb (c .before .before .before .before .args .h .b) 0 (c .if1 .left)) in (t .ends, t .within)
 
 returns-2 : tie.Need-returns-2
 returns-2 c l h i =
     let a = c .before .before .before .before .before .before .args in
     let n = ne-eqb (a .h .b) 0 (c .before .before .if1 .left) in
     rw n
-    (c .share-fields .ensures (a .room) (figureOf (a .d .now) (a .h .a) (a .h .ae)) (figureOf (a .d .now) (a .h .b) (a .h .be)) (a .h .ae) (a .h .be) l
-    (c .before .before .before .before .figure-at .ensures (inl (c .before .before .before .before .before .before .pre .0 .0 .fits))) (c .before .figure-at2 .ensures (inl (there (a .d .now) 1 1 0 (c .before .before .before .before .before .before .pre .0 .1) n .fits))) h i)
+    (c .share-fields .ensures (a .room) (figureOf (a .d .now) (a .h .a) (a .h .ae)) (figureOf (a .d .now) (a .h .b) (a .h .be)) (a .h .ae)
+    (a .h .be) l
+    (c .before .before .before .before .figure-at .ensures (inl (c .before .before .before .before .before .before .pre .0 .0 .fits)))
+    (c .before .figure-at2 .ensures (inl (there (a .d .now) 1 1 0 (c .before .before .before .before .before .before .pre .0 .1) n .fits)))
+    h i)
 
 pub share-spec : {M : Type 1} → statement M
 share-spec = tie.close (tie.spec figure-at-requires share-even-requires returns figure-at-requires-2 (λ c κs. search needs) returns-2)

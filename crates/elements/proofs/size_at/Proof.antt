@@ -15,36 +15,46 @@ use Rattle.elements.proofs.size_at.Tie as tie
 body-at-requires : tie.Need-body-at-requires
 body-at-requires c κs =
     let a = c .before .before .before .before .before .before .args in
-    tag-within (a .bad) (a .d .now) (a .place) [] [] [] 0 0 0 0 (a .end) _ _ _ _ (sym (c .before .before .before .before .read-bare .ensures) ∙ c .before .before .held .given .1) .2
+    tag-within (a .bad) (a .d .now) (a .place) [] [] [] 0 0 0 0 (a .end) _ _ _ _
+    (sym (c .before .before .before .before .read-bare .ensures) ∙ c .before .before .held .given .1) .2
 
 size-in-requires : tie.Need-size-in-requires
 size-in-requires c κs =
     let a = c .before .before .before .before .before .before .before .before .before .before .before .before .args in
     let h = c .before .before .before .before .before .before .before .before .held .given .0 in
-    let n = tag-within (a .bad) (a .d .now) (a .place) [] [] [] 0 0 0 0 (a .end) _ _ _ _ (sym (c .before .before .before .before .before .before .before .before .before .before .read-bare .ensures) ∙ c .before .before .before .before .before .before .before .before .held .given .1) .2 in
-    body-lies (a .bad) (a .d .now) SIZE 0 (h .1 .0) (h .1 .1 .1 .0) n (sym (c .before .before .before .before .before .body-at .ensures) ∙ c .before .before .before .b .given .1)
+    let n = tag-within (a .bad) (a .d .now) (a .place) [] [] [] 0 0 0 0 (a .end) _ _ _ _
+    (sym (c .before .before .before .before .before .before .before .before .before .before .read-bare .ensures)
+    ∙ c .before .before .before .before .before .before .before .before .held .given .1) .2 in
+    body-lies (a .bad) (a .d .now) SIZE 0 (h .1 .0) (h .1 .1 .1 .0) n
+    (sym (c .before .before .before .before .before .body-at .ensures) ∙ c .before .before .before .b .given .1)
 
 returns : tie.Need-returns
 unfolding size
 returns c =
     let a = c .before .before .before .before .before .before .before .before .before .before .before .before .before .args in
     let h = c .before .before .before .before .before .before .before .before .before .held .given .0 in
-    let t = body-is (body (a .bad) (a .d .now) SIZE 0 (h .1 .0) (h .1 .1 .1 .0)) (sym (c .before .before .before .before .before .before .body-at .ensures) ∙ c .before .before .before .before .b .given .1) in
-    rw (sym (c .before .before .before .before .before .before .before .before .before .before .before .read-bare .ensures) ∙ c .before .before .before .before .before .before .before .before .before .held .given .1)
+    let t = body-is (body (a .bad) (a .d .now) SIZE 0 (h .1 .0) (h .1 .1 .1 .0))
+    (sym (c .before .before .before .before .before .before .body-at .ensures) ∙ c .before .before .before .before .b .given .1) in
+    rw (sym (c .before .before .before .before .before .before .before .before .before .before .before .read-bare .ensures)
+    ∙ c .before .before .before .before .before .before .before .before .before .held .given .1)
     (rw (t .reads)
-    (c .size-in .ensures (a .bad) (h .0 .unknown) (t .body) (body-tells (a .bad) (a .d .now) SIZE 0 (h .1 .0) (h .1 .1 .1 .0) t) (c .before .behind-tag .ensures)))
+    (c .size-in .ensures (a .bad) (h .0 .unknown) (t .body) (body-tells (a .bad) (a .d .now) SIZE 0 (h .1 .0) (h .1 .1 .1 .0) t)
+    (c .before .behind-tag .ensures)))
 
 returns-2 : tie.Need-returns-2
 unfolding size
 returns-2 c =
     let a = c .before .before .before .before .before .before .before .before .before .before .args in
     let h = c .before .before .before .before .before .before .held .given .0 in
-    rw (sym (c .before .before .before .before .before .before .before .before .read-bare .ensures) ∙ c .before .before .before .before .before .before .held .given .1)
-    (rw (body-refused (body (a .bad) (a .d .now) SIZE 0 (h .1 .0) (h .1 .1 .1 .0)) (sym (c .before .before .before .body-at .ensures) ∙ c .before .f .given .1)))
+    rw (sym (c .before .before .before .before .before .before .before .before .read-bare .ensures)
+    ∙ c .before .before .before .before .before .before .held .given .1)
+    (rw (body-refused (body (a .bad) (a .d .now) SIZE 0 (h .1 .0) (h .1 .1 .1 .0))
+    (sym (c .before .before .before .body-at .ensures) ∙ c .before .f .given .1)))
 
 returns-3 : tie.Need-returns-3
 unfolding size
 returns-3 c = rw (sym (c .before .before .before .read-bare .ensures) ∙ c .before .number .given .1)
 
 pub size-at-spec : {M : Type 1} → statement M
-size-at-spec = tie.close (tie.spec (λ c κs. search needs) (λ c. search needs) (λ c. search needs) body-at-requires (λ c. search needs) (λ c κs. search needs) size-in-requires (λ c. search needs) (λ c. search needs) returns returns-2 returns-3)
+size-at-spec = tie.close (tie.spec (λ c κs. search needs) (λ c. search needs) (λ c. search needs) body-at-requires (λ c. search needs)
+    (λ c κs. search needs) size-in-requires (λ c. search needs) (λ c. search needs) returns returns-2 returns-3)

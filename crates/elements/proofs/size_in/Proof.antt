@@ -38,11 +38,13 @@ returns c bad u t s i =
     rw (s .text, s .whole, c .before .before .before .before .if1 .taken)
     (rw f
     (c .size-judged .ensures (figureOf (a .d .now) (b .place) (b .place + b .length)) (b .place + b .length) (unknownAt u ∷ t .charges)
-    (c .before .before .before .before .before .figure-at .ensures (inl f)) (omega arith, s .numbered) (behind-found u (t .charges) (s .numbered) (s .found) i)))
+    (c .before .before .before .before .before .figure-at .ensures (inl f)) (omega arith, s .numbered)
+    (behind-found u (t .charges) (s .numbered) (s .found) i)))
 
 returns-2 : tie.Need-returns-2
 unfolding sizeIn
-returns-2 c bad u t s i = rw (s .text, s .whole, c .before .before .before .if1 .taken) (rw (sym (c .before .fits2 .ensures) ∙ c .if2 .left))
+returns-2 c bad u t s i = rw (s .text, s .whole, c .before .before .before .if1 .taken)
+    (rw (sym (c .before .fits2 .ensures) ∙ c .if2 .left))
 
 returns-3 : tie.Need-returns-3
 unfolding sizeIn
@@ -52,8 +54,10 @@ returns-3 c bad u t s i =
     let z = c .before .before .before .before .before .pre .1 (c .before .if1 .left) in
     rw (s .text, s .whole, c .before .if1 .left)
     (c .sized .ensures
-    ∙ size-ruled (figureOf (a .d .now) (b .place) (b .place + b .length)) (b .next) (b .place + b .length) (c .before .before .figure-at .ensures (inr (omega arith))) (unknownAt u ∷ t .charges)
+    ∙ size-ruled (figureOf (a .d .now) (b .place) (b .place + b .length)) (b .next) (b .place + b .length)
+    (c .before .before .figure-at .ensures (inr (omega arith))) (unknownAt u ∷ t .charges)
     (omega arith, s .numbered) (behind-found u (t .charges) (s .numbered) (s .found) i))
 
 pub size-in-spec : {M : Type 1} → statement M
-size-in-spec = tie.close (tie.spec add-e figure-at-requires sub-fits part-fits-start part-fits-end (λ c κs. search needs) (λ c κs. search needs) returns returns-2 (λ c κs. search needs) returns-3)
+size-in-spec = tie.close (tie.spec add-e figure-at-requires sub-fits part-fits-start part-fits-end (λ c κs. search needs)
+    (λ c κs. search needs) returns returns-2 (λ c κs. search needs) returns-3)

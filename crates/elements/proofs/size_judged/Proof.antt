@@ -12,7 +12,10 @@ returns : tie.Need-returns
 returns c y e l p h i =
     let a = c .before .before .before .before .before .before .before .args in
     c .sized .ensures
-    ∙ size-ranked y (a .next) e p l h {f = c .before .lower2 .result} i (rw (← (c .before .before .before .before .before .charge .ensures), ← (c .before .before .before .charge2 .ensures)) (rw (← (c .before .before .lower .ensures)) (c .before .lower2 .ensures)))
+    ∙ size-ranked y (a .next) e p l h {f = c .before .lower2 .result} i
+    (rw (← (c .before .before .before .before .before .charge .ensures), ← (c .before .before .before .charge2 .ensures))
+    (rw (← (c .before .before .lower .ensures)) (c .before .lower2 .ensures)))
 
 pub size-judged-spec : {M : Type 1} → statement M
-size-judged-spec = tie.close (tie.spec (λ c κs. search needs) (λ c κs. search needs) (λ c κs. search needs) (λ c κs. search needs) (λ c κs. search needs) returns)
+size-judged-spec = tie.close (tie.spec (λ c κs. search needs) (λ c κs. search needs) (λ c κs. search needs) (λ c κs. search needs)
+    (λ c κs. search needs) returns)

@@ -17,7 +17,9 @@ read-tag-requires c κs = c .before .before .before .before .pre .0
 spread-held-requires : tie.Need-spread-held-requires
 spread-held-requires c κs =
     let a = c .before .before .before .before .before .before .before .before .args in
-    let t = tag-tells (a .d .now) 1 1 0 (a .bad) (a .place) (a .end) SUBFIELDS WIDTH [] 1 (c .before .before .before .before .before .before .before .before .pre .0) (sym (c .before .before .before .read-tag .ensures) ∙ c .before .held .given .1) in
+    let t = tag-tells (a .d .now) 1 1 0 (a .bad) (a .place) (a .end) SUBFIELDS WIDTH [] 1
+    (c .before .before .before .before .before .before .before .before .pre .0)
+    (sym (c .before .before .before .read-tag .ensures) ∙ c .before .held .given .1) in
     ((first-there (a .d .now) 1 1 0 t, t .slots .b), t .next, c .before .before .before .before .before .before .before .before .pre .1)
 
 returns : tie.Need-returns
@@ -29,4 +31,5 @@ unfolding spread
 returns-2 c = rw (sym (c .before .before .before .read-tag .ensures) ∙ c .before .number .given .1)
 
 pub spread-at-spec : {M : Type 1} → statement M
-spread-at-spec = tie.close (tie.spec (λ c. search needs) (λ c. search needs) (λ c. search needs) read-tag-requires (λ c. search needs) spread-held-requires (λ c. search needs) returns returns-2)
+spread-at-spec = tie.close (tie.spec (λ c. search needs) (λ c. search needs) (λ c. search needs) read-tag-requires (λ c. search needs)
+    spread-held-requires (λ c. search needs) returns returns-2)

@@ -20,4 +20,5 @@ returns-3 : tie.Need-returns-3
 returns-3 c = rw (c .before .o3 .given .1)
 
 pub tag-due-spec : {M : Type 1} → statement M
-tag-due-spec = tie.close (tie.spec (λ c. search needs) start-due-requires (λ c. search needs) (λ c. search needs) returns returns-2 returns-3)
+tag-due-spec = tie.close (tie.spec (λ c. search needs) start-due-requires (λ c. search needs) (λ c. search needs) returns returns-2
+    returns-3)

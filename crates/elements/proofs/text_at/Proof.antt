@@ -14,27 +14,34 @@ use Rattle.elements.proofs.text_at.Tie as tie
 body-at-requires : tie.Need-body-at-requires
 body-at-requires c κs =
     let a = c .before .before .before .before .before .before .args in
-    tag-within (a .bad) (a .d .now) (a .place) [] [] [] 0 0 0 0 (a .end) _ _ _ _ (sym (c .before .before .before .read-bare .ensures) ∙ c .before .held .given .1) .2
+    tag-within (a .bad) (a .d .now) (a .place) [] [] [] 0 0 0 0 (a .end) _ _ _ _
+    (sym (c .before .before .before .read-bare .ensures) ∙ c .before .held .given .1) .2
 
 returns : tie.Need-returns
 unfolding text
 returns c =
     let a = c .before .before .before .before .before .before .before .before .before .before .before .before .before .args in
-    rw (sym (c .before .before .before .before .before .before .before .before .before .before .read-bare .ensures) ∙ c .before .before .before .before .before .before .before .before .held .given .1)
+    rw (sym (c .before .before .before .before .before .before .before .before .before .before .read-bare .ensures)
+    ∙ c .before .before .before .before .before .before .before .before .held .given .1)
     (c .said .ensures
-    ∙ text-said (a .bad) (a .d .now) (a .w .now) (a .mode) _ _ _ _ (sym (c .before .before .before .before .before .before .body-at .ensures) ∙ c .before .before .before .before .b .given .1) _ (c .before .behind-tag .ensures))
+    ∙ text-said (a .bad) (a .d .now) (a .w .now) (a .mode) _ _ _ _
+    (sym (c .before .before .before .before .before .before .body-at .ensures) ∙ c .before .before .before .before .b .given .1) _
+    (c .before .behind-tag .ensures))
 
 returns-2 : tie.Need-returns-2
 unfolding text
 returns-2 c =
     let a = c .before .before .before .before .before .before .before .before .before .before .args in
     let h = c .before .before .before .before .before .held .given .0 in
-    rw (sym (c .before .before .before .before .before .before .before .read-bare .ensures) ∙ c .before .before .before .before .before .held .given .1)
-    (rw (body-refused (body (a .bad) (a .d .now) (a .w .now) (a .mode) (h .1 .0) (h .1 .1 .1 .0)) (sym (c .before .before .before .body-at .ensures) ∙ c .before .f .given .1)))
+    rw (sym (c .before .before .before .before .before .before .before .read-bare .ensures)
+    ∙ c .before .before .before .before .before .held .given .1)
+    (rw (body-refused (body (a .bad) (a .d .now) (a .w .now) (a .mode) (h .1 .0) (h .1 .1 .1 .0))
+    (sym (c .before .before .before .body-at .ensures) ∙ c .before .f .given .1)))
 
 returns-3 : tie.Need-returns-3
 unfolding text
 returns-3 c = rw (sym (c .before .before .before .read-bare .ensures) ∙ c .before .number .given .1)
 
 pub text-at-spec : {M : Type 1} → statement M
-text-at-spec = tie.close (tie.spec (λ c κs. search needs) (λ c. search needs) body-at-requires (λ c. search needs) (λ c κs. search needs) (λ c κs. search needs) (λ c. search needs) (λ c. search needs) returns returns-2 returns-3)
+text-at-spec = tie.close (tie.spec (λ c κs. search needs) (λ c. search needs) body-at-requires (λ c. search needs) (λ c κs. search needs)
+    (λ c κs. search needs) (λ c. search needs) (λ c. search needs) returns returns-2 returns-3)

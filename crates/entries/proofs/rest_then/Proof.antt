@@ -6,24 +6,43 @@ use Rattle.entries.proofs.rest_then.Statement.{statement}
 use Rattle.entries.proofs.rest_then.Tie as tie
 
 -- what was told, behind the call
-known-here : (c : tie.After-settle-arg) → Known (c .before .before .before .before .before .before .before .before .before .before .before .before .before .before .before .args .d .now) (c .before .before .before .before .before .before .before .before .before .before .before .before .before .before .before .args .h) (c .before .before .before .before .before .before .before .before .before .before .before .before .before .before .before .args .before) (c .before .before .before .before .before .before .before .before .before .before .before .before .before .before .before .args .lines .now) (c .before .before .before .before .before .before .before .before .rest-on .last .1 .1 .1 .1 .1 .1 .0) (c .before .before .before .r .given .0 .0)
+known-here : (c : tie.After-settle-arg)
+    → Known (c .before .before .before .before .before .before .before .before .before .before .before .before .before .before .before .args
+    .d .now) (c .before .before .before .before .before .before .before .before .before .before .before .before .before .before .before
+    .args .h)
+    (c .before .before .before .before .before .before .before .before .before .before .before .before .before .before .before .args
+    .before) (c .before .before .before .before .before .before .before .before .before .before .before .before .before .before .before
+    .args .lines .now) (c .before .before .before .before .before .before .before .before .rest-on .last .1 .1 .1 .1 .1 .1 .0)
+    (c .before .before .before .r .given .0 .0)
 known-here c =
-    let a = c .before .before .before .before .before .before .before .before .before .before .before .before .before .before .before .args in
-    let p = c .before .before .before .before .before .before .before .before .before .before .before .before .before .before .before .pre in
-    known (a .d .now) (a .h) (a .before) (p .1 .1 .0) (p .1 .1 .1 .0 .1) (p .1 .1 .1 .1) (a .lines .now) _ (p .1 .1 .1 .0 .0) _ _ (c .before .before .before .before .before .before .before .before .rest-on .ensures .0) (c .before .before .before .before .before .before .before .before .rest-on .ensures .1) (c .before .before .before .r .given .1)
+    let a = c .before .before .before .before .before .before .before .before .before .before .before .before .before .before .before
+    .args in
+    let p = c .before .before .before .before .before .before .before .before .before .before .before .before .before .before .before
+    .pre in
+    known (a .d .now) (a .h) (a .before) (p .1 .1 .0) (p .1 .1 .1 .0 .1) (p .1 .1 .1 .1) (a .lines .now) _ (p .1 .1 .1 .0 .0) _ _
+    (c .before .before .before .before .before .before .before .before .rest-on .ensures .0)
+    (c .before .before .before .before .before .before .before .before .rest-on .ensures .1) (c .before .before .before .r .given .1)
 
 settle-requires : tie.Need-settle-requires
 settle-requires c κs =
-    let a = c .before .before .before .before .before .before .before .before .before .before .before .before .before .before .before .args in
-    let p = c .before .before .before .before .before .before .before .before .before .before .before .before .before .before .before .pre in
-    (p .1 .0, measure-here (a .d .now) (a .h) (a .before) (p .1 .1 .0) (p .1 .1 .1 .0 .1) (p .1 .1 .1 .1) (a .lines .now) _ (p .1 .1 .1 .0 .0) _ (known-here c))
+    let a = c .before .before .before .before .before .before .before .before .before .before .before .before .before .before .before
+    .args in
+    let p = c .before .before .before .before .before .before .before .before .before .before .before .before .before .before .before
+    .pre in (
+      p .1 .0,
+      measure-here (a .d .now) (a .h) (a .before) (p .1 .1 .0) (p .1 .1 .1 .0 .1) (p .1 .1 .1 .1) (a .lines .now) _
+          (p .1 .1 .1 .0 .0) _ (known-here c),
+    )
 
 returns : tie.Need-returns
 returns c =
-    let a = c .before .before .before .before .before .before .before .before .before .before .before .before .before .before .before .before .args in
-    let p = c .before .before .before .before .before .before .before .before .before .before .before .before .before .before .before .before .pre in
+    let a = c .before .before .before .before .before .before .before .before .before .before .before .before .before .before .before
+    .before .args in
+    let p = c .before .before .before .before .before .before .before .before .before .before .before .before .before .before .before
+    .before .pre in
     let k = known-here (c .before) in (
-      stood-here (a .d .now) (a .h) (a .before) (p .1 .1 .0) (p .1 .1 .1 .0 .1) (p .1 .1 .1 .1) (a .lines .now) _ (p .1 .1 .1 .0 .0) _ k _ _ (c .before .before .end-variable .ensures) (c .settle .ensures),
+      stood-here (a .d .now) (a .h) (a .before) (p .1 .1 .0) (p .1 .1 .1 .0 .1) (p .1 .1 .1 .1) (a .lines .now) _ (p .1 .1 .1 .0 .0) _ k _ _
+          (c .before .before .end-variable .ensures) (c .settle .ensures),
       stored-here (a .d .now) (a .h) (a .before) (p .1 .1 .0) (p .1 .1 .1 .0 .1) (p .1 .1 .1 .1) (a .lines .now) _ (p .1 .1 .1 .0 .0) _ k,
     )
 
@@ -31,8 +50,11 @@ returns-2 : tie.Need-returns-2
 returns-2 c =
     let a = c .before .before .before .before .before .before .before .before .before .before .before .before .before .args in
     let p = c .before .before .before .before .before .before .before .before .before .before .before .before .before .pre in (
-      stood-not (a .d .now) (a .h) (a .before) (p .1 .1 .0) (p .1 .1 .1 .0 .1) (p .1 .1 .1 .1) (a .lines .now) (c .before .before .before .before .before .before .rest-on .last .1 .1 .1 .1 .1 .1 .0) (p .1 .1 .1 .0 .0) _ _ (c .before .before .before .before .before .before .rest-on .ensures .0) (c .before .f .given .1),
-      stored-not (a .d .now) (a .h) (a .before) (p .1 .1 .0) (p .1 .1 .1 .0 .1) (p .1 .1 .1 .1) (a .lines .now) _ (p .1 .1 .1 .0 .0) _ _ (c .before .before .before .before .before .before .rest-on .ensures .0) (c .before .f .given .1),
+      stood-not (a .d .now) (a .h) (a .before) (p .1 .1 .0) (p .1 .1 .1 .0 .1) (p .1 .1 .1 .1) (a .lines .now)
+          (c .before .before .before .before .before .before .rest-on .last .1 .1 .1 .1 .1 .1 .0) (p .1 .1 .1 .0 .0) _ _
+          (c .before .before .before .before .before .before .rest-on .ensures .0) (c .before .f .given .1),
+      stored-not (a .d .now) (a .h) (a .before) (p .1 .1 .0) (p .1 .1 .1 .0 .1) (p .1 .1 .1 .1) (a .lines .now) _ (p .1 .1 .1 .0 .0) _ _
+          (c .before .before .before .before .before .before .rest-on .ensures .0) (c .before .f .given .1),
     )
 
 pub rest-then-spec : {M : Type 1} → statement M

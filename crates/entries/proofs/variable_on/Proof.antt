@@ -8,18 +8,34 @@ use Rattle.entries.proofs.variable_on.Tie as tie
 
 rest-then-requires : tie.Need-rest-then-requires
 rest-then-requires c κs =
-    let p = c .before .before .before .before .before .before .before .before .before .before .pre in
-    (p .0, (p .1 .0, (p .1 .1 .0, (p .1 .1 .1 .0, good-head _ _ _ _ (c .before .before .before .before .before .head-on .ensures) (c .before .before .before .h .given .1)))))
+    let p = c .before .before .before .before .before .before .before .before .before .before .pre in (
+      p .0,
+      (
+        p .1 .0,
+        (
+          p .1 .1 .0,
+          (
+            p .1 .1 .1 .0,
+            good-head _ _ _ _ (c .before .before .before .before .before .head-on .ensures) (c .before .before .before .h .given .1),
+          ),
+        ),
+      ),
+    )
 
 returns : tie.Need-returns
 returns c =
-    let e = entry-is _ _ _ _ (c .before .before .before .before .before .before .before .before .before .before .before .before .before .before .args .before) _ _ (c .before .before .before .before .before .before .before .before .before .before .ident-on .ensures) (c .before .before .before .before .before .before .before .before .before .head-on .ensures) _ (c .before .before .before .before .before .before .before .h .given .1) in
+    let e = entry-is _ _ _ _
+    (c .before .before .before .before .before .before .before .before .before .before .before .before .before .before .args .before) _ _
+    (c .before .before .before .before .before .before .before .before .before .before .ident-on .ensures)
+    (c .before .before .before .before .before .before .before .before .before .head-on .ensures) _
+    (c .before .before .before .before .before .before .before .h .given .1) in
     (rw e (c .before .before .before .rest-then .ensures .0), rw e (c .before .before .before .rest-then .ensures .1))
 
 returns-2 : tie.Need-returns-2
 unfolding stoodOf
 returns-2 c =
-    let e = entry-not _ _ _ _ (c .before .before .before .before .before .before .before .before .args .before) _ _ (c .before .before .before .before .ident-on .ensures) (c .before .before .before .head-on .ensures) _ (c .before .f .given .1) in
+    let e = entry-not _ _ _ _ (c .before .before .before .before .before .before .before .before .args .before) _ _
+    (c .before .before .before .before .ident-on .ensures) (c .before .before .before .head-on .ensures) _ (c .before .f .given .1) in
     (rw e, rw e (record { stored = λ i. none cc }))
 
 pub variable-on-spec : {M : Type 1} → statement M

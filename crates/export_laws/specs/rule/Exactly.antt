@@ -1,4 +1,5 @@
--- Which answer exactly when (document 02, C-16): "Refusals: 20, then 40 as in C-11, a refused definition included, then 60 the text before any
+-- Which answer exactly when (document 02, C-16): "Refusals: 20, then 40 as in C-11, a refused definition included, then 60 the text before
+-- any
 -- fault does not fit". Else what the data are judged to be, whatever that is, with the text's length.
 use mathlib.Core.Path.{_≡_}
 use mathlib.Core.Bool.{true, false}

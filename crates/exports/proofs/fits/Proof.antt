@@ -1,4 +1,5 @@
--- `exports::fits` meets its contract: the names are measured in a buffer that has no room for them, and then the lines, unless there is room for
+-- `exports::fits` meets its contract: the names are measured in a buffer that has no room for them, and then the lines, unless there is
+-- room for
 -- the longest.
 use mathlib.Core.Path.{_≡_, refl, sym, ap, _∙_}
 use mathlib.Core.Bool.{Bool}
@@ -46,7 +47,8 @@ returns-3 : tie.Need-returns-3
 returns-3 c =
     let p = c .before .before .before .before .before .before .before .before .before .before .before .before .before .pre in
     measured _
-    (sent-as (then (c .before .before .before .before .before .before .before .before .before .send-names .ensures) (rw (found-records (p .1 .1 .0 .0)) at (c .before .before .send-lines .ensures))) (names-and (p .1 .0 .tested) _ _ _))
+    (sent-as (then (c .before .before .before .before .before .before .before .before .before .send-names .ensures)
+    (rw (found-records (p .1 .1 .0 .0)) at (c .before .before .send-lines .ensures))) (names-and (p .1 .0 .tested) _ _ _))
 
 pub fits-spec : {M : Type 1} → statement M
 fits-spec =

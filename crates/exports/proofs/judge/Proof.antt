@@ -8,16 +8,24 @@ use Rattle.exports.proofs.judge.Statement.{statement}
 use Rattle.exports.proofs.judge.Tie as tie
 
 judge-records-requires : tie.Need-judge-records-requires
-judge-records-requires c κs = (c .before .before .before .before .pre .0, ((found-ending (c .before .before .before .before .pre .1), omega arith), search needs))
+judge-records-requires c κs = (
+  c .before .before .before .before .pre .0,
+  ((found-ending (c .before .before .before .before .pre .1), omega arith), search needs),
+)
 
 returns : tie.Need-returns
-returns c = c .before .judge-records .ensures ∙ file-found _ (c .before .before .before .before .before .before .pre .0 .good) (c .before .before .before .before .before .before .pre .1)
+returns c = c .before .judge-records .ensures ∙ file-found _ (c .before .before .before .before .before .before .pre .0 .good)
+    (c .before .before .before .before .before .before .pre .1)
 
 judge-records-requires-2 : tie.Need-judge-records-requires-2
-judge-records-requires-2 c κs = (c .before .before .before .before .pre .0, ((found-ending (c .before .before .before .before .pre .1), omega arith), search needs))
+judge-records-requires-2 c κs = (
+  c .before .before .before .before .pre .0,
+  ((found-ending (c .before .before .before .before .pre .1), omega arith), search needs),
+)
 
 returns-2 : tie.Need-returns-2
-returns-2 c = c .before .judge-records2 .ensures ∙ file-found _ (c .before .before .before .before .before .before .pre .0 .good) (c .before .before .before .before .before .before .pre .1)
+returns-2 c = c .before .judge-records2 .ensures ∙ file-found _ (c .before .before .before .before .before .before .pre .0 .good)
+    (c .before .before .before .before .before .before .pre .1)
 
 pub judge-spec : {M : Type 1} → statement M
 judge-spec =

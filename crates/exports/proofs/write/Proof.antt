@@ -10,7 +10,8 @@ send-all-requires : tie.Need-send-all-requires
 send-all-requires c κs = let p = c .before .before .before .before .before .pre in (p .0, (p .1 .0, p .1 .1 .0))
 
 returns : tie.Need-returns
-returns c = stands (c .before .before .before .send-all .ensures) (c .before .before .before .before .before .before .before .before .before .pre .1 .1 .1)
+returns c = stands (c .before .before .before .send-all .ensures)
+    (c .before .before .before .before .before .before .before .before .before .pre .1 .1 .1)
 
 pub write-spec : {M : Type 1} → statement M
 write-spec =

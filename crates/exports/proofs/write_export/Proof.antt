@@ -21,14 +21,20 @@ returns-2 c =
     record { says = rw (e, f); leaves = rw (e, f) }
 
 export-tested-requires : tie.Need-export-tested-requires
-export-tested-requires c κs = sym (c .before .before .before .before .well-formed .ensures .says) ∙ not-false _ (c .before .before .before .if1 .left)
+export-tested-requires c κs = sym (c .before .before .before .before .well-formed .ensures .says)
+    ∙ not-false _ (c .before .before .before .if1 .left)
 
 returns-3 : tie.Need-returns-3
 unfolding exportVerdict
 returns-3 c =
-    let e = sym (c .before .before .before .before .before .before .before .well-formed .ensures .says) ∙ not-false _ (c .before .before .before .before .before .before .if1 .left) in
+    let e = sym (c .before .before .before .before .before .before .before .well-formed .ensures .says)
+    ∙ not-false _ (c .before .before .before .before .before .before .if1 .left) in
     let f = sym (c .before .before .before .before .before .yields .ensures) ∙ not-false _ (c .before .before .before .before .if2 .left) in
-    record { says = rw (e, f) (c .before .before .export-tested .ensures .0); leaves = rw (e, f) (c .before .before .export-tested .ensures .1) }
+    record {
+      says = rw (e, f) (c .before .before .export-tested .ensures .0);
+      leaves = rw (e, f)
+          (c .before .before .export-tested .ensures .1);
+    }
 
 pub write-export-spec : {M : Type 1} → statement M
 write-export-spec =

@@ -1,4 +1,5 @@
--- Export to comma-separated text (document 02, C-16): "Refusals: 20, then 40 as in C-11, a refused definition included, then 60 the text before
+-- Export to comma-separated text (document 02, C-16): "Refusals: 20, then 40 as in C-11, a refused definition included, then 60 the text
+-- before
 -- any fault does not fit; for these three output is unchanged."
 use mathlib.Core.Path.{_≡_}
 use mathlib.Core.Bool.{cond}

@@ -1,4 +1,5 @@
--- The text of an export (document 02, C-16): "one line of decoded names, one line a record". "The first faulty record ends the export: the lines
+-- The text of an export (document 02, C-16): "one line of decoded names, one line a record". "The first faulty record ends the export: the
+-- lines
 -- before it stay, nothing of it is written, and its refusal and record are answered. Output past the text is kept." "60 the text before any
 -- fault does not fit".
 use mathlib.Core.Bool.{cond}

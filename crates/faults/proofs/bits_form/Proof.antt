@@ -10,11 +10,14 @@ use Rattle.faults.proofs.bits_form.Tie as tie
 returns : tie.Need-returns
 returns c =
     c .first-bit-failing2 .ensures
-    ∙ sym (form-other _ _ _ (sym (blank-some _ _) ∙ ap (λ x. not (someFault x)) (sym (c .before .before .before .first-bit-failing .ensures)) ∙ ap not (sym (c .before .before .is-fault .ensures) ∙ c .before .if1 .taken)))
+    ∙ sym (form-other _ _ _ (sym (blank-some _ _)
+    ∙ ap (λ x. not (someFault x)) (sym (c .before .before .before .first-bit-failing .ensures))
+    ∙ ap not (sym (c .before .before .is-fault .ensures) ∙ c .before .if1 .taken)))
 
 returns-2 : tie.Need-returns-2
 returns-2 c =
-    sym (form-blank _ _ _ (sym (blank-some _ _) ∙ ap (λ x. not (someFault x)) (sym (c .before .before .first-bit-failing .ensures)) ∙ ap not (sym (c .before .is-fault .ensures) ∙ c .if1 .left)))
+    sym (form-blank _ _ _ (sym (blank-some _ _) ∙ ap (λ x. not (someFault x)) (sym (c .before .before .first-bit-failing .ensures))
+    ∙ ap not (sym (c .before .is-fault .ensures) ∙ c .if1 .left)))
 
 pub bits-form-spec : {M : Type 1} → statement M
 bits-form-spec =

@@ -22,29 +22,50 @@ abbrev μ-loop : tie.MeasureT-loop
 μ-loop x t rows row bytes at w i₀ i = w - i
 
 -- whether the row allows the category of a byte that fails
-asked : (c : tie.After-is-legal Inv-loop μ-loop) → c .is-legal .result ≡ legal (c .before .before .before .before .before .before .before .before .before .args .t .now) (c .before .before .before .before .before .before .before .before .before .args .rows) (c .before .before .before .before .before .before .before .before .before .args .row) (pos (c .before .before .before .before .before .before .loop .i + 1))
-asked c = c .is-legal .ensures ∙ ap (legal (c .before .before .before .before .before .before .before .before .before .args .t .now) (c .before .before .before .before .before .before .before .before .before .args .rows) (c .before .before .before .before .before .before .before .before .before .args .row)) (toZ-ofZ (sfits-of (c .before .cell-of .ok)) ∙ c .before .cell-of .ensures)
+asked : (c : tie.After-is-legal Inv-loop μ-loop) → c .is-legal .result
+    ≡ legal (c .before .before .before .before .before .before .before .before .before .args .t .now)
+    (c .before .before .before .before .before .before .before .before .before .args .rows)
+    (c .before .before .before .before .before .before .before .before .before .args .row)
+    (pos (c .before .before .before .before .before .before .loop .i + 1))
+asked c = c .is-legal .ensures ∙ ap (legal (c .before .before .before .before .before .before .before .before .before .args .t .now)
+    (c .before .before .before .before .before .before .before .before .before .args .rows)
+    (c .before .before .before .before .before .before .before .before .before .args .row))
+    (toZ-ofZ (sfits-of (c .before .cell-of .ok)) ∙ c .before .cell-of .ensures)
 
 returns : tie.Need-returns Inv-loop μ-loop
 returns c =
     let a = c .before .before .before .before .before .before .before .before .before .before .args in
-    sym (bit-here (a .x) (legal (a .t .now) (a .rows) (a .row)) (a .bytes .now) (a .row .start - 1) (a .row .width) (c .before .before .before .before .before .before .before .loop .i) (c .before .before .before .before .before .before .loop-test .taken) (sym (c .before .before .before .before .byte-passes .ensures) ∙ not-true _ (c .before .before .before .if1 .taken)) (sym (asked (c .before)) ∙ c .if2 .taken))
+    sym (bit-here (a .x) (legal (a .t .now) (a .rows) (a .row)) (a .bytes .now) (a .row .start - 1) (a .row .width)
+    (c .before .before .before .before .before .before .before .loop .i)
+    (c .before .before .before .before .before .before .loop-test .taken)
+    (sym (c .before .before .before .before .byte-passes .ensures) ∙ not-true _ (c .before .before .before .if1 .taken))
+    (sym (asked (c .before)) ∙ c .if2 .taken))
     ∙ c .before .before .before .before .before .before .before .loop .inv .1
 
 loop-again : tie.Need-loop-again Inv-loop μ-loop
 loop-again c =
-    let a = c .before .before .before .before .before .before .before .before .before .before .args in
-    (omega arith, sym (bit-not (a .x) (legal (a .t .now) (a .rows) (a .row)) (a .bytes .now) (a .row .start - 1) (a .row .width) (c .before .before .before .before .before .before .before .loop .i) (c .before .before .before .before .before .before .loop-test .taken) (sym (asked (c .before)) ∙ c .if2 .left)) ∙ c .before .before .before .before .before .before .before .loop .inv .1)
+    let a = c .before .before .before .before .before .before .before .before .before .before .args in (
+      omega arith,
+      sym (bit-not (a .x) (legal (a .t .now) (a .rows) (a .row)) (a .bytes .now) (a .row .start - 1) (a .row .width)
+          (c .before .before .before .before .before .before .before .loop .i)
+          (c .before .before .before .before .before .before .loop-test .taken) (sym (asked (c .before)) ∙ c .if2 .left))
+          ∙ c .before .before .before .before .before .before .before .loop .inv .1,
+    )
 
 loop-again-2 : tie.Need-loop-again-2 Inv-loop μ-loop
 loop-again-2 c =
-    let a = c .before .before .before .before .before .before .before .args in
-    (omega arith, sym (bit-on (a .x) (legal (a .t .now) (a .rows) (a .row)) (a .bytes .now) (a .row .start - 1) (a .row .width) (c .before .before .before .before .loop .i) (c .before .before .before .loop-test .taken) (sym (c .before .byte-passes .ensures) ∙ not-false _ (c .if1 .left))) ∙ c .before .before .before .before .loop .inv .1)
+    let a = c .before .before .before .before .before .before .before .args in (
+      omega arith,
+      sym (bit-on (a .x) (legal (a .t .now) (a .rows) (a .row)) (a .bytes .now) (a .row .start - 1) (a .row .width)
+          (c .before .before .before .before .loop .i) (c .before .before .before .loop-test .taken)
+          (sym (c .before .byte-passes .ensures) ∙ not-false _ (c .if1 .left))) ∙ c .before .before .before .before .loop .inv .1,
+    )
 
 returns-2 : tie.Need-returns-2 Inv-loop μ-loop
 returns-2 c =
     let a = c .before .before .before .before .args in
-    sym (bit-none (a .x) (legal (a .t .now) (a .rows) (a .row)) (a .bytes .now) (a .row .start - 1) (a .row .width) (c .before .loop .i) (c .loop-test .left)) ∙ c .before .loop .inv .1
+    sym (bit-none (a .x) (legal (a .t .now) (a .rows) (a .row)) (a .bytes .now) (a .row .start - 1) (a .row .width) (c .before .loop .i)
+    (c .loop-test .left)) ∙ c .before .loop .inv .1
 
 pub first-bit-failing-spec : {M : Type 1} → statement M
 first-bit-failing-spec =
@@ -56,7 +77,8 @@ first-bit-failing-spec =
     (λ c. (omega arith, rw sub-zero))
     (λ c. let h = c .before .before .before .before .pre .inside in omega arith)
     (λ c. omega arith)
-    (λ c. let h = c .before .before .before .before .before .pre .inside in let g = c .before .before .before .before .before .pre .from-one in omega arith)
+    (λ c. let h = c .before .before .before .before .before .pre .inside in
+    let g = c .before .before .before .before .before .pre .from-one in omega arith)
     (λ c κs. search needs)
     (λ c. let h = c .before .before .before .before .before .before .before .pre .few in omega arith)
     (λ c κs. let h = c .before .before .before .before .before .before .before .pre .few in omega arith)

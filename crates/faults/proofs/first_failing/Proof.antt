@@ -18,10 +18,15 @@ abbrev μ-loop : tie.MeasureT-loop
 μ-loop x bytes at w i₀ i = w - i
 
 returns : tie.Need-returns Inv-loop μ-loop
-returns c = sym (failing-here _ _ _ _ _ (c .before .before .before .loop-test .taken) (sym (c .before .byte-passes .ensures) ∙ not-true _ (c .if1 .taken))) ∙ c .before .before .before .before .loop .inv .1
+returns c = sym (failing-here _ _ _ _ _ (c .before .before .before .loop-test .taken)
+    (sym (c .before .byte-passes .ensures) ∙ not-true _ (c .if1 .taken))) ∙ c .before .before .before .before .loop .inv .1
 
 loop-again : tie.Need-loop-again Inv-loop μ-loop
-loop-again c = (omega arith, sym (failing-on _ _ _ _ _ (c .before .before .before .loop-test .taken) (sym (c .before .byte-passes .ensures) ∙ not-false _ (c .if1 .left))) ∙ c .before .before .before .before .loop .inv .1)
+loop-again c = (
+  omega arith,
+  sym (failing-on _ _ _ _ _ (c .before .before .before .loop-test .taken)
+      (sym (c .before .byte-passes .ensures) ∙ not-false _ (c .if1 .left))) ∙ c .before .before .before .before .loop .inv .1,
+)
 
 returns-2 : tie.Need-returns-2 Inv-loop μ-loop
 returns-2 c = sym (failing-none _ _ _ _ _ (c .loop-test .left)) ∙ c .before .loop .inv .1

@@ -15,7 +15,11 @@ unfolding fixedOf leastWhole
 returns c = rw (c .before .before .tail .ensures, eq-eqb _ _ (c .if1 .taken)) (omega arith)
 
 add-result : tie.Need-add-result
-add-result c = omega (arith, c .before .before .tail .ensures, tail-few (c .before .before .before .args .f) (c .before .before .before .pre))
+add-result c = omega (
+  arith,
+  c .before .before .tail .ensures,
+  tail-few (c .before .before .before .args .f) (c .before .before .before .pre),
+)
 
 returns-2 : tie.Need-returns-2
 unfolding fixedOf leastWhole

@@ -29,14 +29,19 @@ loop-holds c = (omega arith, refl, rw (add-zero, sub-zero))
 returns : tie.Need-returns Inv-loop μ-loop
 returns c =
     c .fault-at .ensures
-    ∙ sym (number-here _ _ _ _ _ _ (c .before .before .before .before .loop-test .taken) (sym (c .before .before .may-stand .ensures _ (sym (c .before .before .before .before .before .loop .inv .1))) ∙ not-true _ (c .before .if1 .taken)))
+    ∙ sym (number-here _ _ _ _ _ _ (c .before .before .before .before .loop-test .taken)
+    (sym (c .before .before .may-stand .ensures _ (sym (c .before .before .before .before .before .loop .inv .1)))
+    ∙ not-true _ (c .before .if1 .taken)))
     ∙ c .before .before .before .before .before .loop .inv .2
 
 loop-again : tie.Need-loop-again Inv-loop μ-loop
 loop-again c = (
   omega arith,
-  rw (c .before .before .before .before .loop .inv .1) (sym (open-more (c .before .before .before .before .before .before .args .bytes .now) (c .before .before .before .before .before .before .args .at) (c .before .before .before .before .loop .i))),
-  sym (number-on _ _ _ _ _ _ (c .before .before .before .loop-test .taken) (sym (c .before .may-stand .ensures _ (sym (c .before .before .before .before .loop .inv .1))) ∙ not-false _ (c .if1 .left)))
+  rw (c .before .before .before .before .loop .inv .1)
+      (sym (open-more (c .before .before .before .before .before .before .args .bytes .now)
+      (c .before .before .before .before .before .before .args .at) (c .before .before .before .before .loop .i))),
+  sym (number-on _ _ _ _ _ _ (c .before .before .before .loop-test .taken)
+      (sym (c .before .may-stand .ensures _ (sym (c .before .before .before .before .loop .inv .1))) ∙ not-false _ (c .if1 .left)))
       ∙ c .before .before .before .before .loop .inv .2,
 )
 

@@ -21,8 +21,13 @@ back c = search needs
 zero-test : (c : tie.After-same) → c .same .result ≡ eqZ (c .before .before .said .given .0 .0) (pos 0)
 zero-test c = c .same .ensures ∙ ap (λ (z : ℤ). eqZ z (pos 0)) (back (c .before))
 
-asked : (c : tie.After-is-legal) → c .is-legal .result ≡ legal (c .before .before .before .before .before .before .args .t .now) (c .before .before .before .before .before .before .args .rows) (c .before .before .before .before .before .before .args .row) (c .before .before .before .before .said .given .0 .0)
-asked c = c .is-legal .ensures ∙ ap (legal (c .before .before .before .before .before .before .args .t .now) (c .before .before .before .before .before .before .args .rows) (c .before .before .before .before .before .before .args .row)) (back (c .before .before .before))
+asked : (c : tie.After-is-legal) → c .is-legal .result
+    ≡ legal (c .before .before .before .before .before .before .args .t .now)
+    (c .before .before .before .before .before .before .args .rows) (c .before .before .before .before .before .before .args .row)
+    (c .before .before .before .before .said .given .0 .0)
+asked c = c .is-legal .ensures ∙ ap (legal (c .before .before .before .before .before .before .args .t .now)
+    (c .before .before .before .before .before .before .args .rows) (c .before .before .before .before .before .before .args .row))
+    (back (c .before .before .before))
 
 returns : tie.Need-returns
 unfolding saidOf
@@ -30,7 +35,8 @@ returns c = rw (c .before .before .before .said .given .1) (sym (numeral-says _ 
 
 returns-2 : tie.Need-returns-2
 unfolding saidOf
-returns-2 c = rw (c .before .before .before .before .before .said .given .1) (sym (numeral-legal _ _ _ (sym (asked (c .before)) ∙ c .if2 .taken)))
+returns-2 c = rw (c .before .before .before .before .before .said .given .1)
+    (sym (numeral-legal _ _ _ (sym (asked (c .before)) ∙ c .if2 .taken)))
 
 returns-3 : tie.Need-returns-3
 unfolding saidOf
@@ -40,7 +46,11 @@ returns-4 : tie.Need-returns-4
 unfolding saidOf
 returns-4 c =
     rw (c .before .before .before .before .before .said .given .1)
-    (ap NotLegal (back (c .before .before .before .before)) ∙ sym (numeral-says _ _ _ ∙ rw (rw (zero-test (c .before .before .before)) at (c .before .before .if1 .left), sym (asked (c .before)) ∙ c .if2 .left)))
+    (ap NotLegal (back (c .before .before .before .before))
+    ∙ sym (numeral-says _ _ _ ∙ rw (
+      rw (zero-test (c .before .before .before)) at (c .before .before .if1 .left),
+      sym (asked (c .before)) ∙ c .if2 .left,
+    )))
 
 returns-5 : tie.Need-returns-5
 unfolding saidOf

@@ -17,7 +17,8 @@ returns-2 : tie.Need-returns-2
 unfolding faultOf
 returns-2 c =
     c .row-value .ensures
-    ∙ sym (else-sound _ _ (ap someFault (sym (c .before .before .before .row-form .ensures)) ∙ sym (c .before .before .is-fault .ensures) ∙ c .before .if1 .left))
+    ∙ sym (else-sound _ _ (ap someFault (sym (c .before .before .before .row-form .ensures)) ∙ sym (c .before .before .is-fault .ensures)
+    ∙ c .before .if1 .left))
 
 pub row-fault-spec : {M : Type 1} → statement M
 row-fault-spec = tie.close (tie.spec (λ c κs. search needs) (λ c κs. search needs) returns (λ c κs. search needs) returns-2)

@@ -12,20 +12,24 @@ use Rattle.faults.proofs.row_form.Statement.{statement}
 use Rattle.faults.proofs.row_form.Tie as tie
 
 number-form-requires : tie.Need-number-form-requires
-number-form-requires c κs = let f = single-ready (c .before .before .before .before .pre) (c .before .enum-told .given .1) in let g = f .reach in let h = f .inside in (omega arith, omega arith)
+number-form-requires c κs = let f = single-ready (c .before .before .before .before .pre) (c .before .enum-told .given .1) in
+    let g = f .reach in let h = f .inside in (omega arith, omega arith)
 
 spread-form-requires : tie.Need-spread-form-requires
 spread-form-requires c κs =
-    let f = spread-ready (c .before .before .before .before .before .before .before .before .pre) (c .before .before .before .before .before .kind .given .1 ∙ ap Multiple (c .before .before .s .given .1)) in
+    let f = spread-ready (c .before .before .before .before .before .before .before .before .pre)
+    (c .before .before .before .before .before .kind .given .1 ∙ ap Multiple (c .before .before .s .given .1)) in
     let g = f .from-one in let h = f .inside in
     record { few = f .few; holds = f .holds; inside = omega arith }
 
 number-form-requires-2 : tie.Need-number-form-requires-2
 number-form-requires-2 c κs =
-    let f = quantity-ready (c .before .before .before .before .before .pre) (c .before .before .kind2 .given .1) in let g = f .0 .reach in let h = f .0 .inside in (f .1 .few, omega arith)
+    let f = quantity-ready (c .before .before .before .before .before .pre) (c .before .before .kind2 .given .1) in let g = f .0 .reach in
+    let h = f .0 .inside in (f .1 .few, omega arith)
 
 plain-form-requires : tie.Need-plain-form-requires
-plain-form-requires c κs = let f = text-ready (c .before .before .before .before .pre) (c .before .enum-told3 .given .1) in let g = f .1 in let h = f .2 in omega arith
+plain-form-requires c κs = let f = text-ready (c .before .before .before .before .pre) (c .before .enum-told3 .given .1) in let g = f .1 in
+    let h = f .2 in omega arith
 
 returns : tie.Need-returns
 unfolding formBy placesBy
@@ -33,11 +37,13 @@ returns c = c .number-form .ensures ∙ sym (form-as _ _ _ _ Single (c .before .
 
 returns-2 : tie.Need-returns-2
 unfolding formBy placesBy
-returns-2 c = c .bits-form .ensures ∙ sym (form-as _ _ _ _ _ (c .before .before .before .before .kind .given .1 ∙ ap Multiple (c .before .enum-told2 .given .1)))
+returns-2 c = c .bits-form .ensures ∙ sym (form-as _ _ _ _ _
+    (c .before .before .before .before .kind .given .1 ∙ ap Multiple (c .before .enum-told2 .given .1)))
 
 returns-3 : tie.Need-returns-3
 unfolding formBy placesBy
-returns-3 c = c .spread-form .ensures ∙ sym (form-as _ _ _ _ _ (c .before .before .before .before .before .before .kind .given .1 ∙ ap Multiple (c .before .before .before .s .given .1)))
+returns-3 c = c .spread-form .ensures ∙ sym (form-as _ _ _ _ _
+    (c .before .before .before .before .before .before .kind .given .1 ∙ ap Multiple (c .before .before .before .s .given .1)))
 
 returns-4 : tie.Need-returns-4
 unfolding formBy placesBy
@@ -60,7 +66,8 @@ row-form-spec =
     number-form-requires
     (λ c. search needs)
     (λ c. search needs)
-    (λ c κs. bits-ready (c .before .before .before .before .before .before .pre) (c .before .before .before .kind .given .1 ∙ ap Multiple (c .enum-told2 .given .1)))
+    (λ c κs. bits-ready (c .before .before .before .before .before .before .pre)
+    (c .before .before .before .kind .given .1 ∙ ap Multiple (c .enum-told2 .given .1)))
     (λ c. search needs)
     (λ c. search needs)
     spread-form-requires

@@ -25,29 +25,47 @@ module _ (c : tie.In-loop Inv-loop μ-loop) where
   one : c .before .loop .k ≡ suc (c .before .loop .k - 1)
   one = omega arith
 
-  here : c .before .loop .q + (c .before .before .before .args .b - c .before .before .before .args .w) + c .before .before .before .args .w ≤ length (c .before .before .before .args .bytes .now)
-  here = room-here (c .before .before .before .args .bytes .now) _ _ _ _ _ one (c .before .before .before .pre .holds) (c .before .loop .inv .0)
+  here : c .before .loop .q + (c .before .before .before .args .b - c .before .before .before .args .w) + c .before .before .before .args .w
+      ≤ length (c .before .before .before .args .bytes .now)
+  here = room-here (c .before .before .before .args .bytes .now) _ _ _ _ _ one (c .before .before .before .pre .holds)
+      (c .before .loop .inv .0)
 
-  more : c .before .loop .q + c .before .before .before .args .b + (c .before .loop .k - 1) * c .before .before .before .args .b ≤ length (c .before .before .before .args .bytes .now)
-  more = room-more (c .before .before .before .args .bytes .now) _ _ (c .before .before .before .args .w) _ _ one (c .before .before .before .pre .holds) (c .before .loop .inv .0)
+  more : c .before .loop .q + c .before .before .before .args .b + (c .before .loop .k - 1) * c .before .before .before .args .b
+      ≤ length (c .before .before .before .args .bytes .now)
+  more = room-more (c .before .before .before .args .bytes .now) _ _ (c .before .before .before .args .w) _ _ one
+      (c .before .before .before .pre .holds) (c .before .loop .inv .0)
 
 -- its fault, or the rest's
 step : (c : tie.After-number-form Inv-loop μ-loop)
-    → orElse (c .number-form .result) (spreadForm (c .before .before .before .before .args .w) (c .before .before .before .before .args .bytes .now) (c .before .before .loop .k - 1) (spreadPlaces (c .before .before .loop .q + c .before .before .before .before .args .b) (c .before .before .before .before .args .b) (c .before .before .before .before .args .w) (c .before .before .loop .k - 1)))
-    ≡ spreadForm (c .before .before .before .before .args .w) (c .before .before .before .before .args .bytes .now) (c .before .before .before .before .args .n) (spreadPlaces (c .before .before .before .before .args .at) (c .before .before .before .before .args .b) (c .before .before .before .before .args .w) (c .before .before .before .before .args .n))
+    → orElse (c .number-form .result) (spreadForm (c .before .before .before .before .args .w)
+    (c .before .before .before .before .args .bytes .now) (c .before .before .loop .k - 1)
+    (spreadPlaces (c .before .before .loop .q + c .before .before .before .before .args .b) (c .before .before .before .before .args .b)
+    (c .before .before .before .before .args .w) (c .before .before .loop .k - 1)))
+    ≡ spreadForm (c .before .before .before .before .args .w) (c .before .before .before .before .args .bytes .now)
+    (c .before .before .before .before .args .n) (spreadPlaces (c .before .before .before .before .args .at)
+    (c .before .before .before .before .args .b) (c .before .before .before .before .args .w) (c .before .before .before .before .args .n))
 step c =
-    ap (λ (x : Fault). orElse x (spreadForm (c .before .before .before .before .args .w) (c .before .before .before .before .args .bytes .now) (c .before .before .loop .k - 1) (spreadPlaces (c .before .before .loop .q + c .before .before .before .before .args .b) (c .before .before .before .before .args .b) (c .before .before .before .before .args .w) (c .before .before .loop .k - 1)))) (c .number-form .ensures)
-    ∙ sym (form-step (c .before .before .before .before .args .bytes .now) (c .before .before .loop .q) (c .before .before .before .before .args .b) (c .before .before .before .before .args .w) (c .before .before .loop .k) (c .before .before .loop .k - 1) (one (c .before)))
+    ap (λ (x : Fault). orElse x (spreadForm (c .before .before .before .before .args .w)
+    (c .before .before .before .before .args .bytes .now) (c .before .before .loop .k - 1)
+    (spreadPlaces (c .before .before .loop .q + c .before .before .before .before .args .b) (c .before .before .before .before .args .b)
+    (c .before .before .before .before .args .w) (c .before .before .loop .k - 1)))) (c .number-form .ensures)
+    ∙ sym (form-step (c .before .before .before .before .args .bytes .now) (c .before .before .loop .q)
+    (c .before .before .before .before .args .b) (c .before .before .before .before .args .w) (c .before .before .loop .k)
+    (c .before .before .loop .k - 1) (one (c .before)))
     ∙ c .before .before .loop .inv .1
 
 returns : tie.Need-returns Inv-loop μ-loop
 returns c = sym (else-fault _ _ (sym (c .before .is-fault .ensures) ∙ c .if1 .taken)) ∙ step (c .before .before)
 
 loop-again : tie.Need-loop-again Inv-loop μ-loop
-loop-again c = (more (c .before .before .before), sym (else-sound _ _ (sym (c .before .is-fault .ensures) ∙ c .if1 .left)) ∙ step (c .before .before))
+loop-again c = (
+  more (c .before .before .before),
+  sym (else-sound _ _ (sym (c .before .is-fault .ensures) ∙ c .if1 .left)) ∙ step (c .before .before),
+)
 
 returns-2 : tie.Need-returns-2 Inv-loop μ-loop
-returns-2 c = sym (form-end (c .before .before .before .args .bytes .now) (c .before .loop .q) (c .before .before .before .args .b) (c .before .before .before .args .w) (c .before .loop .k) (c .loop-test .left)) ∙ c .before .loop .inv .1
+returns-2 c = sym (form-end (c .before .before .before .args .bytes .now) (c .before .loop .q) (c .before .before .before .args .b)
+    (c .before .before .before .args .w) (c .before .loop .k) (c .loop-test .left)) ∙ c .before .loop .inv .1
 
 pub spread-form-spec : {M : Type 1} → statement M
 spread-form-spec =

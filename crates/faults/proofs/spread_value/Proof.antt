@@ -20,7 +20,8 @@ use Rattle.faults.proofs.spread_value.Tie as tie
 
 abbrev Inv-loop : tie.InvT-loop
 Inv-loop t rows row bytes at b w n q₀ k₀ q k =
-    (q + k * b ≤ length bytes) × (spreadValue (legal t rows row) w bytes k (spreadPlaces q b w k) ≡ spreadValue (legal t rows row) w bytes n (spreadPlaces at b w n))
+    (q + k * b ≤ length bytes) × (spreadValue (legal t rows row) w bytes k (spreadPlaces q b w k)
+    ≡ spreadValue (legal t rows row) w bytes n (spreadPlaces at b w n))
 
 abbrev μ-loop : tie.MeasureT-loop
 μ-loop t rows row bytes at b w n q₀ k₀ q k = k
@@ -30,37 +31,77 @@ module _ (c : tie.In-loop Inv-loop μ-loop) where
   one : c .before .loop .k ≡ suc (c .before .loop .k - 1)
   one = omega arith
 
-  here : c .before .loop .q + (c .before .before .before .args .b - c .before .before .before .args .w) + c .before .before .before .args .w ≤ length (c .before .before .before .args .bytes .now)
-  here = room-here (c .before .before .before .args .bytes .now) _ _ _ _ _ one (c .before .before .before .pre .1 .holds) (c .before .loop .inv .0)
+  here : c .before .loop .q + (c .before .before .before .args .b - c .before .before .before .args .w) + c .before .before .before .args .w
+      ≤ length (c .before .before .before .args .bytes .now)
+  here = room-here (c .before .before .before .args .bytes .now) _ _ _ _ _ one (c .before .before .before .pre .1 .holds)
+      (c .before .loop .inv .0)
 
-  more : c .before .loop .q + c .before .before .before .args .b + (c .before .loop .k - 1) * c .before .before .before .args .b ≤ length (c .before .before .before .args .bytes .now)
-  more = room-more (c .before .before .before .args .bytes .now) _ _ (c .before .before .before .args .w) _ _ one (c .before .before .before .pre .1 .holds) (c .before .loop .inv .0)
+  more : c .before .loop .q + c .before .before .before .args .b + (c .before .loop .k - 1) * c .before .before .before .args .b
+      ≤ length (c .before .before .before .args .bytes .now)
+  more = room-more (c .before .before .before .args .bytes .now) _ _ (c .before .before .before .args .w) _ _ one
+      (c .before .before .before .pre .1 .holds) (c .before .loop .inv .0)
 
 -- what its bytes say
 said : (c : tie.After-numeral-fault Inv-loop μ-loop)
-    → c .numeral-fault .result ≡ valueFault (usable (legal (c .before .before .before .before .before .before .args .t .now) (c .before .before .before .before .before .before .args .rows) (c .before .before .before .before .before .before .args .row))) (codeOf (pick (c .before .before .before .before .before .before .args .bytes .now) (run (c .before .before .before .before .loop .q + (c .before .before .before .before .before .before .args .b - c .before .before .before .before .before .before .args .w)) (c .before .before .before .before .before .before .args .w))))
+    → c .numeral-fault .result ≡ valueFault (usable
+    (legal (c .before .before .before .before .before .before .args .t .now) (c .before .before .before .before .before .before .args .rows)
+    (c .before .before .before .before .before .before .args .row)))
+    (codeOf (pick (c .before .before .before .before .before .before .args .bytes .now)
+    (run (c .before .before .before .before .loop .q
+    + (c .before .before .before .before .before .before .args .b - c .before .before .before .before .before .before .args .w))
+    (c .before .before .before .before .before .before .args .w))))
 unfolding numeralFault
 said c =
     c .numeral-fault .ensures
-    ∙ ap (valueFault (usable (legal (c .before .before .before .before .before .before .args .t .now) (c .before .before .before .before .before .before .args .rows) (c .before .before .before .before .before .before .args .row)))) (c .before .code .ensures ∙ ap codeOf (lent (c .before .before .before .before .before .before .args .bytes .now) _ _ (here (c .before .before .before))))
+    ∙ ap (valueFault (usable (legal (c .before .before .before .before .before .before .args .t .now)
+    (c .before .before .before .before .before .before .args .rows) (c .before .before .before .before .before .before .args .row))))
+    (c .before .code .ensures ∙ ap codeOf (lent (c .before .before .before .before .before .before .args .bytes .now) _ _
+    (here (c .before .before .before))))
 
 -- its fault, or the rest's
 step : (c : tie.After-numeral-fault Inv-loop μ-loop)
-    → orElse (c .numeral-fault .result) (spreadValue (legal (c .before .before .before .before .before .before .args .t .now) (c .before .before .before .before .before .before .args .rows) (c .before .before .before .before .before .before .args .row)) (c .before .before .before .before .before .before .args .w) (c .before .before .before .before .before .before .args .bytes .now) (c .before .before .before .before .loop .k - 1) (spreadPlaces (c .before .before .before .before .loop .q + c .before .before .before .before .before .before .args .b) (c .before .before .before .before .before .before .args .b) (c .before .before .before .before .before .before .args .w) (c .before .before .before .before .loop .k - 1)))
-    ≡ spreadValue (legal (c .before .before .before .before .before .before .args .t .now) (c .before .before .before .before .before .before .args .rows) (c .before .before .before .before .before .before .args .row)) (c .before .before .before .before .before .before .args .w) (c .before .before .before .before .before .before .args .bytes .now) (c .before .before .before .before .before .before .args .n) (spreadPlaces (c .before .before .before .before .before .before .args .at) (c .before .before .before .before .before .before .args .b) (c .before .before .before .before .before .before .args .w) (c .before .before .before .before .before .before .args .n))
+    → orElse (c .numeral-fault .result) (spreadValue
+    (legal (c .before .before .before .before .before .before .args .t .now) (c .before .before .before .before .before .before .args .rows)
+    (c .before .before .before .before .before .before .args .row)) (c .before .before .before .before .before .before .args .w)
+    (c .before .before .before .before .before .before .args .bytes .now) (c .before .before .before .before .loop .k - 1)
+    (spreadPlaces (c .before .before .before .before .loop .q + c .before .before .before .before .before .before .args .b)
+    (c .before .before .before .before .before .before .args .b) (c .before .before .before .before .before .before .args .w)
+    (c .before .before .before .before .loop .k - 1)))
+    ≡ spreadValue (legal (c .before .before .before .before .before .before .args .t .now)
+    (c .before .before .before .before .before .before .args .rows) (c .before .before .before .before .before .before .args .row))
+    (c .before .before .before .before .before .before .args .w) (c .before .before .before .before .before .before .args .bytes .now)
+    (c .before .before .before .before .before .before .args .n)
+    (spreadPlaces (c .before .before .before .before .before .before .args .at) (c .before .before .before .before .before .before .args .b)
+    (c .before .before .before .before .before .before .args .w) (c .before .before .before .before .before .before .args .n))
 step c =
-    ap (λ (x : Fault). orElse x (spreadValue (legal (c .before .before .before .before .before .before .args .t .now) (c .before .before .before .before .before .before .args .rows) (c .before .before .before .before .before .before .args .row)) (c .before .before .before .before .before .before .args .w) (c .before .before .before .before .before .before .args .bytes .now) (c .before .before .before .before .loop .k - 1) (spreadPlaces (c .before .before .before .before .loop .q + c .before .before .before .before .before .before .args .b) (c .before .before .before .before .before .before .args .b) (c .before .before .before .before .before .before .args .w) (c .before .before .before .before .loop .k - 1)))) (said c)
-    ∙ sym (value-step (c .before .before .before .before .before .before .args .bytes .now) (c .before .before .before .before .loop .q) (c .before .before .before .before .before .before .args .b) (c .before .before .before .before .before .before .args .w) (c .before .before .before .before .loop .k) (c .before .before .before .before .loop .k - 1) (one (c .before .before .before)) (legal (c .before .before .before .before .before .before .args .t .now) (c .before .before .before .before .before .before .args .rows) (c .before .before .before .before .before .before .args .row)))
+    ap (λ (x : Fault). orElse x (spreadValue (legal (c .before .before .before .before .before .before .args .t .now)
+    (c .before .before .before .before .before .before .args .rows) (c .before .before .before .before .before .before .args .row))
+    (c .before .before .before .before .before .before .args .w) (c .before .before .before .before .before .before .args .bytes .now)
+    (c .before .before .before .before .loop .k - 1)
+    (spreadPlaces (c .before .before .before .before .loop .q + c .before .before .before .before .before .before .args .b)
+    (c .before .before .before .before .before .before .args .b) (c .before .before .before .before .before .before .args .w)
+    (c .before .before .before .before .loop .k - 1)))) (said c)
+    ∙ sym (value-step (c .before .before .before .before .before .before .args .bytes .now) (c .before .before .before .before .loop .q)
+    (c .before .before .before .before .before .before .args .b) (c .before .before .before .before .before .before .args .w)
+    (c .before .before .before .before .loop .k) (c .before .before .before .before .loop .k - 1) (one (c .before .before .before))
+    (legal (c .before .before .before .before .before .before .args .t .now) (c .before .before .before .before .before .before .args .rows)
+    (c .before .before .before .before .before .before .args .row)))
     ∙ c .before .before .before .before .loop .inv .1
 
 returns : tie.Need-returns Inv-loop μ-loop
 returns c = sym (else-fault _ _ (sym (c .before .is-fault .ensures) ∙ c .if1 .taken)) ∙ step (c .before .before)
 
 loop-again : tie.Need-loop-again Inv-loop μ-loop
-loop-again c = (more (c .before .before .before .before .before), sym (else-sound _ _ (sym (c .before .is-fault .ensures) ∙ c .if1 .left)) ∙ step (c .before .before))
+loop-again c = (
+  more (c .before .before .before .before .before),
+  sym (else-sound _ _ (sym (c .before .is-fault .ensures) ∙ c .if1 .left)) ∙ step (c .before .before),
+)
 
 returns-2 : tie.Need-returns-2 Inv-loop μ-loop
-returns-2 c = sym (value-end (c .before .before .before .args .bytes .now) (c .before .loop .q) (c .before .before .before .args .b) (c .before .before .before .args .w) (c .before .loop .k) (c .loop-test .left) (legal (c .before .before .before .args .t .now) (c .before .before .before .args .rows) (c .before .before .before .args .row))) ∙ c .before .loop .inv .1
+returns-2 c = sym (value-end (c .before .before .before .args .bytes .now) (c .before .loop .q) (c .before .before .before .args .b)
+    (c .before .before .before .args .w) (c .before .loop .k) (c .loop-test .left)
+    (legal (c .before .before .before .args .t .now) (c .before .before .before .args .rows) (c .before .before .before .args .row)))
+    ∙ c .before .loop .inv .1
 
 pub spread-value-spec : {M : Type 1} → statement M
 spread-value-spec =
@@ -80,7 +121,8 @@ spread-value-spec =
     (λ c κs. search needs)
     returns
     (λ c. omega arith)
-    (λ c. let h = here (c .before .before .before .before .before) in let g = more (c .before .before .before .before .before) in omega arith)
+    (λ c. let h = here (c .before .before .before .before .before) in let g = more (c .before .before .before .before .before) in
+    omega arith)
     (λ c. omega arith)
     loop-again
     returns-2)

@@ -21,7 +21,9 @@ loop-holds : tie.Need-loop-holds Inv-loop μ-loop
 loop-holds c = refl
 
 returns : tie.Need-returns Inv-loop μ-loop
-returns c = sym ((c .before .before .before .loop) .inv ∙ zeros-next ((c .before .before .before .before .args) .s .now) ((c .before .before .before .loop) .i) ((c .before .before .loop-test) .taken) ∙ rw (ne-eqb _ _ ((c .if1) .taken)))
+returns c = sym ((c .before .before .before .loop) .inv
+    ∙ zeros-next ((c .before .before .before .before .args) .s .now) ((c .before .before .before .loop) .i)
+    ((c .before .before .loop-test) .taken) ∙ rw (ne-eqb _ _ ((c .if1) .taken)))
 
 add-i : tie.Need-add-i Inv-loop μ-loop
 add-i c = omega (arith, (c .before .before .loop-test) .taken)
@@ -30,7 +32,9 @@ loop-less : tie.Need-loop-less Inv-loop μ-loop
 loop-less c = omega (arith, (c .before .before .loop-test) .taken)
 
 loop-again : tie.Need-loop-again Inv-loop μ-loop
-loop-again c = (c .before .before .before .loop) .inv ∙ zeros-next ((c .before .before .before .before .args) .s .now) ((c .before .before .before .loop) .i) ((c .before .before .loop-test) .taken) ∙ rw (eq-eqb _ _ ((c .if1) .left))
+loop-again c = (c .before .before .before .loop) .inv
+    ∙ zeros-next ((c .before .before .before .before .args) .s .now) ((c .before .before .before .loop) .i)
+    ((c .before .before .loop-test) .taken) ∙ rw (eq-eqb _ _ ((c .if1) .left))
 
 returns-2 : tie.Need-returns-2 Inv-loop μ-loop
 returns-2 c = sym ((c .before .loop) .inv ∙ zeros-over ((c .before .before .args) .s .now) ((c .before .loop) .i) ((c .loop-test) .left))

@@ -15,7 +15,8 @@ returns-3 : tie.Need-returns-3
 returns-3 c = stepped-none _ _
 
 returns-4 : tie.Need-returns-4
-returns-4 c = stepped-some _ _ (omega (arith, c .before .before .if1 .left)) (omega (arith, c .before .if2 .left)) (omega (arith, c .if3 .left))
+returns-4 c = stepped-some _ _ (omega (arith, c .before .before .if1 .left)) (omega (arith, c .before .if2 .left))
+    (omega (arith, c .if3 .left))
 
 pub code-step-spec : {M : Type 1} → statement M
 code-step-spec =

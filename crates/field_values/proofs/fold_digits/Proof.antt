@@ -28,10 +28,19 @@ loop-less : tie.Need-loop-less Inv-loop μ-loop
 loop-less c = omega (arith, (c .before .before .loop-test) .taken)
 
 loop-again : tie.Need-loop-again Inv-loop μ-loop
-loop-again c = ((c .before .before .before .loop) .inv .0 ∙ capped-next ((c .before .before .before .before .before .args) .f .now) ((c .before .before .before .loop) .i) ((c .before .before .before .loop) .n) ((c .before .before .loop-test) .taken) ∙ rw ((c .step) .ensures), rw ((c .step) .ensures) (capped-small _))
+loop-again c = (
+  (c .before .before .before .loop) .inv .0
+      ∙ capped-next ((c .before .before .before .before .before .args) .f .now) ((c .before .before .before .loop) .i)
+      ((c .before .before .before .loop) .n) ((c .before .before .loop-test) .taken) ∙ rw ((c .step) .ensures),
+  rw ((c .step) .ensures) (capped-small _),
+)
 
 returns : tie.Need-returns Inv-loop μ-loop
-returns c = (sym ((c .before .loop) .inv .0 ∙ capped-over ((c .before .before .before .args) .f .now) ((c .before .loop) .i) ((c .before .loop) .n) ((c .loop-test) .left)), (c .before .loop) .inv .1)
+returns c = (
+  sym ((c .before .loop) .inv .0 ∙ capped-over ((c .before .before .before .args) .f .now) ((c .before .loop) .i)
+      ((c .before .loop) .n) ((c .loop-test) .left)),
+  (c .before .loop) .inv .1,
+)
 
 pub fold-digits-spec : {M : Type 1} → statement M
 fold-digits-spec =

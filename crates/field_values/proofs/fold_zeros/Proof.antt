@@ -25,10 +25,18 @@ loop-less : tie.Need-loop-less Inv-loop μ-loop
 loop-less c = omega (arith, (c .before .loop-test) .taken)
 
 loop-again : tie.Need-loop-again Inv-loop μ-loop
-loop-again c = ((c .before .before .loop) .inv .0 ∙ capped-zero ((c .before .before .loop) .n) ((c .before .before .loop) .k) ((c .before .loop-test) .taken) ∙ rw ((c .step) .ensures), rw ((c .step) .ensures) (capped-small _))
+loop-again c = (
+  (c .before .before .loop) .inv .0
+      ∙ capped-zero ((c .before .before .loop) .n) ((c .before .before .loop) .k) ((c .before .loop-test) .taken) ∙ rw ((c .step) .ensures),
+  rw ((c .step) .ensures) (capped-small _),
+)
 
 returns : tie.Need-returns Inv-loop μ-loop
-returns c = (sym ((c .before .loop) .inv .0 ∙ capped-none ((c .before .loop) .n) ((c .before .loop) .k) (omega (arith, (c .loop-test) .left))), (c .before .loop) .inv .1)
+returns c = (
+  sym ((c .before .loop) .inv .0 ∙ capped-none ((c .before .loop) .n) ((c .before .loop) .k)
+      (omega (arith, (c .loop-test) .left))),
+  (c .before .loop) .inv .1,
+)
 
 pub fold-zeros-spec : {M : Type 1} → statement M
 fold-zeros-spec =

@@ -25,7 +25,8 @@ same-length : tie.Need-same-length Inv-loop μ-loop
 same-length c = (c .before .before .loop) .inv .1 ∙ sym (c .before .before .before .before .pre)
 
 returns : tie.Need-returns Inv-loop μ-loop
-returns c = gathered-many ((c .before .before .loop) .inv .0) ((c .before .before .loop) .inv .1) ((c .before .semi-to) .ensures) ((c .if1) .taken)
+returns c = gathered-many ((c .before .before .loop) .inv .0) ((c .before .before .loop) .inv .1) ((c .before .semi-to) .ensures)
+    ((c .if1) .taken)
 
 sub-code-of : tie.Need-sub-code-of Inv-loop μ-loop
 sub-code-of c = omega (arith, (c .before .semi-to) .ensures .passed .on)
@@ -49,10 +50,15 @@ add-count : tie.Need-add-count Inv-loop μ-loop
 add-count c = omega (arith, (c .before .before .before .if1) .left)
 
 same-length-2 : tie.Need-same-length-2 Inv-loop μ-loop
-same-length-2 c = simp length-set ((c .before .before .before .before .before .before .loop) .inv .1 ∙ sym (c .before .before .before .before .before .before .before .before .pre))
+same-length-2 c = simp length-set ((c .before .before .before .before .before .before .loop) .inv .1
+    ∙ sym (c .before .before .before .before .before .before .before .before .pre))
 
 returns-2 : tie.Need-returns-2 Inv-loop μ-loop
-returns-2 c = gathered-all ((c .before .before .before .before .before .before .loop) .inv .0) ((c .before .before .before .before .before .before .loop) .inv .1) ((c .before .before .before .before .before .semi-to) .ensures) (omega (arith, (c .before .before .before .before .if1) .left)) (toZ-ofZ (sfits-of ((c .before .cell-of) .ok)) ∙ (c .before .cell-of) .ensures ∙ rw ((c .before .before .code-of) .ensures)) ((c .if2) .taken)
+returns-2 c = gathered-all ((c .before .before .before .before .before .before .loop) .inv .0)
+    ((c .before .before .before .before .before .before .loop) .inv .1) ((c .before .before .before .before .before .semi-to) .ensures)
+    (omega (arith, (c .before .before .before .before .if1) .left))
+    (toZ-ofZ (sfits-of ((c .before .cell-of) .ok)) ∙ (c .before .cell-of) .ensures ∙ rw ((c .before .before .code-of) .ensures))
+    ((c .if2) .taken)
 
 add-at : tie.Need-add-at Inv-loop μ-loop
 add-at c = omega (arith, (c .if2) .left)
@@ -61,7 +67,14 @@ loop-less : tie.Need-loop-less Inv-loop μ-loop
 loop-less c = omega (arith, (c .before .before .before .before .if1) .left)
 
 loop-again : tie.Need-loop-again Inv-loop μ-loop
-loop-again c = (gathering-more ((c .before .before .before .before .before .before .loop) .inv .0) ((c .before .before .before .before .before .before .loop) .inv .1) ((c .before .before .before .before .before .semi-to) .ensures) (omega (arith, (c .before .before .before .before .if1) .left)) (toZ-ofZ (sfits-of ((c .before .cell-of) .ok)) ∙ (c .before .cell-of) .ensures ∙ rw ((c .before .before .code-of) .ensures)) (omega (arith, (c .if2) .left)), simp length-set ((c .before .before .before .before .before .before .loop) .inv .1))
+loop-again c = (
+  gathering-more ((c .before .before .before .before .before .before .loop) .inv .0)
+      ((c .before .before .before .before .before .before .loop) .inv .1) ((c .before .before .before .before .before .semi-to) .ensures)
+      (omega (arith, (c .before .before .before .before .if1) .left))
+      (toZ-ofZ (sfits-of ((c .before .cell-of) .ok)) ∙ (c .before .cell-of) .ensures ∙ rw ((c .before .before .code-of) .ensures))
+      (omega (arith, (c .if2) .left)),
+  simp length-set ((c .before .before .before .before .before .before .loop) .inv .1),
+)
 
 pub gather-spec : {M : Type 1} → statement M
 gather-spec =

@@ -12,11 +12,16 @@ shared-slice-read-if1 : tie.Need-shared-slice-read-if1
 shared-slice-read-if1 c = omega (arith, (c .before .before .pre) .1)
 
 returns : tie.Need-returns
-returns c = record { all = λ h. set-letter ((c .before .before .before .args) .f .now) ((c .before .before .before .pre) .1) ((c .if1) .taken); many = λ h. absurd (omega arith) }
+returns c = record {
+  all = λ h. set-letter ((c .before .before .before .args) .f .now) ((c .before .before .before .pre) .1)
+      ((c .if1) .taken);
+  many = λ h. absurd (omega arith);
+}
 
 returns-2 : tie.Need-returns-2
 returns-2 c =
-    let e = set-codes ((c .before .before .before .before .before .before .args) .f .now) ((c .before .before .before .before .before .before .pre) .1) ((c .before .before .before .if1) .left) in
+    let e = set-codes ((c .before .before .before .before .before .before .args) .f .now)
+    ((c .before .before .before .before .before .before .pre) .1) ((c .before .before .before .if1) .left) in
     record { all = λ h. (c .before .gather) .ensures .all h ∙ e; many = λ h. rw e at ((c .before .gather) .ensures .many h) }
 
 pub guess-set-spec : {M : Type 1} → statement M

@@ -13,23 +13,51 @@ use Rattle.field_values.proofs.guess_size.Statement.{statement}
 use Rattle.field_values.proofs.guess_size.Tie as tie
 
 slice-aggregate-fold-digits : tie.Need-slice-aggregate-fold-digits
-slice-aggregate-fold-digits c = sym (length-take-le _ ((c .before .before .before .args) .f .now) (rw ((c .before .point-in) .ensures) (point-few ((c .before .before .before .args) .f .now))))
+slice-aggregate-fold-digits c = sym (length-take-le _ ((c .before .before .before .args) .f .now)
+    (rw ((c .before .point-in) .ensures) (point-few ((c .before .before .before .args) .f .now))))
 
 add-q : tie.Need-add-q
 add-q c = omega (arith, point-few ((c .before .before .before .before .args) .f .now), (c .before .before .point-in) .ensures)
 
 returns : tie.Need-returns
-returns c = ((c .fold-zeros) .ensures .0 ∙ size-short ((c .before .before .before .before .before .before .args) .k) ((c .before .before .before .before .before .before .args) .f .now) ((c .before .before .before .before .point-in) .ensures) ((c .before .before .fold-digits) .ensures .0) ((c .before .if1) .taken), (c .fold-zeros) .ensures .1)
+returns c = (
+  (c .fold-zeros) .ensures .0 ∙ size-short ((c .before .before .before .before .before .before .args) .k)
+      ((c .before .before .before .before .before .before .args) .f .now) ((c .before .before .before .before .point-in) .ensures)
+      ((c .before .before .fold-digits) .ensures .0) ((c .before .if1) .taken),
+  (c .fold-zeros) .ensures .1,
+)
 
 returns-2 : tie.Need-returns-2
 returns-2 c =
-    let m = length-drop ((c .before .before .before .before .before .before .point-in) .result + 1) ((c .before .before .before .before .before .before .before .before .args) .f .now) in
-    (sym (capped-none _ _ (omega (arith, m, (c .if2) .taken))) ∙ size-long ((c .before .before .before .before .before .before .before .before .args) .k) ((c .before .before .before .before .before .before .before .before .args) .f .now) ((c .before .before .before .before .before .before .point-in) .ensures) ((c .before .before .before .before .fold-digits) .ensures .0) ((c .before .fold-digits2) .ensures .0 ∙ ap (cappedFrom ((c .before .before .before .before .fold-digits) .result)) (rest-is ((c .before .before .before .before .before .before .before .before .args) .f .now) ((c .before .before .before .before .before .before .point-in) .result + 1))), (c .before .fold-digits2) .ensures .1)
+    let m = length-drop ((c .before .before .before .before .before .before .point-in) .result + 1)
+    ((c .before .before .before .before .before .before .before .before .args) .f .now) in (
+      sym (capped-none _ _ (omega (arith, m, (c .if2) .taken)))
+          ∙ size-long ((c .before .before .before .before .before .before .before .before .args) .k)
+          ((c .before .before .before .before .before .before .before .before .args) .f .now)
+          ((c .before .before .before .before .before .before .point-in) .ensures)
+          ((c .before .before .before .before .fold-digits) .ensures .0)
+          ((c .before .fold-digits2) .ensures .0 ∙ ap (cappedFrom ((c .before .before .before .before .fold-digits) .result))
+          (rest-is ((c .before .before .before .before .before .before .before .before .args) .f .now)
+          ((c .before .before .before .before .before .before .point-in) .result + 1))),
+      (c .before .fold-digits2) .ensures .1,
+    )
 
 returns-3 : tie.Need-returns-3
 returns-3 c =
-    let m = length-drop ((c .before .before .before .before .before .before .before .point-in) .result + 1) ((c .before .before .before .before .before .before .before .before .before .args) .f .now) in
-    ((c .fold-zeros2) .ensures .0 ∙ ap (λ (x : ℕ). cappedFrom ((c .before .before .fold-digits2) .result) (zeros ((c .before .before .before .before .before .before .before .before .before .args) .k - x))) (sym m) ∙ size-long ((c .before .before .before .before .before .before .before .before .before .args) .k) ((c .before .before .before .before .before .before .before .before .before .args) .f .now) ((c .before .before .before .before .before .before .before .point-in) .ensures) ((c .before .before .before .before .before .fold-digits) .ensures .0) ((c .before .before .fold-digits2) .ensures .0 ∙ ap (cappedFrom ((c .before .before .before .before .before .fold-digits) .result)) (rest-is ((c .before .before .before .before .before .before .before .before .before .args) .f .now) ((c .before .before .before .before .before .before .before .point-in) .result + 1))), (c .fold-zeros2) .ensures .1)
+    let m = length-drop ((c .before .before .before .before .before .before .before .point-in) .result + 1)
+    ((c .before .before .before .before .before .before .before .before .before .args) .f .now) in (
+      (c .fold-zeros2) .ensures .0 ∙ ap (λ (x : ℕ). cappedFrom ((c .before .before .fold-digits2) .result)
+          (zeros ((c .before .before .before .before .before .before .before .before .before .args) .k - x))) (sym m)
+          ∙ size-long ((c .before .before .before .before .before .before .before .before .before .args) .k)
+          ((c .before .before .before .before .before .before .before .before .before .args) .f .now)
+          ((c .before .before .before .before .before .before .before .point-in) .ensures)
+          ((c .before .before .before .before .before .fold-digits) .ensures .0)
+          ((c .before .before .fold-digits2) .ensures .0
+          ∙ ap (cappedFrom ((c .before .before .before .before .before .fold-digits) .result))
+          (rest-is ((c .before .before .before .before .before .before .before .before .before .args) .f .now)
+          ((c .before .before .before .before .before .before .before .point-in) .result + 1))),
+      (c .fold-zeros2) .ensures .1,
+    )
 
 pub guess-size-spec : {M : Type 1} → statement M
 guess-size-spec =

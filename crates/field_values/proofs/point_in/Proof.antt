@@ -19,7 +19,9 @@ loop-holds : tie.Need-loop-holds Inv-loop μ-loop
 loop-holds c = omega arith
 
 returns : tie.Need-returns Inv-loop μ-loop
-returns c = sym ((c .before .before .before .loop) .inv ∙ point-here ((c .before .before .before .before .args) .f .now) ((c .before .before .before .loop) .i) ((c .before .before .loop-test) .taken) ((c .if1) .taken))
+returns c = sym ((c .before .before .before .loop) .inv
+    ∙ point-here ((c .before .before .before .before .args) .f .now) ((c .before .before .before .loop) .i)
+    ((c .before .before .loop-test) .taken) ((c .if1) .taken))
 
 add-i : tie.Need-add-i Inv-loop μ-loop
 add-i c = omega (arith, (c .before .before .loop-test) .taken)
@@ -28,7 +30,9 @@ loop-less : tie.Need-loop-less Inv-loop μ-loop
 loop-less c = omega (arith, (c .before .before .loop-test) .taken)
 
 loop-again : tie.Need-loop-again Inv-loop μ-loop
-loop-again c = (c .before .before .before .loop) .inv ∙ point-next ((c .before .before .before .before .args) .f .now) ((c .before .before .before .loop) .i) ((c .before .before .loop-test) .taken) ((c .if1) .left)
+loop-again c = (c .before .before .before .loop) .inv
+    ∙ point-next ((c .before .before .before .before .args) .f .now) ((c .before .before .before .loop) .i)
+    ((c .before .before .loop-test) .taken) ((c .if1) .left)
 
 returns-2 : tie.Need-returns-2 Inv-loop μ-loop
 returns-2 c = sym ((c .before .loop) .inv ∙ point-over ((c .before .before .args) .f .now) ((c .before .loop) .i) ((c .loop-test) .left))

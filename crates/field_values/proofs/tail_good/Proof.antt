@@ -11,19 +11,31 @@ returns : tie.Need-returns
 returns c = tail-none ((c .before .before .args) .k) ((c .before .before .args) .s .now) ((c .if1) .taken)
 
 returns-2 : tie.Need-returns-2
-returns-2 c = tail-bare ((c .before .before .before .before .before .args) .k) ((c .before .before .before .before .before .args) .s .now) ((c .before .before .before .if1) .left) ((c .before .if2) .taken) ((c .if3) .taken)
+returns-2 c = tail-bare ((c .before .before .before .before .before .args) .k) ((c .before .before .before .before .before .args) .s .now)
+    ((c .before .before .before .if1) .left) ((c .before .if2) .taken) ((c .if3) .taken)
 
 returns-3 : tie.Need-returns-3
-returns-3 c = (c .all-zeros) .ensures ∙ ap allZeros (rest-is ((c .before .before .before .before .before .before .before .before .args) .s .now) 1) ∙ tail-point ((c .before .before .before .before .before .before .before .before .args) .k) ((c .before .before .before .before .before .before .before .before .args) .s .now) ((c .before .before .before .before .before .before .if1) .left) ((c .before .before .before .before .if2) .taken) ((c .before .before .before .if3) .left) (omega (arith, (c .before .before .if4) .taken, (c .before .before .before .before .before .before .if1) .left))
+returns-3 c = (c .all-zeros) .ensures ∙ ap allZeros
+    (rest-is ((c .before .before .before .before .before .before .before .before .args) .s .now) 1)
+    ∙ tail-point ((c .before .before .before .before .before .before .before .before .args) .k)
+    ((c .before .before .before .before .before .before .before .before .args) .s .now)
+    ((c .before .before .before .before .before .before .if1) .left) ((c .before .before .before .before .if2) .taken)
+    ((c .before .before .before .if3) .left) (omega
+    (arith, (c .before .before .if4) .taken, (c .before .before .before .before .before .before .if1) .left))
 
 returns-4 : tie.Need-returns-4
-returns-4 c = tail-wrong ((c .before .before .before .before .before .before .args) .k) ((c .before .before .before .before .before .before .args) .s .now) ((c .before .before .before .before .if1) .left) ((c .before .before .if2) .taken) (λ e. (c .if4) .left (omega (arith, e)))
+returns-4 c = tail-wrong ((c .before .before .before .before .before .before .args) .k)
+    ((c .before .before .before .before .before .before .args) .s .now) ((c .before .before .before .before .if1) .left)
+    ((c .before .before .if2) .taken) (λ e. (c .if4) .left (omega (arith, e)))
 
 returns-5 : tie.Need-returns-5
-returns-5 c = (c .all-zeros2) .ensures ∙ tail-zeros ((c .before .before .before .before .before .before .args) .k) ((c .before .before .before .before .before .before .args) .s .now) ((c .before .before .before .before .if1) .left) ((c .before .before .if2) .left) ((c .before .if5) .taken)
+returns-5 c = (c .all-zeros2) .ensures ∙ tail-zeros ((c .before .before .before .before .before .before .args) .k)
+    ((c .before .before .before .before .before .before .args) .s .now) ((c .before .before .before .before .if1) .left)
+    ((c .before .before .if2) .left) ((c .before .if5) .taken)
 
 returns-6 : tie.Need-returns-6
-returns-6 c = tail-long ((c .before .before .before .before .before .args) .k) ((c .before .before .before .before .before .args) .s .now) ((c .before .before .before .if1) .left) ((c .before .if2) .left) ((c .if5) .left)
+returns-6 c = tail-long ((c .before .before .before .before .before .args) .k) ((c .before .before .before .before .before .args) .s .now)
+    ((c .before .before .before .if1) .left) ((c .before .if2) .left) ((c .if5) .left)
 
 pub tail-good-spec : {M : Type 1} → statement M
 tail-good-spec =

@@ -25,7 +25,8 @@ returns : tie.Need-returns Inv-loop μ-loop
 returns c = coded-none _ _
 
 same-length-2 : tie.Need-same-length-2 Inv-loop μ-loop
-same-length-2 c = c .before .before .before .before .before .loop .inv .1 ∙ sym (c .before .before .before .before .before .before .before .pre)
+same-length-2 c = c .before .before .before .before .before .loop .inv .1
+    ∙ sym (c .before .before .before .before .before .before .before .pre)
 
 returns-2 : tie.Need-returns-2 Inv-loop μ-loop
 returns-2 c = coded-none _ _
@@ -47,14 +48,20 @@ loop-less c = omega (arith, c .before .before .before .before .before .loop-test
 
 loop-again : tie.Need-loop-again Inv-loop μ-loop
 loop-again c =
-    let l = c .before .before .before .before .before .before .loop .inv in
-    (coding-code (l .0) (c .before .before .if2 .left) (omega (arith, c .before .if3 .left, l .1)) (toZ-ofZ (sfits-of (c .cell-of .ok)) ∙ c .cell-of .ensures) (c .before .before .before .before .before .loop-test .taken) (c .before .before .before .if1 .taken), simp length-set (l .1), omega (arith, c .before .if3 .left))
+    let l = c .before .before .before .before .before .before .loop .inv in (
+      coding-code (l .0) (c .before .before .if2 .left) (omega (arith, c .before .if3 .left, l .1))
+          (toZ-ofZ (sfits-of (c .cell-of .ok)) ∙ c .cell-of .ensures) (c .before .before .before .before .before .loop-test .taken)
+          (c .before .before .before .if1 .taken),
+      simp length-set (l .1),
+      omega (arith, c .before .if3 .left),
+    )
 
 code-step-requires : tie.Need-code-step-requires Inv-loop μ-loop
 code-step-requires c κs = c .before .before .before .loop .inv .0 .few
 
 same-length-3 : tie.Need-same-length-3 Inv-loop μ-loop
-same-length-3 c = c .before .before .before .before .before .loop .inv .1 ∙ sym (c .before .before .before .before .before .before .before .pre)
+same-length-3 c = c .before .before .before .before .before .loop .inv .1
+    ∙ sym (c .before .before .before .before .before .before .before .pre)
 
 returns-3 : tie.Need-returns-3 Inv-loop μ-loop
 returns-3 c = coded-none _ _
@@ -91,7 +98,8 @@ same-length-5 c = simp length-set (c .before .before .before .loop .inv .1 ∙ s
 returns-5 : tie.Need-returns-5 Inv-loop μ-loop
 returns-5 c =
     let l = c .before .before .before .loop .inv in
-    coded-all (l .0) (c .before .if5 .left) (omega (arith, l .2, l .1)) (toZ-ofZ (sfits-of (c .cell-of2 .ok)) ∙ c .cell-of2 .ensures) (c .before .before .loop-test .left) (omega (arith, l .2))
+    coded-all (l .0) (c .before .if5 .left) (omega (arith, l .2, l .1)) (toZ-ofZ (sfits-of (c .cell-of2 .ok)) ∙ c .cell-of2 .ensures)
+    (c .before .before .loop-test .left) (omega (arith, l .2))
 
 pub take-codes-spec : {M : Type 1} → statement M
 take-codes-spec =

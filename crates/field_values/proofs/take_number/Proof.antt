@@ -12,7 +12,8 @@ use lib.ListN.{length, take}
 use lib.Seq.{length-take-le}
 use Rattle.writes.specs.rule.Write.{valueOf}
 use Rattle.fields.specs.rule.Field.{number, members, text, truth}
-use Rattle.field_values.specs.Steps.{number-sendable, number-stands, number-inside, none-taken, left-none, number-left-is, number-is, wrote}
+use Rattle.field_values.specs.Steps.{number-sendable, number-stands, number-inside, none-taken, left-none, number-left-is, number-is}
+use Rattle.field_values.specs.Steps.{wrote}
 use Rattle.field_values.proofs.take_number.Statement.{statement}
 use Rattle.field_values.proofs.take_number.Tie as tie
 
@@ -21,25 +22,67 @@ back : (c : tie.After-guess-number) → toZ w64 (ofZ w64 ((c .guess-number) .res
 back c = search needs
 
 send-number-requires : tie.Need-send-number-requires
-send-number-requires c κs = ((c .before .before .before .before .pre) .0, (number-sendable ((c .before .before .before .before .args) .k) ((c .before .before .before .before .args) .f .now) (back (c .before) ∙ (c .before .guess-number) .ensures), (c .before .before .before .before .pre) .1 .1 .3))
+send-number-requires c κs = (
+  (c .before .before .before .before .pre) .0,
+  (
+    number-sendable ((c .before .before .before .before .args) .k) ((c .before .before .before .before .args) .f .now)
+        (back (c .before) ∙ (c .before .guess-number) .ensures),
+    (c .before .before .before .before .pre) .1 .1 .3,
+  ),
+)
 
 array-share-prefix-room : tie.Need-array-share-prefix-room
-array-share-prefix-room c = number-inside ((c .before .before .before .before .before .before .args) .k) (toZ w64 (ofZ w64 ((c .before .before .before .guess-number) .result))) ((c .before .send-number) .ensures) ((c .before .before .before .before .before .before .pre) .1 .1 .3) refl
+array-share-prefix-room c = number-inside ((c .before .before .before .before .before .before .args) .k)
+    (toZ w64 (ofZ w64 ((c .before .before .before .guess-number) .result))) ((c .before .send-number) .ensures)
+    ((c .before .before .before .before .before .before .pre) .1 .1 .3) refl
 
 slice-aggregate-left-of : tie.Need-slice-aggregate-left-of
-slice-aggregate-left-of c = let s = number-stands ((c .before .before .before .before .before .before .before .args) .k) (toZ w64 (ofZ w64 ((c .before .before .before .before .guess-number) .result))) ((c .before .before .send-number) .ensures) ((c .before .before .before .before .before .before .before .pre) .1 .1 .3) refl in s .0 ∙ ap length (sym (s .1))
+slice-aggregate-left-of c = let s = number-stands ((c .before .before .before .before .before .before .before .args) .k)
+    (toZ w64 (ofZ w64 ((c .before .before .before .before .guess-number) .result))) ((c .before .before .send-number) .ensures)
+    ((c .before .before .before .before .before .before .before .pre) .1 .1 .3) refl in s .0 ∙ ap length (sym (s .1))
 
 returns : tie.Need-returns
 returns c =
-    let s = number-stands ((c .before .before .before .before .before .before .before .before .before .args) .k) (toZ w64 (ofZ w64 ((c .before .before .before .before .before .before .guess-number) .result))) ((c .before .before .before .before .send-number) .ensures) ((c .before .before .before .before .before .before .before .before .before .pre) .1 .1 .3) refl in
-    none-taken (left-none _ _ _ _ (number-left-is ((c .before .before .before .before .before .before .before .before .before .args) .row) ((c .before .before .before .before .before .before .before .before .before .args) .f .now) ((c .before .before .before .before .before .before .before .before .before .pre) .1 .1 .0) ((c .before .before .before .before .before .before .before .before .before .pre) .1 .1 .1) ((c .before .before .before .before .before .before .before .before .before .pre) .1 .1 .2) (toZ-ofZ (sfits-of ((c .before .before .before .before .before .before .guess-number) .ok)) ∙ (c .before .before .before .before .before .before .guess-number) .ensures) (s .1) (sym (not-true _ ((c .if1) .taken)) ∙ (c .before .left-of) .ensures)))
+    let s = number-stands ((c .before .before .before .before .before .before .before .before .before .args) .k)
+    (toZ w64 (ofZ w64 ((c .before .before .before .before .before .before .guess-number) .result)))
+    ((c .before .before .before .before .send-number) .ensures)
+    ((c .before .before .before .before .before .before .before .before .before .pre) .1 .1 .3) refl in
+    none-taken (left-none _ _ _ _ (number-left-is ((c .before .before .before .before .before .before .before .before .before .args) .row)
+    ((c .before .before .before .before .before .before .before .before .before .args) .f .now)
+    ((c .before .before .before .before .before .before .before .before .before .pre) .1 .1 .0)
+    ((c .before .before .before .before .before .before .before .before .before .pre) .1 .1 .1)
+    ((c .before .before .before .before .before .before .before .before .before .pre) .1 .1 .2)
+    (toZ-ofZ (sfits-of ((c .before .before .before .before .before .before .guess-number) .ok))
+    ∙ (c .before .before .before .before .before .before .guess-number) .ensures) (s .1)
+    (sym (not-true _ ((c .if1) .taken)) ∙ (c .before .left-of) .ensures)))
 
 returns-2 : tie.Need-returns-2
 unfolding valueOf
 returns-2 c =
-    let s = number-stands ((c .before .before .before .before .before .before .before .before .before .before .before .before .before .before .args) .k) (toZ w64 (ofZ w64 ((c .before .before .before .before .before .before .before .before .before .before .before .guess-number) .result))) ((c .before .before .before .before .before .before .before .before .before .send-number) .ensures) ((c .before .before .before .before .before .before .before .before .before .before .before .before .before .before .pre) .1 .1 .3) refl in
-    wrote (number-is ((c .before .before .before .before .before .before .before .before .before .before .before .before .before .before .args) .row) ((c .before .before .before .before .before .before .before .before .before .before .before .before .before .before .args) .f .now) ((c .before .before .before .before .before .before .before .before .before .before .before .before .before .before .pre) .1 .1 .0) ((c .before .before .before .before .before .before .before .before .before .before .before .before .before .before .pre) .1 .1 .1) ((c .before .before .before .before .before .before .before .before .before .before .before .before .before .before .pre) .1 .1 .2) (toZ-ofZ (sfits-of ((c .before .before .before .before .before .before .before .before .before .before .before .guess-number) .ok)) ∙ (c .before .before .before .before .before .before .before .before .before .before .before .guess-number) .ensures))
-    (number-left-is ((c .before .before .before .before .before .before .before .before .before .before .before .before .before .before .args) .row) ((c .before .before .before .before .before .before .before .before .before .before .before .before .before .before .args) .f .now) ((c .before .before .before .before .before .before .before .before .before .before .before .before .before .before .pre) .1 .1 .0) ((c .before .before .before .before .before .before .before .before .before .before .before .before .before .before .pre) .1 .1 .1) ((c .before .before .before .before .before .before .before .before .before .before .before .before .before .before .pre) .1 .1 .2) (toZ-ofZ (sfits-of ((c .before .before .before .before .before .before .before .before .before .before .before .guess-number) .ok)) ∙ (c .before .before .before .before .before .before .before .before .before .before .before .guess-number) .ensures) (s .1) (sym (not-false _ ((c .before .before .before .before .before .if1) .left)) ∙ (c .before .before .before .before .before .before .left-of) .ensures))
+    let s = number-stands
+    ((c .before .before .before .before .before .before .before .before .before .before .before .before .before .before .args) .k)
+    (toZ w64 (ofZ w64 ((c .before .before .before .before .before .before .before .before .before .before .before .guess-number) .result)))
+    ((c .before .before .before .before .before .before .before .before .before .send-number) .ensures)
+    ((c .before .before .before .before .before .before .before .before .before .before .before .before .before .before .pre) .1 .1 .3)
+    refl in
+    wrote (number-is
+    ((c .before .before .before .before .before .before .before .before .before .before .before .before .before .before .args) .row)
+    ((c .before .before .before .before .before .before .before .before .before .before .before .before .before .before .args) .f .now)
+    ((c .before .before .before .before .before .before .before .before .before .before .before .before .before .before .pre) .1 .1 .0)
+    ((c .before .before .before .before .before .before .before .before .before .before .before .before .before .before .pre) .1 .1 .1)
+    ((c .before .before .before .before .before .before .before .before .before .before .before .before .before .before .pre) .1 .1 .2)
+    (toZ-ofZ (sfits-of ((c .before .before .before .before .before .before .before .before .before .before .before .guess-number) .ok))
+    ∙ (c .before .before .before .before .before .before .before .before .before .before .before .guess-number) .ensures))
+    (number-left-is
+    ((c .before .before .before .before .before .before .before .before .before .before .before .before .before .before .args) .row)
+    ((c .before .before .before .before .before .before .before .before .before .before .before .before .before .before .args) .f .now)
+    ((c .before .before .before .before .before .before .before .before .before .before .before .before .before .before .pre) .1 .1 .0)
+    ((c .before .before .before .before .before .before .before .before .before .before .before .before .before .before .pre) .1 .1 .1)
+    ((c .before .before .before .before .before .before .before .before .before .before .before .before .before .before .pre) .1 .1 .2)
+    (toZ-ofZ (sfits-of ((c .before .before .before .before .before .before .before .before .before .before .before .guess-number) .ok))
+    ∙ (c .before .before .before .before .before .before .before .before .before .before .before .guess-number) .ensures) (s .1)
+    (sym (not-false _ ((c .before .before .before .before .before .if1) .left))
+    ∙ (c .before .before .before .before .before .before .left-of) .ensures))
     ((c .before .before .before .write-row) .ensures) ((c .is-done) .ensures)
 
 pub take-number-spec : {M : Type 1} → statement M

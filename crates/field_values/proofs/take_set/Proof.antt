@@ -21,10 +21,21 @@ returns : tie.Need-returns
 returns c = c .before .before .before .before .before .take-other .ensures
 
 slice-reshare-prefix-write-row : tie.Need-slice-reshare-prefix-write-row
-slice-reshare-prefix-write-row c = omega (arith, c .before .before .take-codes .kept .1 .0, c .before .before .before .before .before .before .before .pre .1 .1 .1 .0, c .before .before .take-codes .ensures .few)
+slice-reshare-prefix-write-row c = omega (
+  arith,
+  c .before .before .take-codes .kept .1 .0,
+  c .before .before .before .before .before .before .before .pre .1 .1 .1 .0,
+  c .before .before .take-codes .ensures .few,
+)
 
 slice-aggregate-write-row : tie.Need-slice-aggregate-write-row
-slice-aggregate-write-row c = sym (length-take-le _ _ (omega (arith, c .before .before .before .take-codes .kept .1 .0, c .before .before .before .before .before .before .before .before .pre .1 .1 .1 .0, c .before .before .before .take-codes .ensures .few)))
+slice-aggregate-write-row c = sym (length-take-le _ _
+    (omega (
+      arith,
+      c .before .before .before .take-codes .kept .1 .0,
+      c .before .before .before .before .before .before .before .before .pre .1 .1 .1 .0,
+      c .before .before .before .take-codes .ensures .few,
+    )))
 
 returns-2 : tie.Need-returns-2
 unfolding valueOf

@@ -19,13 +19,26 @@ shared-slice-read-one : tie.Need-shared-slice-read-one
 shared-slice-read-one c = omega (arith, (c .before .before .before .pre) .1 .1 .0)
 
 returns : tie.Need-returns
-returns c = none-taken (left-none _ _ _ _ (truth-left-is ((c .before .before .before .before .before .before .before .args) .row) ((c .before .before .before .before .before .before .before .args) .f .now) ((c .before .before .before .before .before .before .before .pre) .1 .1 .0) ((c .before .before .before .before .before .before .before .pre) .1 .1 .1) refl (rw ((c .before .before .before .bit-of) .ensures)) (sym (not-true _ ((c .if1) .taken)) ∙ (c .before .left-of) .ensures)))
+returns c = none-taken (left-none _ _ _ _ (truth-left-is ((c .before .before .before .before .before .before .before .args) .row)
+    ((c .before .before .before .before .before .before .before .args) .f .now)
+    ((c .before .before .before .before .before .before .before .pre) .1 .1 .0)
+    ((c .before .before .before .before .before .before .before .pre) .1 .1 .1) refl (rw ((c .before .before .before .bit-of) .ensures))
+    (sym (not-true _ ((c .if1) .taken)) ∙ (c .before .left-of) .ensures)))
 
 returns-2 : tie.Need-returns-2
 unfolding valueOf
 returns-2 c =
-    wrote (truth-is ((c .before .before .before .before .before .before .before .before .before .before .before .before .args) .row) ((c .before .before .before .before .before .before .before .before .before .before .before .before .args) .f .now) ((c .before .before .before .before .before .before .before .before .before .before .before .before .pre) .1 .1 .0) ((c .before .before .before .before .before .before .before .before .before .before .before .before .pre) .1 .1 .1) refl)
-    (truth-left-is ((c .before .before .before .before .before .before .before .before .before .before .before .before .args) .row) ((c .before .before .before .before .before .before .before .before .before .before .before .before .args) .f .now) ((c .before .before .before .before .before .before .before .before .before .before .before .before .pre) .1 .1 .0) ((c .before .before .before .before .before .before .before .before .before .before .before .before .pre) .1 .1 .1) refl (rw ((c .before .before .before .before .before .before .before .before .bit-of) .ensures)) (sym (not-false _ ((c .before .before .before .before .before .if1) .left)) ∙ (c .before .before .before .before .before .before .left-of) .ensures))
+    wrote (truth-is ((c .before .before .before .before .before .before .before .before .before .before .before .before .args) .row)
+    ((c .before .before .before .before .before .before .before .before .before .before .before .before .args) .f .now)
+    ((c .before .before .before .before .before .before .before .before .before .before .before .before .pre) .1 .1 .0)
+    ((c .before .before .before .before .before .before .before .before .before .before .before .before .pre) .1 .1 .1) refl)
+    (truth-left-is ((c .before .before .before .before .before .before .before .before .before .before .before .before .args) .row)
+    ((c .before .before .before .before .before .before .before .before .before .before .before .before .args) .f .now)
+    ((c .before .before .before .before .before .before .before .before .before .before .before .before .pre) .1 .1 .0)
+    ((c .before .before .before .before .before .before .before .before .before .before .before .before .pre) .1 .1 .1) refl
+    (rw ((c .before .before .before .before .before .before .before .before .bit-of) .ensures))
+    (sym (not-false _ ((c .before .before .before .before .before .if1) .left))
+    ∙ (c .before .before .before .before .before .before .left-of) .ensures))
     ((c .before .before .before .write-row) .ensures) ((c .is-done) .ensures)
 
 pub take-truth-spec : {M : Type 1} → statement M

@@ -76,7 +76,8 @@ allZeros (b ∷ s) = eqb b 48 && allZeros s
 unfoldable pub tailGood : ℕ → List ℕ → Bool
 tailGood k [] = true
 tailGood k (b ∷ s) =
-    cond (eqb b 46) (cond (eqb (length s) k) (cond (eqb k 0) false (allZeros s)) false) (cond (ltb (length (b ∷ s)) k) (allZeros (b ∷ s)) false)
+    cond (eqb b 46) (cond (eqb (length s) k) (cond (eqb k 0) false (allZeros s)) false)
+    (cond (ltb (length (b ∷ s)) k) (allZeros (b ∷ s)) false)
 
 unfoldable pub leftOf : ℕ → List ℕ → List ℕ → Bool
 leftOf k s [] = tailGood k s
@@ -96,5 +97,6 @@ triedAs left accepted x = cond left (cond accepted (holds x) illegal) illegal
 -- THE VALUE of a field: `holds` it, or `illegal`
 unfoldable pub valueFrom : List ℤ → ℕ → Row → List ℕ → Field
 valueFrom t v r f =
-    triedAs (leftOf (decimalsOf (r .kind)) (valueText (decimalsOf (r .kind)) (guessOf (r .kind) f)) f) (isFits (fitOf t v r (guessOf (r .kind) f)))
+    triedAs (leftOf (decimalsOf (r .kind)) (valueText (decimalsOf (r .kind)) (guessOf (r .kind) f)) f)
+    (isFits (fitOf t v r (guessOf (r .kind) f)))
     (guessOf (r .kind) f)

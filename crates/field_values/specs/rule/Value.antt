@@ -1,4 +1,5 @@
--- When a field of a text is a value of its row (document 02, C-23): a field is a value exactly when it is what export writes for a value that
+-- When a field of a text is a value of its row (document 02, C-23): a field is a value exactly when it is what export writes for a value
+-- that
 -- the row's write accepts, needless quotes aside, and but for zeros cut from the end of a number's decimals, with the point where none is
 -- left: spreadsheets give 12.50 back as `12.5`, 12.00 as `12`. 46 is the point, 48 is 0.
 use mathlib.Core.Path.{_≡_}

@@ -9,16 +9,40 @@ use Rattle.files.proofs.judge_file.Statement.{statement}
 use Rattle.files.proofs.judge_file.Tie as tie
 
 judge-records-requires : tie.Need-judge-records-requires
-judge-records-requires c κs = (record { good = sym (c .before .before .before .before .before .before .well-formed .ensures .says) ∙ c .before .before .before .before .before .if1 .taken; head = c .before .before .before .before .read .ensures }, ((found-ending (c .before .before .before .find-terminator .ensures), omega arith), search needs))
+judge-records-requires c κs = (
+  record {
+    good = sym (c .before .before .before .before .before .before .well-formed .ensures .says)
+        ∙ c .before .before .before .before .before .if1 .taken;
+    head = c .before .before .before .before .read .ensures;
+  },
+  ((found-ending (c .before .before .before .find-terminator .ensures), omega arith), search needs),
+)
 
 returns : tie.Need-returns
-returns c = record { says = c .before .judge-records .ensures ∙ file-found _ (sym (c .before .before .before .before .before .before .before .before .well-formed .ensures .says) ∙ c .before .before .before .before .before .before .before .if1 .taken) (c .before .before .before .before .before .find-terminator .ensures) }
+returns c = record {
+  says = c .before .judge-records .ensures
+      ∙ file-found _ (sym (c .before .before .before .before .before .before .before .before .well-formed .ensures .says)
+      ∙ c .before .before .before .before .before .before .before .if1 .taken)
+      (c .before .before .before .before .before .find-terminator .ensures);
+}
 
 judge-records-requires-2 : tie.Need-judge-records-requires-2
-judge-records-requires-2 c κs = (record { good = sym (c .before .before .before .before .before .before .well-formed .ensures .says) ∙ c .before .before .before .before .before .if1 .taken; head = c .before .before .before .before .read .ensures }, ((found-ending (c .before .before .before .find-terminator .ensures), omega arith), search needs))
+judge-records-requires-2 c κs = (
+  record {
+    good = sym (c .before .before .before .before .before .before .well-formed .ensures .says)
+        ∙ c .before .before .before .before .before .if1 .taken;
+    head = c .before .before .before .before .read .ensures;
+  },
+  ((found-ending (c .before .before .before .find-terminator .ensures), omega arith), search needs),
+)
 
 returns-2 : tie.Need-returns-2
-returns-2 c = record { says = c .before .judge-records2 .ensures ∙ file-found _ (sym (c .before .before .before .before .before .before .before .before .well-formed .ensures .says) ∙ c .before .before .before .before .before .before .before .if1 .taken) (c .before .before .before .before .before .find-terminator .ensures) }
+returns-2 c = record {
+  says = c .before .judge-records2 .ensures
+      ∙ file-found _ (sym (c .before .before .before .before .before .before .before .before .well-formed .ensures .says)
+      ∙ c .before .before .before .before .before .before .before .if1 .taken)
+      (c .before .before .before .before .before .find-terminator .ensures);
+}
 
 returns-3 : tie.Need-returns-3
 unfolding fileVerdict fileSaid

@@ -18,39 +18,62 @@ use Rattle.files.proofs.judge_one.Tie as tie
 
 returns : tie.Need-returns
 unfolding fileSaid goOn
-returns c = rw (verdict-other (c .before .before .before .args .t .now) (c .before .before .before .args .first) (c .before .before .before .args .bytes .now) (c .if1 .taken))
+returns c = rw (verdict-other (c .before .before .before .args .t .now) (c .before .before .before .args .first)
+    (c .before .before .before .args .bytes .now) (c .if1 .taken))
 
 returns-2 : tie.Need-returns-2
 unfolding fileSaid goOn judgedAs
-returns-2 c = rw (verdict-short (c .before .before .before .before .before .args .t .now) (c .before .before .before .before .before .args .first) (c .before .before .before .before .before .args .bytes .now) (c .before .before .if1 .left) (rw (← tested-length (c .before .before .before .before .before .pre .0)) (c .if2 .taken)))
+returns-2 c = rw (verdict-short (c .before .before .before .before .before .args .t .now)
+    (c .before .before .before .before .before .args .first) (c .before .before .before .before .before .args .bytes .now)
+    (c .before .before .if1 .left) (rw (← tested-length (c .before .before .before .before .before .pre .0)) (c .if2 .taken)))
 
 -- the record is long enough
-long : (c : tie.Else2) → lengthOf (c .before .before .before .before .before .args .t .now) ≤ length (c .before .before .before .before .before .args .bytes .now)
+long : (c : tie.Else2) → lengthOf (c .before .before .before .before .before .args .t .now)
+    ≤ length (c .before .before .before .before .before .args .bytes .now)
 long c = rw (← tested-length (c .before .before .before .before .before .pre .0)) (c .if2 .left)
 
 judge-rows-requires : tie.Need-judge-rows-requires
-judge-rows-requires c κs = (rw (tested-rows (c .before .before .before .before .before .before .pre .0)) (table-ready (c .before .before .before .before .before .before .args .t .now) (c .before .before .before .before .before .before .pre .0 .good) (length (c .before .before .before .before .before .before .args .bytes .now)) (long (c .before))), omega (arith, c .before .before .before .before .before .before .pre .1 .1))
+judge-rows-requires c κs = (
+  rw (tested-rows (c .before .before .before .before .before .before .pre .0))
+      (table-ready (c .before .before .before .before .before .before .args .t .now)
+      (c .before .before .before .before .before .before .pre .0 .good)
+      (length (c .before .before .before .before .before .before .args .bytes .now)) (long (c .before))),
+  omega (arith, c .before .before .before .before .before .before .pre .1 .1),
+)
 
 -- what the rows say is what the record is judged to be
-verdict : (c : tie.After-judge-rows) → judgedAs (c .judge-rows .result) ≡ recordVerdict (c .before .before .before .before .before .before .before .args .t .now) (c .before .before .before .before .before .before .before .args .first) (c .before .before .before .before .before .before .before .args .bytes .now)
+verdict : (c : tie.After-judge-rows) → judgedAs (c .judge-rows .result)
+    ≡ recordVerdict (c .before .before .before .before .before .before .before .args .t .now)
+    (c .before .before .before .before .before .before .before .args .first)
+    (c .before .before .before .before .before .before .before .args .bytes .now)
 verdict c =
     c .judge-rows .ensures
     ∙ rw (tested-rows (c .before .before .before .before .before .before .before .pre .0))
-    (sym (verdict-rows (c .before .before .before .before .before .before .before .args .t .now) (c .before .before .before .before .before .before .before .args .first) (c .before .before .before .before .before .before .before .args .bytes .now) (c .before .before .before .before .if1 .left) (long (c .before .before))))
+    (sym (verdict-rows (c .before .before .before .before .before .before .before .args .t .now)
+    (c .before .before .before .before .before .before .before .args .first)
+    (c .before .before .before .before .before .before .before .args .bytes .now) (c .before .before .before .before .if1 .left)
+    (long (c .before .before))))
 
 returns-3 : tie.Need-returns-3
 unfolding fileSaid
 returns-3 c =
-    sym (go-sound (recordVerdict (c .before .before .before .before .before .before .before .before .before .before .before .args .t .now) (c .before .before .before .before .before .before .before .before .before .before .before .args .first) (c .before .before .before .before .before .before .before .before .before .before .before .args .bytes .now)) (c .before .before .before .before .before .before .before .before .before .before .before .args .n) _
+    sym (go-sound (recordVerdict (c .before .before .before .before .before .before .before .before .before .before .before .args .t .now)
+    (c .before .before .before .before .before .before .before .before .before .before .before .args .first)
+    (c .before .before .before .before .before .before .before .before .before .before .before .args .bytes .now))
+    (c .before .before .before .before .before .before .before .before .before .before .before .args .n) _
     (ap isSound (sym (verdict (c .before .before .before .before))) ∙ sym (c .before .is-sound .ensures) ∙ c .if3 .taken))
 
 returns-4 : tie.Need-returns-4
 unfolding fileSaid
 returns-4 c =
     rw (verdict (c .before .before .before .before))
-    (sym (go-fault (recordVerdict (c .before .before .before .before .before .before .before .before .before .before .before .args .t .now) (c .before .before .before .before .before .before .before .before .before .before .before .args .first) (c .before .before .before .before .before .before .before .before .before .before .before .args .bytes .now)) (c .before .before .before .before .before .before .before .before .before .before .before .args .n) _
+    (sym (go-fault (recordVerdict (c .before .before .before .before .before .before .before .before .before .before .before .args .t .now)
+    (c .before .before .before .before .before .before .before .before .before .before .before .args .first)
+    (c .before .before .before .before .before .before .before .before .before .before .before .args .bytes .now))
+    (c .before .before .before .before .before .before .before .before .before .before .before .args .n) _
     (ap isSound (sym (verdict (c .before .before .before .before))) ∙ sym (c .before .is-sound .ensures) ∙ c .if3 .left)))
 
 pub judge-one-spec : {M : Type 1} → statement M
 judge-one-spec =
-    tie.close (tie.spec (λ c. omega arith) returns (λ c. omega arith) returns-2 judge-rows-requires (λ c κs. search needs) (λ c. omega arith) (λ c. search needs) returns-3 (λ c. omega arith) (λ c. search needs) returns-4)
+    tie.close (tie.spec (λ c. omega arith) returns (λ c. omega arith) returns-2 judge-rows-requires (λ c κs. search needs)
+    (λ c. omega arith) (λ c. search needs) returns-3 (λ c. omega arith) (λ c. search needs) returns-4)

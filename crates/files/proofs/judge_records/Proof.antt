@@ -18,7 +18,8 @@ use Rattle.files.proofs.judge_records.Tie as tie
 
 abbrev Inv-loop : tie.InvT-loop
 Inv-loop t h d w past known scratch₀ from₀ n₀ first₀ scratch from n first =
-    (n ≤ from + 1) × (length scratch ≡ length scratch₀) × (recordsVerdict t past known (recordsFrom w d) ≡ recordsVerdict t n first (recordsFrom w (drop from d)))
+    (n ≤ from + 1) × (length scratch ≡ length scratch₀)
+    × (recordsVerdict t past known (recordsFrom w d) ≡ recordsVerdict t n first (recordsFrom w (drop from d)))
 
 abbrev μ-loop : tie.MeasureT-loop
 μ-loop t h d w past known scratch₀ from₀ n₀ first₀ scratch from n first = length d - from
@@ -27,8 +28,16 @@ loop-holds : tie.Need-loop-holds Inv-loop μ-loop
 loop-holds c = (omega (arith, c .before .before .pre .1 .0 .1), refl, refl)
 
 -- what was found of the record that starts here
-ended : (c : tie.After-known-told Inv-loop μ-loop) → EndedAt (c .before .before .before .before .before .before .before .before .args .d .now) (c .before .before .before .before .before .before .before .before .args .w) (c .before .before .before .before .before .loop .from) (recordsFrom (c .before .before .before .before .before .before .before .before .args .w) (drop (c .before .before .before .before .before .loop .from) (c .before .before .before .before .before .before .before .before .args .d .now))) (c .before .start .given .0 .0) (c .before .start .given .0 .1 .0) (c .before .start .given .0 .1 .1 .0)
-ended c = next-ended (c .before .before .before .before .before .before .before .before .args .d .now) (c .before .before .before .before .before .before .before .before .args .w) (c .before .before .before .before .before .loop .from) (sym (c .before .before .before .next-from .ensures) ∙ c .before .start .given .1)
+ended : (c : tie.After-known-told Inv-loop μ-loop)
+    → EndedAt (c .before .before .before .before .before .before .before .before .args .d .now)
+    (c .before .before .before .before .before .before .before .before .args .w) (c .before .before .before .before .before .loop .from)
+    (recordsFrom (c .before .before .before .before .before .before .before .before .args .w)
+    (drop (c .before .before .before .before .before .loop .from)
+    (c .before .before .before .before .before .before .before .before .args .d .now))) (c .before .start .given .0 .0)
+    (c .before .start .given .0 .1 .0) (c .before .start .given .0 .1 .1 .0)
+ended c = next-ended (c .before .before .before .before .before .before .before .before .args .d .now)
+    (c .before .before .before .before .before .before .before .before .args .w) (c .before .before .before .before .before .loop .from)
+    (sym (c .before .before .before .next-from .ensures) ∙ c .before .start .given .1)
 
 sub-first-length : tie.Need-sub-first-length Inv-loop μ-loop
 sub-first-length c = omega (arith, ended c .starts, ended c .after)
@@ -43,42 +52,128 @@ part-judge-one-end : tie.Need-part-judge-one-end Inv-loop μ-loop
 part-judge-one-end c = omega (arith, ended (c .before) .starts, ended (c .before) .after, ended (c .before) .inside)
 
 judge-one-requires : tie.Need-judge-one-requires Inv-loop μ-loop
-judge-one-requires c κs = (c .before .before .before .before .before .before .before .before .before .before .before .pre .0, (omega arith, rw (c .before .before .before .before .before .before .before .before .loop .inv .1) (c .before .before .before .before .before .before .before .before .before .before .before .pre .1 .1)))
+judge-one-requires c κs = (
+  c .before .before .before .before .before .before .before .before .before .before .before .pre .0,
+  (
+    omega arith,
+    rw (c .before .before .before .before .before .before .before .before .loop .inv .1)
+        (c .before .before .before .before .before .before .before .before .before .before .before .pre .1 .1),
+  ),
+)
 
 -- the record's bytes, its length, and what it is judged to be
-bytes-length : (c : tie.After-first-length Inv-loop μ-loop) → length (part (c .before .before .before .before .before .before .before .before .before .args .d .now) (c .before .before .before .before .before .before .loop .from) (c .before .before .start .given .0 .1 .0)) ≡ c .before .before .start .given .0 .1 .0 - c .before .before .start .given .0 .0
+bytes-length : (c : tie.After-first-length Inv-loop μ-loop)
+    → length (part (c .before .before .before .before .before .before .before .before .before .args .d .now)
+    (c .before .before .before .before .before .before .loop .from) (c .before .before .start .given .0 .1 .0))
+    ≡ c .before .before .start .given .0 .1 .0 - c .before .before .start .given .0 .0
 bytes-length c =
     let e = ended (c .before) in
     rw (length-take, length-drop) (omega arith)
 
 -- the first record's length is known then
-first-here : (c : tie.After-first-length Inv-loop μ-loop) → c .first-length .result ≡ firstLength (c .before .before .before .before .before .before .loop .n) (c .before .before .before .before .before .before .loop .first) (length (part (c .before .before .before .before .before .before .before .before .before .args .d .now) (c .before .before .before .before .before .before .loop .from) (c .before .before .start .given .0 .1 .0)))
-first-here c = c .first-length .ensures ∙ ap (firstLength (c .before .before .before .before .before .before .loop .n) (c .before .before .before .before .before .before .loop .first)) (sym (bytes-length c))
+first-here : (c : tie.After-first-length Inv-loop μ-loop) → c .first-length .result
+    ≡ firstLength (c .before .before .before .before .before .before .loop .n)
+    (c .before .before .before .before .before .before .loop .first)
+    (length (part (c .before .before .before .before .before .before .before .before .before .args .d .now)
+    (c .before .before .before .before .before .before .loop .from) (c .before .before .start .given .0 .1 .0)))
+first-here c = c .first-length .ensures ∙ ap (firstLength (c .before .before .before .before .before .before .loop .n)
+    (c .before .before .before .before .before .before .loop .first)) (sym (bytes-length c))
 
-judged : (c : tie.After-judge-one Inv-loop μ-loop) → fileSaid (c .judge-one .result) ≡ goOn (recordVerdict (c .before .before .before .before .before .before .before .before .before .before .before .before .args .t .now) (firstLength (c .before .before .before .before .before .before .before .before .before .loop .n) (c .before .before .before .before .before .before .before .before .before .loop .first) (length (part (c .before .before .before .before .before .before .before .before .before .before .before .before .args .d .now) (c .before .before .before .before .before .before .before .before .before .loop .from) (c .before .before .before .before .before .start .given .0 .1 .0)))) (part (c .before .before .before .before .before .before .before .before .before .before .before .before .args .d .now) (c .before .before .before .before .before .before .before .before .before .loop .from) (c .before .before .before .before .before .start .given .0 .1 .0))) (c .before .before .before .before .before .before .before .before .before .loop .n) (soundWith (c .before .before .before .before .before .before .before .before .before .loop .n + 1))
+judged : (c : tie.After-judge-one Inv-loop μ-loop) → fileSaid (c .judge-one .result)
+    ≡ goOn (recordVerdict (c .before .before .before .before .before .before .before .before .before .before .before .before .args .t .now)
+    (firstLength (c .before .before .before .before .before .before .before .before .before .loop .n)
+    (c .before .before .before .before .before .before .before .before .before .loop .first)
+    (length (part (c .before .before .before .before .before .before .before .before .before .before .before .before .args .d .now)
+    (c .before .before .before .before .before .before .before .before .before .loop .from)
+    (c .before .before .before .before .before .start .given .0 .1 .0))))
+    (part (c .before .before .before .before .before .before .before .before .before .before .before .before .args .d .now)
+    (c .before .before .before .before .before .before .before .before .before .loop .from)
+    (c .before .before .before .before .before .start .given .0 .1 .0)))
+    (c .before .before .before .before .before .before .before .before .before .loop .n)
+    (soundWith (c .before .before .before .before .before .before .before .before .before .loop .n + 1))
 judged c =
     c .judge-one .ensures
-    ∙ ap₂ (λ (f : ℕ) (r : List ℕ). goOn (recordVerdict (c .before .before .before .before .before .before .before .before .before .before .before .before .args .t .now) f r) (c .before .before .before .before .before .before .before .before .before .loop .n) (soundWith (c .before .before .before .before .before .before .before .before .before .loop .n + 1)))
+    ∙ ap₂ (λ (f : ℕ) (r : List ℕ). goOn (recordVerdict
+    (c .before .before .before .before .before .before .before .before .before .before .before .before .args .t .now) f r)
+    (c .before .before .before .before .before .before .before .before .before .loop .n)
+    (soundWith (c .before .before .before .before .before .before .before .before .before .loop .n + 1)))
     (first-here (c .before .before .before))
-    (ap (λ (a : ℕ). part (c .before .before .before .before .before .before .before .before .before .before .before .before .args .d .now) a (c .before .before .before .before .before .start .given .0 .1 .0)) (ended (c .before .before .before .before) .starts))
+    (ap (λ (a : ℕ). part (c .before .before .before .before .before .before .before .before .before .before .before .before .args .d .now) a
+    (c .before .before .before .before .before .start .given .0 .1 .0)) (ended (c .before .before .before .before) .starts))
 
 -- the file goes on where the record is sound
-going : (c : tie.After-goes-on Inv-loop μ-loop) → c .goes-on .result ≡ isSound (recordVerdict (c .before .before .before .before .before .before .before .before .before .before .before .before .before .before .before .args .t .now) (firstLength (c .before .before .before .before .before .before .before .before .before .before .before .before .loop .n) (c .before .before .before .before .before .before .before .before .before .before .before .before .loop .first) (length (part (c .before .before .before .before .before .before .before .before .before .before .before .before .before .before .before .args .d .now) (c .before .before .before .before .before .before .before .before .before .before .before .before .loop .from) (c .before .before .before .before .before .before .before .before .start .given .0 .1 .0)))) (part (c .before .before .before .before .before .before .before .before .before .before .before .before .before .before .before .args .d .now) (c .before .before .before .before .before .before .before .before .before .before .before .before .loop .from) (c .before .before .before .before .before .before .before .before .start .given .0 .1 .0)))
-going c = c .goes-on .ensures ∙ ap soundSoFar (judged (c .before .before .before)) ∙ so-far (recordVerdict (c .before .before .before .before .before .before .before .before .before .before .before .before .before .before .before .args .t .now) (firstLength (c .before .before .before .before .before .before .before .before .before .before .before .before .loop .n) (c .before .before .before .before .before .before .before .before .before .before .before .before .loop .first) (length (part (c .before .before .before .before .before .before .before .before .before .before .before .before .before .before .before .args .d .now) (c .before .before .before .before .before .before .before .before .before .before .before .before .loop .from) (c .before .before .before .before .before .before .before .before .start .given .0 .1 .0)))) (part (c .before .before .before .before .before .before .before .before .before .before .before .before .before .before .before .args .d .now) (c .before .before .before .before .before .before .before .before .before .before .before .before .loop .from) (c .before .before .before .before .before .before .before .before .start .given .0 .1 .0))) (c .before .before .before .before .before .before .before .before .before .before .before .before .loop .n)
+going : (c : tie.After-goes-on Inv-loop μ-loop) → c .goes-on .result
+    ≡ isSound
+    (recordVerdict
+    (c .before .before .before .before .before .before .before .before .before .before .before .before .before .before .before .args .t
+    .now) (firstLength (c .before .before .before .before .before .before .before .before .before .before .before .before .loop .n)
+    (c .before .before .before .before .before .before .before .before .before .before .before .before .loop .first)
+    (length (part
+    (c .before .before .before .before .before .before .before .before .before .before .before .before .before .before .before .args .d
+    .now) (c .before .before .before .before .before .before .before .before .before .before .before .before .loop .from)
+    (c .before .before .before .before .before .before .before .before .start .given .0 .1 .0))))
+    (part (c .before .before .before .before .before .before .before .before .before .before .before .before .before .before .before .args
+    .d .now) (c .before .before .before .before .before .before .before .before .before .before .before .before .loop .from)
+    (c .before .before .before .before .before .before .before .before .start .given .0 .1 .0)))
+going c = c .goes-on .ensures ∙ ap soundSoFar (judged (c .before .before .before))
+    ∙ so-far (recordVerdict
+    (c .before .before .before .before .before .before .before .before .before .before .before .before .before .before .before .args .t
+    .now) (firstLength (c .before .before .before .before .before .before .before .before .before .before .before .before .loop .n)
+    (c .before .before .before .before .before .before .before .before .before .before .before .before .loop .first)
+    (length (part
+    (c .before .before .before .before .before .before .before .before .before .before .before .before .before .before .before .args .d
+    .now) (c .before .before .before .before .before .before .before .before .before .before .before .before .loop .from)
+    (c .before .before .before .before .before .before .before .before .start .given .0 .1 .0))))
+    (part (c .before .before .before .before .before .before .before .before .before .before .before .before .before .before .before .args
+    .d .now) (c .before .before .before .before .before .before .before .before .before .before .before .before .loop .from)
+    (c .before .before .before .before .before .before .before .before .start .given .0 .1 .0)))
+    (c .before .before .before .before .before .before .before .before .before .before .before .before .loop .n)
 
 returns : tie.Need-returns Inv-loop μ-loop
 returns c =
     let e = ended (c .before .before .before .before .before .before .before .before) in
     judged (c .before .before .before .before)
-    ∙ go-same (recordVerdict (c .before .before .before .before .before .before .before .before .before .before .before .before .before .before .before .before .args .t .now) (firstLength (c .before .before .before .before .before .before .before .before .before .before .before .before .before .loop .n) (c .before .before .before .before .before .before .before .before .before .before .before .before .before .loop .first) (length (part (c .before .before .before .before .before .before .before .before .before .before .before .before .before .before .before .before .args .d .now) (c .before .before .before .before .before .before .before .before .before .before .before .before .before .loop .from) (c .before .before .before .before .before .before .before .before .before .start .given .0 .1 .0)))) (part (c .before .before .before .before .before .before .before .before .before .before .before .before .before .before .before .before .args .d .now) (c .before .before .before .before .before .before .before .before .before .before .before .before .before .loop .from) (c .before .before .before .before .before .before .before .before .before .start .given .0 .1 .0))) (c .before .before .before .before .before .before .before .before .before .before .before .before .before .loop .n) _ _ (sym (going (c .before)) ∙ not-true _ (c .if1 .taken))
-    ∙ sym (c .before .before .before .before .before .before .before .before .before .before .before .before .before .loop .inv .2 ∙ records-next _ _ _ _ (e .records))
+    ∙ go-same
+    (recordVerdict
+    (c .before .before .before .before .before .before .before .before .before .before .before .before .before .before .before .before .args
+    .t .now) (firstLength
+    (c .before .before .before .before .before .before .before .before .before .before .before .before .before .loop .n)
+    (c .before .before .before .before .before .before .before .before .before .before .before .before .before .loop .first)
+    (length (part
+    (c .before .before .before .before .before .before .before .before .before .before .before .before .before .before .before .before .args
+    .d .now) (c .before .before .before .before .before .before .before .before .before .before .before .before .before .loop .from)
+    (c .before .before .before .before .before .before .before .before .before .start .given .0 .1 .0))))
+    (part (c .before .before .before .before .before .before .before .before .before .before .before .before .before .before .before .before
+    .args .d .now) (c .before .before .before .before .before .before .before .before .before .before .before .before .before .loop .from)
+    (c .before .before .before .before .before .before .before .before .before .start .given .0 .1 .0)))
+    (c .before .before .before .before .before .before .before .before .before .before .before .before .before .loop .n) _ _
+    (sym (going (c .before)) ∙ not-true _ (c .if1 .taken))
+    ∙ sym (c .before .before .before .before .before .before .before .before .before .before .before .before .before .loop .inv .2
+    ∙ records-next _ _ _ _ (e .records))
 
 -- the sound record was long enough, so the first one's length is
 pass-sound-requires : tie.Need-pass-sound-requires Inv-loop μ-loop
 pass-sound-requires c κs =
     let e = ended (c .before .before .before .before .before .before .before .before .before) in
-    let l = sound-long _ _ _ (sym (going (c .before .before)) ∙ not-false _ (c .before .if1 .left)) in
-    ((c .before .before .before .before .before .before .before .before .before .before .before .before .before .before .before .before .before .pre .0, rw (first-here (c .before .before .before .before .before .before .before .before)) l), ((c .before .before .before .before .before .before .before .before .before .before .before .before .before .before .before .before .before .pre .1 .0 .0, omega arith, omega (arith, e .starts, e .after, e .next, e .sized)), rw (c .before .before .before .before .before .judge-one .kept .1 .1 .1 .1 .1 .0 ∙ c .before .before .before .before .before .before .before .before .before .before .before .before .before .before .loop .inv .1) (c .before .before .before .before .before .before .before .before .before .before .before .before .before .before .before .before .before .pre .1 .1)))
+    let l = sound-long _ _ _ (sym (going (c .before .before)) ∙ not-false _ (c .before .if1 .left)) in (
+      (
+        c .before .before .before .before .before .before .before .before .before .before .before .before .before .before .before .before
+            .before .pre .0,
+        rw (first-here (c .before .before .before .before .before .before .before .before)) l,
+      ),
+      (
+        (
+          c .before .before .before .before .before .before .before .before .before .before .before .before .before .before .before .before
+              .before .pre .1 .0 .0,
+          omega arith,
+          omega (arith, e .starts, e .after, e .next, e .sized),
+        ),
+        rw (c .before .before .before .before .before .judge-one .kept .1 .1 .1 .1 .1 .0
+            ∙ c .before .before .before .before .before .before .before .before .before .before .before .before .before .before .loop .inv
+            .1) (c .before .before .before .before .before .before .before .before .before .before .before .before .before .before .before
+            .before .before .pre .1 .1),
+      ),
+    )
 
 loop-less : tie.Need-loop-less Inv-loop μ-loop
 loop-less c =
@@ -87,19 +182,56 @@ loop-less c =
 
 loop-again : tie.Need-loop-again Inv-loop μ-loop
 loop-again c =
-    let e = ended (c .before .before .before .before .before .before .before .before .before .before .before .before) in let p = c .before .before .pass-sound .ensures in let a = c .before .before .before .before .before .before .before .before .before .before .before .before .before .before .before .before .before .before .before .before .args in (
+    let e = ended (c .before .before .before .before .before .before .before .before .before .before .before .before) in
+    let p = c .before .before .pass-sound .ensures in
+    let a = c .before .before .before .before .before .before .before .before .before .before .before .before .before .before .before
+    .before .before .before .before .before .args in (
       p .fewer,
-      c .before .before .pass-sound .kept .1 .1 .1 .1 .1 .1 .0 ∙ c .before .before .before .before .before .before .before .before .judge-one .kept .1 .1 .1 .1 .1 .0 ∙ c .before .before .before .before .before .before .before .before .before .before .before .before .before .before .before .before .before .loop .inv .1,
-      c .before .before .before .before .before .before .before .before .before .before .before .before .before .before .before .before .before .loop .inv .2 ∙ records-next _ _ _ _ (e .records)
-          ∙ go-sound (recordVerdict (c .before .before .before .before .before .before .before .before .before .before .before .before .before .before .before .before .before .before .before .before .args .t .now) (firstLength (c .before .before .before .before .before .before .before .before .before .before .before .before .before .before .before .before .before .loop .n) (c .before .before .before .before .before .before .before .before .before .before .before .before .before .before .before .before .before .loop .first) (length (part (c .before .before .before .before .before .before .before .before .before .before .before .before .before .before .before .before .before .before .before .before .args .d .now) (c .before .before .before .before .before .before .before .before .before .before .before .before .before .before .before .before .before .loop .from) (c .before .before .before .before .before .before .before .before .before .before .before .before .before .start .given .0 .1 .0)))) (part (c .before .before .before .before .before .before .before .before .before .before .before .before .before .before .before .before .before .before .before .before .args .d .now) (c .before .before .before .before .before .before .before .before .before .before .before .before .before .before .before .before .before .loop .from) (c .before .before .before .before .before .before .before .before .before .before .before .before .before .start .given .0 .1 .0))) (c .before .before .before .before .before .before .before .before .before .before .before .before .before .before .before .before .before .loop .n) _ (sym (going (c .before .before .before .before .before)) ∙ not-false _ (c .before .before .before .before .if1 .left))
-          ∙ ap (λ (f : ℕ). recordsVerdict (a .t .now) (c .before .before .before .before .before .before .before .before .before .before .before .before .before .before .before .before .before .loop .n + 1) f (recordsFrom (a .w) (drop (c .before .before .before .before .before .before .before .before .before .before .before .before .before .start .given .0 .1 .1 .0) (a .d .now)))) (sym (first-here (c .before .before .before .before .before .before .before .before .before .before .before)))
+      c .before .before .pass-sound .kept .1 .1 .1 .1 .1 .1 .0
+          ∙ c .before .before .before .before .before .before .before .before .judge-one .kept .1 .1 .1 .1 .1 .0
+          ∙ c .before .before .before .before .before .before .before .before .before .before .before .before .before .before .before
+          .before .before .loop .inv .1,
+      c .before .before .before .before .before .before .before .before .before .before .before .before .before .before .before .before
+          .before .loop .inv .2 ∙ records-next _ _ _ _ (e .records)
+          ∙ go-sound
+          (recordVerdict
+          (c .before .before .before .before .before .before .before .before .before .before .before .before .before .before .before .before
+          .before .before .before .before .args .t .now)
+          (firstLength
+          (c .before .before .before .before .before .before .before .before .before .before .before .before .before .before .before .before
+          .before .loop .n)
+          (c .before .before .before .before .before .before .before .before .before .before .before .before .before .before .before .before
+          .before .loop .first)
+          (length (part
+          (c .before .before .before .before .before .before .before .before .before .before .before .before .before .before .before .before
+          .before .before .before .before .args .d .now)
+          (c .before .before .before .before .before .before .before .before .before .before .before .before .before .before .before .before
+          .before .loop .from)
+          (c .before .before .before .before .before .before .before .before .before .before .before .before .before .start .given .0 .1
+          .0)))) (part
+          (c .before .before .before .before .before .before .before .before .before .before .before .before .before .before .before .before
+          .before .before .before .before .args .d .now)
+          (c .before .before .before .before .before .before .before .before .before .before .before .before .before .before .before .before
+          .before .loop .from)
+          (c .before .before .before .before .before .before .before .before .before .before .before .before .before .start .given .0 .1
+          .0))) (c .before .before .before .before .before .before .before .before .before .before .before .before .before .before .before
+          .before .before .loop .n) _ (sym (going (c .before .before .before .before .before))
+          ∙ not-false _ (c .before .before .before .before .if1 .left))
+          ∙ ap (λ (f : ℕ). recordsVerdict (a .t .now)
+          (c .before .before .before .before .before .before .before .before .before .before .before .before .before .before .before .before
+          .before .loop .n + 1) f (recordsFrom (a .w)
+          (drop (c .before .before .before .before .before .before .before .before .before .before .before .before .before .start .given .0
+          .1 .1 .0) (a .d .now)))) (sym (first-here
+          (c .before .before .before .before .before .before .before .before .before .before .before)))
           ∙ p .same,
     )
 
 returns-2 : tie.Need-returns-2 Inv-loop μ-loop
 unfolding fileSaid
 returns-2 c =
-    let u = next-unended (c .before .before .before .before .before .before .before .args .d .now) (c .before .before .before .before .before .before .before .args .w) (c .before .before .before .before .loop .from) (sym (c .before .before .next-from .ensures) ∙ c .enum-told .given .1) in
+    let u = next-unended (c .before .before .before .before .before .before .before .args .d .now)
+    (c .before .before .before .before .before .before .before .args .w) (c .before .before .before .before .loop .from)
+    (sym (c .before .before .next-from .ensures) ∙ c .enum-told .given .1) in
     sym (c .before .before .before .before .loop .inv .2 ∙ records-unended _ _ _ _ (u .records))
 
 returns-3 : tie.Need-returns-3 Inv-loop μ-loop
@@ -107,14 +239,20 @@ unfolding fileSaid
 returns-3 c =
     let d = c .before .before .before .before .before .before .before .args .d .now in
     let w = c .before .before .before .before .before .before .before .args .w in
-    sym (c .before .before .before .before .loop .inv .2 ∙ records-over _ _ _ _ (over-past d w (c .before .before .before .before .loop .from) (next-nothing d w (c .before .before .before .before .loop .from) (sym (c .before .before .next-from .ensures) ∙ c .enum-told2 .given .1))))
+    sym (c .before .before .before .before .loop .inv .2
+    ∙ records-over _ _ _ _ (over-past d w (c .before .before .before .before .loop .from)
+    (next-nothing d w (c .before .before .before .before .loop .from)
+    (sym (c .before .before .next-from .ensures) ∙ c .enum-told2 .given .1))))
 
 returns-4 : tie.Need-returns-4 Inv-loop μ-loop
 unfolding fileSaid
-returns-4 c = sym (c .before .loop .inv .2 ∙ records-over _ _ _ _ (over-past (c .before .before .before .before .args .d .now) (c .before .before .before .before .args .w) (c .before .loop .from) (c .loop-test .left)))
+returns-4 c = sym (c .before .loop .inv .2 ∙ records-over _ _ _ _
+    (over-past (c .before .before .before .before .args .d .now) (c .before .before .before .before .args .w) (c .before .loop .from)
+    (c .loop-test .left)))
 
 same-length : tie.Need-same-length Inv-loop μ-loop
-same-length c = c .before .before .before .before .judge-one .kept .1 .1 .1 .1 .1 .0 ∙ c .before .before .before .before .before .before .before .before .before .before .before .before .before .loop .inv .1
+same-length c = c .before .before .before .before .judge-one .kept .1 .1 .1 .1 .1 .0
+    ∙ c .before .before .before .before .before .before .before .before .before .before .before .before .before .loop .inv .1
 
 same-length-2 : tie.Need-same-length-2 Inv-loop μ-loop
 same-length-2 c = c .before .before .before .before .loop .inv .1
@@ -127,4 +265,7 @@ same-length-4 c = c .before .loop .inv .1
 
 pub judge-records-spec : {M : Type 1} → statement M
 judge-records-spec =
-    tie.close (tie.spec Inv-loop μ-loop loop-holds (λ c κs. search needs) (λ c. search needs) sub-first-length (λ c κs. search needs) sub-judge-one part-judge-one-start part-judge-one-end judge-one-requires (λ c κs. search needs) same-length returns (λ c. omega arith) pass-sound-requires loop-less loop-again (λ c. search needs) (λ c. omega arith) same-length-2 returns-2 (λ c. search needs) same-length-3 returns-3 same-length-4 returns-4)
+    tie.close (tie.spec Inv-loop μ-loop loop-holds (λ c κs. search needs) (λ c. search needs) sub-first-length (λ c κs. search needs)
+    sub-judge-one part-judge-one-start part-judge-one-end judge-one-requires (λ c κs. search needs) same-length returns (λ c. omega arith)
+    pass-sound-requires loop-less loop-again (λ c. search needs) (λ c. omega arith) same-length-2 returns-2 (λ c. search needs)
+    same-length-3 returns-3 same-length-4 returns-4)

@@ -14,12 +14,14 @@ use Rattle.files.specs.Passed.{sound-next}
 use Rattle.files.proofs.next_sound.Statement.{statement}
 use Rattle.files.proofs.next_sound.Tie as tie
 
-plain : (c : tie.Then1) → PlainNext (c .before .before .before .before .args .d .now) (c .before .before .before .before .args .w) (c .before .before .before .before .args .from) (c .before .before .before .before .args .first)
+plain : (c : tie.Then1) → PlainNext (c .before .before .before .before .args .d .now) (c .before .before .before .before .args .w)
+    (c .before .before .before .before .args .from) (c .before .before .before .before .args .first)
 plain c = c .before .next-plain .ensures (c .if1 .taken)
 
 plain-sound-requires : tie.Need-plain-sound-requires
 plain-sound-requires c κs =
-    let a = c .before .before .before .before .before .before .args in let g = c .before .before .before .before .before .before .pre .0 in let p = plain (c .before .before) in
+    let a = c .before .before .before .before .before .before .args in let g = c .before .before .before .before .before .before .pre .0 in
+    let p = plain (c .before .before) in
     let r : TableReady (a .t .now) (a .h .rows) (length (part (a .d .now) (a .from) (a .from + a .first))) =
     rw (p .long, tested-rows (g .0)) (table-ready (a .t .now) (g .0 .good) (a .first) (g .1)) in
     (r, (p .plain, omega (arith, c .before .before .before .before .before .before .pre .1 .1)))
@@ -27,7 +29,8 @@ plain-sound-requires c κs =
 returns : tie.Need-returns
 unfolding isSound
 returns c e =
-    let a = c .before .before .before .before .before .before .before .before .before .args in let g = c .before .before .before .before .before .before .before .before .before .pre .0 in
+    let a = c .before .before .before .before .before .before .before .before .before .args in
+    let g = c .before .before .before .before .before .before .before .before .before .pre .0 in
     let v : rowsVerdict (a .t .now) (rowsOf (a .t .now)) (part (a .d .now) (a .from) (a .from + a .first)) ≡ sound =
     rw (tested-rows (g .0)) at (c .before .before .plain-sound .ensures e) in
     sound-next (a .t .now) (a .d .now) (a .w) (a .first) (a .from) (plain (c .before .before .before .before .before)) (g .1) (sym v) refl

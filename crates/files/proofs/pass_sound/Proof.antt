@@ -21,18 +21,32 @@ loop-holds : tie.Need-loop-holds Inv-loop μ-loop
 loop-holds c = let p = c .before .before .pre .1 .0 in (refl, p .1, record { on = omega arith; fewer = p .2; same = refl })
 
 next-sound-requires : tie.Need-next-sound-requires Inv-loop μ-loop
-next-sound-requires c κs = (c .before .before .before .before .before .pre .0, ((c .before .before .before .before .before .pre .1 .0 .0, omega arith), rw (c .before .before .loop .inv .0) (c .before .before .before .before .before .pre .1 .1)))
+next-sound-requires c κs = (
+  c .before .before .before .before .before .pre .0,
+  (
+    (c .before .before .before .before .before .pre .1 .0 .0, omega arith),
+    rw (c .before .before .loop .inv .0) (c .before .before .before .before .before .pre .1 .1),
+  ),
+)
 
-sound : (c : tie.Else1 Inv-loop μ-loop) → SoundNext (c .before .before .before .before .before .before .before .before .before .args .t .now) (c .before .before .before .before .before .before .before .before .before .args .d .now) (c .before .before .before .before .before .before .before .before .before .args .w) (c .before .before .before .before .before .before .before .before .before .args .first) (c .before .before .before .before .before .before .loop .from)
+sound : (c : tie.Else1 Inv-loop μ-loop) → SoundNext
+    (c .before .before .before .before .before .before .before .before .before .args .t .now)
+    (c .before .before .before .before .before .before .before .before .before .args .d .now)
+    (c .before .before .before .before .before .before .before .before .before .args .w)
+    (c .before .before .before .before .before .before .before .before .before .args .first)
+    (c .before .before .before .before .before .before .loop .from)
 sound c = c .before .before .before .next-sound .ensures (not-false _ (c .if1 .left))
 
 -- a terminator was passed
 sized : (c : tie.Else1 Inv-loop μ-loop) → 1 ≤ c .before .before .before .before .before .before .before .before .before .args .w .size
-sized c = next-ended (c .before .before .before .before .before .before .before .before .before .args .d .now) (c .before .before .before .before .before .before .before .before .before .args .w) (c .before .before .before .before .before .before .loop .from) (sound c .next .ends) .sized
+sized c = next-ended (c .before .before .before .before .before .before .before .before .before .args .d .now)
+    (c .before .before .before .before .before .before .before .before .before .args .w)
+    (c .before .before .before .before .before .before .loop .from) (sound c .next .ends) .sized
 
 loop-again : tie.Need-loop-again Inv-loop μ-loop
 loop-again c =
-    let a = c .before .before .before .before .before .before .before .before .before .before .args in let l = c .before .before .before .before .before .before .before .loop in let p = l .inv .2 in let s = sound (c .before) in (
+    let a = c .before .before .before .before .before .before .before .before .before .before .args in
+    let l = c .before .before .before .before .before .before .before .loop in let p = l .inv .2 in let s = sound (c .before) in (
       c .before .before .before .before .next-sound .kept .1 .1 .1 .1 .1 .1 .0 ∙ l .inv .0,
       omega arith,
       record {
@@ -50,10 +64,12 @@ pass-sound-spec =
     μ-loop
     loop-holds
     next-sound-requires
-    (λ c. c .before .before .before .next-sound .kept .1 .1 .1 .1 .1 .1 .0 ∙ c .before .before .before .before .before .before .loop .inv .0)
+    (λ c. c .before .before .before .next-sound .kept .1 .1 .1 .1 .1 .1 .0
+    ∙ c .before .before .before .before .before .before .loop .inv .0)
     (λ c. c .before .before .before .before .before .before .loop .inv .2)
     (λ c. let h = sound c .next .inside in omega arith)
-    (λ c. let h = sound (c .before) .next .inside in omega (arith, c .before .before .before .before .before .before .before .before .before .before .pre .1 .0 .0 .few))
+    (λ c. let h = sound (c .before) .next .inside in
+    omega (arith, c .before .before .before .before .before .before .before .before .before .before .pre .1 .0 .0 .few))
     (λ c. let h = c .before .before .before .before .before .before .before .loop .inv .2 .fewer in omega arith)
     (λ c. omega (arith, sized (c .before)))
     loop-again

@@ -5,7 +5,8 @@ use Rattle.filters.proofs.find_filter.Statement.{statement}
 use Rattle.filters.proofs.find_filter.Tie as tie
 
 returns : tie.Need-returns
-returns c = let a = c .before .before .args in filter-used (a .latin) (a .standard) (a .d .now) (a .rows .now) (a .count) (textAt (a .p) (a .n)) (textAt (a .q) (a .m)) (a .usage) (c .if1 .taken)
+returns c = let a = c .before .before .args in filter-used (a .latin) (a .standard) (a .d .now) (a .rows .now) (a .count)
+    (textAt (a .p) (a .n)) (textAt (a .q) (a .m)) (a .usage) (c .if1 .taken)
 
 same-name-requires : tie.Need-same-name-requires
 same-name-requires c κs = (c .before .before .pre .1 .1, c .before .before .pre .1 .0)
@@ -13,7 +14,8 @@ same-name-requires c κs = (c .before .before .pre .1 .1, c .before .before .pre
 returns-2 : tie.Need-returns-2
 returns-2 c =
     let a = c .before .before .before .before .args in
-    filter-own (a .latin) (a .standard) (a .d .now) (a .rows .now) (a .count) (textAt (a .p) (a .n)) (textAt (a .q) (a .m)) (a .usage) (c .before .before .if1 .left) (sym (c .before .same-name .ensures) ∙ c .if2 .taken)
+    filter-own (a .latin) (a .standard) (a .d .now) (a .rows .now) (a .count) (textAt (a .p) (a .n)) (textAt (a .q) (a .m)) (a .usage)
+    (c .before .before .if1 .left) (sym (c .before .same-name .ensures) ∙ c .if2 .taken)
 
 count-named-requires : tie.Need-count-named-requires
 count-named-requires c κs = (c .before .before .before .before .pre .0, c .before .before .before .before .pre .1 .1)
@@ -21,15 +23,23 @@ count-named-requires c κs = (c .before .before .before .before .pre .0, c .befo
 returns-3 : tie.Need-returns-3
 returns-3 c =
     let a = c .before .before .before .before .before .before .args in
-    filter-many (a .latin) (a .standard) (a .d .now) (a .rows .now) (a .count) (textAt (a .p) (a .n)) (textAt (a .q) (a .m)) (a .usage) (c .before .before .before .before .if1 .left) (sym (c .before .before .before .same-name .ensures) ∙ c .before .before .if2 .left) _ (c .before .count-named .ensures) (c .if3 .taken)
+    filter-many (a .latin) (a .standard) (a .d .now) (a .rows .now) (a .count) (textAt (a .p) (a .n)) (textAt (a .q) (a .m)) (a .usage)
+    (c .before .before .before .before .if1 .left) (sym (c .before .before .before .same-name .ensures) ∙ c .before .before .if2 .left) _
+    (c .before .count-named .ensures) (c .if3 .taken)
 
 find-logical-requires : tie.Need-find-logical-requires
-find-logical-requires c κs = (c .before .before .before .before .before .before .pre .0, c .before .before .before .before .before .before .pre .1 .1)
+find-logical-requires c κs = (
+  c .before .before .before .before .before .before .pre .0,
+  c .before .before .before .before .before .before .pre .1 .1,
+)
 
 returns-4 : tie.Need-returns-4
 returns-4 c =
     let a = c .before .before .before .before .before .before .before .args in
-    filter-one (a .latin) (a .standard) (a .d .now) (a .rows .now) (a .count) (textAt (a .p) (a .n)) (textAt (a .q) (a .m)) (a .usage) (c .before .before .before .before .before .if1 .left) (sym (c .before .before .before .before .same-name .ensures) ∙ c .before .before .before .if2 .left) _ _ (c .before .before .count-named .ensures) (c .before .if3 .left) (c .find-logical .ensures)
+    filter-one (a .latin) (a .standard) (a .d .now) (a .rows .now) (a .count) (textAt (a .p) (a .n)) (textAt (a .q) (a .m)) (a .usage)
+    (c .before .before .before .before .before .if1 .left)
+    (sym (c .before .before .before .before .same-name .ensures) ∙ c .before .before .before .if2 .left) _ _
+    (c .before .before .count-named .ensures) (c .before .if3 .left) (c .find-logical .ensures)
 
 pub find-filter-spec : {M : Type 1} → statement M
 find-filter-spec = tie.close (tie.spec returns same-name-requires returns-2 count-named-requires returns-3 find-logical-requires returns-4)

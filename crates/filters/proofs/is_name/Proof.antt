@@ -7,7 +7,8 @@ column-requires : tie.Need-column-requires
 column-requires c κs = let y = c .before .pre .0 in let h = c .before .pre .1 .0 in let f = y .few in (y .room, omega arith, omega arith)
 
 column-requires-2 : tie.Need-column-requires-2
-column-requires-2 c κs = let y = c .before .before .pre .0 in let h = c .before .before .pre .1 .0 in let f = y .few in (y .room, omega arith, omega arith)
+column-requires-2 c κs = let y = c .before .before .pre .0 in let h = c .before .before .pre .1 .0 in
+    let f = y .few in (y .room, omega arith, omega arith)
 
 same-name-requires : tie.Need-same-name-requires
 same-name-requires c κs =

@@ -21,7 +21,8 @@ is-name-requires c κs =
     (c .before .before .before .pre .0, (omega arith, c .before .before .before .pre .1 .1))
 
 returns-2 : tie.Need-returns-2
-returns-2 c = c .is-name .ensures ∙ rw (c .before .before .column .ensures) (some-served _ _ (λ z. c .before .if1 .left (c .before .before .column .ensures ∙ z)))
+returns-2 c = c .is-name .ensures ∙ rw (c .before .before .column .ensures)
+    (some-served _ _ (λ z. c .before .if1 .left (c .before .before .column .ensures ∙ z)))
 
 pub is-served-spec : {M : Type 1} → statement M
 is-served-spec = tie.close (tie.spec column-requires returns sub-is-name is-name-requires returns-2)

@@ -13,27 +13,42 @@ next-sign-requires-2 c κs = let r = c .before .before .before .pre .1 in (r .ne
 returns : tie.Need-returns
 returns c =
     let a = c .before .before .before .before .before .before .before .before .before .before .before .before .args in
-    meets-on (a .latin) (a .standard) (a .s .now) (a .t .now) (a .a) (a .b) (c .before .before .before .before .before .before .before .before .before .next-sign .ensures) (c .before .before .before .before .before .before .before .before .next-sign2 .ensures) _ _ _ _ (c .before .before .before .before .before .before .u .given .1) (c .before .before .before .v .given .1) (sym (c .before .like .ensures) ∙ c .if1 .taken)
+    meets-on (a .latin) (a .standard) (a .s .now) (a .t .now) (a .a) (a .b)
+    (c .before .before .before .before .before .before .before .before .before .next-sign .ensures)
+    (c .before .before .before .before .before .before .before .before .next-sign2 .ensures) _ _ _ _
+    (c .before .before .before .before .before .before .u .given .1) (c .before .before .before .v .given .1)
+    (sym (c .before .like .ensures) ∙ c .if1 .taken)
 
 returns-2 : tie.Need-returns-2
 returns-2 c =
     let a = c .before .before .before .before .before .before .before .before .before .before .before .before .args in
-    meets-apart (a .latin) (a .standard) (a .s .now) (a .t .now) (a .a) (a .b) (c .before .before .before .before .before .before .before .before .before .next-sign .ensures) (c .before .before .before .before .before .before .before .before .next-sign2 .ensures) _ _ _ _ (c .before .before .before .before .before .before .u .given .1) (c .before .before .before .v .given .1) (sym (c .before .like .ensures) ∙ c .if1 .left)
+    meets-apart (a .latin) (a .standard) (a .s .now) (a .t .now) (a .a) (a .b)
+    (c .before .before .before .before .before .before .before .before .before .next-sign .ensures)
+    (c .before .before .before .before .before .before .before .before .next-sign2 .ensures) _ _ _ _
+    (c .before .before .before .before .before .before .u .given .1) (c .before .before .before .v .given .1)
+    (sym (c .before .like .ensures) ∙ c .if1 .left)
 
 returns-3 : tie.Need-returns-3
 returns-3 c =
     let a = c .before .before .before .before .before .before .before .before .before .args in
-    meets-first (a .latin) (a .standard) (a .s .now) (a .t .now) (a .a) (a .b) (c .before .before .before .before .before .before .next-sign .ensures) (c .before .before .before .before .before .next-sign2 .ensures) _ _ (c .before .before .before .u .given .1) (c .enum-told .given .1)
+    meets-first (a .latin) (a .standard) (a .s .now) (a .t .now) (a .a) (a .b)
+    (c .before .before .before .before .before .before .next-sign .ensures) (c .before .before .before .before .before .next-sign2 .ensures)
+    _ _ (c .before .before .before .u .given .1) (c .enum-told .given .1)
 
 returns-4 : tie.Need-returns-4
 returns-4 c =
     let a = c .before .before .before .before .before .before .before .before .args in
-    meets-second (a .latin) (a .standard) (a .s .now) (a .t .now) (a .a) (a .b) (c .before .before .before .before .before .next-sign .ensures) (c .before .before .before .before .next-sign2 .ensures) _ _ (c .before .before .enum-told2 .given .1) (c .enum-told3 .given .1)
+    meets-second (a .latin) (a .standard) (a .s .now) (a .t .now) (a .a) (a .b)
+    (c .before .before .before .before .before .next-sign .ensures) (c .before .before .before .before .next-sign2 .ensures) _ _
+    (c .before .before .enum-told2 .given .1) (c .enum-told3 .given .1)
 
 returns-5 : tie.Need-returns-5
 returns-5 c =
     let a = c .before .before .before .before .before .before .before .before .args in
-    meets-none (a .latin) (a .standard) (a .s .now) (a .t .now) (a .a) (a .b) (c .before .before .before .before .before .next-sign .ensures) (c .before .before .before .before .next-sign2 .ensures) (c .before .before .enum-told2 .given .1) (c .enum-told4 .given .1)
+    meets-none (a .latin) (a .standard) (a .s .now) (a .t .now) (a .a) (a .b)
+    (c .before .before .before .before .before .next-sign .ensures) (c .before .before .before .before .next-sign2 .ensures)
+    (c .before .before .enum-told2 .given .1) (c .enum-told4 .given .1)
 
 pub meet-spec : {M : Type 1} → statement M
-meet-spec = tie.close (tie.spec next-sign-requires next-sign-requires-2 (λ c. search needs) (λ c. search needs) (λ c κs. search needs) returns (λ c. search needs) (λ c. search needs) (λ c. search needs) (λ c. search needs) returns-2 returns-3 returns-4 returns-5)
+meet-spec = tie.close (tie.spec next-sign-requires next-sign-requires-2 (λ c. search needs) (λ c. search needs) (λ c κs. search needs)
+    returns (λ c. search needs) (λ c. search needs) (λ c. search needs) (λ c. search needs) returns-2 returns-3 returns-4 returns-5)

@@ -41,13 +41,19 @@ may-stand-requires c κs = c .before .before .before .before .before .before .be
 
 returns : tie.Need-returns Inv-loop μ-loop
 returns c =
-    let s = told-one _ _ (c .before .before .before .before .before .before .before .before .next-sign .ensures) (c .before .before .before .before .before .before .sign .given .1) in
-    sym (c .before .before .before .before .before .before .before .before .before .before .loop .inv .0 ∙ key-bad _ _ (told (s .split) (c .before .before .before .sign2 .given .1)) (sym (c .before .may-stand .ensures) ∙ not-true _ (c .if1 .taken)))
+    let s = told-one _ _ (c .before .before .before .before .before .before .before .before .next-sign .ensures)
+    (c .before .before .before .before .before .before .sign .given .1) in
+    sym (c .before .before .before .before .before .before .before .before .before .before .loop .inv .0
+    ∙ key-bad _ _ (told (s .split) (c .before .before .before .sign2 .given .1))
+    (sym (c .before .may-stand .ensures) ∙ not-true _ (c .if1 .taken)))
 
 returns-2 : tie.Need-returns-2 Inv-loop μ-loop
 returns-2 c =
-    let s = told-one _ _ (c .before .before .before .before .before .before .before .before .before .next-sign .ensures) (c .before .before .before .before .before .before .before .sign .given .1) in
-    sym (c .before .before .before .before .before .before .before .before .before .before .before .loop .inv .0 ∙ key-long _ _ (told (s .split) (c .before .before .before .before .sign2 .given .1)) (sym (c .before .before .may-stand .ensures) ∙ not-false _ (c .before .if1 .left)) (c .if2 .taken))
+    let s = told-one _ _ (c .before .before .before .before .before .before .before .before .before .next-sign .ensures)
+    (c .before .before .before .before .before .before .before .sign .given .1) in
+    sym (c .before .before .before .before .before .before .before .before .before .before .before .loop .inv .0
+    ∙ key-long _ _ (told (s .split) (c .before .before .before .before .sign2 .given .1))
+    (sym (c .before .before .may-stand .ensures) ∙ not-false _ (c .before .if1 .left)) (c .if2 .taken))
 
 mul-key : tie.Need-mul-key Inv-loop μ-loop
 mul-key c =
@@ -65,9 +71,11 @@ loop-again : tie.Need-loop-again Inv-loop μ-loop
 loop-again c =
     let l = c .before .before .before .before .before .before .before .before .before .before .before .before .before .loop in
     let h : l .count < 8 = omega arith in
-    let s = told-one _ _ (c .before .before .before .before .before .before .before .before .before .before .before .next-sign .ensures) (c .before .before .before .before .before .before .before .before .before .sign .given .1) in (
+    let s = told-one _ _ (c .before .before .before .before .before .before .before .before .before .before .before .next-sign .ensures)
+    (c .before .before .before .before .before .before .before .before .before .sign .given .1) in (
       l .inv .0
-          ∙ key-next _ _ (told (s .split) (c .before .before .before .before .before .before .sign2 .given .1)) (sym (c .before .before .before .before .may-stand .ensures) ∙ not-false _ (c .before .before .before .if1 .left)) h
+          ∙ key-next _ _ (told (s .split) (c .before .before .before .before .before .before .sign2 .given .1))
+          (sym (c .before .before .before .before .may-stand .ensures) ∙ not-false _ (c .before .before .before .if1 .left)) h
           ∙ rw (sym (c .before .upper .ensures), sym (c .wide .ensures .0)),
       omega arith,
       key-room (l .count) (l .key) _ h (l .inv .2) (c .wide .ensures .1) .0,
@@ -80,10 +88,13 @@ returns-3 c =
     sym (c .before .before .before .before .before .before .before .loop .inv .0 ∙ key-break _ _ (told (s .split) (c .enum-told .given .1)))
 
 returns-4 : tie.Need-returns-4 Inv-loop μ-loop
-returns-4 c = sym (c .before .before .before .before .loop .inv .0 ∙ key-done _ _ (told-over (c .before .before .next-sign .ensures) (c .enum-told2 .given .1)))
+returns-4 c = sym (c .before .before .before .before .loop .inv .0
+    ∙ key-done _ _ (told-over (c .before .before .next-sign .ensures) (c .enum-told2 .given .1)))
 
 returns-5 : tie.Need-returns-5 Inv-loop μ-loop
 returns-5 c = absurd (omega arith)
 
 pub name-key-spec : {M : Type 1} → statement M
-name-key-spec = tie.close (tie.spec Inv-loop μ-loop (λ c κs. search needs) loop-holds next-sign-requires (λ c. search needs) (λ c. search needs) may-stand-requires returns returns-2 mul-key (λ c κs. search needs) (λ c κs. search needs) add-key (λ c. omega arith) (λ c. omega arith) loop-again (λ c. search needs) returns-3 (λ c. search needs) returns-4 returns-5)
+name-key-spec = tie.close (tie.spec Inv-loop μ-loop (λ c κs. search needs) loop-holds next-sign-requires (λ c. search needs)
+    (λ c. search needs) may-stand-requires returns returns-2 mul-key (λ c κs. search needs) (λ c κs. search needs) add-key
+    (λ c. omega arith) (λ c. omega arith) loop-again (λ c. search needs) returns-3 (λ c. search needs) returns-4 returns-5)

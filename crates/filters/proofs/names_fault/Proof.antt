@@ -37,7 +37,8 @@ loop-again c =
     let g = v .1 in (
       omega arith,
       length-set (c .before .before .loop .keys) (c .before .before .loop .i) (c .row-key .result) ∙ v .1,
-      keys-more (λ j. keyOf 0 0 (signsIn (a .latin) (a .d .now) (nameIn (a .rows .now) j))) (c .before .before .loop .keys) (c .before .before .loop .i) (c .row-key .result) (omega arith) (v .2) (c .row-key .ensures),
+      keys-more (λ j. keyOf 0 0 (signsIn (a .latin) (a .d .now) (nameIn (a .rows .now) j))) (c .before .before .loop .keys)
+          (c .before .before .loop .i) (c .row-key .result) (omega arith) (v .2) (c .row-key .ensures),
     )
 
 first-fault-requires : tie.Need-first-fault-requires Inv-loop μ-loop
@@ -47,7 +48,9 @@ returns : tie.Need-returns Inv-loop μ-loop
 returns c =
     let v = c .before .before .before .loop .inv in
     let a = c .before .before .before .before .before .args in
-    names-said (a .latin) (a .d .now) (a .rows .now) _ (a .count) (c .before .before .before .loop .i) _ (omega arith) (v .2) (c .first-fault .ensures)
+    names-said (a .latin) (a .d .now) (a .rows .now) _ (a .count) (c .before .before .before .loop .i) _ (omega arith) (v .2)
+    (c .first-fault .ensures)
 
 pub names-fault-spec : {M : Type 1} → statement M
-names-fault-spec = tie.close (tie.spec Inv-loop μ-loop loop-holds row-key-requires mul bound (λ c. omega arith) (λ c. omega arith) loop-again first-fault-requires returns)
+names-fault-spec = tie.close (tie.spec Inv-loop μ-loop loop-holds row-key-requires mul bound (λ c. omega arith) (λ c. omega arith)
+    loop-again first-fault-requires returns)

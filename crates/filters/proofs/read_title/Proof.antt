@@ -10,4 +10,5 @@ returns-2 : tie.Need-returns-2
 returns-2 c = c .read-tag2 .ensures ∙ rw (c .before .before .before .before .if1 .left)
 
 pub read-title-spec : {M : Type 1} → statement M
-read-title-spec = tie.close (tie.spec (λ c. search needs) (λ c. search needs) (λ c. search needs) (λ c κs. search needs) returns (λ c. search needs) (λ c. search needs) (λ c. search needs) (λ c κs. search needs) returns-2)
+read-title-spec = tie.close (tie.spec (λ c. search needs) (λ c. search needs) (λ c. search needs) (λ c κs. search needs) returns
+    (λ c. search needs) (λ c. search needs) (λ c. search needs) (λ c κs. search needs) returns-2)

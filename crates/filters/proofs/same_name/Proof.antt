@@ -21,4 +21,5 @@ unfolding sameName signsIn
 returns c = c .same-from .ensures
 
 pub same-name-spec : {M : Type 1} → statement M
-same-name-spec = tie.close (tie.spec (λ c. omega arith) (λ c. omega arith) (λ c. sym (length-take-le _ _ (omega arith))) (λ c. sym (length-take-le _ _ (omega arith))) same-from-requires returns)
+same-name-spec = tie.close (tie.spec (λ c. omega arith) (λ c. omega arith) (λ c. sym (length-take-le _ _ (omega arith)))
+    (λ c. sym (length-take-le _ _ (omega arith))) same-from-requires returns)

@@ -10,7 +10,8 @@ read-title-requires c κs = c .before .before .pre .0 .0
 figure-at-requires : tie.Need-figure-at-requires
 figure-at-requires c κs =
     let a = c .before .before .before .before .before .before .args in
-    let s = title-held (a .bad) (a .d .now) (a .old) (a .place) (a .end) (c .before .before .before .read-title .ensures) (c .before .held .given .1) .held .first in
+    let s = title-held (a .bad) (a .d .now) (a .old) (a .place) (a .end) (c .before .before .before .read-title .ensures)
+    (c .before .held .given .1) .held .first in
     (s .ends, s .within, s .fits)
 
 judge-ident-requires : tie.Need-judge-ident-requires
@@ -19,13 +20,16 @@ judge-ident-requires c κs = c .before .before .before .before .before .before .
 kind-at-requires : tie.Need-kind-at-requires
 kind-at-requires c κs =
     let a = c .before .before .before .before .before .before .before .before .args in
-    let s = title-held (a .bad) (a .d .now) (a .old) (a .place) (a .end) (c .before .before .before .before .before .read-title .ensures) (c .before .before .before .held .given .1) .held .second in
+    let s = title-held (a .bad) (a .d .now) (a .old) (a .place) (a .end) (c .before .before .before .before .before .read-title .ensures)
+    (c .before .before .before .held .given .1) .held .second in
     (s .ends, s .within)
 
 use-at-requires : tie.Need-use-at-requires
 use-at-requires c κs =
     let a = c .before .before .before .before .before .before .before .before .before .args in
-    λ k. let s = title-held (a .bad) (a .d .now) (a .old) (a .place) (a .end) (c .before .before .before .before .before .before .read-title .ensures) (c .before .before .before .before .held .given .1) .held .third k in (s .ends, s .within)
+    λ k. let s = title-held (a .bad) (a .d .now) (a .old) (a .place) (a .end)
+    (c .before .before .before .before .before .before .read-title .ensures)
+    (c .before .before .before .before .held .given .1) .held .third k in (s .ends, s .within)
 
 use-wrong-requires : tie.Need-use-wrong-requires
 use-wrong-requires c κs = c .before .before .before .before .before .before .before .before .before .before .pre .1
@@ -33,15 +37,28 @@ use-wrong-requires c κs = c .before .before .before .before .before .before .be
 returns : tie.Need-returns
 returns c =
     let a = c .before .before .before .before .before .before .before .before .before .before .before .before .args in
-    let s = title-held (a .bad) (a .d .now) (a .old) (a .place) (a .end) (c .before .before .before .before .before .before .before .before .before .read-title .ensures) (c .before .before .before .before .before .before .before .held .given .1) in
-    rw (c .judge-title .ensures, c .before .before .before .before .judge-ident .ensures, c .before .before .before .before .before .figure-at .ensures, c .before .before .before .kind-at .ensures, c .before .before .use-at .ensures)
-    (title-read (a .bad) (a .d .now) (a .old) (a .seen .now) (a .rows .now) (a .count) (a .place) (a .end) _ _ _ _ (sym (c .before .before .before .before .before .before .before .before .before .read-title .ensures) ∙ c .before .before .before .before .before .before .before .held .given .1)
-    (s .held .first .fits) (s .next) (c .before .use-wrong .result) (rw (c .before .before .use-at .ensures, c .before .before .before .kind-at .ensures) at (c .before .use-wrong .ensures)))
+    let s = title-held (a .bad) (a .d .now) (a .old) (a .place) (a .end)
+    (c .before .before .before .before .before .before .before .before .before .read-title .ensures)
+    (c .before .before .before .before .before .before .before .held .given .1) in
+    rw (
+      c .judge-title .ensures,
+      c .before .before .before .before .judge-ident .ensures,
+      c .before .before .before .before .before .figure-at .ensures,
+      c .before .before .before .kind-at .ensures,
+      c .before .before .use-at .ensures,
+    )
+    (title-read (a .bad) (a .d .now) (a .old) (a .seen .now) (a .rows .now) (a .count) (a .place) (a .end) _ _ _ _
+    (sym (c .before .before .before .before .before .before .before .before .before .read-title .ensures)
+    ∙ c .before .before .before .before .before .before .before .held .given .1)
+    (s .held .first .fits) (s .next) (c .before .use-wrong .result)
+    (rw (c .before .before .use-at .ensures, c .before .before .before .kind-at .ensures) at (c .before .use-wrong .ensures)))
 
 returns-2 : tie.Need-returns-2
 returns-2 c =
     let a = c .before .before .before .before .before .before .args in
-    title-faulty (a .bad) (a .d .now) (a .old) (a .seen .now) (a .rows .now) (a .count) (a .place) (a .end) _ _ (sym (c .before .before .before .read-title .ensures) ∙ c .before .number .given .1)
+    title-faulty (a .bad) (a .d .now) (a .old) (a .seen .now) (a .rows .now) (a .count) (a .place) (a .end) _ _
+    (sym (c .before .before .before .read-title .ensures) ∙ c .before .number .given .1)
 
 pub title-at-spec : {M : Type 1} → statement M
-title-at-spec = tie.close (tie.spec read-title-requires (λ c. search needs) figure-at-requires judge-ident-requires kind-at-requires use-at-requires use-wrong-requires (λ c κs. search needs) (λ c. search needs) returns returns-2)
+title-at-spec = tie.close (tie.spec read-title-requires (λ c. search needs) figure-at-requires judge-ident-requires kind-at-requires
+    use-at-requires use-wrong-requires (λ c κs. search needs) (λ c. search needs) returns returns-2)

@@ -22,16 +22,26 @@ returns : tie.Need-returns Inv-loop μ-loop
 returns c =
     let a = c .before .before .before .before .args in
     let i = c .before .before .before .loop .i in
-    record { is = some-found (a .rows .now) (a .count) (taken (a .usage)) i (c .before .before .loop-test .taken) (c .before .before .before .loop .inv .1) (taken-row (a .rows .now) (a .count) (a .usage) i _ (eq-eqb _ _ (sym (c .before .column .ensures) ∙ c .if1 .taken))) }
+    record {
+      is = some-found (a .rows .now) (a .count) (taken (a .usage)) i (c .before .before .loop-test .taken)
+          (c .before .before .before .loop .inv .1)
+          (taken-row (a .rows .now) (a .count) (a .usage) i _ (eq-eqb _ _ (sym (c .before .column .ensures) ∙ c .if1 .taken)));
+    }
 
 loop-again : tie.Need-loop-again Inv-loop μ-loop
 loop-again c =
     let a = c .before .before .before .before .args in
-    let i = c .before .before .before .loop .i in
-    (omega arith, some-next (a .rows .now) (a .count) (taken (a .usage)) i (c .before .before .loop-test .taken) (c .before .before .before .loop .inv .1) (taken-row (a .rows .now) (a .count) (a .usage) i _ (ne-eqb _ _ (λ e. c .if1 .left (c .before .column .ensures ∙ e)))))
+    let i = c .before .before .before .loop .i in (
+      omega arith,
+      some-next (a .rows .now) (a .count) (taken (a .usage)) i (c .before .before .loop-test .taken)
+          (c .before .before .before .loop .inv .1)
+          (taken-row (a .rows .now) (a .count) (a .usage) i _ (ne-eqb _ _ (λ e. c .if1 .left (c .before .column .ensures ∙ e)))),
+    )
 
 returns-2 : tie.Need-returns-2 Inv-loop μ-loop
-returns-2 c = let a = c .before .before .args in record { is = some-over (a .rows .now) (a .count) (taken (a .usage)) (c .before .loop .i) (c .loop-test .left) (c .before .loop .inv .1) }
+returns-2 c = let a = c .before .before .args in record
+    { is = some-over (a .rows .now) (a .count) (taken (a .usage)) (c .before .loop .i) (c .loop-test .left) (c .before .loop .inv .1) }
 
 pub use-taken-spec : {M : Type 1} → statement M
-use-taken-spec = tie.close (tie.spec Inv-loop μ-loop loop-holds column-requires returns (λ c. omega arith) (λ c. omega arith) loop-again returns-2)
+use-taken-spec = tie.close (tie.spec Inv-loop μ-loop loop-holds column-requires returns (λ c. omega arith) (λ c. omega arith) loop-again
+    returns-2)

@@ -11,12 +11,14 @@ returns c = let a = c .before .args in use-none (a .rows .now) (a .count) (a .us
 returns-2 : tie.Need-returns-2
 returns-2 c =
     let a = c .before .before .before .args in
-    use-mistyped (a .rows .now) (a .count) (a .usage) (a .kind) (c .before .before .if1 .left) (sym (c .before .may-serve .ensures) ∙ not-true _ (c .if2 .taken))
+    use-mistyped (a .rows .now) (a .count) (a .usage) (a .kind) (c .before .before .if1 .left)
+    (sym (c .before .may-serve .ensures) ∙ not-true _ (c .if2 .taken))
 
 returns-3 : tie.Need-returns-3
 returns-3 c =
     let a = c .before .before .before .before .args in
-    use-asked (a .rows .now) (a .count) (a .usage) (a .kind) (c .before .before .before .if1 .left) (sym (c .before .before .may-serve .ensures) ∙ not-false _ (c .before .if2 .left)) _ (c .use-taken .ensures)
+    use-asked (a .rows .now) (a .count) (a .usage) (a .kind) (c .before .before .before .if1 .left)
+    (sym (c .before .before .may-serve .ensures) ∙ not-false _ (c .before .if2 .left)) _ (c .use-taken .ensures)
 
 pub use-wrong-spec : {M : Type 1} → statement M
 use-wrong-spec = tie.close (tie.spec returns (λ c κs. search needs) returns-2 (λ c κs. search needs) returns-3)

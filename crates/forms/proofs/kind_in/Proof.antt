@@ -21,7 +21,8 @@ returns-3 : tie.Need-returns-3
 unfolding kindOf
 returns-3 c =
     rw (
-      sym (c .before .before .before .before .before .before .before .is-word .ensures) ∙ c .before .before .before .before .before .before .if1 .left,
+      sym (c .before .before .before .before .before .before .before .is-word .ensures)
+          ∙ c .before .before .before .before .before .before .if1 .left,
       sym (c .before .before .before .before .is-word2 .ensures) ∙ c .before .before .before .if2 .left,
       sym (c .before .is-word3 .ensures) ∙ c .if3 .taken,
     )
@@ -30,8 +31,10 @@ returns-4 : tie.Need-returns-4
 unfolding kindOf
 returns-4 c =
     rw (
-      sym (c .before .before .before .before .before .before .before .before .before .before .is-word .ensures) ∙ c .before .before .before .before .before .before .before .before .before .if1 .left,
-      sym (c .before .before .before .before .before .before .before .is-word2 .ensures) ∙ c .before .before .before .before .before .before .if2 .left,
+      sym (c .before .before .before .before .before .before .before .before .before .before .is-word .ensures)
+          ∙ c .before .before .before .before .before .before .before .before .before .if1 .left,
+      sym (c .before .before .before .before .before .before .before .is-word2 .ensures)
+          ∙ c .before .before .before .before .before .before .if2 .left,
       sym (c .before .before .before .before .is-word3 .ensures) ∙ c .before .before .before .if3 .left,
       sym (c .before .is-word4 .ensures) ∙ c .if4 .taken,
     )
@@ -40,9 +43,12 @@ returns-5 : tie.Need-returns-5
 unfolding kindOf
 returns-5 c =
     rw (
-      sym (c .before .before .before .before .before .before .before .before .before .before .before .before .before .is-word .ensures) ∙ c .before .before .before .before .before .before .before .before .before .before .before .before .if1 .left,
-      sym (c .before .before .before .before .before .before .before .before .before .before .is-word2 .ensures) ∙ c .before .before .before .before .before .before .before .before .before .if2 .left,
-      sym (c .before .before .before .before .before .before .before .is-word3 .ensures) ∙ c .before .before .before .before .before .before .if3 .left,
+      sym (c .before .before .before .before .before .before .before .before .before .before .before .before .before .is-word .ensures)
+          ∙ c .before .before .before .before .before .before .before .before .before .before .before .before .if1 .left,
+      sym (c .before .before .before .before .before .before .before .before .before .before .is-word2 .ensures)
+          ∙ c .before .before .before .before .before .before .before .before .before .if2 .left,
+      sym (c .before .before .before .before .before .before .before .is-word3 .ensures)
+          ∙ c .before .before .before .before .before .before .if3 .left,
       sym (c .before .before .before .before .is-word4 .ensures) ∙ c .before .before .before .if4 .left,
       sym (c .before .is-word5 .ensures) ∙ c .if5 .taken,
     )
@@ -51,12 +57,17 @@ returns-6 : tie.Need-returns-6
 unfolding kindOf
 returns-6 c =
     rw (
-      sym (c .before .before .before .before .before .before .before .before .before .before .before .before .before .is-word .ensures) ∙ c .before .before .before .before .before .before .before .before .before .before .before .before .if1 .left,
-      sym (c .before .before .before .before .before .before .before .before .before .before .is-word2 .ensures) ∙ c .before .before .before .before .before .before .before .before .before .if2 .left,
-      sym (c .before .before .before .before .before .before .before .is-word3 .ensures) ∙ c .before .before .before .before .before .before .if3 .left,
+      sym (c .before .before .before .before .before .before .before .before .before .before .before .before .before .is-word .ensures)
+          ∙ c .before .before .before .before .before .before .before .before .before .before .before .before .if1 .left,
+      sym (c .before .before .before .before .before .before .before .before .before .before .is-word2 .ensures)
+          ∙ c .before .before .before .before .before .before .before .before .before .if2 .left,
+      sym (c .before .before .before .before .before .before .before .is-word3 .ensures)
+          ∙ c .before .before .before .before .before .before .if3 .left,
       sym (c .before .before .before .before .is-word4 .ensures) ∙ c .before .before .before .if4 .left,
       sym (c .before .is-word5 .ensures) ∙ c .if5 .left,
     )
 
 pub kind-in-spec : {M : Type 1} → statement M
-kind-in-spec = tie.close (tie.spec (λ c. search needs) (λ c κs. search needs) returns (λ c. search needs) (λ c κs. search needs) returns-2 (λ c. search needs) (λ c κs. search needs) returns-3 (λ c. search needs) (λ c κs. search needs) returns-4 (λ c. search needs) (λ c κs. search needs) returns-5 returns-6)
+kind-in-spec = tie.close (tie.spec (λ c. search needs) (λ c κs. search needs) returns (λ c. search needs) (λ c κs. search needs) returns-2
+    (λ c. search needs) (λ c κs. search needs) returns-3 (λ c. search needs) (λ c κs. search needs) returns-4 (λ c. search needs)
+    (λ c κs. search needs) returns-5 returns-6)

@@ -26,4 +26,5 @@ returns-3 c =
     )
 
 pub use-in-spec : {M : Type 1} → statement M
-use-in-spec = tie.close (tie.spec (λ c. search needs) (λ c κs. search needs) returns (λ c. search needs) (λ c κs. search needs) returns-2 returns-3)
+use-in-spec = tie.close (tie.spec (λ c. search needs) (λ c κs. search needs) returns (λ c. search needs) (λ c κs. search needs) returns-2
+    returns-3)

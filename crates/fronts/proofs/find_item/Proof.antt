@@ -17,10 +17,13 @@ loop-holds : tie.Need-loop-holds Inv-loop μ-loop
 loop-holds c = (omega arith, refl)
 
 returns : tie.Need-returns Inv-loop μ-loop
-returns c = sym (c .before .before .before .before .loop .inv .1 ∙ items-done _ _ _ _ (c .before .before .before .loop-test .taken) _ (c .before .before .item-at .ensures) (c .if1 .taken))
+returns c = sym (c .before .before .before .before .loop .inv .1
+    ∙ items-done _ _ _ _ (c .before .before .before .loop-test .taken) _ (c .before .before .item-at .ensures) (c .if1 .taken))
 
 returns-2 : tie.Need-returns-2 Inv-loop μ-loop
-returns-2 c = sym (c .before .before .before .before .before .before .loop .inv .1 ∙ items-none _ _ _ _ (c .before .before .before .before .before .loop-test .taken) _ (c .before .before .before .before .item-at .ensures) (c .before .before .if1 .left) (c .if2 .taken))
+returns-2 c = sym (c .before .before .before .before .before .before .loop .inv .1
+    ∙ items-none _ _ _ _ (c .before .before .before .before .before .loop-test .taken) _
+    (c .before .before .before .before .item-at .ensures) (c .before .before .if1 .left) (c .if2 .taken))
 
 add-j : tie.Need-add-j Inv-loop μ-loop
 add-j c = omega (arith, c .before .before .before .before .before .before .loop-test .taken)
@@ -29,7 +32,13 @@ loop-less : tie.Need-loop-less Inv-loop μ-loop
 loop-less c = omega (arith, c .before .before .before .before .before .before .loop-test .taken)
 
 loop-again : tie.Need-loop-again Inv-loop μ-loop
-loop-again c = (omega (arith, c .before .before .before .before .before .before .loop-test .taken), c .before .before .before .before .before .before .before .loop .inv .1 ∙ items-more _ _ _ _ (c .before .before .before .before .before .before .loop-test .taken) _ (c .before .before .before .before .before .item-at .ensures) (c .before .before .before .if1 .left) (c .before .if2 .left) ∙ rw (c .item-past .ensures))
+loop-again c = (
+  omega (arith, c .before .before .before .before .before .before .loop-test .taken),
+  c .before .before .before .before .before .before .before .loop .inv .1
+      ∙ items-more _ _ _ _ (c .before .before .before .before .before .before .loop-test .taken) _
+      (c .before .before .before .before .before .item-at .ensures) (c .before .before .before .if1 .left) (c .before .if2 .left)
+      ∙ rw (c .item-past .ensures),
+)
 
 returns-3 : tie.Need-returns-3 Inv-loop μ-loop
 returns-3 c = sym (c .before .loop .inv .1 ∙ items-out _ _ _ _ (c .loop-test .left))

@@ -7,7 +7,13 @@ use Rattle.fronts.proofs.front_at.Tie as tie
 
 returns : tie.Need-returns
 unfolding frontAt
-returns c = rw (← c .before .before .before .before .before .before .before .before .before .before .past-opening .ensures, ← c .before .before .before .before .before .before .before .before .before .items-of .ensures, ← c .before .before .before .before .before .before .before .past-statement .ensures, ← c .before .before .before .before .before .find-statement .ensures, ← c .before .before .before .before .string-span .ensures) (rw (← c .before .before .before .either-place .ensures, ← c .before .past-statement2 .ensures, ← c .letter-at .ensures) refl)
+returns c = rw (
+  ← c .before .before .before .before .before .before .before .before .before .before .past-opening .ensures,
+  ← c .before .before .before .before .before .before .before .before .before .items-of .ensures,
+  ← c .before .before .before .before .before .before .before .past-statement .ensures,
+  ← c .before .before .before .before .before .find-statement .ensures,
+  ← c .before .before .before .before .string-span .ensures,
+) (rw (← c .before .before .before .either-place .ensures, ← c .before .past-statement2 .ensures, ← c .letter-at .ensures) refl)
 
 pub front-at-spec : {M : Type 1} → statement M
 front-at-spec =

@@ -11,23 +11,72 @@ returns c = rw (← c .before .find-statement .ensures, c .if1 .taken)
 
 returns-2 : tie.Need-returns-2
 unfolding itemAt
-returns-2 c = rw (← c .before .before .before .before .find-statement .ensures, c .before .before .before .if1 .left, ← c .before .find-statement2 .ensures, c .if2 .taken)
+returns-2 c = rw (
+  ← c .before .before .before .before .find-statement .ensures,
+  c .before .before .before .if1 .left,
+  ← c .before .find-statement2 .ensures,
+  c .if2 .taken,
+)
 
 returns-3 : tie.Need-returns-3
 unfolding itemAt
-returns-3 c = rw (← c .before .before .before .before .before .before .before .find-statement .ensures, c .before .before .before .before .before .before .if1 .left, ← c .before .before .before .before .find-statement2 .ensures, c .before .before .before .if2 .left, ← c .before .find-statement3 .ensures, c .if3 .taken)
+returns-3 c = rw (
+  ← c .before .before .before .before .before .before .before .find-statement .ensures,
+  c .before .before .before .before .before .before .if1 .left,
+  ← c .before .before .before .before .find-statement2 .ensures,
+  c .before .before .before .if2 .left,
+  ← c .before .find-statement3 .ensures,
+  c .if3 .taken,
+)
 
 returns-4 : tie.Need-returns-4
 unfolding itemAt
-returns-4 c = rw (← c .before .before .before .before .before .before .before .before .before .before .find-statement .ensures, c .before .before .before .before .before .before .before .before .before .if1 .left, ← c .before .before .before .before .before .before .before .find-statement2 .ensures, c .before .before .before .before .before .before .if2 .left, ← c .before .before .before .before .find-statement3 .ensures, c .before .before .before .if3 .left) (rw (← c .before .find-statement4 .ensures, c .if4 .taken))
+returns-4 c = rw (
+  ← c .before .before .before .before .before .before .before .before .before .before .find-statement .ensures,
+  c .before .before .before .before .before .before .before .before .before .if1 .left,
+  ← c .before .before .before .before .before .before .before .find-statement2 .ensures,
+  c .before .before .before .before .before .before .if2 .left,
+  ← c .before .before .before .before .find-statement3 .ensures,
+  c .before .before .before .if3 .left,
+) (rw (← c .before .find-statement4 .ensures, c .if4 .taken))
 
 returns-5 : tie.Need-returns-5
 unfolding itemAt
-returns-5 c = rw (← c .before .before .before .before .before .before .before .before .before .before .before .before .before .find-statement .ensures, c .before .before .before .before .before .before .before .before .before .before .before .before .if1 .left, ← c .before .before .before .before .before .before .before .before .before .before .find-statement2 .ensures, c .before .before .before .before .before .before .before .before .before .if2 .left, ← c .before .before .before .before .before .before .before .find-statement3 .ensures, c .before .before .before .before .before .before .if3 .left) (rw (← c .before .before .before .before .find-statement4 .ensures, c .before .before .before .if4 .left, ← c .before .find-statement5 .ensures, c .if5 .taken))
+returns-5
+    c = rw (
+      ←
+          c .before .before .before .before .before .before .before .before .before .before .before .before .before .find-statement
+          .ensures,
+      c .before .before .before .before .before .before .before .before .before .before .before .before .if1 .left,
+      ← c .before .before .before .before .before .before .before .before .before .before .find-statement2 .ensures,
+      c .before .before .before .before .before .before .before .before .before .if2 .left,
+      ← c .before .before .before .before .before .before .before .find-statement3 .ensures,
+      c .before .before .before .before .before .before .if3 .left,
+    ) (rw (
+      ← c .before .before .before .before .find-statement4 .ensures,
+      c .before .before .before .if4 .left,
+      ← c .before .find-statement5 .ensures,
+      c .if5 .taken,
+    ))
 
 returns-6 : tie.Need-returns-6
 unfolding itemAt
-returns-6 c = rw (← c .before .before .before .before .before .before .before .before .before .before .before .before .before .find-statement .ensures, c .before .before .before .before .before .before .before .before .before .before .before .before .if1 .left, ← c .before .before .before .before .before .before .before .before .before .before .find-statement2 .ensures, c .before .before .before .before .before .before .before .before .before .if2 .left, ← c .before .before .before .before .before .before .before .find-statement3 .ensures, c .before .before .before .before .before .before .if3 .left) (rw (← c .before .before .before .before .find-statement4 .ensures, c .before .before .before .if4 .left, ← c .before .find-statement5 .ensures, c .if5 .left))
+returns-6
+    c = rw (
+      ←
+          c .before .before .before .before .before .before .before .before .before .before .before .before .before .find-statement
+          .ensures,
+      c .before .before .before .before .before .before .before .before .before .before .before .before .if1 .left,
+      ← c .before .before .before .before .before .before .before .before .before .before .find-statement2 .ensures,
+      c .before .before .before .before .before .before .before .before .before .if2 .left,
+      ← c .before .before .before .before .before .before .before .find-statement3 .ensures,
+      c .before .before .before .before .before .before .if3 .left,
+    ) (rw (
+      ← c .before .before .before .before .find-statement4 .ensures,
+      c .before .before .before .if4 .left,
+      ← c .before .find-statement5 .ensures,
+      c .if5 .left,
+    ))
 
 pub item-at-spec : {M : Type 1} → statement M
 item-at-spec =

@@ -7,14 +7,25 @@ use Rattle.fronts.proofs.send_clean.Statement.{statement}
 use Rattle.fronts.proofs.send_clean.Tie as tie
 
 send-variables-requires : tie.Need-send-variables-requires
-send-variables-requires c κs = c .before .before .before .before .before .before .before .before .before .before .before .before .before .before .pre
+send-variables-requires c
+    κs = c .before .before .before .before .before .before .before .before .before .before .before .before .before .before .pre
 
 same-length : tie.Need-same-length
-same-length c = c .before .before .send-bytes .ensures .room ∙ c .before .before .before .before .before .before .before .send-variables .ensures .sent .room ∙ c .before .before .before .before .before .before .before .before .before .before .before .send-tail .ensures .room ∙ c .before .before .before .before .before .before .before .before .before .before .before .before .before .before .before .send-head .ensures .room
+same-length c = c .before .before .send-bytes .ensures .room
+    ∙ c .before .before .before .before .before .before .before .send-variables .ensures .sent .room
+    ∙ c .before .before .before .before .before .before .before .before .before .before .before .send-tail .ensures .room
+    ∙ c .before .before .before .before .before .before .before .before .before .before .before .before .before .before .before .send-head
+    .ensures .room
 
 returns : tie.Need-returns
 unfolding wholeText
-returns c = rw (← c .before .before .before .before .before .before .before .before .before .before .before .before .before .before .before .before .before .before .before .front-at .ensures) (then (c .before .before .before .before .before .before .before .before .before .before .before .before .before .before .before .send-head .ensures) (then (c .before .before .before .before .before .before .before .before .before .before .before .send-tail .ensures) (then (c .before .before .before .before .before .before .before .send-variables .ensures .sent) (c .before .before .send-bytes .ensures))))
+returns c = rw (←
+    c .before .before .before .before .before .before .before .before .before .before .before .before .before .before .before .before
+    .before .before .before .front-at .ensures) (then
+    (c .before .before .before .before .before .before .before .before .before .before .before .before .before .before .before .send-head
+    .ensures) (then (c .before .before .before .before .before .before .before .before .before .before .before .send-tail .ensures)
+    (then (c .before .before .before .before .before .before .before .send-variables .ensures .sent)
+    (c .before .before .send-bytes .ensures))))
 
 pub send-clean-spec : {M : Type 1} → statement M
 send-clean-spec =

@@ -7,11 +7,27 @@ use Rattle.fronts.proofs.send_head.Statement.{statement}
 use Rattle.fronts.proofs.send_head.Tie as tie
 
 same-length : tie.Need-same-length
-same-length c = c .before .before .send-standard .ensures .room ∙ c .before .before .before .before .before .before .send-perhaps4 .ensures .room ∙ c .before .before .before .before .before .before .before .before .before .before .before .send-perhaps3 .ensures .room ∙ c .before .before .before .before .before .before .before .before .before .before .before .before .before .before .before .before .send-perhaps2 .ensures .room ∙ c .before .before .before .before .before .before .before .before .before .before .before .before .before .before .before .before .before .before .before .before .before .send-perhaps .ensures .room ∙ c .before .before .before .before .before .before .before .before .before .before .before .before .before .before .before .before .before .before .before .before .before .before .before .before .before .before .send-bytes .ensures .room
+same-length c = c .before .before .send-standard .ensures .room
+    ∙ c .before .before .before .before .before .before .send-perhaps4 .ensures .room
+    ∙ c .before .before .before .before .before .before .before .before .before .before .before .send-perhaps3 .ensures .room
+    ∙ c .before .before .before .before .before .before .before .before .before .before .before .before .before .before .before .before
+    .send-perhaps2 .ensures .room
+    ∙ c .before .before .before .before .before .before .before .before .before .before .before .before .before .before .before .before
+    .before .before .before .before .before .send-perhaps .ensures .room
+    ∙ c .before .before .before .before .before .before .before .before .before .before .before .before .before .before .before .before
+    .before .before .before .before .before .before .before .before .before .before .send-bytes .ensures .room
 
 returns : tie.Need-returns
 unfolding headText
-returns c = then (c .before .before .before .before .before .before .before .before .before .before .before .before .before .before .before .before .before .before .before .before .before .before .before .before .before .before .send-bytes .ensures) (then (c .before .before .before .before .before .before .before .before .before .before .before .before .before .before .before .before .before .before .before .before .before .send-perhaps .ensures) (then (c .before .before .before .before .before .before .before .before .before .before .before .before .before .before .before .before .send-perhaps2 .ensures) (then (c .before .before .before .before .before .before .before .before .before .before .before .send-perhaps3 .ensures) (then (c .before .before .before .before .before .before .send-perhaps4 .ensures) (c .before .before .send-standard .ensures)))))
+returns c = then
+    (c .before .before .before .before .before .before .before .before .before .before .before .before .before .before .before .before
+    .before .before .before .before .before .before .before .before .before .before .send-bytes .ensures)
+    (then (c .before .before .before .before .before .before .before .before .before .before .before .before .before .before .before .before
+    .before .before .before .before .before .send-perhaps .ensures)
+    (then (c .before .before .before .before .before .before .before .before .before .before .before .before .before .before .before .before
+    .send-perhaps2 .ensures)
+    (then (c .before .before .before .before .before .before .before .before .before .before .before .send-perhaps3 .ensures)
+    (then (c .before .before .before .before .before .before .send-perhaps4 .ensures) (c .before .before .send-standard .ensures)))))
 
 pub send-head-spec : {M : Type 1} → statement M
 send-head-spec =
@@ -22,11 +38,14 @@ send-head-spec =
     (λ c. search needs)
     (λ c κs. c .before .before .before .before .before .before .before .before .before .before .before .before .before .before .pre)
     (λ c. search needs)
-    (λ c κs. c .before .before .before .before .before .before .before .before .before .before .before .before .before .before .before .before .before .before .before .pre)
+    (λ c κs. c .before .before .before .before .before .before .before .before .before .before .before .before .before .before .before
+    .before .before .before .before .pre)
     (λ c. search needs)
-    (λ c κs. c .before .before .before .before .before .before .before .before .before .before .before .before .before .before .before .before .before .before .before .before .before .before .before .before .pre)
+    (λ c κs. c .before .before .before .before .before .before .before .before .before .before .before .before .before .before .before
+    .before .before .before .before .before .before .before .before .before .pre)
     (λ c. search needs)
-    (λ c κs. c .before .before .before .before .before .before .before .before .before .before .before .before .before .before .before .before .before .before .before .before .before .before .before .before .before .before .before .before .before .pre)
+    (λ c κs. c .before .before .before .before .before .before .before .before .before .before .before .before .before .before .before
+    .before .before .before .before .before .before .before .before .before .before .before .before .before .before .pre)
     (λ c κs. search needs)
     same-length
     returns)

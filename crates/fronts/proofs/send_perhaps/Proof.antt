@@ -8,7 +8,8 @@ use Rattle.fronts.proofs.send_perhaps.Tie as tie
 
 returns : tie.Need-returns
 unfolding perhapsText
-returns c = sent-as (c .before .before .send-framed .ensures) (rw (c .before .before .before .before .before .before .if1 .taken, c .before .before .before .before .before .string-span .ensures))
+returns c = sent-as (c .before .before .send-framed .ensures)
+    (rw (c .before .before .before .before .before .before .if1 .taken, c .before .before .before .before .before .string-span .ensures))
 
 returns-2 : tie.Need-returns-2
 unfolding perhapsText

@@ -7,11 +7,23 @@ use Rattle.fronts.proofs.send_tail.Statement.{statement}
 use Rattle.fronts.proofs.send_tail.Tie as tie
 
 same-length : tie.Need-same-length
-same-length c = c .before .before .send-bytes3 .ensures .room ∙ c .before .before .before .before .before .before .before .send-byte .ensures .room ∙ c .before .before .before .before .before .before .before .before .before .before .before .send-bytes2 .ensures .room ∙ c .before .before .before .before .before .before .before .before .before .before .before .before .before .before .before .before .send-perhaps .ensures .room ∙ c .before .before .before .before .before .before .before .before .before .before .before .before .before .before .before .before .before .before .before .before .before .send-bytes .ensures .room
+same-length c = c .before .before .send-bytes3 .ensures .room
+    ∙ c .before .before .before .before .before .before .before .send-byte .ensures .room
+    ∙ c .before .before .before .before .before .before .before .before .before .before .before .send-bytes2 .ensures .room
+    ∙ c .before .before .before .before .before .before .before .before .before .before .before .before .before .before .before .before
+    .send-perhaps .ensures .room
+    ∙ c .before .before .before .before .before .before .before .before .before .before .before .before .before .before .before .before
+    .before .before .before .before .before .send-bytes .ensures .room
 
 returns : tie.Need-returns
 unfolding tailText
-returns c = then (c .before .before .before .before .before .before .before .before .before .before .before .before .before .before .before .before .before .before .before .before .before .send-bytes .ensures) (then (c .before .before .before .before .before .before .before .before .before .before .before .before .before .before .before .before .send-perhaps .ensures) (then (c .before .before .before .before .before .before .before .before .before .before .before .send-bytes2 .ensures) (then (c .before .before .before .before .before .before .before .send-byte .ensures) (c .before .before .send-bytes3 .ensures))))
+returns c = then
+    (c .before .before .before .before .before .before .before .before .before .before .before .before .before .before .before .before
+    .before .before .before .before .before .send-bytes .ensures)
+    (then (c .before .before .before .before .before .before .before .before .before .before .before .before .before .before .before .before
+    .send-perhaps .ensures)
+    (then (c .before .before .before .before .before .before .before .before .before .before .before .send-bytes2 .ensures)
+    (then (c .before .before .before .before .before .before .before .send-byte .ensures) (c .before .before .send-bytes3 .ensures))))
 
 pub send-tail-spec : {M : Type 1} → statement M
 send-tail-spec =

@@ -10,7 +10,8 @@ returns c =
     rw (
       sym (c .before .before .before .before .before .before .before .before .before .before .word-here .ensures),
       sym (c .before .before .before .before .before .before .before .before .before .notes-on .ensures),
-      sym (c .before .before .before .before .before .before .before .perhaps .ensures) ∙ c .before .before .before .before .before .m .given .1,
+      sym (c .before .before .before .before .before .before .before .perhaps .ensures)
+          ∙ c .before .before .before .before .before .m .given .1,
       sym (c .before .before .before .string-on .ensures),
       sym (c .before .before .kept-text .ensures),
       sym (c .before .past-string .ensures),
@@ -29,4 +30,6 @@ returns-2 c =
 
 pub front-rest-spec : {M : Type 1} → statement M
 front-rest-spec =
-    tie.close (tie.spec (λ c. search needs) (λ c κs. search needs) (λ c κs. search needs) (λ c. search needs) (λ c κs. search needs) (λ c. search needs) (λ c κs. search needs) (λ c κs. search needs) (λ c κs. search needs) (λ c κs. search needs) (λ c. search needs) (λ c κs. search needs) returns returns-2)
+    tie.close (tie.spec (λ c. search needs) (λ c κs. search needs) (λ c κs. search needs) (λ c. search needs) (λ c κs. search needs)
+    (λ c. search needs) (λ c κs. search needs) (λ c κs. search needs) (λ c κs. search needs) (λ c κs. search needs) (λ c. search needs)
+    (λ c κs. search needs) returns returns-2)

@@ -36,13 +36,15 @@ pub data LineOutcome (t : List ℤ) (fs : List (List ℕ)) : LineSays → Type 0
 pub data LinesOutcome (t : List ℤ) : ℕ → Lines → TextSays → Type 0 where
   no-line : {n : ℕ} → LinesOutcome t n done (accepts [])
   malformed : {n c : ℕ} → LinesOutcome t n (broken c) (refuses 61 n c)
-  refused-line : {n k c : ℕ} {fs : List (List ℕ)} {ls : Lines} → LineOutcome t fs (faulty k c) → LinesOutcome t n (line fs ls) (refuses k n c)
+  refused-line : {n k c : ℕ} {fs : List (List ℕ)} {ls : Lines} → LineOutcome t fs (faulty k c)
+      → LinesOutcome t n (line fs ls) (refuses k n c)
   built-line : {n : ℕ} {fs : List (List ℕ)} {ls : Lines} {r : List ℕ} {rs : List (List ℕ)} → LineOutcome t fs (builds r)
       → LinesOutcome t (n + 1) ls (accepts rs) → LinesOutcome t n (line fs ls) (accepts (r ∷ rs))
   later-line : {n k m c : ℕ} {fs : List (List ℕ)} {ls : Lines} {r : List ℕ} → LineOutcome t fs (builds r)
       → LinesOutcome t (n + 1) ls (refuses k m c) → LinesOutcome t n (line fs ls) (refuses k m c)
 
--- the first column, from c on, in which the names that are due and the fields of the name line are not the same, or that is on one side only
+-- the first column, from c on, in which the names that are due and the fields of the name line are not the same, or that is on one side
+-- only
 pub data FirstOther : ℕ → List (List ℕ) → List (List ℕ) → ℕ → Type 0 where
   more-fields : {c : ℕ} {f : List ℕ} {fs : List (List ℕ)} → FirstOther c [] (f ∷ fs) c
   more-names : {c : ℕ} {m : List ℕ} {ms : List (List ℕ)} → FirstOther c (m ∷ ms) [] c
@@ -61,9 +63,12 @@ pub data ImportOutcome (def : List ℕ) (t : List ℤ) (s : List ℕ) (room : �
   bad-table : wellFormed t ≡ false → ImportOutcome def t s room (refused 20 0 0)
   other-table : wellFormed t ≡ true → yields def t ≡ false → ImportOutcome def t s room (refused 40 0 0)
   shared-place : wellFormed t ≡ true → yields def t ≡ true → sharesNone t (rowsOf t) ≡ false → ImportOutcome def t s room (refused 90 0 0)
-  refused-text : {k n c : ℕ} → wellFormed t ≡ true → yields def t ≡ true → sharesNone t (rowsOf t) ≡ true → importSays def t s ≡ refuses k n c
+  refused-text : {k n c : ℕ} → wellFormed t ≡ true → yields def t ≡ true → sharesNone t (rowsOf t) ≡ true → importSays def t s
+      ≡ refuses k n c
       → ImportOutcome def t s room (refused k n c)
-  short-room : {rs : List (List ℕ)} → wellFormed t ≡ true → yields def t ≡ true → sharesNone t (rowsOf t) ≡ true → importSays def t s ≡ accepts rs
+  short-room : {rs : List (List ℕ)} → wellFormed t ≡ true → yields def t ≡ true → sharesNone t (rowsOf t) ≡ true → importSays def t s
+      ≡ accepts rs
       → room < length (fileBytes rs) → ImportOutcome def t s room (refused 60 0 0)
-  all-built : {rs : List (List ℕ)} → wellFormed t ≡ true → yields def t ≡ true → sharesNone t (rowsOf t) ≡ true → importSays def t s ≡ accepts rs
+  all-built : {rs : List (List ℕ)} → wellFormed t ≡ true → yields def t ≡ true → sharesNone t (rowsOf t) ≡ true → importSays def t s
+      ≡ accepts rs
       → length (fileBytes rs) ≤ room → ImportOutcome def t s room (written (length rs) (length (fileBytes rs)))

@@ -24,7 +24,8 @@ pub data FieldsLeft (t : List ℤ) : ℕ → List (List ℕ) → List (List ℕ)
 -- lines of such fields
 pub data LinesLeft (t : List ℤ) : List (List (List ℕ)) → List (List (List ℕ)) → Type 0 where
   no-line : LinesLeft t [] []
-  and-line : {es fs : List (List ℕ)} {ls ms : List (List (List ℕ))} → FieldsLeft t 0 es fs → LinesLeft t ls ms → LinesLeft t (es ∷ ls) (fs ∷ ms)
+  and-line : {es fs : List (List ℕ)} {ls ms : List (List (List ℕ))} → FieldsLeft t 0 es fs → LinesLeft t ls ms
+      → LinesLeft t (es ∷ ls) (fs ∷ ms)
 
 -- the same names, and such lines
 pub data TextLeft (t : List ℤ) : List (List (List ℕ)) → List (List (List ℕ)) → Type 0 where

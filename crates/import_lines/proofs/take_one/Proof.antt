@@ -19,16 +19,47 @@ returns-2 : tie.Need-returns-2
 returns-2 c = step-none _ _ _ _ _ _ ((c .before .if1) .left) ((c .if2) .taken)
 
 read-requires : tie.Need-read-requires
-read-requires c κs = let f = (c .before .before .before .before .before .before .pre) .1 .0 .0 .few in let s = (c .before .before .before .before .before .before .pre) .1 .0 .0 .stand in (omega (arith, (c .if2) .left), omega (arith, (c .if2) .left))
+read-requires c κs = let f = (c .before .before .before .before .before .before .pre) .1 .0 .0 .few in
+    let s = (c .before .before .before .before .before .before .pre) .1 .0 .0 .stand in (
+      omega (arith, (c .if2) .left),
+      omega (arith, (c .if2) .left),
+    )
 
 take-raw-requires : tie.Need-take-raw-requires
-take-raw-requires c κs = ((c .before .before .before .before .before .before .before .before .before .before .before .pre) .0, (rw ((c .before .before .before .before .read) .ensures) (ready _ ((c .before .before .before .before .before .before .before .before .before .before .before .pre) .1 .0 .0 .row ((c .before .before .before .before .before .before .before .before .before .before .before .args) .j) (omega (arith, (c .before .before .before .before .before .if2) .left))) ((c .before .before .before .before .before .before .before .before .before .before .before .pre) .1 .0 .1)), ((c .before .before .before .before .before .before .before .before .before .before .before .pre) .1 .1 .0, (c .before .before .before .before .before .before .before .before .before .before .before .pre) .1 .1 .1)))
+take-raw-requires c κs = (
+  (c .before .before .before .before .before .before .before .before .before .before .before .pre) .0,
+  (
+    rw ((c .before .before .before .before .read) .ensures)
+        (ready _ ((c .before .before .before .before .before .before .before .before .before .before .before .pre) .1 .0 .0 .row
+        ((c .before .before .before .before .before .before .before .before .before .before .before .args) .j)
+        (omega (arith, (c .before .before .before .before .before .if2) .left)))
+        ((c .before .before .before .before .before .before .before .before .before .before .before .pre) .1 .0 .1)),
+    (
+      (c .before .before .before .before .before .before .before .before .before .before .before .pre) .1 .1 .0,
+      (c .before .before .before .before .before .before .before .before .before .before .before .pre) .1 .1 .1,
+    ),
+  ),
+)
 
 returns-3 : tie.Need-returns-3
-returns-3 c = step-good _ _ _ _ _ _ ((c .before .before .before .before .before .before .before .before .before .before .before .before .before .before .before .if1) .left) (omega (arith, (c .before .before .before .before .before .before .before .before .before .before .before .before .before .before .if2) .left)) (took-row ((c .before .before .before .before .before .before .before .before .before .before .before .before .before .read) .ensures) (took-says ((c .if3) .taken) ((c .before .before .before .before .before .before .before .before .take-raw) .ensures)))
+returns-3 c = step-good _ _ _ _ _ _
+    ((c .before .before .before .before .before .before .before .before .before .before .before .before .before .before .before .if1) .left)
+    (omega (
+      arith,
+      (c .before .before .before .before .before .before .before .before .before .before .before .before .before .before .if2) .left,
+    )) (took-row
+    ((c .before .before .before .before .before .before .before .before .before .before .before .before .before .read) .ensures)
+    (took-says ((c .if3) .taken) ((c .before .before .before .before .before .before .before .before .take-raw) .ensures)))
 
 returns-4 : tie.Need-returns-4
-returns-4 c = step-wrong _ _ _ _ _ _ ((c .before .before .before .before .before .before .before .before .before .before .before .before .before .before .before .if1) .left) (omega (arith, (c .before .before .before .before .before .before .before .before .before .before .before .before .before .before .if2) .left)) (took-row ((c .before .before .before .before .before .before .before .before .before .before .before .before .before .read) .ensures) (took-says ((c .if3) .left) ((c .before .before .before .before .before .before .before .before .take-raw) .ensures)))
+returns-4 c = step-wrong _ _ _ _ _ _
+    ((c .before .before .before .before .before .before .before .before .before .before .before .before .before .before .before .if1) .left)
+    (omega (
+      arith,
+      (c .before .before .before .before .before .before .before .before .before .before .before .before .before .before .if2) .left,
+    )) (took-row
+    ((c .before .before .before .before .before .before .before .before .before .before .before .before .before .read) .ensures)
+    (took-says ((c .if3) .left) ((c .before .before .before .before .before .before .before .before .take-raw) .ensures)))
 
 pub take-one-spec : {M : Type 1} → statement M
 take-one-spec =

@@ -15,22 +15,54 @@ use Rattle.import_lines.proofs.take_raw.Statement.{statement}
 use Rattle.import_lines.proofs.take_raw.Tie as tie
 
 returns : tie.Need-returns
-returns c = took-as (raw-bare ((c .before .before .before .before .before .before .before .before .before .before .before .before .before .before .pre) .1 .1 .0) ((c .before .before .before .before .before .before .before .before .before .if1) .taken)) ((c .before .before .before .before .before .take-field) .ensures)
+returns c = took-as
+    (raw-bare
+    ((c .before .before .before .before .before .before .before .before .before .before .before .before .before .before .pre) .1 .1 .0)
+    ((c .before .before .before .before .before .before .before .before .before .if1) .taken))
+    ((c .before .before .before .before .before .take-field) .ensures)
 
 returns-2 : tie.Need-returns-2
-returns-2 c = none-taken (long-none _ _ _ (ready-limits ((c .before .before .before .before .before .before .before .before .before .before .pre) .1 .0)) _ ((c .before .before .before .undouble) .ensures .long ((c .if2) .taken)))
+returns-2 c = none-taken (long-none _ _ _ (ready-limits
+    ((c .before .before .before .before .before .before .before .before .before .before .pre) .1 .0)) _
+    ((c .before .before .before .undouble) .ensures .long ((c .if2) .taken)))
 
 slice-reshare-prefix-take-field : tie.Need-slice-reshare-prefix-take-field
-slice-reshare-prefix-take-field c = omega (arith, (c .if2) .left, (c .before .before .before .undouble) .kept .1 .0, (c .before .before .before .before .before .before .before .before .before .before .pre) .1 .1 .1 .2)
+slice-reshare-prefix-take-field c = omega (
+  arith,
+  (c .if2) .left,
+  (c .before .before .before .undouble) .kept .1 .0,
+  (c .before .before .before .before .before .before .before .before .before .before .pre) .1 .1 .1 .2,
+)
 
 slice-aggregate-take-field : tie.Need-slice-aggregate-take-field
-slice-aggregate-take-field c = sym (length-take-le _ _ (omega (arith, (c .before .if2) .left, (c .before .before .before .before .undouble) .kept .1 .0, (c .before .before .before .before .before .before .before .before .before .before .before .pre) .1 .1 .1 .2)))
+slice-aggregate-take-field c = sym (length-take-le _ _
+    (omega (
+      arith,
+      (c .before .if2) .left,
+      (c .before .before .before .before .undouble) .kept .1 .0,
+      (c .before .before .before .before .before .before .before .before .before .before .before .pre) .1 .1 .1 .2,
+    )))
 
 returns-3 : tie.Need-returns-3
-returns-3 c = took-as ((c .before .before .before .before .before .before .before .before .before .before .before .before .before .undouble) .ensures .all (omega (arith, (c .before .before .before .before .before .before .before .before .before .before .if2) .left))) ((c .before .before .before .before .before .take-field2) .ensures)
+returns-3 c = took-as
+    ((c .before .before .before .before .before .before .before .before .before .before .before .before .before .undouble) .ensures .all
+    (omega (arith, (c .before .before .before .before .before .before .before .before .before .before .if2) .left)))
+    ((c .before .before .before .before .before .take-field2) .ensures)
 
 take-field-requires-2 : tie.Need-take-field-requires-2
-take-field-requires-2 c κs = ((c .before .before .before .before .before .before .before .before .before .before .before .before .before .before .pre) .0, ((c .before .before .before .before .before .before .before .before .before .before .before .before .before .before .pre) .1 .0, ((c .before .before .before .before .before .before .before .before .before .before .before .before .before .before .pre) .1 .1 .1 .0, (c .before .before .before .before .before .before .before .before .before .before .before .before .before .before .pre) .1 .1 .1 .1)))
+take-field-requires-2 c
+    κs = (
+      (c .before .before .before .before .before .before .before .before .before .before .before .before .before .before .pre) .0,
+      (
+        (c .before .before .before .before .before .before .before .before .before .before .before .before .before .before .pre) .1 .0,
+        (
+          (c .before .before .before .before .before .before .before .before .before .before .before .before .before .before .pre) .1 .1 .1
+              .0,
+          (c .before .before .before .before .before .before .before .before .before .before .before .before .before .before .pre) .1 .1 .1
+              .1,
+        ),
+      ),
+    )
 
 pub take-raw-spec : {M : Type 1} → statement M
 take-raw-spec =

@@ -21,10 +21,16 @@ same-length : tie.Need-same-length Inv-loop μ-loop
 same-length c = (c .before .before .loop) .inv .1 ∙ sym (c .before .before .before .before .before .pre)
 
 returns : tie.Need-returns Inv-loop μ-loop
-returns c = undoubling-long ((c .before .before .loop) .inv .0) ((c .before .before .loop) .inv .1) ((c .before .loop-test) .taken) ((c .if1) .taken)
+returns c = undoubling-long ((c .before .before .loop) .inv .0) ((c .before .before .loop) .inv .1) ((c .before .loop-test) .taken)
+    ((c .if1) .taken)
 
 loop-again : tie.Need-loop-again Inv-loop μ-loop
-loop-again c = (rw ((c .stride-of) .ensures .0) (undoubling-more ((c .before .before .before .before .loop) .inv .0) ((c .before .before .before .before .loop) .inv .1) ((c .before .before .before .loop-test) .taken) (omega (arith, (c .before .before .if1) .left))), simp length-set ((c .before .before .before .before .loop) .inv .1))
+loop-again c = (
+  rw ((c .stride-of) .ensures .0) (undoubling-more ((c .before .before .before .before .loop) .inv .0)
+      ((c .before .before .before .before .loop) .inv .1) ((c .before .before .before .loop-test) .taken)
+      (omega (arith, (c .before .before .if1) .left))),
+  simp length-set ((c .before .before .before .before .loop) .inv .1),
+)
 
 loop-less : tie.Need-loop-less Inv-loop μ-loop
 loop-less c = omega (arith, (c .before .before .before .loop-test) .taken, (c .stride-of) .ensures .1)

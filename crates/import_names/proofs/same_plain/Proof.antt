@@ -18,7 +18,8 @@ use Rattle.import_names.proofs.same_plain.Tie as tie
 
 abbrev Inv-loop : tie.InvT-loop
 Inv-loop classes def name raw n₀ s₀ i₀ n s i =
-    (sameBytes (plainText def name) (undoubled false raw) ≡ sameBytes (bytesOf (decodeOf s 0 (text def n))) (undoubled false (drop i raw))) × (idle s ≡ true)
+    (sameBytes (plainText def name) (undoubled false raw) ≡ sameBytes (bytesOf (decodeOf s 0 (text def n))) (undoubled false (drop i raw)))
+    × (idle s ≡ true)
 
 abbrev μ-loop : tie.MeasureT-loop
 μ-loop classes def name raw n₀ s₀ i₀ n s i = length (decodeOf s 0 (text def n))
@@ -37,22 +38,32 @@ returns c =
 
 returns-2 : tie.Need-returns-2 Inv-loop μ-loop
 returns-2 c =
-    let s = part-said _ _ _ _ _ _ ((c .before .before .before .before .before .before .before .next-part) .ensures) ((c .before .before .before .before .before .sign) .given .1) in
-    sym ((c .before .before .before .before .before .before .before .before .loop) .inv .0 ∙ name-other (s .split) _ _ ((c .before .before .before .if1) .left) ((c .before .byte-of) .ensures) ((c .if2) .taken))
+    let s = part-said _ _ _ _ _ _ ((c .before .before .before .before .before .before .before .next-part) .ensures)
+    ((c .before .before .before .before .before .sign) .given .1) in
+    sym ((c .before .before .before .before .before .before .before .before .loop) .inv .0
+    ∙ name-other (s .split) _ _ ((c .before .before .before .if1) .left) ((c .before .byte-of) .ensures) ((c .if2) .taken))
 
 add-i : tie.Need-add-i Inv-loop μ-loop
 add-i c = omega (arith, (c .before .before .before .before .if1) .left, (c .stride-of) .ensures .2)
 
 loop-less : tie.Need-loop-less Inv-loop μ-loop
-loop-less c = shorter (part-said _ _ _ _ _ _ ((c .before .before .before .before .before .before .before .before .next-part) .ensures) ((c .before .before .before .before .before .before .sign) .given .1) .split)
+loop-less c = shorter (part-said _ _ _ _ _ _ ((c .before .before .before .before .before .before .before .before .next-part) .ensures)
+    ((c .before .before .before .before .before .before .sign) .given .1) .split)
 
 loop-again : tie.Need-loop-again Inv-loop μ-loop
 loop-again c =
-    let s = part-said _ _ _ _ _ _ ((c .before .before .before .before .before .before .before .before .next-part) .ensures) ((c .before .before .before .before .before .before .sign) .given .1) in
-    ((c .before .before .before .before .before .before .before .before .before .loop) .inv .0 ∙ rw ((c .stride-of) .ensures .0) (name-next (s .split) _ _ ((c .before .before .before .before .if1) .left) ((c .before .before .byte-of) .ensures) ((c .before .if2) .left)), s .rests)
+    let s = part-said _ _ _ _ _ _ ((c .before .before .before .before .before .before .before .before .next-part) .ensures)
+    ((c .before .before .before .before .before .before .sign) .given .1) in (
+      (c .before .before .before .before .before .before .before .before .before .loop) .inv .0
+          ∙ rw ((c .stride-of) .ensures .0) (name-next (s .split) _ _ ((c .before .before .before .before .if1) .left)
+          ((c .before .before .byte-of) .ensures) ((c .before .if2) .left)),
+      s .rests,
+    )
 
 returns-3 : tie.Need-returns-3 Inv-loop μ-loop
-returns-3 c = name-ends (part-over _ _ _ ((c .before .before .next-part) .ensures) ((c .enum-told) .given .1)) ((c .before .before .before .before .before .before .args) .raw .now) ((c .before .before .before .loop) .i) ∙ sym ((c .before .before .before .loop) .inv .0)
+returns-3 c = name-ends (part-over _ _ _ ((c .before .before .next-part) .ensures) ((c .enum-told) .given .1))
+    ((c .before .before .before .before .before .before .args) .raw .now) ((c .before .before .before .loop) .i)
+    ∙ sym ((c .before .before .before .loop) .inv .0)
 
 pub same-plain-spec : {M : Type 1} → statement M
 same-plain-spec =

@@ -38,22 +38,33 @@ returns c =
 
 returns-2 : tie.Need-returns-2 Inv-loop μ-loop
 returns-2 c =
-    let s = told-one _ _ ((c .before .before .before .before .before .before .before .next-sign) .ensures) ((c .before .before .before .before .before .sign) .given .1) in
-    sym ((c .before .before .before .before .before .before .before .before .loop) .inv .0 ∙ name-other (s .split) _ _ ((c .before .before .before .if1) .left) ((c .before .byte-of) .ensures) ((c .if2) .taken))
+    let s = told-one _ _ ((c .before .before .before .before .before .before .before .next-sign) .ensures)
+    ((c .before .before .before .before .before .sign) .given .1) in
+    sym ((c .before .before .before .before .before .before .before .before .loop) .inv .0
+    ∙ name-other (s .split) _ _ ((c .before .before .before .if1) .left) ((c .before .byte-of) .ensures) ((c .if2) .taken))
 
 add-k : tie.Need-add-k Inv-loop μ-loop
 add-k c = omega (arith, (c .before .before .before .before .if1) .left, (c .stride-of) .ensures .2)
 
 loop-less : tie.Need-loop-less Inv-loop μ-loop
-loop-less c = shorter (told-one _ _ ((c .before .before .before .before .before .before .before .before .next-sign) .ensures) ((c .before .before .before .before .before .before .sign) .given .1) .split)
+loop-less c = shorter (told-one _ _ ((c .before .before .before .before .before .before .before .before .next-sign) .ensures)
+    ((c .before .before .before .before .before .before .sign) .given .1) .split)
 
 loop-again : tie.Need-loop-again Inv-loop μ-loop
 loop-again c =
-    let s = told-one _ _ ((c .before .before .before .before .before .before .before .before .next-sign) .ensures) ((c .before .before .before .before .before .before .sign) .given .1) in
-    ((c .before .before .before .before .before .before .before .before .before .loop) .inv .0 ∙ rw ((c .stride-of) .ensures .0) (name-next (s .split) _ _ ((c .before .before .before .before .if1) .left) ((c .before .before .byte-of) .ensures) ((c .before .if2) .left)), s .next, s .small)
+    let s = told-one _ _ ((c .before .before .before .before .before .before .before .before .next-sign) .ensures)
+    ((c .before .before .before .before .before .before .sign) .given .1) in (
+      (c .before .before .before .before .before .before .before .before .before .loop) .inv .0
+          ∙ rw ((c .stride-of) .ensures .0) (name-next (s .split) _ _ ((c .before .before .before .before .if1) .left)
+          ((c .before .before .byte-of) .ensures) ((c .before .if2) .left)),
+      s .next,
+      s .small,
+    )
 
 returns-3 : tie.Need-returns-3 Inv-loop μ-loop
-returns-3 c = name-ends (told-over ((c .before .before .next-sign) .ensures) ((c .enum-told) .given .1)) ((c .before .before .before .before .before .before .before .args) .raw .now) ((c .before .before .before .loop) .k) ∙ sym ((c .before .before .before .loop) .inv .0)
+returns-3 c = name-ends (told-over ((c .before .before .next-sign) .ensures) ((c .enum-told) .given .1))
+    ((c .before .before .before .before .before .before .before .args) .raw .now) ((c .before .before .before .loop) .k)
+    ∙ sym ((c .before .before .before .loop) .inv .0)
 
 pub same-rest-spec : {M : Type 1} → statement M
 same-rest-spec =

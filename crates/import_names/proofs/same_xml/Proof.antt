@@ -14,18 +14,25 @@ use Rattle.import_names.proofs.same_xml.Statement.{statement}
 use Rattle.import_names.proofs.same_xml.Tie as tie
 
 slice-aggregate-same-rest : tie.Need-slice-aggregate-same-rest
-slice-aggregate-same-rest c = sym (length-take-le (c .before .before .end-of .result) (c .before .before .before .before .before .args .def .now) (c .before .before .end-of .ensures .1))
+slice-aggregate-same-rest c = sym (length-take-le (c .before .before .end-of .result)
+    (c .before .before .before .before .before .args .def .now) (c .before .before .end-of .ensures .1))
 
 same-rest-requires : tie.Need-same-rest-requires
 same-rest-requires c κs =
-    omega (arith, length-take-le (c .before .before .end-of .result) (c .before .before .before .before .before .args .def .now) (c .before .before .end-of .ensures .1), c .before .from-of .ensures .1)
+    omega (
+      arith,
+      length-take-le (c .before .before .end-of .result) (c .before .before .before .before .before .args .def .now)
+          (c .before .before .end-of .ensures .1),
+      c .before .from-of .ensures .1,
+    )
 
 returns : tie.Need-returns
 returns c =
     let a = c .before .before .before .before .before .before .args in
     c .same-rest .ensures
     ∙ ap (λ (s : List ℕ). sameBytes s (undoubled false (a .raw .now)))
-    (ap (λ (q : ℕ). restText (a .latin) (take (c .before .before .before .end-of .result) (a .def .now)) q) (c .before .before .from-of .ensures .0)
+    (ap (λ (q : ℕ). restText (a .latin) (take (c .before .before .before .end-of .result) (a .def .now)) q)
+    (c .before .before .from-of .ensures .0)
     ∙ ap (λ (q : ℕ). restText (a .latin) (take q (a .def .now)) (fromOf q (a .place))) (c .before .before .before .end-of .ensures .0)
     ∙ rest-is (a .latin) (a .def .now) (a .place) (a .long))
 

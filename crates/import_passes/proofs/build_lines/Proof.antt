@@ -13,7 +13,8 @@ use Rattle.import_passes.proofs.build_lines.Tie as tie
 
 abbrev Inv-loop : tie.InvT-loop
 Inv-loop powers t rows len d from n list₀ room₀ spare₀ out₀ size at₀ k₀ i₀ list room spare out at k i =
-    Building t d from at i k out₀ out × (i ≤ n) × (size ≡ lengthOf t + 2) × (n * size ≤ length out₀) × (length list ≡ 9999) × (length room ≡ 50000)
+    Building t d from at i k out₀ out × (i ≤ n) × (size ≡ lengthOf t + 2) × (n * size ≤ length out₀) × (length list ≡ 9999)
+    × (length room ≡ 50000)
     × (length spare ≡ 50000) × (size ≡ len + 2)
 
 abbrev μ-loop : tie.MeasureT-loop
@@ -24,11 +25,25 @@ add-size c = omega (arith, (c .before .before .before .before .pre) .1 .1 .0 .2)
 
 loop-holds : tie.Need-loop-holds Inv-loop μ-loop
 loop-holds c =
-    let p = (c .before .before .before .before .pre) .1 in
-    (building-none _ _ _ _ (p .1 .0 .0), omega arith, ap (λ (x : ℕ). x + 2) (p .0 .2), p .1 .0 .1, p .1 .1 .1 .0, p .1 .1 .1 .1, p .1 .1 .1 .2, refl)
+    let p = (c .before .before .before .before .pre) .1 in (
+      building-none _ _ _ _ (p .1 .0 .0),
+      omega arith,
+      ap (λ (x : ℕ). x + 2) (p .0 .2),
+      p .1 .0 .1,
+      p .1 .1 .1 .0,
+      p .1 .1 .1 .1,
+      p .1 .1 .1 .2,
+      refl,
+    )
 
 add-end : tie.Need-add-end Inv-loop μ-loop
-add-end c = omega (arith, room-left ((c .before .loop) .inv .0) ((c .before .before .before .before .before .before .pre) .1 .1 .1 .0) ((c .before .loop) .inv .2) ((c .before .loop) .inv .3) ((c .loop-test) .taken), (c .before .loop) .inv .0 .room, (c .before .before .before .before .before .before .good) .1 .1 .1 .1 .1 .1 .1 .1 .1 .1 .0)
+add-end c = omega (
+  arith,
+  room-left ((c .before .loop) .inv .0) ((c .before .before .before .before .before .before .pre) .1 .1 .1 .0)
+      ((c .before .loop) .inv .2) ((c .before .loop) .inv .3) ((c .loop-test) .taken),
+  (c .before .loop) .inv .0 .room,
+  (c .before .before .before .before .before .before .good) .1 .1 .1 .1 .1 .1 .1 .1 .1 .1 .0,
+)
 
 sub-take-record : tie.Need-sub-take-record Inv-loop μ-loop
 sub-take-record c = omega arith
@@ -37,21 +52,53 @@ part-take-record-start : tie.Need-part-take-record-start Inv-loop μ-loop
 part-take-record-start c = omega arith
 
 part-take-record-end : tie.Need-part-take-record-end Inv-loop μ-loop
-part-take-record-end c = room-left ((c .before .before .before .before .loop) .inv .0) ((c .before .before .before .before .before .before .before .before .before .pre) .1 .1 .1 .0) ((c .before .before .before .before .loop) .inv .2) ((c .before .before .before .before .loop) .inv .3) ((c .before .before .before .loop-test) .taken)
+part-take-record-end c = room-left ((c .before .before .before .before .loop) .inv .0)
+    ((c .before .before .before .before .before .before .before .before .before .pre) .1 .1 .1 .0)
+    ((c .before .before .before .before .loop) .inv .2) ((c .before .before .before .before .loop) .inv .3)
+    ((c .before .before .before .loop-test) .taken)
 
 take-record-requires : tie.Need-take-record-requires Inv-loop μ-loop
 take-record-requires c κs =
     let i = (c .before .before .before .before .before .loop) .inv in
-    let l = mid-len ((c .before .before .before .before .before .loop) .k) ((c .before .before .before .before .before .loop) .k + ((c .before .before .before .before .before .before .before .before .before .before .args) .len + 2)) ((c .before .before .before .before .before .loop) .out) (room-left ((c .before .before .before .before .before .loop) .inv .0) ((c .before .before .before .before .before .before .before .before .before .before .pre) .1 .1 .1 .0) ((c .before .before .before .before .before .loop) .inv .2) ((c .before .before .before .before .before .loop) .inv .3) ((c .before .before .before .before .loop-test) .taken)) in
-    ((c .before .before .before .before .before .before .before .before .before .before .pre) .0, ((c .before .before .before .before .before .before .before .before .before .before .pre) .1 .0, ((i .0 .passing .within, omega (arith, l)), (i .4, i .5, i .6))))
+    let l = mid-len ((c .before .before .before .before .before .loop) .k)
+    ((c .before .before .before .before .before .loop) .k
+    + ((c .before .before .before .before .before .before .before .before .before .before .args) .len + 2))
+    ((c .before .before .before .before .before .loop) .out)
+    (room-left ((c .before .before .before .before .before .loop) .inv .0)
+    ((c .before .before .before .before .before .before .before .before .before .before .pre) .1 .1 .1 .0)
+    ((c .before .before .before .before .before .loop) .inv .2) ((c .before .before .before .before .before .loop) .inv .3)
+    ((c .before .before .before .before .loop-test) .taken)) in (
+      (c .before .before .before .before .before .before .before .before .before .before .pre) .0,
+      (
+        (c .before .before .before .before .before .before .before .before .before .before .pre) .1 .0,
+        ((i .0 .passing .within, omega (arith, l)), (i .4, i .5, i .6)),
+      ),
+    )
 
 loop-again : tie.Need-loop-again Inv-loop μ-loop
 loop-again c =
-    let i = (c .before .before .before .before .before .before .before .before .before .before .before .before .before .before .before .before .loop) .inv in
-    let k = ended-good ((c .before .before .before .before .before .before .before .before .before .before .before .before .before .before .before .before .before .before .before .before .before .args) .t .now) ((c .before .before .before .before .before .before .before .before .before .before .before .before .before .before .before .before .before .before .before .before .before .args) .d .now) ((c .before .before .before .before .before .before .before .before .before .before .before .before .before .before .before .before .loop) .at) _ ((c .before .before .before .before .before .before .before .before .before .before .take-record) .result) ((c .before .before .before .before .before .before .before .before .before .before .take-record) .ensures) ((c .before .next) .given .1) in
+    let i = (c .before .before .before .before .before .before .before .before .before .before .before .before .before .before .before
+    .before .loop) .inv in
+    let k = ended-good
+    ((c .before .before .before .before .before .before .before .before .before .before .before .before .before .before .before .before
+    .before .before .before .before .before .args) .t .now)
+    ((c .before .before .before .before .before .before .before .before .before .before .before .before .before .before .before .before
+    .before .before .before .before .before .args) .d .now)
+    ((c .before .before .before .before .before .before .before .before .before .before .before .before .before .before .before .before
+    .loop) .at) _ ((c .before .before .before .before .before .before .before .before .before .before .take-record) .result)
+    ((c .before .before .before .before .before .before .before .before .before .before .take-record) .ensures)
+    ((c .before .next) .given .1) in
     let l = (c .before .before .before .before .before .before .before .before .before .before .take-record) .kept .1 .1 .1 .1 .1 .1 in (
-      building-more (i .0) ((c .before .before .before .before .before .before .before .before .before .before .before .before .before .before .before .before .before .before .before .before .before .pre) .1 .1 .1 .0) (i .2) (i .3) ((c .before .before .before .before .before .before .before .before .before .before .before .before .before .before .before .loop-test) .taken) k,
-      omega (arith, (c .before .before .before .before .before .before .before .before .before .before .before .before .before .before .before .loop-test) .taken),
+      building-more (i .0)
+          ((c .before .before .before .before .before .before .before .before .before .before .before .before .before .before .before
+          .before .before .before .before .before .before .pre) .1 .1 .1 .0) (i .2) (i .3)
+          ((c .before .before .before .before .before .before .before .before .before .before .before .before .before .before .before
+          .loop-test) .taken) k,
+      omega (
+        arith,
+        (c .before .before .before .before .before .before .before .before .before .before .before .before .before .before .before
+            .loop-test) .taken,
+      ),
       i .2,
       i .3,
       l .0 ∙ i .4,
@@ -61,28 +108,66 @@ loop-again c =
     )
 
 same-length : tie.Need-same-length Inv-loop μ-loop
-same-length c = (c .before .before .before .before .before .before .before .before .before .take-record) .kept .1 .1 .1 .1 .1 .1 .0 ∙ (c .before .before .before .before .before .before .before .before .before .before .before .before .before .before .before .loop) .inv .4 ∙ sym ((c .before .before .before .before .before .before .before .before .before .before .before .before .before .before .before .before .before .before .before .before .pre) .1 .1 .1 .1 .0)
+same-length c = (c .before .before .before .before .before .before .before .before .before .take-record) .kept .1 .1 .1 .1 .1 .1 .0
+    ∙ (c .before .before .before .before .before .before .before .before .before .before .before .before .before .before .before .loop) .inv
+    .4 ∙ sym ((c .before .before .before .before .before .before .before .before .before .before .before .before .before .before .before
+    .before .before .before .before .before .pre) .1 .1 .1 .1 .0)
 
 same-length-2 : tie.Need-same-length-2 Inv-loop μ-loop
-same-length-2 c = (c .before .before .before .before .before .before .before .before .before .take-record) .kept .1 .1 .1 .1 .1 .1 .1 .0 ∙ (c .before .before .before .before .before .before .before .before .before .before .before .before .before .before .before .loop) .inv .5 ∙ sym ((c .before .before .before .before .before .before .before .before .before .before .before .before .before .before .before .before .before .before .before .before .pre) .1 .1 .1 .1 .1)
+same-length-2 c = (c .before .before .before .before .before .before .before .before .before .take-record) .kept .1 .1 .1 .1 .1 .1 .1 .0
+    ∙ (c .before .before .before .before .before .before .before .before .before .before .before .before .before .before .before .loop) .inv
+    .5 ∙ sym ((c .before .before .before .before .before .before .before .before .before .before .before .before .before .before .before
+    .before .before .before .before .before .pre) .1 .1 .1 .1 .1)
 
 same-length-3 : tie.Need-same-length-3 Inv-loop μ-loop
-same-length-3 c = (c .before .before .before .before .before .before .before .before .before .take-record) .kept .1 .1 .1 .1 .1 .1 .1 .1 .0 ∙ (c .before .before .before .before .before .before .before .before .before .before .before .before .before .before .before .loop) .inv .6 ∙ sym ((c .before .before .before .before .before .before .before .before .before .before .before .before .before .before .before .before .before .before .before .before .pre) .1 .1 .1 .1 .2)
+same-length-3 c = (c .before .before .before .before .before .before .before .before .before .take-record) .kept .1 .1 .1 .1 .1 .1 .1 .1 .0
+    ∙ (c .before .before .before .before .before .before .before .before .before .before .before .before .before .before .before .loop) .inv
+    .6 ∙ sym ((c .before .before .before .before .before .before .before .before .before .before .before .before .before .before .before
+    .before .before .before .before .before .pre) .1 .1 .1 .1 .2)
 
 same-length-4 : tie.Need-same-length-4 Inv-loop μ-loop
-same-length-4 c = same-len-mid ((c .before .before .before .before .before .before .before .before .before .before .before .before .before .before .before .loop) .k) ((c .before .before .before .before .before .before .before .before .before .before .before .before .before .before .before .loop) .k + ((c .before .before .before .before .before .before .before .before .before .before .before .before .before .before .before .before .before .before .before .before .args) .len + 2) - (c .before .before .before .before .before .before .before .before .before .before .before .before .before .before .before .loop) .k) ((c .before .before .before .before .before .before .before .before .before .before .before .before .before .before .before .loop) .out) ((c .before .before .before .before .before .before .before .before .before .take-record) .last .1 .1 .1 .1 .1 .1 .1 .1 .1 .0) ((c .before .before .before .before .before .before .before .before .before .take-record) .kept .1 .1 .1 .1 .1 .1 .1 .1 .1 .0) ∙ (c .before .before .before .before .before .before .before .before .before .before .before .before .before .before .before .loop) .inv .0 .room
+same-length-4 c = same-len-mid
+    ((c .before .before .before .before .before .before .before .before .before .before .before .before .before .before .before .loop) .k)
+    ((c .before .before .before .before .before .before .before .before .before .before .before .before .before .before .before .loop) .k
+    + ((c .before .before .before .before .before .before .before .before .before .before .before .before .before .before .before .before
+    .before .before .before .before .args) .len + 2) -
+    (c .before .before .before .before .before .before .before .before .before .before .before .before .before .before .before .loop) .k)
+    ((c .before .before .before .before .before .before .before .before .before .before .before .before .before .before .before .loop) .out)
+    ((c .before .before .before .before .before .before .before .before .before .take-record) .last .1 .1 .1 .1 .1 .1 .1 .1 .1 .0)
+    ((c .before .before .before .before .before .before .before .before .before .take-record) .kept .1 .1 .1 .1 .1 .1 .1 .1 .1 .0)
+    ∙ (c .before .before .before .before .before .before .before .before .before .before .before .before .before .before .before .loop) .inv
+    .0 .room
 
 same-length-5 : tie.Need-same-length-5 Inv-loop μ-loop
-same-length-5 c = (c .before .before .before .before .before .before .before .before .before .take-record) .kept .1 .1 .1 .1 .1 .1 .0 ∙ (c .before .before .before .before .before .before .before .before .before .before .before .before .before .before .before .loop) .inv .4 ∙ sym ((c .before .before .before .before .before .before .before .before .before .before .before .before .before .before .before .before .before .before .before .before .pre) .1 .1 .1 .1 .0)
+same-length-5 c = (c .before .before .before .before .before .before .before .before .before .take-record) .kept .1 .1 .1 .1 .1 .1 .0
+    ∙ (c .before .before .before .before .before .before .before .before .before .before .before .before .before .before .before .loop) .inv
+    .4 ∙ sym ((c .before .before .before .before .before .before .before .before .before .before .before .before .before .before .before
+    .before .before .before .before .before .pre) .1 .1 .1 .1 .0)
 
 same-length-6 : tie.Need-same-length-6 Inv-loop μ-loop
-same-length-6 c = (c .before .before .before .before .before .before .before .before .before .take-record) .kept .1 .1 .1 .1 .1 .1 .1 .0 ∙ (c .before .before .before .before .before .before .before .before .before .before .before .before .before .before .before .loop) .inv .5 ∙ sym ((c .before .before .before .before .before .before .before .before .before .before .before .before .before .before .before .before .before .before .before .before .pre) .1 .1 .1 .1 .1)
+same-length-6 c = (c .before .before .before .before .before .before .before .before .before .take-record) .kept .1 .1 .1 .1 .1 .1 .1 .0
+    ∙ (c .before .before .before .before .before .before .before .before .before .before .before .before .before .before .before .loop) .inv
+    .5 ∙ sym ((c .before .before .before .before .before .before .before .before .before .before .before .before .before .before .before
+    .before .before .before .before .before .pre) .1 .1 .1 .1 .1)
 
 same-length-7 : tie.Need-same-length-7 Inv-loop μ-loop
-same-length-7 c = (c .before .before .before .before .before .before .before .before .before .take-record) .kept .1 .1 .1 .1 .1 .1 .1 .1 .0 ∙ (c .before .before .before .before .before .before .before .before .before .before .before .before .before .before .before .loop) .inv .6 ∙ sym ((c .before .before .before .before .before .before .before .before .before .before .before .before .before .before .before .before .before .before .before .before .pre) .1 .1 .1 .1 .2)
+same-length-7 c = (c .before .before .before .before .before .before .before .before .before .take-record) .kept .1 .1 .1 .1 .1 .1 .1 .1 .0
+    ∙ (c .before .before .before .before .before .before .before .before .before .before .before .before .before .before .before .loop) .inv
+    .6 ∙ sym ((c .before .before .before .before .before .before .before .before .before .before .before .before .before .before .before
+    .before .before .before .before .before .pre) .1 .1 .1 .1 .2)
 
 same-length-8 : tie.Need-same-length-8 Inv-loop μ-loop
-same-length-8 c = same-len-mid ((c .before .before .before .before .before .before .before .before .before .before .before .before .before .before .before .loop) .k) ((c .before .before .before .before .before .before .before .before .before .before .before .before .before .before .before .loop) .k + ((c .before .before .before .before .before .before .before .before .before .before .before .before .before .before .before .before .before .before .before .before .args) .len + 2) - (c .before .before .before .before .before .before .before .before .before .before .before .before .before .before .before .loop) .k) ((c .before .before .before .before .before .before .before .before .before .before .before .before .before .before .before .loop) .out) ((c .before .before .before .before .before .before .before .before .before .take-record) .last .1 .1 .1 .1 .1 .1 .1 .1 .1 .0) ((c .before .before .before .before .before .before .before .before .before .take-record) .kept .1 .1 .1 .1 .1 .1 .1 .1 .1 .0) ∙ (c .before .before .before .before .before .before .before .before .before .before .before .before .before .before .before .loop) .inv .0 .room
+same-length-8 c = same-len-mid
+    ((c .before .before .before .before .before .before .before .before .before .before .before .before .before .before .before .loop) .k)
+    ((c .before .before .before .before .before .before .before .before .before .before .before .before .before .before .before .loop) .k
+    + ((c .before .before .before .before .before .before .before .before .before .before .before .before .before .before .before .before
+    .before .before .before .before .args) .len + 2) -
+    (c .before .before .before .before .before .before .before .before .before .before .before .before .before .before .before .loop) .k)
+    ((c .before .before .before .before .before .before .before .before .before .before .before .before .before .before .before .loop) .out)
+    ((c .before .before .before .before .before .before .before .before .before .take-record) .last .1 .1 .1 .1 .1 .1 .1 .1 .1 .0)
+    ((c .before .before .before .before .before .before .before .before .before .take-record) .kept .1 .1 .1 .1 .1 .1 .1 .1 .1 .0)
+    ∙ (c .before .before .before .before .before .before .before .before .before .before .before .before .before .before .before .loop) .inv
+    .0 .room
 
 same-length-9 : tie.Need-same-length-9 Inv-loop μ-loop
 same-length-9 c = (c .before .loop) .inv .4 ∙ sym ((c .before .before .before .before .before .before .pre) .1 .1 .1 .1 .0)
@@ -97,13 +182,38 @@ same-length-12 : tie.Need-same-length-12 Inv-loop μ-loop
 same-length-12 c = (c .before .loop) .inv .0 .room
 
 returns : tie.Need-returns Inv-loop μ-loop
-returns c = not-faulty ((c .before .before .before .before .before .before .before .before .before .before .before .before .before .before .before .loop) .inv .0) ((c .before .before .before .before .before .before .before .before .before .before .before .before .before .before .before .before .before .before .before .before .pre) .1 .1 .1 .0) ((c .before .before .before .before .before .before .before .before .before .before .before .before .before .before .loop-test) .taken) (ended-faulty ((c .before .before .before .before .before .before .before .before .before .before .before .before .before .before .before .before .before .before .before .before .args) .t .now) ((c .before .before .before .before .before .before .before .before .before .before .before .before .before .before .before .before .before .before .before .before .args) .d .now) ((c .before .before .before .before .before .before .before .before .before .before .before .before .before .before .before .loop) .at) _ ((c .before .before .before .before .before .before .before .before .before .take-record) .result) ((c .before .before .before .before .before .before .before .before .before .take-record) .ensures) ((c .enum-told) .given .1))
+returns c = not-faulty
+    ((c .before .before .before .before .before .before .before .before .before .before .before .before .before .before .before .loop) .inv
+    .0) ((c .before .before .before .before .before .before .before .before .before .before .before .before .before .before .before .before
+    .before .before .before .before .pre) .1 .1 .1 .0)
+    ((c .before .before .before .before .before .before .before .before .before .before .before .before .before .before .loop-test) .taken)
+    (ended-faulty
+    ((c .before .before .before .before .before .before .before .before .before .before .before .before .before .before .before .before
+    .before .before .before .before .args) .t .now)
+    ((c .before .before .before .before .before .before .before .before .before .before .before .before .before .before .before .before
+    .before .before .before .before .args) .d .now)
+    ((c .before .before .before .before .before .before .before .before .before .before .before .before .before .before .before .loop) .at)
+    _ ((c .before .before .before .before .before .before .before .before .before .take-record) .result)
+    ((c .before .before .before .before .before .before .before .before .before .take-record) .ensures) ((c .enum-told) .given .1))
 
 returns-2 : tie.Need-returns-2 Inv-loop μ-loop
-returns-2 c = not-torn ((c .before .before .before .before .before .before .before .before .before .before .before .before .before .before .before .loop) .inv .0) ((c .before .before .before .before .before .before .before .before .before .before .before .before .before .before .before .before .before .before .before .before .pre) .1 .1 .1 .0) ((c .before .before .before .before .before .before .before .before .before .before .before .before .before .before .loop-test) .taken) (ended-torn ((c .before .before .before .before .before .before .before .before .before .before .before .before .before .before .before .before .before .before .before .before .args) .t .now) ((c .before .before .before .before .before .before .before .before .before .before .before .before .before .before .before .before .before .before .before .before .args) .d .now) ((c .before .before .before .before .before .before .before .before .before .before .before .before .before .before .before .loop) .at) _ ((c .before .before .before .before .before .before .before .before .before .take-record) .result) ((c .before .before .before .before .before .before .before .before .before .take-record) .ensures) ((c .enum-told2) .given .1))
+returns-2 c = not-torn
+    ((c .before .before .before .before .before .before .before .before .before .before .before .before .before .before .before .loop) .inv
+    .0) ((c .before .before .before .before .before .before .before .before .before .before .before .before .before .before .before .before
+    .before .before .before .before .pre) .1 .1 .1 .0)
+    ((c .before .before .before .before .before .before .before .before .before .before .before .before .before .before .loop-test) .taken)
+    (ended-torn
+    ((c .before .before .before .before .before .before .before .before .before .before .before .before .before .before .before .before
+    .before .before .before .before .args) .t .now)
+    ((c .before .before .before .before .before .before .before .before .before .before .before .before .before .before .before .before
+    .before .before .before .before .args) .d .now)
+    ((c .before .before .before .before .before .before .before .before .before .before .before .before .before .before .before .loop) .at)
+    _ ((c .before .before .before .before .before .before .before .before .before .take-record) .result)
+    ((c .before .before .before .before .before .before .before .before .before .take-record) .ensures) ((c .enum-told2) .given .1))
 
 returns-3 : tie.Need-returns-3 Inv-loop μ-loop
-returns-3 c = building-all ((c .before .loop) .inv .0) ((c .before .before .before .before .before .before .pre) .1 .1 .1 .0) (omega (arith, (c .before .loop) .inv .1, (c .loop-test) .left))
+returns-3 c = building-all ((c .before .loop) .inv .0) ((c .before .before .before .before .before .before .pre) .1 .1 .1 .0)
+    (omega (arith, (c .before .loop) .inv .1, (c .loop-test) .left))
 
 pub build-lines-spec : {M : Type 1} → statement M
 build-lines-spec =

@@ -4,7 +4,8 @@ use native.Mathlib.Omega.{arith}
 use borrow.Author.Needs.{needs}
 use Prim.Native.Nat.{_+_, _-_, _≤_, _<_}
 use lib.ListN.{length}
-use Rattle.import_passes.specs.Passes.{Judging, judging-none, judging-more, judging-over, passing-faulty, passing-torn, ended-good, ended-faulty, ended-torn}
+use Rattle.import_passes.specs.Passes.{Judging, judging-none, judging-more, judging-over, passing-faulty, passing-torn, ended-good}
+use Rattle.import_passes.specs.Passes.{ended-faulty, ended-torn}
 use Rattle.import_passes.proofs.judge_lines.Statement.{statement}
 use Rattle.import_passes.proofs.judge_lines.Tie as tie
 
@@ -20,59 +21,178 @@ loop-holds c = let p = (c .before .before .before .before .pre) .1 .1 in (judgin
 
 take-record-requires : tie.Need-take-record-requires Inv-loop μ-loop
 take-record-requires c κs =
-    let i = (c .before .before .before .before .before .loop) .inv in
-    ((c .before .before .before .before .before .before .before .before .before .before .pre) .0, ((c .before .before .before .before .before .before .before .before .before .before .pre) .1 .0, ((i .0 .passing .within, i .4), (i .1, i .2, i .3))))
+    let i = (c .before .before .before .before .before .loop) .inv in (
+      (c .before .before .before .before .before .before .before .before .before .before .pre) .0,
+      (
+        (c .before .before .before .before .before .before .before .before .before .before .pre) .1 .0,
+        ((i .0 .passing .within, i .4), (i .1, i .2, i .3)),
+      ),
+    )
 
 add-n : tie.Need-add-n Inv-loop μ-loop
-add-n c = omega (arith, (c .before .before .before .before .before .before .before .before .before .before .before .before .before .before .before .before .loop) .inv .0 .passing .on, (c .before .before .before .before .before .before .before .before .before .before .before .before .before .before .before .loop-test) .taken)
+add-n c = omega (
+  arith,
+  (c .before .before .before .before .before .before .before .before .before .before .before .before .before .before .before
+      .before .loop) .inv .0 .passing .on,
+  (c .before .before .before .before .before .before .before .before .before .before .before .before .before .before .before .loop-test)
+      .taken,
+)
 
 loop-less : tie.Need-loop-less Inv-loop μ-loop
 loop-less c =
-    let k = ended-good ((c .before .before .before .before .before .before .before .before .before .before .before .before .before .before .before .before .before .before .before .before .before .args) .t .now) ((c .before .before .before .before .before .before .before .before .before .before .before .before .before .before .before .before .before .before .before .before .before .args) .d .now) ((c .before .before .before .before .before .before .before .before .before .before .before .before .before .before .before .before .loop) .at) _ ((c .before .before .before .before .before .before .before .before .before .before .take-record) .result) ((c .before .before .before .before .before .before .before .before .before .before .take-record) .ensures) ((c .before .next) .given .1) in
-    omega (arith, k .good .ahead, (c .before .before .before .before .before .before .before .before .before .before .before .before .before .before .before .loop-test) .taken)
+    let k = ended-good
+    ((c .before .before .before .before .before .before .before .before .before .before .before .before .before .before .before .before
+    .before .before .before .before .before .args) .t .now)
+    ((c .before .before .before .before .before .before .before .before .before .before .before .before .before .before .before .before
+    .before .before .before .before .before .args) .d .now)
+    ((c .before .before .before .before .before .before .before .before .before .before .before .before .before .before .before .before
+    .loop) .at) _ ((c .before .before .before .before .before .before .before .before .before .before .take-record) .result)
+    ((c .before .before .before .before .before .before .before .before .before .before .take-record) .ensures)
+    ((c .before .next) .given .1) in
+    omega (
+      arith,
+      k .good .ahead,
+      (c .before .before .before .before .before .before .before .before .before .before .before .before .before .before .before .loop-test)
+          .taken,
+    )
 
 loop-again : tie.Need-loop-again Inv-loop μ-loop
 loop-again c =
-    let i = (c .before .before .before .before .before .before .before .before .before .before .before .before .before .before .before .before .loop) .inv in
-    let k = ended-good ((c .before .before .before .before .before .before .before .before .before .before .before .before .before .before .before .before .before .before .before .before .before .args) .t .now) ((c .before .before .before .before .before .before .before .before .before .before .before .before .before .before .before .before .before .before .before .before .before .args) .d .now) ((c .before .before .before .before .before .before .before .before .before .before .before .before .before .before .before .before .loop) .at) _ ((c .before .before .before .before .before .before .before .before .before .before .take-record) .result) ((c .before .before .before .before .before .before .before .before .before .before .take-record) .ensures) ((c .before .next) .given .1) in
-    let l = (c .before .before .before .before .before .before .before .before .before .before .take-record) .kept .1 .1 .1 .1 .1 .1 in
-    (judging-more (i .0) ((c .before .before .before .before .before .before .before .before .before .before .before .before .before .before .before .loop-test) .taken) k, l .0 ∙ i .1, l .1 .0 ∙ i .2, l .1 .1 .0 ∙ i .3, l .1 .1 .1 .0 ∙ i .4)
+    let i = (c .before .before .before .before .before .before .before .before .before .before .before .before .before .before .before
+    .before .loop) .inv in
+    let k = ended-good
+    ((c .before .before .before .before .before .before .before .before .before .before .before .before .before .before .before .before
+    .before .before .before .before .before .args) .t .now)
+    ((c .before .before .before .before .before .before .before .before .before .before .before .before .before .before .before .before
+    .before .before .before .before .before .args) .d .now)
+    ((c .before .before .before .before .before .before .before .before .before .before .before .before .before .before .before .before
+    .loop) .at) _ ((c .before .before .before .before .before .before .before .before .before .before .take-record) .result)
+    ((c .before .before .before .before .before .before .before .before .before .before .take-record) .ensures)
+    ((c .before .next) .given .1) in
+    let l = (c .before .before .before .before .before .before .before .before .before .before .take-record) .kept .1 .1 .1 .1 .1 .1 in (
+      judging-more (i .0)
+          ((c .before .before .before .before .before .before .before .before .before .before .before .before .before .before .before
+          .loop-test) .taken) k,
+      l .0 ∙ i .1,
+      l .1 .0 ∙ i .2,
+      l .1 .1 .0 ∙ i .3,
+      l .1 .1 .1 .0 ∙ i .4,
+    )
 
 add-t28 : tie.Need-add-t28 Inv-loop μ-loop
-add-t28 c = omega (arith, (c .before .before .before .before .before .before .before .before .before .before .before .before .before .before .before .before .loop) .inv .0 .passing .on, (c .before .before .before .before .before .before .before .before .before .before .before .before .before .before .before .loop-test) .taken, (c .before .before .before .before .before .before .before .before .before .before .before .before .before .before .before .before .before .before .before .before .before .good) .1 .1 .1 .1 .0)
+add-t28 c = omega (
+  arith,
+  (c .before .before .before .before .before .before .before .before .before .before .before .before .before .before .before
+      .before .loop) .inv .0 .passing .on,
+  (c .before .before .before .before .before .before .before .before .before .before .before .before .before .before .before .loop-test)
+      .taken,
+  (c .before .before .before .before .before .before .before .before .before .before .before .before .before .before .before .before .before
+      .before .before .before .before .good) .1 .1 .1 .1 .0,
+)
 
 same-length : tie.Need-same-length Inv-loop μ-loop
-same-length c = (c .before .before .before .before .before .before .before .before .before .before .take-record) .kept .1 .1 .1 .1 .1 .1 .0 ∙ (c .before .before .before .before .before .before .before .before .before .before .before .before .before .before .before .before .loop) .inv .1 ∙ sym ((c .before .before .before .before .before .before .before .before .before .before .before .before .before .before .before .before .before .before .before .before .before .pre) .1 .1 .1 .0)
+same-length c = (c .before .before .before .before .before .before .before .before .before .before .take-record) .kept .1 .1 .1 .1 .1 .1 .0
+    ∙ (c .before .before .before .before .before .before .before .before .before .before .before .before .before .before .before .before
+    .loop) .inv .1
+    ∙ sym ((c .before .before .before .before .before .before .before .before .before .before .before .before .before .before .before
+    .before .before .before .before .before .before .pre) .1 .1 .1 .0)
 
 same-length-2 : tie.Need-same-length-2 Inv-loop μ-loop
-same-length-2 c = (c .before .before .before .before .before .before .before .before .before .before .take-record) .kept .1 .1 .1 .1 .1 .1 .1 .0 ∙ (c .before .before .before .before .before .before .before .before .before .before .before .before .before .before .before .before .loop) .inv .2 ∙ sym ((c .before .before .before .before .before .before .before .before .before .before .before .before .before .before .before .before .before .before .before .before .before .pre) .1 .1 .1 .1)
+same-length-2
+    c = (c .before .before .before .before .before .before .before .before .before .before .take-record) .kept .1 .1 .1 .1 .1 .1 .1 .0
+    ∙ (c .before .before .before .before .before .before .before .before .before .before .before .before .before .before .before .before
+    .loop) .inv .2
+    ∙ sym ((c .before .before .before .before .before .before .before .before .before .before .before .before .before .before .before
+    .before .before .before .before .before .before .pre) .1 .1 .1 .1)
 
 same-length-3 : tie.Need-same-length-3 Inv-loop μ-loop
-same-length-3 c = (c .before .before .before .before .before .before .before .before .before .before .take-record) .kept .1 .1 .1 .1 .1 .1 .1 .1 .0 ∙ (c .before .before .before .before .before .before .before .before .before .before .before .before .before .before .before .before .loop) .inv .3 ∙ sym ((c .before .before .before .before .before .before .before .before .before .before .before .before .before .before .before .before .before .before .before .before .before .pre) .1 .1 .1 .2)
+same-length-3
+    c = (c .before .before .before .before .before .before .before .before .before .before .take-record) .kept .1 .1 .1 .1 .1 .1 .1 .1 .0
+    ∙ (c .before .before .before .before .before .before .before .before .before .before .before .before .before .before .before .before
+    .loop) .inv .3
+    ∙ sym ((c .before .before .before .before .before .before .before .before .before .before .before .before .before .before .before
+    .before .before .before .before .before .before .pre) .1 .1 .1 .2)
 
 same-length-4 : tie.Need-same-length-4 Inv-loop μ-loop
-same-length-4 c = (c .before .before .before .before .before .before .before .before .before .before .take-record) .kept .1 .1 .1 .1 .1 .1 .1 .1 .1 .0 ∙ (c .before .before .before .before .before .before .before .before .before .before .before .before .before .before .before .before .loop) .inv .4 ∙ sym ((c .before .before .before .before .before .before .before .before .before .before .before .before .before .before .before .before .before .before .before .before .before .pre) .1 .1 .0 .1)
+same-length-4
+    c = (c .before .before .before .before .before .before .before .before .before .before .take-record) .kept .1 .1 .1 .1 .1 .1 .1 .1 .1 .0
+    ∙ (c .before .before .before .before .before .before .before .before .before .before .before .before .before .before .before .before
+    .loop) .inv .4
+    ∙ sym ((c .before .before .before .before .before .before .before .before .before .before .before .before .before .before .before
+    .before .before .before .before .before .before .pre) .1 .1 .0 .1)
 
 returns : tie.Need-returns Inv-loop μ-loop
-returns c = passing-faulty ((c .before .before .before .before .before .before .before .before .before .before .before .before .before .before .before .before .loop) .inv .0 .passing) ((c .before .before .before .before .before .before .before .before .before .before .before .before .before .before .before .loop-test) .taken) (ended-faulty ((c .before .before .before .before .before .before .before .before .before .before .before .before .before .before .before .before .before .before .before .before .before .args) .t .now) ((c .before .before .before .before .before .before .before .before .before .before .before .before .before .before .before .before .before .before .before .before .before .args) .d .now) ((c .before .before .before .before .before .before .before .before .before .before .before .before .before .before .before .before .loop) .at) _ ((c .before .before .before .before .before .before .before .before .before .before .take-record) .result) ((c .before .before .before .before .before .before .before .before .before .before .take-record) .ensures) ((c .before .number) .given .1))
+returns c = passing-faulty
+    ((c .before .before .before .before .before .before .before .before .before .before .before .before .before .before .before .before
+    .loop) .inv .0 .passing)
+    ((c .before .before .before .before .before .before .before .before .before .before .before .before .before .before .before .loop-test)
+    .taken) (ended-faulty
+    ((c .before .before .before .before .before .before .before .before .before .before .before .before .before .before .before .before
+    .before .before .before .before .before .args) .t .now)
+    ((c .before .before .before .before .before .before .before .before .before .before .before .before .before .before .before .before
+    .before .before .before .before .before .args) .d .now)
+    ((c .before .before .before .before .before .before .before .before .before .before .before .before .before .before .before .before
+    .loop) .at) _ ((c .before .before .before .before .before .before .before .before .before .before .take-record) .result)
+    ((c .before .before .before .before .before .before .before .before .before .before .take-record) .ensures)
+    ((c .before .number) .given .1))
 
 add-t29 : tie.Need-add-t29 Inv-loop μ-loop
-add-t29 c = omega (arith, (c .before .before .before .before .before .before .before .before .before .before .before .before .before .before .before .before .loop) .inv .0 .passing .on, (c .before .before .before .before .before .before .before .before .before .before .before .before .before .before .before .loop-test) .taken, (c .before .before .before .before .before .before .before .before .before .before .before .before .before .before .before .before .before .before .before .before .before .good) .1 .1 .1 .1 .0)
+add-t29 c = omega (
+  arith,
+  (c .before .before .before .before .before .before .before .before .before .before .before .before .before .before .before
+      .before .loop) .inv .0 .passing .on,
+  (c .before .before .before .before .before .before .before .before .before .before .before .before .before .before .before .loop-test)
+      .taken,
+  (c .before .before .before .before .before .before .before .before .before .before .before .before .before .before .before .before .before
+      .before .before .before .before .good) .1 .1 .1 .1 .0,
+)
 
 same-length-5 : tie.Need-same-length-5 Inv-loop μ-loop
-same-length-5 c = (c .before .before .before .before .before .before .before .before .before .before .take-record) .kept .1 .1 .1 .1 .1 .1 .0 ∙ (c .before .before .before .before .before .before .before .before .before .before .before .before .before .before .before .before .loop) .inv .1 ∙ sym ((c .before .before .before .before .before .before .before .before .before .before .before .before .before .before .before .before .before .before .before .before .before .pre) .1 .1 .1 .0)
+same-length-5
+    c = (c .before .before .before .before .before .before .before .before .before .before .take-record) .kept .1 .1 .1 .1 .1 .1 .0
+    ∙ (c .before .before .before .before .before .before .before .before .before .before .before .before .before .before .before .before
+    .loop) .inv .1
+    ∙ sym ((c .before .before .before .before .before .before .before .before .before .before .before .before .before .before .before
+    .before .before .before .before .before .before .pre) .1 .1 .1 .0)
 
 same-length-6 : tie.Need-same-length-6 Inv-loop μ-loop
-same-length-6 c = (c .before .before .before .before .before .before .before .before .before .before .take-record) .kept .1 .1 .1 .1 .1 .1 .1 .0 ∙ (c .before .before .before .before .before .before .before .before .before .before .before .before .before .before .before .before .loop) .inv .2 ∙ sym ((c .before .before .before .before .before .before .before .before .before .before .before .before .before .before .before .before .before .before .before .before .before .pre) .1 .1 .1 .1)
+same-length-6
+    c = (c .before .before .before .before .before .before .before .before .before .before .take-record) .kept .1 .1 .1 .1 .1 .1 .1 .0
+    ∙ (c .before .before .before .before .before .before .before .before .before .before .before .before .before .before .before .before
+    .loop) .inv .2
+    ∙ sym ((c .before .before .before .before .before .before .before .before .before .before .before .before .before .before .before
+    .before .before .before .before .before .before .pre) .1 .1 .1 .1)
 
 same-length-7 : tie.Need-same-length-7 Inv-loop μ-loop
-same-length-7 c = (c .before .before .before .before .before .before .before .before .before .before .take-record) .kept .1 .1 .1 .1 .1 .1 .1 .1 .0 ∙ (c .before .before .before .before .before .before .before .before .before .before .before .before .before .before .before .before .loop) .inv .3 ∙ sym ((c .before .before .before .before .before .before .before .before .before .before .before .before .before .before .before .before .before .before .before .before .before .pre) .1 .1 .1 .2)
+same-length-7
+    c = (c .before .before .before .before .before .before .before .before .before .before .take-record) .kept .1 .1 .1 .1 .1 .1 .1 .1 .0
+    ∙ (c .before .before .before .before .before .before .before .before .before .before .before .before .before .before .before .before
+    .loop) .inv .3
+    ∙ sym ((c .before .before .before .before .before .before .before .before .before .before .before .before .before .before .before
+    .before .before .before .before .before .before .pre) .1 .1 .1 .2)
 
 same-length-8 : tie.Need-same-length-8 Inv-loop μ-loop
-same-length-8 c = (c .before .before .before .before .before .before .before .before .before .before .take-record) .kept .1 .1 .1 .1 .1 .1 .1 .1 .1 .0 ∙ (c .before .before .before .before .before .before .before .before .before .before .before .before .before .before .before .before .loop) .inv .4 ∙ sym ((c .before .before .before .before .before .before .before .before .before .before .before .before .before .before .before .before .before .before .before .before .before .pre) .1 .1 .0 .1)
+same-length-8
+    c = (c .before .before .before .before .before .before .before .before .before .before .take-record) .kept .1 .1 .1 .1 .1 .1 .1 .1 .1 .0
+    ∙ (c .before .before .before .before .before .before .before .before .before .before .before .before .before .before .before .before
+    .loop) .inv .4
+    ∙ sym ((c .before .before .before .before .before .before .before .before .before .before .before .before .before .before .before
+    .before .before .before .before .before .before .pre) .1 .1 .0 .1)
 
 returns-2 : tie.Need-returns-2 Inv-loop μ-loop
-returns-2 c = passing-torn ((c .before .before .before .before .before .before .before .before .before .before .before .before .before .before .before .before .loop) .inv .0 .passing) ((c .before .before .before .before .before .before .before .before .before .before .before .before .before .before .before .loop-test) .taken) (ended-torn ((c .before .before .before .before .before .before .before .before .before .before .before .before .before .before .before .before .before .before .before .before .before .args) .t .now) ((c .before .before .before .before .before .before .before .before .before .before .before .before .before .before .before .before .before .before .before .before .before .args) .d .now) ((c .before .before .before .before .before .before .before .before .before .before .before .before .before .before .before .before .loop) .at) _ ((c .before .before .before .before .before .before .before .before .before .before .take-record) .result) ((c .before .before .before .before .before .before .before .before .before .before .take-record) .ensures) ((c .before .column) .given .1))
+returns-2 c = passing-torn
+    ((c .before .before .before .before .before .before .before .before .before .before .before .before .before .before .before .before
+    .loop) .inv .0 .passing)
+    ((c .before .before .before .before .before .before .before .before .before .before .before .before .before .before .before .loop-test)
+    .taken) (ended-torn
+    ((c .before .before .before .before .before .before .before .before .before .before .before .before .before .before .before .before
+    .before .before .before .before .before .args) .t .now)
+    ((c .before .before .before .before .before .before .before .before .before .before .before .before .before .before .before .before
+    .before .before .before .before .before .args) .d .now)
+    ((c .before .before .before .before .before .before .before .before .before .before .before .before .before .before .before .before
+    .loop) .at) _ ((c .before .before .before .before .before .before .before .before .before .before .take-record) .result)
+    ((c .before .before .before .before .before .before .before .before .before .before .take-record) .ensures)
+    ((c .before .column) .given .1))
 
 same-length-9 : tie.Need-same-length-9 Inv-loop μ-loop
 same-length-9 c = (c .before .loop) .inv .1 ∙ sym ((c .before .before .before .before .before .before .pre) .1 .1 .1 .0)

@@ -1,5 +1,7 @@
--- A line of a text that is imported (document 02, C-23): "build each record from L spaces by ordinary writes in row order". "63 wrong number of
--- fields, 64 field not a legal value", the lowest number that applies: 63 at the column behind the last that is there and due, 64 at the lowest
+-- A line of a text that is imported (document 02, C-23): "build each record from L spaces by ordinary writes in row order". "63 wrong
+-- number of
+-- fields, 64 field not a legal value", the lowest number that applies: 63 at the column behind the last that is there and due, 64 at the
+-- lowest
 -- column.
 use mathlib.Core.Bool.{cond}
 use mathlib.Core.List.{List, [], _∷_}

@@ -1,5 +1,7 @@
--- A text that is imported (document 02, C-23): "compare the name line column by column". "61 text malformed, 62 name line differs, 63 .., 64 ..,
--- each with line and column from 1, by line and then lowest number". The name line is line 1; it differs at the first column that is not the
+-- A text that is imported (document 02, C-23): "compare the name line column by column". "61 text malformed, 62 name line differs, 63 ..,
+-- 64 ..,
+-- each with line and column from 1, by line and then lowest number". The name line is line 1; it differs at the first column that is not
+-- the
 -- same on both sides, or is on one side only. The records are "ended by CR LF".
 use mathlib.Core.Bool.{Bool, true, false, cond, _&&_}
 use mathlib.Core.List.{List, [], _∷_, _++_}

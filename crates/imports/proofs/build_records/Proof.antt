@@ -14,18 +14,83 @@ use Rattle.imports.proofs.build_records.Tie as tie
 
 returns : tie.Need-returns
 unfolding importSaid
-returns c = roomed-short ((c .before .before .before .before .before .pre) .1 .1 .1 .0) (accepted-sized ((c .before .before .before .before .before .args) .t .now) (linesOf (page start (drop ((c .before .before .before .before .before .args) .from) ((c .before .before .before .before .before .args) .d .now)))) ((c .before .before .before .before .before .pre) .1 .1 .1 .0) ((c .before .before .before .before .before .pre) .1 .0 .2)) (omega arith) ((c .before .before .before .before .before .args) .out .now) ((c .if1) .taken)
+returns c = roomed-short ((c .before .before .before .before .before .pre) .1 .1 .1 .0)
+    (accepted-sized ((c .before .before .before .before .before .args) .t .now)
+    (linesOf (page start (drop ((c .before .before .before .before .before .args) .from)
+    ((c .before .before .before .before .before .args) .d .now)))) ((c .before .before .before .before .before .pre) .1 .1 .1 .0)
+    ((c .before .before .before .before .before .pre) .1 .0 .2)) (omega arith) ((c .before .before .before .before .before .args) .out .now)
+    ((c .if1) .taken)
 
 build-lines-requires : tie.Need-build-lines-requires
-build-lines-requires c κs =
-    ((c .before .before .before .before .before .before .before .before .before .pre) .0, ((c .before .before .before .before .before .before .before .before .before .pre) .1 .0, (((c .before .before .before .before .before .before .before .before .before .pre) .1 .1 .0 .0, roomed-fits ((c .before .before .before .before .before .before .before .before .before .pre) .1 .1 .1 .0) (accepted-sized ((c .before .before .before .before .before .before .before .before .before .args) .t .now) (linesOf (page start (drop ((c .before .before .before .before .before .before .before .before .before .args) .from) ((c .before .before .before .before .before .before .before .before .before .args) .d .now)))) ((c .before .before .before .before .before .before .before .before .before .pre) .1 .1 .1 .0) ((c .before .before .before .before .before .before .before .before .before .pre) .1 .0 .2)) (omega arith) ((c .before .before .before .before .before .before .before .before .before .args) .out .now) ((c .before .before .before .before .if1) .left), (c .before .before .before .before .before .before .before .before .before .pre) .1 .1 .0 .1), ((c .before .before .before .before .before .before .before .before .before .pre) .1 .1 .1 .0, (c .before .before .before .before .before .before .before .before .before .pre) .1 .1 .1 .1))))
+build-lines-requires c κs = (
+  (c .before .before .before .before .before .before .before .before .before .pre) .0,
+  (
+    (c .before .before .before .before .before .before .before .before .before .pre) .1 .0,
+    (
+      (
+        (c .before .before .before .before .before .before .before .before .before .pre) .1 .1 .0 .0,
+        roomed-fits ((c .before .before .before .before .before .before .before .before .before .pre) .1 .1 .1 .0)
+            (accepted-sized ((c .before .before .before .before .before .before .before .before .before .args) .t .now)
+            (linesOf (page start (drop ((c .before .before .before .before .before .before .before .before .before .args) .from)
+            ((c .before .before .before .before .before .before .before .before .before .args) .d .now))))
+            ((c .before .before .before .before .before .before .before .before .before .pre) .1 .1 .1 .0)
+            ((c .before .before .before .before .before .before .before .before .before .pre) .1 .0 .2)) (omega arith)
+            ((c .before .before .before .before .before .before .before .before .before .args) .out .now)
+            ((c .before .before .before .before .if1) .left),
+        (c .before .before .before .before .before .before .before .before .before .pre) .1 .1 .0 .1,
+      ),
+      (
+        (c .before .before .before .before .before .before .before .before .before .pre) .1 .1 .1 .0,
+        (c .before .before .before .before .before .before .before .before .before .pre) .1 .1 .1 .1,
+      ),
+    ),
+  ),
+)
 
 mul-t13 : tie.Need-mul-t13
-mul-t13 c = omega (arith, roomed-fits ((c .before .before .before .before .before .before .before .before .before .before .before .before .before .before .before .before .before .pre) .1 .1 .1 .0) (accepted-sized ((c .before .before .before .before .before .before .before .before .before .before .before .before .before .before .before .before .before .args) .t .now) (linesOf (page start (drop ((c .before .before .before .before .before .before .before .before .before .before .before .before .before .before .before .before .before .args) .from) ((c .before .before .before .before .before .before .before .before .before .before .before .before .before .before .before .before .before .args) .d .now)))) ((c .before .before .before .before .before .before .before .before .before .before .before .before .before .before .before .before .before .pre) .1 .1 .1 .0) ((c .before .before .before .before .before .before .before .before .before .before .before .before .before .before .before .before .before .pre) .1 .0 .2)) (omega arith) ((c .before .before .before .before .before .before .before .before .before .before .before .before .before .before .before .before .before .args) .out .now) ((c .before .before .before .before .before .before .before .before .before .before .before .before .if1) .left), (c .before .before .before .before .before .before .before .before .before .before .before .before .before .before .before .before .before .good) .1 .1 .1 .1 .1 .1 .1 .1 .1 .1 .0)
+mul-t13 c = omega (
+  arith,
+  roomed-fits
+      ((c .before .before .before .before .before .before .before .before .before .before .before .before .before .before .before .before
+      .before .pre) .1 .1 .1 .0)
+      (accepted-sized
+      ((c .before .before .before .before .before .before .before .before .before .before .before .before .before .before .before .before
+      .before .args) .t .now) (linesOf (page start
+      (drop ((c .before .before .before .before .before .before .before .before .before .before .before .before .before .before .before
+      .before .before .args) .from)
+      ((c .before .before .before .before .before .before .before .before .before .before .before .before .before .before .before .before
+      .before .args) .d .now))))
+      ((c .before .before .before .before .before .before .before .before .before .before .before .before .before .before .before .before
+      .before .pre) .1 .1 .1 .0)
+      ((c .before .before .before .before .before .before .before .before .before .before .before .before .before .before .before .before
+      .before .pre) .1 .0 .2)) (omega arith)
+      ((c .before .before .before .before .before .before .before .before .before .before .before .before .before .before .before .before
+      .before .args) .out .now)
+      ((c .before .before .before .before .before .before .before .before .before .before .before .before .if1) .left),
+  (c .before .before .before .before .before .before .before .before .before .before .before .before .before .before .before .before .before
+      .good) .1 .1 .1 .1 .1 .1 .1 .1 .1 .1 .0,
+)
 
 returns-2 : tie.Need-returns-2
 unfolding importSaid
-returns-2 c = roomed-written ((c .before .before .before .before .before .before .before .before .before .before .before .before .before .before .before .before .before .pre) .1 .1 .1 .0) (accepted-sized ((c .before .before .before .before .before .before .before .before .before .before .before .before .before .before .before .before .before .args) .t .now) (linesOf (page start (drop ((c .before .before .before .before .before .before .before .before .before .before .before .before .before .before .before .before .before .args) .from) ((c .before .before .before .before .before .before .before .before .before .before .before .before .before .before .before .before .before .args) .d .now)))) ((c .before .before .before .before .before .before .before .before .before .before .before .before .before .before .before .before .before .pre) .1 .1 .1 .0) ((c .before .before .before .before .before .before .before .before .before .before .before .before .before .before .before .before .before .pre) .1 .0 .2)) (omega arith) ((c .before .before .before .before .before .before .before .before .before .before .before .before .before .before .before .before .before .args) .out .now) ((c .before .before .before .before .before .before .before .before .before .before .before .before .if1) .left) ((c .before .before .before .before .before .before .before .build-lines) .ensures)
+returns-2 c = roomed-written
+    ((c .before .before .before .before .before .before .before .before .before .before .before .before .before .before .before .before
+    .before .pre) .1 .1 .1 .0)
+    (accepted-sized
+    ((c .before .before .before .before .before .before .before .before .before .before .before .before .before .before .before .before
+    .before .args) .t .now) (linesOf (page start (drop
+    ((c .before .before .before .before .before .before .before .before .before .before .before .before .before .before .before .before
+    .before .args) .from)
+    ((c .before .before .before .before .before .before .before .before .before .before .before .before .before .before .before .before
+    .before .args) .d .now))))
+    ((c .before .before .before .before .before .before .before .before .before .before .before .before .before .before .before .before
+    .before .pre) .1 .1 .1 .0)
+    ((c .before .before .before .before .before .before .before .before .before .before .before .before .before .before .before .before
+    .before .pre) .1 .0 .2)) (omega arith)
+    ((c .before .before .before .before .before .before .before .before .before .before .before .before .before .before .before .before
+    .before .args) .out .now)
+    ((c .before .before .before .before .before .before .before .before .before .before .before .before .if1) .left)
+    ((c .before .before .before .before .before .before .before .build-lines) .ensures)
 
 pub build-records-spec : {M : Type 1} → statement M
 build-records-spec =

@@ -43,7 +43,8 @@ importSays def t s = textSays t (nameLine def t (rowsOf t)) s
 unfoldable pub importVerdict : List ℕ → List ℤ → List ℕ → ℕ → ImportVerdict
 importVerdict def t s room =
     cond (wellFormed t)
-    (cond (yields def t) (cond (sharesNone t (rowsOf t)) (roomed (importSays def t s) room) (refused 90 0 0)) (refused 40 0 0)) (refused 20 0 0)
+    (cond (yields def t) (cond (sharesNone t (rowsOf t)) (roomed (importSays def t s) room) (refused 90 0 0)) (refused 40 0 0))
+    (refused 20 0 0)
 
 -- the output afterwards: the data and what stood behind them, or as it was
 unfoldable pub outputAfter : ImportVerdict → List ℕ → List ℕ → List ℕ

@@ -1,11 +1,13 @@
--- TWO DEFINITIONS SAY THE SAME where their variables do, one by one: the same numbers, wherever in the file they stand; names, labels and texts aside,
+-- TWO DEFINITIONS SAY THE SAME where their variables do, one by one: the same numbers, wherever in the file they stand; names, labels and
+-- texts aside,
 -- and SPECIAL, which "is always 0" in XML. A position's finish that is not given is its start.
 use mathlib.Core.Path.{_≡_}
 use mathlib.Core.Bool.{false}
 use mathlib.Core.List.{List, [], _∷_, map}
 use mathlib.Core.Option.{Option, none, some, Option·getD}
 use Prim.Native.Nat.{ℕ}
-use Rattle.survey.specs.rule.Survey.{Figure, Amount, Text, Range, Line, Block, Spread, Content, single, multiple, quantity, character, logical, Variable}
+use Rattle.survey.specs.rule.Survey.{Figure, Amount, Text, Range, Line, Block, Spread, Content, single, multiple, quantity, character}
+use Rattle.survey.specs.rule.Survey.{logical, Variable}
 use Rattle.xml_reading.specs.rule.Role.{Entry}
 
 abbrev pub figureSaid : Figure → Figure

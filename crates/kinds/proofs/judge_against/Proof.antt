@@ -19,27 +19,43 @@ returns c =
 read-rooms-requires : tie.Need-read-rooms-requires
 unfolding zeros
 read-rooms-requires c κs =
-    let x = c .before .before .before .before .before .before .before .before .before .is-xml .ensures in
-    (c .before .before .before .before .before .before .before .classes .ensures, (c .before .before .before .before .before .before .powers .ensures, ((c .before .before .before .before .before .before .before .before .before .before .if1 .left, x), ((refl, refl, refl), refl))))
+    let x = c .before .before .before .before .before .before .before .before .before .is-xml .ensures in (
+      c .before .before .before .before .before .before .before .classes .ensures,
+      (
+        c .before .before .before .before .before .before .powers .ensures,
+        ((c .before .before .before .before .before .before .before .before .before .before .if1 .left, x), ((refl, refl, refl), refl)),
+      ),
+    )
 
 compare-requires : tie.Need-compare-requires
 compare-requires c κs =
-    let k = c .before .before .before .before .before .before .before .before .before .read-rooms .kept in
-    (rw (c .before .before .before .before .before .before .before .before .before .before .before .before .before .before .before .before .before .before .mark-of .ensures) (mark-low _), (c .before .before .before .before .before .before .before .before .before .read-rooms .ensures .stands (c .before .before .before .y .given .1) .few, (k .1 .1 .1 .1 .0, k .1 .1 .1 .1 .1 .0)))
+    let k = c .before .before .before .before .before .before .before .before .before .read-rooms .kept in (
+      rw (c .before .before .before .before .before .before .before .before .before .before .before .before .before .before .before .before
+          .before .before .mark-of .ensures) (mark-low _),
+      (
+        c .before .before .before .before .before .before .before .before .before .read-rooms .ensures .stands
+            (c .before .before .before .y .given .1) .few,
+        (k .1 .1 .1 .1 .0, k .1 .1 .1 .1 .1 .0),
+      ),
+    )
 
 returns-2 : tie.Need-returns-2
 unfolding againstOf
 returns-2 c =
-    let t = c .before .before .before .before .before .before .before .before .before .before .before .before .before .before .before .before .before .before .before .before .before .before .before .args .t .now in
+    let t = c .before .before .before .before .before .before .before .before .before .before .before .before .before .before .before
+    .before .before .before .before .before .before .before .before .args .t .now in
     let k = c .before .before .before .before .before .before .before .before .before .before .read-rooms .kept in
-    let s = c .before .before .before .before .before .before .before .before .before .before .read-rooms .ensures .stands (c .before .before .before .before .y .given .1) in
-    let m = c .before .before .before .before .before .before .before .before .before .before .before .before .before .before .before .before .before .before .before .mark-of .ensures in
+    let s = c .before .before .before .before .before .before .before .before .before .before .read-rooms .ensures .stands
+    (c .before .before .before .before .y .given .1) in
+    let m = c .before .before .before .before .before .before .before .before .before .before .before .before .before .before .before
+    .before .before .before .before .mark-of .ensures in
     c .compare .ensures ∙ rw m (held-says _ _ _ _ _ s (k .1 .1 .1 .1 .0) (k .1 .1 .1 .1 .1 .0) t)
 
 returns-3 : tie.Need-returns-3
 unfolding againstOf
 returns-3 c =
-    let q = c .before .before .before .before .before .before .before .read-rooms .ensures .refuses (c .before .number .given .1) (lineBase mostRows mostLines) in
+    let q = c .before .before .before .before .before .before .before .read-rooms .ensures .refuses (c .before .number .given .1)
+    (lineBase mostRows mostLines) in
     rw q
 
 pub judge-against-spec : {M : Type 1} → statement M

@@ -12,8 +12,10 @@ read-in-requires c κs =
 
 returns : tie.Need-returns
 returns c =
-    let a = c .before .before .before .before .before .before .before .before .before .before .before .before .before .before .before .args in
-    let p = c .before .before .before .before .before .before .before .before .before .before .before .before .before .before .before .pre in
+    let a = c .before .before .before .before .before .before .before .before .before .before .before .before .before .before .before
+    .args in
+    let p = c .before .before .before .before .before .before .before .before .before .before .before .before .before .before .before
+    .pre in
     let t = c .before .before .before .before .before .before .before .before .before .before .before .if1 .taken in
     xml-ready (a .d .now) _ _ (a .xml) _ t (sym (p .1 .1 .0 .1) ∙ t) (c .before .before .before .before .before .before .read-in .ensures)
 
@@ -25,10 +27,13 @@ read-in-requires-2 c κs =
 
 returns-2 : tie.Need-returns-2
 returns-2 c =
-    let a = c .before .before .before .before .before .before .before .before .before .before .before .before .before .before .before .args in
-    let p = c .before .before .before .before .before .before .before .before .before .before .before .before .before .before .before .pre in
+    let a = c .before .before .before .before .before .before .before .before .before .before .before .before .before .before .before
+    .args in
+    let p = c .before .before .before .before .before .before .before .before .before .before .before .before .before .before .before
+    .pre in
     let t = c .before .before .before .before .before .before .before .before .before .before .before .if1 .left in
-    plain-ready (a .d .now) (p .1 .1 .0 .0) (sym (p .1 .1 .0 .1) ∙ t) _ _ (a .xml) _ t (c .before .before .before .before .before .before .read-in2 .ensures)
+    plain-ready (a .d .now) (p .1 .1 .0 .0) (sym (p .1 .1 .0 .1) ∙ t) _ _ (a .xml) _ t
+    (c .before .before .before .before .before .before .read-in2 .ensures)
 
 pub read-rooms-spec : {M : Type 1} → statement M
 read-rooms-spec =

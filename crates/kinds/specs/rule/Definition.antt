@@ -1,4 +1,5 @@
--- "One call, `read_definition`, reads both kinds. A file is XML when it begins with `<?xml` or `<sss`, alone or behind EF BB BF; everything else is
+-- "One call, `read_definition`, reads both kinds. A file is XML when it begins with `<?xml` or `<sss`, alone or behind EF BB BF; everything
+-- else is
 -- a 1.1 definition, whose answers don't change." "Every refusal keeps all lent memory." What was read is a table of V rows and E lines, at
 -- the start of the lent one: "Numbers beyond 6 + 20V + 4E are kept."
 use mathlib.Core.Path.{_≡_}

@@ -32,10 +32,12 @@ shared-slice-copy-out-same c = omega arith
 shared-slice-copy-out-same-2 : tie.Need-shared-slice-copy-out-same-2 Inv-loop μ-loop
 shared-slice-copy-out-same-2 c = omega arith
 
-stops : (l t : List ℤ) (at j : ℕ) (b : Bool) → j < length l → at + j < length t → b ≡ eqZ (cell l j) (cell t (at + j)) → b ≡ false → begins (drop j l) (drop (at + j) t) ≡ false
+stops : (l t : List ℤ) (at j : ℕ) (b : Bool) → j < length l → at + j < length t → b ≡ eqZ (cell l j) (cell t (at + j)) → b ≡ false
+    → begins (drop j l) (drop (at + j) t) ≡ false
 stops l t at j b h g e f = begins-on l t at j h g ∙ rw (sym e ∙ f)
 
-goes : (l t : List ℤ) (at j : ℕ) (b : Bool) → j < length l → at + j < length t → b ≡ eqZ (cell l j) (cell t (at + j)) → b ≡ true → begins (drop j l) (drop (at + j) t) ≡ begins (drop (j + 1) l) (drop (at + (j + 1)) t)
+goes : (l t : List ℤ) (at j : ℕ) (b : Bool) → j < length l → at + j < length t → b ≡ eqZ (cell l j) (cell t (at + j)) → b ≡ true
+    → begins (drop j l) (drop (at + j) t) ≡ begins (drop (j + 1) l) (drop (at + (j + 1)) t)
 goes l t at j b h g e f = begins-on l t at j h g ∙ rw (sym e ∙ f)
 
 ends : (l t : List ℤ) (j : ℕ) → length l ≤ j → begins (drop j l) t ≡ true
@@ -46,14 +48,16 @@ returns : tie.Need-returns Inv-loop μ-loop
 returns c =
     let l = c .before .before .before .before .before .loop in
     let a = c .before .before .before .before .before .before .args in
-    let e = rw (toZ-ofZ (sfits-of (c .before .before .before .same-arg .given)), toZ-ofZ (sfits-of (c .before .before .same-arg2 .given))) at (c .before .same .ensures) in
+    let e = rw (toZ-ofZ (sfits-of (c .before .before .before .same-arg .given)), toZ-ofZ (sfits-of (c .before .before .same-arg2 .given)))
+    at (c .before .same .ensures) in
     sym (l .inv .1 ∙ stops (a .part .now) (a .t .now) (a .at) (l .j) _ (omega arith) (omega arith) e (not-true _ (c .if1 .taken)))
 
 loop-again : tie.Need-loop-again Inv-loop μ-loop
 loop-again c =
     let l = c .before .before .before .before .before .loop in
     let a = c .before .before .before .before .before .before .args in
-    let e = rw (toZ-ofZ (sfits-of (c .before .before .before .same-arg .given)), toZ-ofZ (sfits-of (c .before .before .same-arg2 .given))) at (c .before .same .ensures) in
+    let e = rw (toZ-ofZ (sfits-of (c .before .before .before .same-arg .given)), toZ-ofZ (sfits-of (c .before .before .same-arg2 .given)))
+    at (c .before .same .ensures) in
     (omega arith, l .inv .1 ∙ goes (a .part .now) (a .t .now) (a .at) (l .j) _ (omega arith) (omega arith) e (not-false _ (c .if1 .left)))
 
 returns-2 : tie.Need-returns-2 Inv-loop μ-loop

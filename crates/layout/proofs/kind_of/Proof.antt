@@ -22,7 +22,12 @@ returns-4 c = rw (c .match .keys4)
 
 returns-5 : tie.Need-returns-5
 unfolding kindOf
-returns-5 c = rw (ne-eqb _ 1 (c .match .rest .0 .0 .0 .1), ne-eqb _ 2 (c .match .rest .0 .0 .1), ne-eqb _ 3 (c .match .rest .0 .1), ne-eqb _ 4 (c .match .rest .1))
+returns-5 c = rw (
+  ne-eqb _ 1 (c .match .rest .0 .0 .0 .1),
+  ne-eqb _ 2 (c .match .rest .0 .0 .1),
+  ne-eqb _ 3 (c .match .rest .0 .1),
+  ne-eqb _ 4 (c .match .rest .1),
+)
 
 pub kind-of-spec : {M : Type 1} → statement M
 kind-of-spec =

@@ -11,7 +11,8 @@ returns c = rw (← toZ-ofZ (c .before .before .fits .z), ← c .before .in-rang
 
 returns-2 : tie.Need-returns-2
 unfolding legal
-returns-2 c = rw (← toZ-ofZ (c .before .before .before .fits .z), ← c .before .before .in-range .ensures, c .before .if1 .left) (c .on-line .ensures)
+returns-2 c = rw (← toZ-ofZ (c .before .before .before .fits .z), ← c .before .before .in-range .ensures, c .before .if1 .left)
+    (c .on-line .ensures)
 
 pub is-legal-spec : {M : Type 1} → statement M
 is-legal-spec =

@@ -29,7 +29,8 @@ shared-slice-copy-out-same c = rw (c .base .ensures) (omega arith)
 
 -- what the test of a line says
 here : (c : tie.After-same Inv-loop μ-loop) → let a = c .before .before .before .before .before .args in
-    c .same .result ≡ eqZ (cell (a .t .now) (lineBase (a .rows) (a .row .before + c .before .before .before .before .loop .k))) (toZ w64 (ofZ w64 (a .z)))
+    c .same .result ≡ eqZ (cell (a .t .now) (lineBase (a .rows) (a .row .before + c .before .before .before .before .loop .k)))
+    (toZ w64 (ofZ w64 (a .z)))
 here c = rw (c .same .ensures, toZ-ofZ (sfits-of (c .before .same-arg .given)), c .before .before .base .ensures)
 
 returns : tie.Need-returns Inv-loop μ-loop
@@ -37,7 +38,8 @@ unfolding onLine
 returns c =
     let a = c .before .before .before .before .before .before .args in
     let z = toZ-ofZ (c .before .before .before .before .before .before .fits .z) in
-    sym (any-holds (λ k. eqZ (cell (a .t .now) (lineBase (a .rows) (a .row .before + k))) (a .z)) (a .row .lines) (c .before .before .before .before .before .loop .k) (omega arith)
+    sym (any-holds (λ k. eqZ (cell (a .t .now) (lineBase (a .rows) (a .row .before + k))) (a .z)) (a .row .lines)
+    (c .before .before .before .before .before .loop .k) (omega arith)
     (rw z at (sym (here (c .before)) ∙ c .if1 .taken)))
 
 loop-again : tie.Need-loop-again Inv-loop μ-loop
@@ -51,4 +53,5 @@ returns-2 c =
 
 pub on-line-spec : {M : Type 1} → statement M
 on-line-spec =
-    tie.close (tie.spec Inv-loop μ-loop loop-holds (λ c. omega arith) (λ c κs. search needs) (λ c. omega arith) shared-slice-copy-out-same (λ c κs. search needs) returns (λ c. omega arith) (λ c. omega arith) loop-again returns-2)
+    tie.close (tie.spec Inv-loop μ-loop loop-holds (λ c. omega arith) (λ c κs. search needs) (λ c. omega arith) shared-slice-copy-out-same
+    (λ c κs. search needs) returns (λ c. omega arith) (λ c. omega arith) loop-again returns-2)

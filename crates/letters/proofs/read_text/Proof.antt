@@ -28,13 +28,18 @@ module _ (s : List ℕ) (n : ℕ) (few : n ≤ length s) (ends : unended s ≡ t
   wrong-text h e = rw (blank, ne-eqb _ _ h, e)
 
 returns : tie.Need-returns
-returns c = let k = c .before .kept-bytes .ensures in missing-text (c .before .before .before .args .s .now) _ (k .0) (k .1) (k .2) (c .if1 .taken)
+returns c = let k = c .before .kept-bytes .ensures in
+    missing-text (c .before .before .before .args .s .now) _ (k .0) (k .1) (k .2) (c .if1 .taken)
 
 returns-2 : tie.Need-returns-2
-returns-2 c = let k = c .before .before .before .kept-bytes .ensures in plain-text (c .before .before .before .before .before .args .s .now) _ (k .0) (k .1) (k .2) (c .before .before .if1 .left) (sym (c .before .plain .ensures) ∙ c .if2 .taken)
+returns-2 c = let k = c .before .before .before .kept-bytes .ensures in
+    plain-text (c .before .before .before .before .before .args .s .now) _ (k .0) (k .1) (k .2) (c .before .before .if1 .left)
+    (sym (c .before .plain .ensures) ∙ c .if2 .taken)
 
 returns-3 : tie.Need-returns-3
-returns-3 c = let k = c .before .before .before .kept-bytes .ensures in wrong-text (c .before .before .before .before .before .args .s .now) _ (k .0) (k .1) (k .2) (c .before .before .if1 .left) (sym (c .before .plain .ensures) ∙ c .if2 .left)
+returns-3 c = let k = c .before .before .before .kept-bytes .ensures in
+    wrong-text (c .before .before .before .before .before .args .s .now) _ (k .0) (k .1) (k .2) (c .before .before .if1 .left)
+    (sym (c .before .plain .ensures) ∙ c .if2 .left)
 
 pub read-text-spec : {M : Type 1} → statement M
 read-text-spec = tie.close (tie.spec (λ c κs. tt) returns (λ c κs. tt) returns-2 returns-3)

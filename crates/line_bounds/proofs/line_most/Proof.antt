@@ -36,7 +36,9 @@ most-by-requires : tie.Need-most-by-requires Inv-loop μ-loop
 most-by-requires c κs =
     let t = c .before .before .before .before .args .t .now in
     let i = c .before .before .before .loop .i in
-    rw (c .read .ensures) (row-small t (rowsOf t) (lengthOf t) (rowAt t i) (row-facts t (c .before .before .before .before .pre .good) i (rw (tested-rows (c .before .before .before .before .pre)) at (c .before .if1 .taken))))
+    rw (c .read .ensures) (row-small t (rowsOf t) (lengthOf t) (rowAt t i)
+    (row-facts t (c .before .before .before .before .pre .good) i
+    (rw (tested-rows (c .before .before .before .before .pre)) at (c .before .if1 .taken))))
 
 rows-few : {t : List ℤ} {h : Header} → Tested t h → h .rows ≤ 512
 rows-few {t} g = let r = table-ready t (g .good) (lengthOf t) (omega arith) in omega (arith, tested-rows g, r .few)
@@ -46,9 +48,13 @@ loop-again c =
     let t = c .before .before .before .before .before .args .t .now in
     let l = c .before .before .before .before .loop in
     let s = row-stands (c .before .before .before .before .before .pre) (c .before .before .if1 .taken) in
-    let n = most-next t (rowsOf t) (l .i) (rw (tested-rows (c .before .before .before .before .before .pre)) at (c .before .before .if1 .taken)) in
-    let m : c .most-by .result ≡ fieldMost (rowAt t (l .i)) = rw (c .before .read .ensures) at (c .most-by .ensures .0) in
-    (omega (arith, l .inv .0, n, m), omega (arith, l .inv .1, c .most-by .ensures .1), omega (arith, s .0, rows-few (c .before .before .before .before .before .pre), c .before .before .if1 .taken))
+    let n = most-next t (rowsOf t) (l .i) (rw (tested-rows (c .before .before .before .before .before .pre)) at
+    (c .before .before .if1 .taken)) in
+    let m : c .most-by .result ≡ fieldMost (rowAt t (l .i)) = rw (c .before .read .ensures) at (c .most-by .ensures .0) in (
+      omega (arith, l .inv .0, n, m),
+      omega (arith, l .inv .1, c .most-by .ensures .1),
+      omega (arith, s .0, rows-few (c .before .before .before .before .before .pre), c .before .before .if1 .taken),
+    )
 
 returns : tie.Need-returns Inv-loop μ-loop
 returns c =
@@ -67,8 +73,18 @@ line-most-spec =
     loop-holds
     read-requires
     most-by-requires
-    (λ c. omega (arith, c .before .before .before .before .loop .inv .1, c .before .before .before .before .loop .inv .2, c .most-by .ensures .1))
-    (λ c. omega (arith, c .before .before .before .before .loop .inv .1, c .before .before .before .before .loop .inv .2, c .most-by .ensures .1))
+    (λ c. omega (
+      arith,
+      c .before .before .before .before .loop .inv .1,
+      c .before .before .before .before .loop .inv .2,
+      c .most-by .ensures .1,
+    ))
+    (λ c. omega (
+      arith,
+      c .before .before .before .before .loop .inv .1,
+      c .before .before .before .before .loop .inv .2,
+      c .most-by .ensures .1,
+    ))
     (λ c. omega (arith, c .before .before .before .before .loop .inv .2))
     (λ c. omega (arith, c .before .before .if1 .taken))
     loop-again

@@ -16,10 +16,18 @@ unfolding countOf
 fields-few k s n b e f h = rw (e, f) at h
 
 mul-result-2 : tie.Need-mul-result-2
-mul-result-2 c = omega (arith, fields-few _ _ _ _ (c .before .before .before .before .kind .given .1) (c .before .s .given .1) (c .before .before .before .before .before .before .pre .1))
+mul-result-2 c = omega (
+  arith,
+  fields-few _ _ _ _ (c .before .before .before .before .kind .given .1) (c .before .s .given .1)
+      (c .before .before .before .before .before .before .pre .1),
+)
 
 add-result-2 : tie.Need-add-result-2
-add-result-2 c = omega (arith, fields-few _ _ _ _ (c .before .before .before .before .kind .given .1) (c .before .s .given .1) (c .before .before .before .before .before .before .pre .1))
+add-result-2 c = omega (
+  arith,
+  fields-few _ _ _ _ (c .before .before .before .before .kind .given .1) (c .before .s .given .1)
+      (c .before .before .before .before .before .before .pre .1),
+)
 
 returns : tie.Need-returns
 unfolding mostBy
@@ -27,12 +35,21 @@ returns c = (rw (c .enum-told .given .1), omega arith)
 
 returns-2 : tie.Need-returns-2
 unfolding mostBy
-returns-2 c = (rw (c .before .before .before .kind .given .1, c .enum-told2 .given .1), omega (arith, c .before .before .before .before .before .pre .0))
+returns-2 c = (
+  rw (c .before .before .before .kind .given .1, c .enum-told2 .given .1),
+  omega (arith, c .before .before .before .before .before .pre .0),
+)
 
 returns-3 : tie.Need-returns-3
 unfolding mostBy
-returns-3 c =
-    (rw (c .before .before .before .before .kind .given .1, c .before .s .given .1), omega (arith, fields-few _ _ _ _ (c .before .before .before .before .kind .given .1) (c .before .s .given .1) (c .before .before .before .before .before .before .pre .1)))
+returns-3 c = (
+  rw (c .before .before .before .before .kind .given .1, c .before .s .given .1),
+  omega (
+    arith,
+    fields-few _ _ _ _ (c .before .before .before .before .kind .given .1) (c .before .s .given .1)
+        (c .before .before .before .before .before .before .pre .1),
+  ),
+)
 
 returns-4 : tie.Need-returns-4
 unfolding mostBy

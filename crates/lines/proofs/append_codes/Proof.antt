@@ -11,7 +11,10 @@ use Rattle.lines.proofs.append_codes.Statement.{statement}
 use Rattle.lines.proofs.append_codes.Tie as tie
 
 returns : tie.Need-returns
-returns c = (as-text (c .before .before .append-byte .ensures) (codes-none _ _ (c .before .before .before .before .if1 .taken)), omega (arith, c .before .before .append-byte .ensures .ends))
+returns c = (
+  as-text (c .before .before .append-byte .ensures) (codes-none _ _ (c .before .before .before .before .if1 .taken)),
+  omega (arith, c .before .before .append-byte .ensures .ends),
+)
 
 append-number-requires : tie.Need-append-number-requires
 append-number-requires c κs =
@@ -24,9 +27,16 @@ append-others-requires c κs =
     let s = c .before .before .before .before .before .before .before .before .pre in
     let b = c .before .before .before .append-number .ensures in
     let e = toZ-ofZ (sfits-of (c .before .before .before .before .number .ok)) ∙ c .before .before .before .before .number .ensures in
-    let h : 0 < c .before .before .before .before .before .before .before .before .args .n = omega (arith, c .before .before .before .before .before .before .if1 .left) in
-    let k = code-ends (s .1 .0) h e b in
-    (s .0, (s .1 .0, omega (arith, c .before .before .before .before .before .before .if1 .left), omega (arith, s .1 .1, b .ends, keeps-room b)))
+    let h : 0 < c .before .before .before .before .before .before .before .before .args .n = omega
+    (arith, c .before .before .before .before .before .before .if1 .left) in
+    let k = code-ends (s .1 .0) h e b in (
+      s .0,
+      (
+        s .1 .0,
+        omega (arith, c .before .before .before .before .before .before .if1 .left),
+        omega (arith, s .1 .1, b .ends, keeps-room b),
+      ),
+    )
 
 returns-2 : tie.Need-returns-2
 returns-2 c =
@@ -34,10 +44,13 @@ returns-2 c =
     let a = c .before .before .before .before .before .before .before .before .before .before .before .args in
     let b = c .before .before .before .before .before .before .append-number .ensures in
     let o = c .before .before .append-others .ensures in
-    let e = toZ-ofZ (sfits-of (c .before .before .before .before .before .before .before .number .ok)) ∙ c .before .before .before .before .before .before .before .number .ensures in
+    let e = toZ-ofZ (sfits-of (c .before .before .before .before .before .before .before .number .ok))
+    ∙ c .before .before .before .before .before .before .before .number .ensures in
     let h : 0 < a .n = omega (arith, c .before .before .before .before .before .before .before .before .before .if1 .left) in
     let k = code-ends (s .1 .0) h e b in (
-      as-text (then (as-text b (ap numberText e)) (o .0)) (sym (codes-first (a .list .now) (a .n) (omega (arith, c .before .before .before .before .before .before .before .before .before .if1 .left)) (s .1 .0 .many))),
+      as-text (then (as-text b (ap numberText e)) (o .0))
+          (sym (codes-first (a .list .now) (a .n)
+          (omega (arith, c .before .before .before .before .before .before .before .before .before .if1 .left)) (s .1 .0 .many))),
       omega (arith, o .1, b .ends),
     )
 

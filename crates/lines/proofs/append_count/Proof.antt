@@ -24,8 +24,14 @@ returns : tie.Need-returns
 returns c =
     let a = c .before .before .before .before .before .before .args in
     let room : a .at + c .before .before .before .before .digit-count .result ≤ length (a .out .now) =
-    omega (arith, digits-few (a .n), c .before .before .before .before .digit-count .ensures, c .before .before .before .before .before .before .pre .1 .1) in
-    count-laid (a .out .now) (a .at) (a .n) _ room (c .before .before .before .before .digit-count .ensures) (c .before .before .put-digits .ensures)
+    omega (
+      arith,
+      digits-few (a .n),
+      c .before .before .before .before .digit-count .ensures,
+      c .before .before .before .before .before .before .pre .1 .1,
+    ) in
+    count-laid (a .out .now) (a .at) (a .n) _ room (c .before .before .before .before .digit-count .ensures)
+    (c .before .before .put-digits .ensures)
 
 pub append-count-spec : {M : Type 1} → statement M
 append-count-spec = tie.close (tie.spec (λ c κs. search needs) put-digits-requires add-result (λ c. search needs) returns)

@@ -7,7 +7,8 @@ use Rattle.lines.proofs.append_definition.Statement.{statement}
 use Rattle.lines.proofs.append_definition.Tie as tie
 
 append-count-requires : tie.Need-append-count-requires
-append-count-requires c κs = let s = c .before .before .before .before .before .before .before .pre in let r = room-after (c .before .before .before .append-text .ensures) 11 50053 (omega arith) (s .1 .2) in (s .0, (s .1 .0, omega arith))
+append-count-requires c κs = let s = c .before .before .before .before .before .before .before .pre in
+    let r = room-after (c .before .before .before .append-text .ensures) 11 50053 (omega arith) (s .1 .2) in (s .0, (s .1 .0, omega arith))
 
 append-spaced-requires : tie.Need-append-spaced-requires
 append-spaced-requires c κs =
@@ -18,14 +19,20 @@ append-spaced-requires c κs =
 
 append-byte-requires : tie.Need-append-byte-requires
 append-byte-requires c κs =
-    let r = room-after (c .before .before .before .before .before .before .before .before .before .before .before .append-text .ensures) 11 50053 (omega arith) (c .before .before .before .before .before .before .before .before .before .before .before .before .before .before .before .pre .1 .2) in
+    let r = room-after (c .before .before .before .before .before .before .before .before .before .before .before .append-text .ensures) 11
+    50053 (omega arith)
+    (c .before .before .before .before .before .before .before .before .before .before .before .before .before .before .before .pre .1
+    .2) in
     let q = room-count _ (c .before .before .before .before .before .before .before .append-count .ensures) 50037 r in
     let p = room-spaced _ (c .before .before .before .append-spaced .ensures) 50020 q in
     omega arith
 
 returns : tie.Need-returns
 unfolding definitionText
-returns c = then (c .before .before .before .before .before .before .before .before .before .before .before .before .before .before .append-text .ensures) (then (c .before .before .before .before .before .before .before .before .before .before .append-count .ensures) (then (c .before .before .before .before .before .before .append-spaced .ensures) (c .before .before .append-byte .ensures)))
+returns c = then
+    (c .before .before .before .before .before .before .before .before .before .before .before .before .before .before .append-text
+    .ensures) (then (c .before .before .before .before .before .before .before .before .before .before .append-count .ensures)
+    (then (c .before .before .before .before .before .before .append-spaced .ensures) (c .before .before .append-byte .ensures)))
 
 pub append-definition-spec : {M : Type 1} → statement M
 append-definition-spec =

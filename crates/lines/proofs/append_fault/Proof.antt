@@ -7,7 +7,8 @@ use Rattle.lines.proofs.append_fault.Statement.{statement}
 use Rattle.lines.proofs.append_fault.Tie as tie
 
 append-count-requires : tie.Need-append-count-requires
-append-count-requires c κs = let s = c .before .before .before .before .before .before .before .pre in let r = room-after (c .before .before .before .append-text .ensures) 6 50058 (omega arith) (s .1 .3) in (s .0, (s .1 .0, omega arith))
+append-count-requires c κs = let s = c .before .before .before .before .before .before .before .pre in
+    let r = room-after (c .before .before .before .append-text .ensures) 6 50058 (omega arith) (s .1 .3) in (s .0, (s .1 .0, omega arith))
 
 append-spaced-requires : tie.Need-append-spaced-requires
 append-spaced-requires c κs =
@@ -18,16 +19,23 @@ append-spaced-requires c κs =
 
 append-spaced-requires-2 : tie.Need-append-spaced-requires-2
 append-spaced-requires-2 c κs =
-    let s = c .before .before .before .before .before .before .before .before .before .before .before .before .before .before .before .pre in
-    let r = room-after (c .before .before .before .before .before .before .before .before .before .before .before .append-text .ensures) 6 50058 (omega arith) (s .1 .3) in
+    let s = c .before .before .before .before .before .before .before .before .before .before .before .before .before .before .before
+    .pre in
+    let r = room-after (c .before .before .before .before .before .before .before .before .before .before .before .append-text .ensures) 6
+    50058 (omega arith) (s .1 .3) in
     let q = room-count _ (c .before .before .before .before .before .before .before .append-count .ensures) 50042 r in
     let p = room-spaced _ (c .before .before .before .append-spaced .ensures) 50025 q in
     (s .0, (s .1 .2, omega arith))
 
 append-byte-requires : tie.Need-append-byte-requires
 append-byte-requires c κs =
-    let r = room-after (c .before .before .before .before .before .before .before .before .before .before .before .before .before .before .before .append-text .ensures) 6 50058 (omega arith) (c .before .before .before .before .before .before .before .before .before .before .before .before .before .before .before .before .before .before .before .pre .1 .3) in
-    let q = room-count _ (c .before .before .before .before .before .before .before .before .before .before .before .append-count .ensures) 50042 r in
+    let r = room-after
+    (c .before .before .before .before .before .before .before .before .before .before .before .before .before .before .before .append-text
+    .ensures) 6 50058 (omega arith)
+    (c .before .before .before .before .before .before .before .before .before .before .before .before .before .before .before .before
+    .before .before .before .pre .1 .3) in
+    let q = room-count _ (c .before .before .before .before .before .before .before .before .before .before .before .append-count .ensures)
+    50042 r in
     let p = room-spaced _ (c .before .before .before .before .before .before .before .append-spaced .ensures) 50025 q in
     let o = room-spaced _ (c .before .before .before .append-spaced2 .ensures) 50008 p in
     omega arith
@@ -35,9 +43,12 @@ append-byte-requires c κs =
 returns : tie.Need-returns
 unfolding faultText
 returns c =
-    then (c .before .before .before .before .before .before .before .before .before .before .before .before .before .before .before .before .before .before .append-text .ensures)
-    (then (c .before .before .before .before .before .before .before .before .before .before .before .before .before .before .append-count .ensures)
-    (then (c .before .before .before .before .before .before .before .before .before .before .append-spaced .ensures) (then (c .before .before .before .before .before .before .append-spaced2 .ensures) (c .before .before .append-byte .ensures))))
+    then (c .before .before .before .before .before .before .before .before .before .before .before .before .before .before .before .before
+    .before .before .append-text .ensures)
+    (then (c .before .before .before .before .before .before .before .before .before .before .before .before .before .before .append-count
+    .ensures)
+    (then (c .before .before .before .before .before .before .before .before .before .before .append-spaced .ensures)
+    (then (c .before .before .before .before .before .before .append-spaced2 .ensures) (c .before .before .append-byte .ensures))))
 
 pub append-fault-spec : {M : Type 1} → statement M
 append-fault-spec =

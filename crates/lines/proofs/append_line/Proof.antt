@@ -21,15 +21,20 @@ append-value-requires c κs =
 
 append-byte-requires : tie.Need-append-byte-requires
 append-byte-requires c κs =
-    let s = c .before .before .before .before .before .before .before .before .before .before .before .before .before .before .before .pre in
-    let r = room-count _ (c .before .before .before .before .before .before .before .before .before .before .before .append-count .ensures) 50048 (s .1 .1 .1) in
+    let s = c .before .before .before .before .before .before .before .before .before .before .before .before .before .before .before
+    .pre in
+    let r = room-count _ (c .before .before .before .before .before .before .before .before .before .before .before .append-count .ensures)
+    50048 (s .1 .1 .1) in
     let q = room-spaced _ (c .before .before .before .before .before .before .before .append-spaced .ensures) 50031 r in
     let v = c .before .before .before .append-value .ensures in
     omega (arith, q, v .1, keeps-room (v .0))
 
 returns : tie.Need-returns
 unfolding lineText
-returns c = then (c .before .before .before .before .before .before .before .before .before .before .before .before .before .before .append-count .ensures) (then (c .before .before .before .before .before .before .before .before .before .before .append-spaced .ensures) (then (c .before .before .before .before .before .before .append-value .ensures .0) (c .before .before .append-byte .ensures)))
+returns c = then
+    (c .before .before .before .before .before .before .before .before .before .before .before .before .before .before .append-count
+    .ensures) (then (c .before .before .before .before .before .before .before .before .before .before .append-spaced .ensures)
+    (then (c .before .before .before .before .before .before .append-value .ensures .0) (c .before .before .append-byte .ensures)))
 
 pub append-line-spec : {M : Type 1} → statement M
 append-line-spec =

@@ -15,11 +15,19 @@ split c = c .signed-of .ensures ∙ ap signedOf (toZ-ofZ (c .before .before .fit
 append-count-requires : tie.Need-append-count-requires
 append-count-requires c κs =
     let s = c .before .before .before .before .before .before .before .before in
-    let b = c .before .before .before .append-byte .ensures in
-    (s .pre .0, (rw (split (c .before .before .before .before .before .before)) (s .pre .1 .0), omega (arith, s .pre .1 .1, keeps-room b, b .ends)))
+    let b = c .before .before .before .append-byte .ensures in (
+      s .pre .0,
+      (
+        rw (split (c .before .before .before .before .before .before)) (s .pre .1 .0),
+        omega (arith, s .pre .1 .1, keeps-room b, b .ends),
+      ),
+    )
 
 returns : tie.Need-returns
-returns c = as-text (then (c .before .before .before .before .before .before .append-byte .ensures) (c .before .before .append-count .ensures)) (number-minus _ _ (split (c .before .before .before .before .before .before .before .before .before)) (c .before .before .before .before .before .before .before .before .if1 .taken))
+returns c = as-text (then (c .before .before .before .before .before .before .append-byte .ensures)
+    (c .before .before .append-count .ensures)) (number-minus _ _
+    (split (c .before .before .before .before .before .before .before .before .before))
+    (c .before .before .before .before .before .before .before .before .if1 .taken))
 
 append-count-requires-2 : tie.Need-append-count-requires-2
 append-count-requires-2 c κs =
@@ -27,7 +35,8 @@ append-count-requires-2 c κs =
     (s .pre .0, (rw (split (c .before .before)) (s .pre .1 .0), omega (arith, s .pre .1 .1)))
 
 returns-2 : tie.Need-returns-2
-returns-2 c = as-text (c .before .before .append-count2 .ensures) (number-plain _ _ (split (c .before .before .before .before .before)) (c .before .before .before .before .if1 .left))
+returns-2 c = as-text (c .before .before .append-count2 .ensures)
+    (number-plain _ _ (split (c .before .before .before .before .before)) (c .before .before .before .before .if1 .left))
 
 pub append-number-spec : {M : Type 1} → statement M
 append-number-spec =

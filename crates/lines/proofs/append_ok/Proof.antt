@@ -7,17 +7,20 @@ use Rattle.lines.proofs.append_ok.Statement.{statement}
 use Rattle.lines.proofs.append_ok.Tie as tie
 
 append-count-requires : tie.Need-append-count-requires
-append-count-requires c κs = let s = c .before .before .before .before .before .before .before .pre in let r = room-after (c .before .before .before .append-text .ensures) 3 50061 (omega arith) (s .1 .1) in (s .0, (s .1 .0, omega arith))
+append-count-requires c κs = let s = c .before .before .before .before .before .before .before .pre in
+    let r = room-after (c .before .before .before .append-text .ensures) 3 50061 (omega arith) (s .1 .1) in (s .0, (s .1 .0, omega arith))
 
 append-byte-requires : tie.Need-append-byte-requires
 append-byte-requires c κs =
-    let r = room-after (c .before .before .before .before .before .before .before .append-text .ensures) 3 50061 (omega arith) (c .before .before .before .before .before .before .before .before .before .before .before .pre .1 .1) in
+    let r = room-after (c .before .before .before .before .before .before .before .append-text .ensures) 3 50061 (omega arith)
+    (c .before .before .before .before .before .before .before .before .before .before .before .pre .1 .1) in
     let q = room-count _ (c .before .before .before .append-count .ensures) 50045 r in
     omega arith
 
 returns : tie.Need-returns
 unfolding okText
-returns c = then (c .before .before .before .before .before .before .before .before .before .before .append-text .ensures) (then (c .before .before .before .before .before .before .append-count .ensures) (c .before .before .append-byte .ensures))
+returns c = then (c .before .before .before .before .before .before .before .before .before .before .append-text .ensures)
+    (then (c .before .before .before .before .before .before .append-count .ensures) (c .before .before .append-byte .ensures))
 
 pub append-ok-spec : {M : Type 1} → statement M
 append-ok-spec =

@@ -20,7 +20,16 @@ abbrev μ-loop : tie.MeasureT-loop
 μ-loop powers out₀ at list n end₀ j₀ out end j = n - j
 
 append-byte-requires : tie.Need-append-byte-requires Inv-loop μ-loop
-append-byte-requires c κs = let l = c .before .before .loop .inv in omega (arith, l .1, l .2, l .3, c .before .before .before .before .pre .1 .0 .limit, c .before .before .before .before .pre .1 .2, c .before .loop-test .taken)
+append-byte-requires c κs = let l = c .before .before .loop .inv in
+    omega (
+      arith,
+      l .1,
+      l .2,
+      l .3,
+      c .before .before .before .before .pre .1 .0 .limit,
+      c .before .before .before .before .pre .1 .2,
+      c .before .loop-test .taken,
+    )
 
 append-number-requires : tie.Need-append-number-requires Inv-loop μ-loop
 append-number-requires c κs =
@@ -30,7 +39,10 @@ append-number-requires c κs =
     let t = c .before .before .before .before .before .before .loop-test .taken in
     let f = s .1 .0 .few (c .before .before .before .before .before .before .before .loop .j) t in (
       s .0,
-      (rw (toZ-ofZ (sfits-of (c .number .ok)), c .number .ensures) (omega arith), omega (arith, l .1, l .2, l .3, s .1 .0 .limit, s .1 .2, b .ends, keeps-room b)),
+      (
+        rw (toZ-ofZ (sfits-of (c .number .ok)), c .number .ensures) (omega arith),
+        omega (arith, l .1, l .2, l .3, s .1 .0 .limit, s .1 .2, b .ends, keeps-room b),
+      ),
     )
 
 loop-again : tie.Need-loop-again Inv-loop μ-loop
@@ -51,8 +63,11 @@ loop-again c =
 returns : tie.Need-returns Inv-loop μ-loop
 returns c =
     let l = c .before .loop .inv in
-    let a = c .before .before .before .args in
-    (none-left (omega (arith, l .1, l .2, l .3, c .before .before .before .pre .1 .0 .limit, c .before .before .before .pre .1 .2)) (left-as (codes-over (a .list .now) (a .n) _ (c .loop-test .left)) (l .4)), omega (arith, l .1, l .3, c .before .before .before .pre .1 .0 .limit))
+    let a = c .before .before .before .args in (
+      none-left (omega (arith, l .1, l .2, l .3, c .before .before .before .pre .1 .0 .limit, c .before .before .before .pre .1 .2))
+          (left-as (codes-over (a .list .now) (a .n) _ (c .loop-test .left)) (l .4)),
+      omega (arith, l .1, l .3, c .before .before .before .pre .1 .0 .limit),
+    )
 
 pub append-others-spec : {M : Type 1} → statement M
 append-others-spec =

@@ -6,7 +6,10 @@ use Rattle.lines.proofs.append_spaced.Statement.{statement}
 use Rattle.lines.proofs.append_spaced.Tie as tie
 
 append-count-requires : tie.Need-append-count-requires
-append-count-requires c κs = let s = c .before .before .before .before .before .before .pre in (s .0, (s .1 .0, room-after (c .before .before .before .append-byte .ensures) 1 16 (omega arith) (s .1 .1)))
+append-count-requires c κs = let s = c .before .before .before .before .before .before .pre in (
+  s .0,
+  (s .1 .0, room-after (c .before .before .before .append-byte .ensures) 1 16 (omega arith) (s .1 .1)),
+)
 
 pub append-spaced-spec : {M : Type 1} → statement M
 append-spaced-spec =

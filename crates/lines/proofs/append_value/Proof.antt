@@ -9,7 +9,8 @@ use mir.Val.{toZ, ofZ}
 use lib.ListN.{drop, length-take}
 use Rattle.lines.specs.rule.Text.{numberText}
 use Rattle.lines.specs.Appended.{then, keeps-room, as-text, number-few}
-use Rattle.lines.specs.Lines.{Listable, number-listed, set-listed, text-listed, missing-text, number-text, set-text, text-text, truth-text}
+use Rattle.lines.specs.Lines.{Listable, number-listed, set-listed, text-listed, missing-text, number-text, set-text, text-text}
+use Rattle.lines.specs.Lines.{truth-text}
 use Rattle.lines.proofs.append_value.Statement.{statement}
 use Rattle.lines.proofs.append_value.Tie as tie
 
@@ -20,14 +21,25 @@ back c = search needs
 append-number-requires : tie.Need-append-number-requires
 append-number-requires c κs =
     let s = c .before .before .before .before .before .before .before .before .before .before .pre in
-    let b = c .before .before .before .append-between .ensures in
-    (s .0, (rw (back (c .before .before .before .before .before)) (number-listed _ _ (s .1 .0) (c .before .before .before .before .before .before .a .given .1)), omega (arith, s .1 .1, b .ends, keeps-room b)))
+    let b = c .before .before .before .append-between .ensures in (
+      s .0,
+      (
+        rw (back (c .before .before .before .before .before))
+            (number-listed _ _ (s .1 .0) (c .before .before .before .before .before .before .a .given .1)),
+        omega (arith, s .1 .1, b .ends, keeps-room b),
+      ),
+    )
 
 append-codes-requires : tie.Need-append-codes-requires
 append-codes-requires c κs =
     let s = c .before .before .before .before .before .before .before .before .before .before .pre in
-    let b = c .before .before .before .append-between2 .ensures in
-    (s .0, (set-listed _ _ (s .1 .0) (c .before .before .before .before .before .before .a2 .given .1), omega (arith, s .1 .1, b .ends, keeps-room b)))
+    let b = c .before .before .before .append-between2 .ensures in (
+      s .0,
+      (
+        set-listed _ _ (s .1 .0) (c .before .before .before .before .before .before .a2 .given .1),
+        omega (arith, s .1 .1, b .ends, keeps-room b),
+      ),
+    )
 
 append-text-requires : tie.Need-append-text-requires
 append-text-requires c κs =
@@ -44,29 +56,45 @@ returns c =
 returns-2 : tie.Need-returns-2
 returns-2 c =
     let b = c .before .before .before .before .before .before .append-between .ensures in
-    let m = as-text (c .before .before .append-number .ensures) (ap numberText (back (c .before .before .before .before .before .before .before .before))) in
-    (as-text (then b m) (number-text _ _ _ (c .before .before .before .before .before .before .before .before .before .a .given .1)), omega (arith, b .ends, m .ends, number-few (c .before .before .before .before .before .before .before .before .before .a .given .0 .0)))
+    let m = as-text (c .before .before .append-number .ensures)
+    (ap numberText (back (c .before .before .before .before .before .before .before .before))) in (
+      as-text (then b m) (number-text _ _ _ (c .before .before .before .before .before .before .before .before .before .a .given .1)),
+      omega (
+        arith,
+        b .ends,
+        m .ends,
+        number-few (c .before .before .before .before .before .before .before .before .before .a .given .0 .0),
+      ),
+    )
 
 returns-3 : tie.Need-returns-3
 returns-3 c =
     let b = c .before .before .before .before .before .before .append-between2 .ensures in
-    let m = c .before .before .append-codes .ensures in
-    (as-text (then b (m .0)) (set-text _ _ _ (c .before .before .before .before .before .before .before .before .before .a2 .given .1)), omega (arith, b .ends, m .1))
+    let m = c .before .before .append-codes .ensures in (
+      as-text (then b (m .0)) (set-text _ _ _ (c .before .before .before .before .before .before .before .before .before .a2 .given .1)),
+      omega (arith, b .ends, m .1),
+    )
 
 returns-4 : tie.Need-returns-4
 returns-4 c =
     let b = c .before .before .before .before .before .before .append-between3 .ensures in
     let m = c .before .before .append-text .ensures in
     let e = c .before .before .before .before .before .before .before .before .before .a3 .given .1 in
-    let l = text-listed _ _ (c .before .before .before .before .before .before .before .before .before .before .before .before .before .pre .1 .0) e in
-    let n = length-take (c .before .before .before .before .before .before .before .before .before .a3 .given .0 .1 .0) (drop (c .before .before .before .before .before .before .before .before .before .a3 .given .0 .0) (c .before .before .before .before .before .before .before .before .before .before .before .before .before .args .bytes .now)) in
+    let l = text-listed _ _
+    (c .before .before .before .before .before .before .before .before .before .before .before .before .before .pre .1 .0) e in
+    let n = length-take (c .before .before .before .before .before .before .before .before .before .a3 .given .0 .1 .0)
+    (drop (c .before .before .before .before .before .before .before .before .before .a3 .given .0 .0)
+    (c .before .before .before .before .before .before .before .before .before .before .before .before .before .args .bytes .now)) in
     (as-text (then b m) (text-text _ _ _ e), omega (arith, b .ends, m .ends, l .0))
 
 returns-5 : tie.Need-returns-5
 returns-5 c =
     let b = c .before .before .before .before .before .before .before .append-between4 .ensures in
-    let m = as-text (c .before .before .append-byte .ensures) (ap (λ (x : ℕ). x ∷ []) (c .before .before .before .bit-of .ensures)) in
-    (as-text (then b m) (truth-text _ _ _ (c .before .before .before .before .before .before .before .before .before .before .a4 .given .1)), omega (arith, b .ends, m .ends))
+    let m = as-text (c .before .before .append-byte .ensures) (ap (λ (x : ℕ). x ∷ []) (c .before .before .before .bit-of .ensures)) in (
+      as-text (then b m)
+          (truth-text _ _ _ (c .before .before .before .before .before .before .before .before .before .before .a4 .given .1)),
+      omega (arith, b .ends, m .ends),
+    )
 
 returns-6 : tie.Need-returns-6
 unfolding Listable

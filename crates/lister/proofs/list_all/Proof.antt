@@ -14,7 +14,8 @@ use Rattle.lister.proofs.list_all.Tie as tie
 
 abbrev Inv-loop : tie.InvT-loop
 Inv-loop powers t h d w list₀ scratch₀ out₀ p₀ at₀ list scratch out p at =
-    (length list ≡ length list₀) × (length scratch ≡ length scratch₀) × (length out ≡ length out₀) × (at + lineRoom ≤ length out) × PlaceGood d p
+    (length list ≡ length list₀) × (length scratch ≡ length scratch₀) × (length out ≡ length out₀) × (at + lineRoom ≤ length out)
+    × PlaceGood d p
 
 abbrev μ-loop : tie.MeasureT-loop
 μ-loop powers t h d w list₀ scratch₀ out₀ p₀ at₀ list scratch out p at = turnsLeft t d p
@@ -32,25 +33,37 @@ list-on-requires c κs =
 
 make-space-requires : tie.Need-make-space-requires Inv-loop μ-loop
 make-space-requires c κs =
-    let e = c .before .before .before .before .before .before .before .before .before .list-on .ensures in
-    (on-inside e (c .before .before .place .given .1), omega (arith, turn-room e, c .before .before .before .before .before .before .before .before .before .before .before .before .before .loop .inv .3))
+    let e = c .before .before .before .before .before .before .before .before .before .list-on .ensures in (
+      on-inside e (c .before .before .place .given .1),
+      omega (
+        arith,
+        turn-room e,
+        c .before .before .before .before .before .before .before .before .before .before .before .before .before .loop .inv .3,
+      ),
+    )
 
 loop-again : tie.Need-loop-again Inv-loop μ-loop
 loop-again c =
-    let l = c .before .before .before .before .before .before .before .before .before .before .before .before .before .before .before .before .before .loop .inv in
+    let l = c .before .before .before .before .before .before .before .before .before .before .before .before .before .before .before
+    .before .before .loop .inv in
     let e = c .before .before .before .before .before .before .before .before .before .before .before .before .before .list-on .ensures in (
-      c .before .before .before .before .before .before .before .before .before .before .before .before .before .list-on .kept .1 .1 .1 .1 .1 .1 .0 ∙ l .0,
-      c .before .before .before .before .before .before .before .before .before .before .before .before .before .list-on .kept .1 .1 .1 .1 .1 .1 .1 .0 ∙ l .1,
+      c .before .before .before .before .before .before .before .before .before .before .before .before .before .list-on .kept .1 .1 .1 .1
+          .1 .1 .0 ∙ l .0,
+      c .before .before .before .before .before .before .before .before .before .before .before .before .before .list-on .kept .1 .1 .1 .1
+          .1 .1 .1 .0 ∙ l .1,
       turn-room e ∙ l .2,
       spacious-from _ (c .before .before .before .make-space .ensures) (c .before .free .given .1),
       on-good e (c .before .before .before .before .before .before .place .given .1),
     )
 
 slice-reshare-prefix-write : tie.Need-slice-reshare-prefix-write Inv-loop μ-loop
-slice-reshare-prefix-write c = over-inside (c .before .before .before .before .before .before .before .before .list-on .ensures) (c .before .end .given .1)
+slice-reshare-prefix-write c = over-inside (c .before .before .before .before .before .before .before .before .list-on .ensures)
+    (c .before .end .given .1)
 
 slice-aggregate-write : tie.Need-slice-aggregate-write Inv-loop μ-loop
-slice-aggregate-write c = sym (length-take-le _ _ (over-inside (c .before .before .before .before .before .before .before .before .before .list-on .ensures) (c .before .before .end .given .1)))
+slice-aggregate-write c = sym (length-take-le _ _
+    (over-inside (c .before .before .before .before .before .before .before .before .before .list-on .ensures)
+    (c .before .before .end .given .1)))
 
 pub list-all-spec : {M : Type 1} → statement M
 list-all-spec =
@@ -63,18 +76,29 @@ list-all-spec =
     (λ c. search needs)
     make-space-requires
     (λ c. search needs)
-    (λ c. on-less (c .before .before .before .before .before .before .before .before .before .before .before .before .before .list-on .ensures) (c .before .before .before .before .before .before .place .given .1))
+    (λ c. on-less
+    (c .before .before .before .before .before .before .before .before .before .before .before .before .before .list-on .ensures)
+    (c .before .before .before .before .before .before .place .given .1))
     loop-again
     (λ c. search needs)
-    (λ c. c .before .before .before .before .before .before .before .before .before .before .before .before .list-on .kept .1 .1 .1 .1 .1 .1 .0 ∙ c .before .before .before .before .before .before .before .before .before .before .before .before .before .before .before .before .loop .inv .0)
-    (λ c. c .before .before .before .before .before .before .before .before .before .before .before .before .list-on .kept .1 .1 .1 .1 .1 .1 .1 .0 ∙ c .before .before .before .before .before .before .before .before .before .before .before .before .before .before .before .before .loop .inv .1)
-    (λ c. turn-room (c .before .before .before .before .before .before .before .before .before .before .before .before .list-on .ensures) ∙ c .before .before .before .before .before .before .before .before .before .before .before .before .before .before .before .before .loop .inv .2)
+    (λ c. c .before .before .before .before .before .before .before .before .before .before .before .before .list-on .kept .1 .1 .1 .1 .1 .1
+    .0 ∙ c .before .before .before .before .before .before .before .before .before .before .before .before .before .before .before .before
+    .loop .inv .0)
+    (λ c. c .before .before .before .before .before .before .before .before .before .before .before .before .list-on .kept .1 .1 .1 .1 .1 .1
+    .1 .0 ∙ c .before .before .before .before .before .before .before .before .before .before .before .before .before .before .before
+    .before .loop .inv .1)
+    (λ c. turn-room (c .before .before .before .before .before .before .before .before .before .before .before .before .list-on .ensures)
+    ∙ c .before .before .before .before .before .before .before .before .before .before .before .before .before .before .before .before
+    .loop .inv .2)
     (λ c. tt)
     (λ c. search needs)
     slice-reshare-prefix-write
     slice-aggregate-write
     (λ c κs. search needs)
-    (λ c. c .before .before .before .before .before .before .before .before .before .before .list-on .kept .1 .1 .1 .1 .1 .1 .0 ∙ c .before .before .before .before .before .before .before .before .before .before .before .before .before .before .loop .inv .0)
-    (λ c. c .before .before .before .before .before .before .before .before .before .before .list-on .kept .1 .1 .1 .1 .1 .1 .1 .0 ∙ c .before .before .before .before .before .before .before .before .before .before .before .before .before .before .loop .inv .1)
-    (λ c. turn-room (c .before .before .before .before .before .before .before .before .before .before .list-on .ensures) ∙ c .before .before .before .before .before .before .before .before .before .before .before .before .before .before .loop .inv .2)
+    (λ c. c .before .before .before .before .before .before .before .before .before .before .list-on .kept .1 .1 .1 .1 .1 .1 .0
+    ∙ c .before .before .before .before .before .before .before .before .before .before .before .before .before .before .loop .inv .0)
+    (λ c. c .before .before .before .before .before .before .before .before .before .before .list-on .kept .1 .1 .1 .1 .1 .1 .1 .0
+    ∙ c .before .before .before .before .before .before .before .before .before .before .before .before .before .before .loop .inv .1)
+    (λ c. turn-room (c .before .before .before .before .before .before .before .before .before .before .list-on .ensures)
+    ∙ c .before .before .before .before .before .before .before .before .before .before .before .before .before .before .loop .inv .2)
     (λ c. tt))

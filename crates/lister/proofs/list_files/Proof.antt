@@ -7,11 +7,17 @@ use Rattle.lister.proofs.list_files.Statement.{statement}
 use Rattle.lister.proofs.list_files.Tie as tie
 
 list-by-requires : tie.Need-list-by-requires
-list-by-requires c κs = (c .before .before .before .before .before .before .before .before .powers .ensures, c .before .before .before .before .before .before .before .before .before .before .before .pre .1, lit≤ tt)
+list-by-requires c κs = (
+  c .before .before .before .before .before .before .before .before .powers .ensures,
+  c .before .before .before .before .before .before .before .before .before .before .before .pre .1,
+  lit≤ tt,
+)
 
 append-definition-requires : tie.Need-append-definition-requires
-append-definition-requires c κs =
-    (c .before .before .before .before .before .before .before .before .before .before .powers .ensures, (c .before .before .before .printed .ensures, c .before .before .printed2 .ensures, lit≤ tt))
+append-definition-requires c κs = (
+  c .before .before .before .before .before .before .before .before .before .before .powers .ensures,
+  (c .before .before .before .printed .ensures, c .before .before .printed2 .ensures, lit≤ tt),
+)
 
 slice-aggregate-write : tie.Need-slice-aggregate-write
 slice-aggregate-write c = sym (length-take-le _ _ (c .before .before .append-definition .ensures .inside))

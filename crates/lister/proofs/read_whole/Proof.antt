@@ -13,7 +13,14 @@ abbrev μ-loop : tie.MeasureT-loop
 μ-loop fd buf₀ done₀ buf done = length buf₀ - done
 
 loop-less : tie.Need-loop-less Inv-loop μ-loop
-loop-less c = omega (arith, c .if2 .left, c .before .if1 .left, c .before .before .before .before .before .before .loop-test .taken, c .before .before .before .before .before .before .before .loop .inv, c .before .before .before .before .read-on .kept .1 .0)
+loop-less c = omega (
+  arith,
+  c .if2 .left,
+  c .before .if1 .left,
+  c .before .before .before .before .before .before .loop-test .taken,
+  c .before .before .before .before .before .before .before .loop .inv,
+  c .before .before .before .before .read-on .kept .1 .0,
+)
 
 pub read-whole-spec : {M : Type 1} → statement M
 read-whole-spec =

@@ -34,7 +34,11 @@ returns-4 c = rw (c .before .before .before .before .enum-told4 .given .1) (c .b
 
 returns-5 : tie.Need-returns-5
 unfolding faultLine judgedAs
-returns-5 c = rw (c .before .before .before .before .before .before .before .j .given .1, ← c .before .before .before .before .before .fault-number .ensures, ← c .before .before .before .ident-of .ensures .0) (c .before .before .append-fault4 .ensures)
+returns-5 c = rw (
+  c .before .before .before .before .before .before .before .j .given .1,
+  ← c .before .before .before .before .before .fault-number .ensures,
+  ← c .before .before .before .ident-of .ensures .0,
+) (c .before .before .append-fault4 .ensures)
 
 pub append-judged-spec : {M : Type 1} → statement M
 append-judged-spec =

@@ -9,19 +9,31 @@ use Rattle.listing.proofs.append_last.Tie as tie
 
 append-ok-requires : tie.Need-append-ok-requires
 unfolding countIn fileSaid
-append-ok-requires c κs = let p = c .before .before .before .before .before .pre in (p .0 .0, (rw (c .before .before .j .given .1) at (p .1 .0), p .1 .1))
+append-ok-requires c κs = let p = c .before .before .before .before .before .pre in (
+  p .0 .0,
+  (rw (c .before .before .j .given .1) at (p .1 .0), p .1 .1),
+)
 
 append-fault-requires-2 : tie.Need-append-fault-requires-2
 unfolding countIn fileSaid
-append-fault-requires-2 c κs = let p = c .before .before .before .before .before .pre in (p .0 .0, (omega arith, rw (c .before .before .j2 .given .1) at (p .1 .0), omega arith, p .1 .1))
+append-fault-requires-2 c κs = let p = c .before .before .before .before .before .pre in (
+  p .0 .0,
+  (omega arith, rw (c .before .before .j2 .given .1) at (p .1 .0), omega arith, p .1 .1),
+)
 
 append-fault-requires-3 : tie.Need-append-fault-requires-3
 unfolding countIn fileSaid
-append-fault-requires-3 c κs = let p = c .before .before .before .before .before .pre in (p .0 .0, (omega arith, rw (c .before .before .j3 .given .1) at (p .1 .0), omega arith, p .1 .1))
+append-fault-requires-3 c κs = let p = c .before .before .before .before .before .pre in (
+  p .0 .0,
+  (omega arith, rw (c .before .before .j3 .given .1) at (p .1 .0), omega arith, p .1 .1),
+)
 
 append-judged-requires : tie.Need-append-judged-requires
 unfolding countIn fileSaid
-append-judged-requires c κs = let p = c .before .before .before .before .before .pre in (p .0, (rw (c .before .before .j4 .given .1) at (p .1 .0), p .1 .1))
+append-judged-requires c κs = let p = c .before .before .before .before .before .pre in (
+  p .0,
+  (rw (c .before .before .j4 .given .1) at (p .1 .0), p .1 .1),
+)
 
 returns : tie.Need-returns
 unfolding lastText fileSaid faultLine

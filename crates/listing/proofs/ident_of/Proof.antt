@@ -9,8 +9,10 @@ read-requires c κs = row-stands (c .before .before .pre) (c .if1 .taken)
 
 returns : tie.Need-returns
 returns c =
-    let e = c .read .ensures in
-    (rw e (ident-here (c .before .before .before .pre) (c .before .if1 .taken)), rw e (ident-few (c .before .before .before .pre) (c .before .if1 .taken)))
+    let e = c .read .ensures in (
+      rw e (ident-here (c .before .before .before .pre) (c .before .if1 .taken)),
+      rw e (ident-few (c .before .before .before .pre) (c .before .if1 .taken)),
+    )
 
 returns-2 : tie.Need-returns-2
 returns-2 c = (ident-none (c .before .before .pre) (c .if1 .left), omega arith)

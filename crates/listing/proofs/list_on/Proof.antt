@@ -16,8 +16,10 @@ use Rattle.listing.proofs.list_on.Tie as tie
 
 -- what was found of the record that starts here
 ended : (c : tie.After-known-told) → let a = c .before .before .before .before .before .before .before .args in
-    EndedAt (a .d .now) (a .w) (a .p .from) (recordsFrom (a .w) (drop (a .p .from) (a .d .now))) (c .before .start .given .0 .0) (c .before .start .given .0 .1 .0) (c .before .start .given .0 .1 .1 .0)
-ended c = let a = c .before .before .before .before .before .before .before .args in next-ended (a .d .now) (a .w) (a .p .from) (sym (c .before .before .before .next-from .ensures) ∙ c .before .start .given .1)
+    EndedAt (a .d .now) (a .w) (a .p .from) (recordsFrom (a .w) (drop (a .p .from) (a .d .now))) (c .before .start .given .0 .0)
+    (c .before .start .given .0 .1 .0) (c .before .start .given .0 .1 .1 .0)
+ended c = let a = c .before .before .before .before .before .before .before .args in
+    next-ended (a .d .now) (a .w) (a .p .from) (sym (c .before .before .before .next-from .ensures) ∙ c .before .start .given .1)
 
 sub-take-record : tie.Need-sub-take-record
 sub-take-record c = omega (arith, ended c .starts, ended c .after, ended c .inside)
@@ -29,25 +31,43 @@ part-take-record-end : tie.Need-part-take-record-end
 part-take-record-end c = omega (arith, ended c .starts, ended c .after, ended c .inside)
 
 take-record-requires : tie.Need-take-record-requires
-take-record-requires c κs = let p = c .before .before .before .before .before .before .before .before .before .before .before .pre in (p .0, (omega (arith, p .1 .1, p .1 .2 .few), p .1 .3))
+take-record-requires c κs = let p = c .before .before .before .before .before .before .before .before .before .before .before .pre in (
+  p .0,
+  (omega (arith, p .1 .1, p .1 .2 .few), p .1 .3),
+)
 
 turn-of-requires : tie.Need-turn-of-requires
-turn-of-requires c κs = let p = c .before .before .before .before .before .before .before .before .before .before .before .before .before .before .before .before .before .pre in omega (arith, p .1 .1, p .1 .2 .few)
+turn-of-requires c
+    κs = let p = c .before .before .before .before .before .before .before .before .before .before .before .before .before .before .before
+    .before .before .pre in omega (arith, p .1 .1, p .1 .2 .few)
 
 append-last-requires : tie.Need-append-last-requires
 unfolding countIn fileSaid
-append-last-requires c κs = let p = c .before .before .before .before .before .before .before .before .pre in ((p .0 .0 .tens, p .0 .0 .tested), (omega (arith, p .1 .1, p .1 .2 .few), p .1 .3))
+append-last-requires c κs = let p = c .before .before .before .before .before .before .before .before .pre in (
+  (
+    p .0 .0 .tens,
+    p .0 .0 .tested,
+  ),
+  (omega (arith, p .1 .1, p .1 .2 .few), p .1 .3),
+)
 
 append-last-requires-2 : tie.Need-append-last-requires-2
 unfolding countIn fileSaid
-append-last-requires-2 c κs = let p = c .before .before .before .before .before .before .before .pre in ((p .0 .0 .tens, p .0 .0 .tested), (omega (arith, p .1 .1, p .1 .2 .few), p .1 .3))
+append-last-requires-2 c κs = let p = c .before .before .before .before .before .before .before .pre in (
+  (p .0 .0 .tens, p .0 .0 .tested),
+  (omega (arith, p .1 .1, p .1 .2 .few), p .1 .3),
+)
 
 returns : tie.Need-returns
 returns c =
-    let p = c .before .before .before .before .before .before .before .before .before .before .before .before .before .before .before .before .before .before .pre in
-    let a = c .before .before .before .before .before .before .before .before .before .before .before .before .before .before .before .before .before .before .args in
+    let p = c .before .before .before .before .before .before .before .before .before .before .before .before .before .before .before
+    .before .before .before .pre in
+    let a = c .before .before .before .before .before .before .before .before .before .before .before .before .before .before .before
+    .before .before .before .args in
     let f = table-ready (a .t .now) (p .0 .0 .tested .good) (lengthOf (a .t .now)) (omega arith) .few in
-    listed-record (a .t .now) (a .w) (a .d .now) (a .p) (p .1 .2) f (ended (c .before .before .before .before .before .before .before .before .before .before .before)) (c .turn-of .ensures) (c .before .before .before .before .before .before .take-record .ensures)
+    listed-record (a .t .now) (a .w) (a .d .now) (a .p) (p .1 .2) f
+    (ended (c .before .before .before .before .before .before .before .before .before .before .before)) (c .turn-of .ensures)
+    (c .before .before .before .before .before .before .take-record .ensures)
 
 returns-2 : tie.Need-returns-2
 unfolding fileSaid
@@ -55,7 +75,9 @@ returns-2 c =
     let p = c .before .before .before .before .before .before .before .before .before .before .before .pre in
     let a = c .before .before .before .before .before .before .before .before .before .before .before .args in
     let f = table-ready (a .t .now) (p .0 .0 .tested .good) (lengthOf (a .t .now)) (omega arith) .few in
-    let u = next-unended (a .d .now) (a .w) (a .p .from) (sym (c .before .before .before .before .before .before .before .next-from .ensures) ∙ c .before .before .before .before .before .enum-told .given .1) in
+    let u = next-unended (a .d .now) (a .w) (a .p .from)
+    (sym (c .before .before .before .before .before .before .before .next-from .ensures)
+    ∙ c .before .before .before .before .before .enum-told .given .1) in
     listed-unended (a .t .now) (a .w) (a .d .now) (a .p) (p .1 .2) f (u .records) (c .before .before .append-last .ensures)
 
 returns-3 : tie.Need-returns-3
@@ -64,7 +86,10 @@ returns-3 c =
     let p = c .before .before .before .before .before .before .before .before .before .before .pre in
     let a = c .before .before .before .before .before .before .before .before .before .before .args in
     let f = table-ready (a .t .now) (p .0 .0 .tested .good) (lengthOf (a .t .now)) (omega arith) .few in
-    let o = over-past (a .d .now) (a .w) (a .p .from) (next-nothing (a .d .now) (a .w) (a .p .from) (sym (c .before .before .before .before .before .before .next-from .ensures) ∙ c .before .before .before .before .enum-told2 .given .1)) in
+    let o = over-past (a .d .now) (a .w) (a .p .from)
+    (next-nothing (a .d .now) (a .w) (a .p .from)
+    (sym (c .before .before .before .before .before .before .next-from .ensures)
+    ∙ c .before .before .before .before .enum-told2 .given .1)) in
     listed-over (a .t .now) (a .w) (a .d .now) (a .p) (p .1 .2) f o (c .before .before .append-last2 .ensures)
 
 pub list-on-spec : {M : Type 1} → statement M

@@ -12,13 +12,15 @@ read-requires : tie.Need-read-requires
 read-requires c κs = let p = c .before .before .pre in row-stands (p .0 .tested) (p .1 .1)
 
 read-row-requires : tie.Need-read-row-requires
-read-row-requires c κs = let p = c .before .before .before .before .pre in row-ready (p .0 .tested) (p .1 .1) (c .before .read .ensures) (c .before .before .before .before .args .bytes .now) (p .1 .2)
+read-row-requires c κs = let p = c .before .before .before .before .pre in
+    row-ready (p .0 .tested) (p .1 .1) (c .before .read .ensures) (c .before .before .before .before .args .bytes .now) (p .1 .2)
 
 returns : tie.Need-returns
 returns c =
     let p = c .before .before .before .before .before .before .before .before .pre in
     as-text (nothing-more _ _ (omega (arith, p .1 .3)))
-    (sym (row-none (p .0 .tested) (p .1 .1) (c .before .before .before .before .before .read .ensures) _ (p .1 .2) (c .before .before .before .read-row .ensures) _ (sym (c .before .is-illegal .ensures) ∙ c .if1 .taken)))
+    (sym (row-none (p .0 .tested) (p .1 .1) (c .before .before .before .before .before .read .ensures) _ (p .1 .2)
+    (c .before .before .before .read-row .ensures) _ (sym (c .before .is-illegal .ensures) ∙ c .if1 .taken)))
 
 append-line-requires : tie.Need-append-line-requires
 append-line-requires c κs =
@@ -27,7 +29,11 @@ append-line-requires c κs =
       p .0 .tens,
       (
         (p .1 .0, rw e (ident-few (p .0 .tested) (p .1 .1))),
-        (row-listable (p .0 .tested) (p .1 .1) e _ (p .1 .2) (c .before .before .before .before .before .read-row .ensures) (p .0 .list) (sym (c .before .before .before .is-illegal .ensures) ∙ c .before .before .if1 .left), p .1 .3),
+        (
+          row-listable (p .0 .tested) (p .1 .1) e _ (p .1 .2) (c .before .before .before .before .before .read-row .ensures) (p .0 .list)
+              (sym (c .before .before .before .is-illegal .ensures) ∙ c .before .before .if1 .left),
+          p .1 .3,
+        ),
       ),
     )
 
@@ -36,7 +42,9 @@ returns-2 c =
     let p = c .before .before .before .before .before .before .before .before .before .before .before .before .before .pre in
     let e = c .before .before .before .before .before .before .before .before .before .before .read .ensures in
     as-text (c .before .before .append-line .ensures)
-    (row-line (p .0 .tested) (p .1 .1) e _ (p .1 .2) (c .before .before .before .before .before .before .before .before .read-row .ensures) _ (p .0 .list) (sym (c .before .before .before .before .before .before .is-illegal .ensures) ∙ c .before .before .before .before .before .if1 .left))
+    (row-line (p .0 .tested) (p .1 .1) e _ (p .1 .2) (c .before .before .before .before .before .before .before .before .read-row .ensures)
+    _ (p .0 .list) (sym (c .before .before .before .before .before .before .is-illegal .ensures)
+    ∙ c .before .before .before .before .before .if1 .left))
 
 pub list-row-spec : {M : Type 1} → statement M
 list-row-spec =

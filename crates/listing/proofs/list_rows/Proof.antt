@@ -25,8 +25,14 @@ loop-holds : tie.Need-loop-holds Inv-loop μ-loop
 loop-holds c =
     let p = c .before .before .pre in
     let a = c .before .before .args in
-    let z : a .i - a .i ≡ 0 = omega arith in
-    (omega arith, omega arith, refl, refl, λ e. refl, as-text (nothing-more _ _ (omega (arith, p .1 .2))) (sym (rows-none (a .t .now) (a .n) (a .bytes .now) (a .i) _ z)))
+    let z : a .i - a .i ≡ 0 = omega arith in (
+      omega arith,
+      omega arith,
+      refl,
+      refl,
+      λ e. refl,
+      as-text (nothing-more _ _ (omega (arith, p .1 .2))) (sym (rows-none (a .t .now) (a .n) (a .bytes .now) (a .i) _ z)),
+    )
 
 sub-if2 : tie.Need-sub-if2 Inv-loop μ-loop
 sub-if2 c = omega (arith, c .before .before .loop .inv .5 .inside)

@@ -12,50 +12,80 @@ use Rattle.listing.proofs.take_record.Statement.{statement}
 use Rattle.listing.proofs.take_record.Tie as tie
 
 -- the file goes on where the record is sound
-going : (c : tie.After-goes-on) → c .goes-on .result ≡ isSound (recordVerdict (c .before .before .before .before .before .before .before .before .before .before .args .t .now) (c .before .before .before .before .before .first-length .result) (c .before .before .before .before .before .before .before .before .before .before .args .bytes .now))
+going : (c : tie.After-goes-on) → c .goes-on .result
+    ≡ isSound (recordVerdict (c .before .before .before .before .before .before .before .before .before .before .args .t .now)
+    (c .before .before .before .before .before .first-length .result)
+    (c .before .before .before .before .before .before .before .before .before .before .args .bytes .now))
 going c =
     let a = c .before .before .before .before .before .before .before .before .before .before .args in
-    c .goes-on .ensures ∙ ap soundSoFar (c .before .before .before .judge-one .ensures) ∙ so-far (recordVerdict (a .t .now) (c .before .before .before .before .before .first-length .result) (a .bytes .now)) (a .n)
+    c .goes-on .ensures ∙ ap soundSoFar (c .before .before .before .judge-one .ensures)
+    ∙ so-far (recordVerdict (a .t .now) (c .before .before .before .before .before .first-length .result) (a .bytes .now)) (a .n)
 
 take-rows-requires : tie.Need-take-rows-requires
 take-rows-requires c κs =
     let p = c .before .before .before .before .before .before .before .before .before .before .before .before .before .pre in
     let a = c .before .before .before .before .before .before .before .before .before .before .before .before .before .args in
-    let e = sym (going (c .before .before .before)) ∙ c .before .before .if2 .taken in
-    (p .0 .0, (p .1 .0, rw (tested-length (p .0 .0 .tested)) (sound-long (a .t .now) (c .before .before .before .before .before .before .before .before .first-length .result) (a .bytes .now) e), p .1 .1))
+    let e = sym (going (c .before .before .before)) ∙ c .before .before .if2 .taken in (
+      p .0 .0,
+      (
+        p .1 .0,
+        rw (tested-length (p .0 .0 .tested))
+            (sound-long (a .t .now) (c .before .before .before .before .before .before .before .before .first-length .result)
+            (a .bytes .now) e),
+        p .1 .1,
+      ),
+    )
 
 returns : tie.Need-returns
 returns c =
-    let a = c .before .before .before .before .before .before .before .before .before .before .before .before .before .before .before .before .before .args in
-    taken-first (a .t .now) (a .n) (a .first) (a .bytes .now) (c .before .before .before .before .before .before .before .before .before .before .before .before .first-length .ensures) (c .before .before .before .before .before .before .before .before .before .before .before .before .before .if1 .taken) (sym (going (c .before .before .before .before .before .before .before)) ∙ c .before .before .before .before .before .before .if2 .taken) (c .before .before .before .take-rows .ensures)
+    let a = c .before .before .before .before .before .before .before .before .before .before .before .before .before .before .before
+    .before .before .args in
+    taken-first (a .t .now) (a .n) (a .first) (a .bytes .now)
+    (c .before .before .before .before .before .before .before .before .before .before .before .before .first-length .ensures)
+    (c .before .before .before .before .before .before .before .before .before .before .before .before .before .if1 .taken)
+    (sym (going (c .before .before .before .before .before .before .before))
+    ∙ c .before .before .before .before .before .before .if2 .taken) (c .before .before .before .take-rows .ensures)
 
 append-last-requires : tie.Need-append-last-requires
 append-last-requires c κs =
     let p = c .before .before .before .before .before .before .before .before .before .before .before .before .pre in
     let a = c .before .before .before .before .before .before .before .before .before .before .before .before .args in
-    let e = ap countIn (c .before .before .before .before .before .judge-one .ensures) ∙ count-on (recordVerdict (a .t .now) (c .before .before .before .before .before .before .before .first-length .result) (a .bytes .now)) (a .n) in
+    let e = ap countIn (c .before .before .before .before .before .judge-one .ensures)
+    ∙ count-on (recordVerdict (a .t .now) (c .before .before .before .before .before .before .before .first-length .result) (a .bytes .now))
+    (a .n) in
     ((p .0 .0 .tens, p .0 .0 .tested), (rw e (p .1 .0), p .1 .1))
 
 returns-2 : tie.Need-returns-2
 returns-2 c =
-    let a = c .before .before .before .before .before .before .before .before .before .before .before .before .before .before .before .args in
-    taken-fault (a .t .now) (a .n) (a .first) (a .bytes .now) (c .before .before .before .before .before .before .before .before .before .before .first-length .ensures) (c .before .before .before .before .before .before .before .before .before .before .before .if1 .taken) (sym (going (c .before .before .before .before .before)) ∙ c .before .before .before .before .if2 .left)
-    (as-text (c .before .before .append-last .ensures) (ap (lastText (a .t .now)) (c .before .before .before .before .before .before .before .before .judge-one .ensures)))
+    let a = c .before .before .before .before .before .before .before .before .before .before .before .before .before .before .before
+    .args in
+    taken-fault (a .t .now) (a .n) (a .first) (a .bytes .now)
+    (c .before .before .before .before .before .before .before .before .before .before .first-length .ensures)
+    (c .before .before .before .before .before .before .before .before .before .before .before .if1 .taken)
+    (sym (going (c .before .before .before .before .before)) ∙ c .before .before .before .before .if2 .left)
+    (as-text (c .before .before .append-last .ensures)
+    (ap (lastText (a .t .now)) (c .before .before .before .before .before .before .before .before .judge-one .ensures)))
 
 returns-3 : tie.Need-returns-3
 returns-3 c =
     let p = c .before .before .before .before .before .before .pre in
     let a = c .before .before .before .before .before .before .args in
-    taken-short (a .t .now) (a .n) (a .first) (a .row) (a .bytes .now) _ _ (c .before .before .if1 .left) (rw (tested-length (p .0 .0 .tested)) at (c .if3 .taken)) (omega (arith, p .1 .1))
+    taken-short (a .t .now) (a .n) (a .first) (a .row) (a .bytes .now) _ _ (c .before .before .if1 .left)
+    (rw (tested-length (p .0 .0 .tested)) at (c .if3 .taken)) (omega (arith, p .1 .1))
 
 take-rows-requires-2 : tie.Need-take-rows-requires-2
-take-rows-requires-2 c κs = let p = c .before .before .before .before .before .before .before .before .pre in (p .0 .0, (p .1 .0, c .before .before .if3 .left, p .1 .1))
+take-rows-requires-2 c κs = let p = c .before .before .before .before .before .before .before .before .pre in (
+  p .0 .0,
+  (p .1 .0, c .before .before .if3 .left, p .1 .1),
+)
 
 returns-4 : tie.Need-returns-4
 returns-4 c =
     let p = c .before .before .before .before .before .before .before .before .before .before .before .before .pre in
     let a = c .before .before .before .before .before .before .before .before .before .before .before .before .args in
-    taken-more (a .t .now) (a .n) (a .first) (a .bytes .now) (c .before .before .before .before .before .before .before .before .if1 .left) (rw (tested-length (p .0 .0 .tested)) at (c .before .before .before .before .before .before .if3 .left)) (c .before .before .before .take-rows2 .ensures)
+    taken-more (a .t .now) (a .n) (a .first) (a .bytes .now) (c .before .before .before .before .before .before .before .before .if1 .left)
+    (rw (tested-length (p .0 .0 .tested)) at (c .before .before .before .before .before .before .if3 .left))
+    (c .before .before .before .take-rows2 .ensures)
 
 pub take-record-spec : {M : Type 1} → statement M
 take-record-spec =

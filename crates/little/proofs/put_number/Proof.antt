@@ -28,7 +28,8 @@ unfolding bytesOf putAt
 rest-done out at w n i h = let d : w - i ≡ 0 = omega arith in rw d
 
 abbrev Inv-loop : tie.InvT-loop
-Inv-loop out₀ at n width left₀ i₀ out left i = (i ≤ width) × (length out ≡ length out₀) × (rest out at width left i ≡ putAt out₀ at (bytesOf width n))
+Inv-loop out₀ at n width left₀ i₀ out left i = (i ≤ width) × (length out ≡ length out₀)
+    × (rest out at width left i ≡ putAt out₀ at (bytesOf width n))
 
 abbrev μ-loop : tie.MeasureT-loop
 μ-loop out₀ at n width left₀ i₀ out left i = width - i
@@ -39,7 +40,8 @@ loop-again c =
     let a = c .before .before .before .before .args in (
       omega arith,
       rw length-set (l .loop .inv .1),
-      rest-on (l .loop .out) (a .at) (a .width) (l .loop .left) (l .loop .i) (c .low .result) (c .before .loop-test .taken) (c .low .ensures) ∙ l .loop .inv .2,
+      rest-on (l .loop .out) (a .at) (a .width) (l .loop .left) (l .loop .i) (c .low .result) (c .before .loop-test .taken)
+          (c .low .ensures) ∙ l .loop .inv .2,
     )
 
 returns : tie.Need-returns Inv-loop μ-loop

@@ -22,10 +22,12 @@ returns : tie.Need-returns Inv-loop μ-loop
 returns c e = let z : _≡_ {A = ℕ} 0 1 = cc in absurd (omega arith)
 
 loop-again : tie.Need-loop-again Inv-loop μ-loop
-loop-again c = clear-next _ _ _ (c .before .before .before .before .loop .inv) (le-ltb _ _ (c .before .if2 .left)) (c .before .before .before .loop-test .taken)
+loop-again c = clear-next _ _ _ (c .before .before .before .before .loop .inv) (le-ltb _ _ (c .before .if2 .left))
+    (c .before .before .before .loop-test .taken)
 
 returns-2 : tie.Need-returns-2 Inv-loop μ-loop
-returns-2 c e = let h = c .before .loop .inv .within in let q : c .before .loop .i ≡ length (c .before .before .before .before .args .s .now) = omega arith in rw (← q) (c .before .loop .inv)
+returns-2 c e = let h = c .before .loop .inv .within in
+    let q : c .before .loop .i ≡ length (c .before .before .before .before .args .s .now) = omega arith in rw (← q) (c .before .loop .inv)
 
 pub all-plain-spec : {M : Type 1} → statement M
 all-plain-spec =

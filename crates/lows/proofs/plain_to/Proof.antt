@@ -27,7 +27,12 @@ returns-2 : tie.Need-returns-2 Inv-loop μ-loop
 returns-2 c = c .before .before .before .loop .inv .2
 
 loop-again : tie.Need-loop-again Inv-loop μ-loop
-loop-again c = (omega arith, omega arith, clear-more _ _ _ 16 (c .before .before .before .loop .inv .2) (sym (c .before .low-among .ensures) ∙ c .if2 .left) (omega arith))
+loop-again c = (
+  omega arith,
+  omega arith,
+  clear-more _ _ _ 16 (c .before .before .before .loop .inv .2)
+      (sym (c .before .low-among .ensures) ∙ c .if2 .left) (omega arith),
+)
 
 low-among-requires-2 : tie.Need-low-among-requires-2 Inv-loop μ-loop
 low-among-requires-2 c κs = omega arith
@@ -36,8 +41,10 @@ returns-3 : tie.Need-returns-3 Inv-loop μ-loop
 returns-3 c = c .before .before .before .loop .inv .2
 
 returns-4 : tie.Need-returns-4 Inv-loop μ-loop
-returns-4 c = clear-end _ _ _ _ 16 (c .before .before .before .loop .inv .2) (sym (c .before .low-among2 .ensures) ∙ c .if3 .left) (omega arith) (omega arith)
+returns-4 c = clear-end _ _ _ _ 16 (c .before .before .before .loop .inv .2) (sym (c .before .low-among2 .ensures) ∙ c .if3 .left)
+    (omega arith) (omega arith)
 
 pub plain-to-spec : {M : Type 1} → statement M
 plain-to-spec =
-    tie.close (tie.spec Inv-loop μ-loop returns (λ c κs. omega arith) loop-holds low-among-requires returns-2 (λ c. omega arith) (λ c. omega arith) loop-again low-among-requires-2 returns-3 returns-4)
+    tie.close (tie.spec Inv-loop μ-loop returns (λ c κs. omega arith) loop-holds low-among-requires returns-2 (λ c. omega arith)
+    (λ c. omega arith) loop-again low-among-requires-2 returns-3 returns-4)

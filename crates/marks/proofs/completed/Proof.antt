@@ -11,10 +11,12 @@ unfolding givesOf
 returns c = rw (c .before .enum-told2 .given .1, eq-eqb _ 34 (c .if2 .taken))
 
 hex-value-requires : tie.Need-hex-value-requires
-hex-value-requires c κs = let h = ready-both _ _ _ (c .enum-told6 .given .1) (c .before .before .pre .1) in (c .before .before .pre .0, h .0)
+hex-value-requires c κs = let h = ready-both _ _ _ (c .enum-told6 .given .1)
+    (c .before .before .pre .1) in (c .before .before .pre .0, h .0)
 
 hex-value-requires-2 : tie.Need-hex-value-requires-2
-hex-value-requires-2 c κs = let h = ready-both _ _ _ (c .before .enum-told6 .given .1) (c .before .before .before .pre .1) in (c .before .before .before .pre .0, h .1)
+hex-value-requires-2 c κs = let h = ready-both _ _ _ (c .before .enum-told6 .given .1)
+    (c .before .before .before .pre .1) in (c .before .before .before .pre .0, h .1)
 
 returns-2 : tie.Need-returns-2
 unfolding givesOf
@@ -50,4 +52,6 @@ returns-9 c = rw (c .before .before .enum-told6 .given .1, c .before .hex-value 
 
 pub completed-spec : {M : Type 1} → statement M
 completed-spec =
-    tie.close (tie.spec (λ c. search needs) (λ c. search needs) returns (λ c. search needs) (λ c. search needs) (λ c. search needs) (λ c. search needs) hex-value-requires (λ c. search needs) hex-value-requires-2 (λ c. search needs) returns-2 returns-3 returns-4 returns-5 returns-6 returns-7 returns-8 returns-9)
+    tie.close (tie.spec (λ c. search needs) (λ c. search needs) returns (λ c. search needs) (λ c. search needs) (λ c. search needs)
+    (λ c. search needs) hex-value-requires (λ c. search needs) hex-value-requires-2 (λ c. search needs) returns-2 returns-3 returns-4
+    returns-5 returns-6 returns-7 returns-8 returns-9)

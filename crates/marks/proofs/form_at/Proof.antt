@@ -28,4 +28,5 @@ returns-6 c e = (omega arith, form-brace _ _ (omega arith) (omega arith) (omega 
 pub form-at-spec : {M : Type 1} → statement M
 form-at-spec =
     tie.close
-    (tie.spec returns (λ c. search needs) returns-2 (λ c. search needs) returns-3 (λ c. search needs) (λ c. search needs) returns-4 (λ c. search needs) (λ c. search needs) returns-5 returns-6)
+    (tie.spec returns (λ c. search needs) returns-2 (λ c. search needs) returns-3 (λ c. search needs) (λ c. search needs) returns-4
+    (λ c. search needs) (λ c. search needs) returns-5 returns-6)

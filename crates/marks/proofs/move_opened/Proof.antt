@@ -19,11 +19,21 @@ returns-3 c = rw (ne-eqb _ 34 (c .before .before .if1 .left), ne-eqb _ 123 (c .b
 
 returns-4 : tie.Need-returns-4
 unfolding insideOf
-returns-4 c = rw (ne-eqb _ 34 (c .before .before .before .before .if1 .left), ne-eqb _ 123 (c .before .before .before .if2 .left), ne-eqb _ 78 (c .before .before .if3 .left), sym (c .before .is-hex .ensures) ∙ c .if4 .taken)
+returns-4 c = rw (
+  ne-eqb _ 34 (c .before .before .before .before .if1 .left),
+  ne-eqb _ 123 (c .before .before .before .if2 .left),
+  ne-eqb _ 78 (c .before .before .if3 .left),
+  sym (c .before .is-hex .ensures) ∙ c .if4 .taken,
+)
 
 returns-5 : tie.Need-returns-5
 unfolding insideOf
-returns-5 c = rw (ne-eqb _ 34 (c .before .before .before .before .if1 .left), ne-eqb _ 123 (c .before .before .before .if2 .left), ne-eqb _ 78 (c .before .before .if3 .left), sym (c .before .is-hex .ensures) ∙ c .if4 .left)
+returns-5 c = rw (
+  ne-eqb _ 34 (c .before .before .before .before .if1 .left),
+  ne-eqb _ 123 (c .before .before .before .if2 .left),
+  ne-eqb _ 78 (c .before .before .if3 .left),
+  sym (c .before .is-hex .ensures) ∙ c .if4 .left,
+)
 
 pub move-opened-spec : {M : Type 1} → statement M
 move-opened-spec =

@@ -38,4 +38,5 @@ returns c = c .before .before .loop .inv
 pub pass-forms-spec : {M : Type 1} → statement M
 pass-forms-spec =
     tie.close
-    (tie.spec Inv-loop μ-loop (λ c κs. search needs) loop-holds (λ c κs. search needs) add-skip-pair (λ c κs. search needs) loop-less loop-again returns)
+    (tie.spec Inv-loop μ-loop (λ c κs. search needs) loop-holds (λ c κs. search needs) add-skip-pair (λ c κs. search needs) loop-less
+    loop-again returns)

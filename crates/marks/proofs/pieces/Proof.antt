@@ -22,27 +22,37 @@ loop-holds c = refl
 
 loop-less : tie.Need-loop-less Inv-loop μ-loop
 loop-less c =
-    let s = stepped _ _ (c .before .before .before .before .before .before .before .before .next-byte .ensures) (c .before .before .before .before .before .before .byte .given .1) in
+    let s = stepped _ _ (c .before .before .before .before .before .before .before .before .next-byte .ensures)
+    (c .before .before .before .before .before .before .byte .given .1) in
     omega (arith, c .onward .ensures .0)
 
 loop-again : tie.Need-loop-again Inv-loop μ-loop
 loop-again c =
-    let s = stepped _ _ (c .before .before .before .before .before .before .before .before .next-byte .ensures) (c .before .before .before .before .before .before .byte .given .1) in
-    c .before .before .before .before .before .before .before .before .before .loop .inv ∙ string-next _ (s .split) (c .before .before .before .before .move-inside .ensures) ∙ rw (c .before .before .t .given .1) (c .onward .ensures .1)
+    let s = stepped _ _ (c .before .before .before .before .before .before .before .before .next-byte .ensures)
+    (c .before .before .before .before .before .before .byte .given .1) in
+    c .before .before .before .before .before .before .before .before .before .loop .inv
+    ∙ string-next _ (s .split) (c .before .before .before .before .move-inside .ensures)
+    ∙ rw (c .before .before .t .given .1) (c .onward .ensures .1)
 
 returns : tie.Need-returns Inv-loop μ-loop
 returns c =
-    let s = stepped _ _ (c .before .before .before .before .before .before .next-byte .ensures) (c .before .before .before .before .byte .given .1) in
-    sym (c .before .before .before .before .before .before .before .loop .inv ∙ string-next _ (s .split) (c .before .before .move-inside .ensures) ∙ rw (c .enum-told .given .1, s .next))
+    let s = stepped _ _ (c .before .before .before .before .before .before .next-byte .ensures)
+    (c .before .before .before .before .byte .given .1) in
+    sym (c .before .before .before .before .before .before .before .loop .inv
+    ∙ string-next _ (s .split) (c .before .before .move-inside .ensures) ∙ rw (c .enum-told .given .1, s .next))
 
 returns-2 : tie.Need-returns-2 Inv-loop μ-loop
 returns-2 c =
-    let s = stepped _ _ (c .before .before .before .before .before .before .before .next-byte .ensures) (c .before .before .before .before .before .byte .given .1) in
-    sym (c .before .before .before .before .before .before .before .before .loop .inv ∙ string-next _ (s .split) (c .before .before .before .move-inside .ensures) ∙ rw (c .before .o .given .1))
+    let s = stepped _ _ (c .before .before .before .before .before .before .before .next-byte .ensures)
+    (c .before .before .before .before .before .byte .given .1) in
+    sym (c .before .before .before .before .before .before .before .before .loop .inv
+    ∙ string-next _ (s .split) (c .before .before .before .move-inside .ensures) ∙ rw (c .before .o .given .1))
 
 returns-3 : tie.Need-returns-3 Inv-loop μ-loop
-returns-3 c = sym (c .before .before .before .loop .inv ∙ string-end _ (ended _ _ (c .before .before .next-byte .ensures) (c .enum-told2 .given .1)))
+returns-3 c = sym (c .before .before .before .loop .inv
+    ∙ string-end _ (ended _ _ (c .before .before .next-byte .ensures) (c .enum-told2 .given .1)))
 
 pub pieces-spec : {M : Type 1} → statement M
 pieces-spec =
-    tie.close (tie.spec Inv-loop μ-loop loop-holds (λ c κs. search needs) (λ c. search needs) (λ c κs. search needs) (λ c. search needs) (λ c κs. search needs) loop-less loop-again (λ c. search needs) returns (λ c. search needs) returns-2 (λ c. search needs) returns-3)
+    tie.close (tie.spec Inv-loop μ-loop loop-holds (λ c κs. search needs) (λ c. search needs) (λ c κs. search needs) (λ c. search needs)
+    (λ c κs. search needs) loop-less loop-again (λ c. search needs) returns (λ c. search needs) returns-2 (λ c. search needs) returns-3)

@@ -15,15 +15,30 @@ returns c = rw (drop-of-length-le (c .before .before .args .d .now) (c .if1 .tak
 
 returns-2 : tie.Need-returns-2
 unfolding closedOf
-returns-2 c = rw (drop-1 (c .before .before .before .before .before .before .args .d .now) (c .before .before .before .before .before .before .args .n) (omega arith), eq-eqb _ 59 (c .before .before .if2 .taken), ← (c .before .is-legal .ensures), c .if3 .taken)
+returns-2 c = rw (
+  drop-1 (c .before .before .before .before .before .before .args .d .now)
+      (c .before .before .before .before .before .before .args .n) (omega arith),
+  eq-eqb _ 59 (c .before .before .if2 .taken),
+  ← (c .before .is-legal .ensures),
+  c .if3 .taken,
+)
 
 returns-3 : tie.Need-returns-3
 unfolding closedOf
-returns-3 c = rw (drop-1 (c .before .before .before .before .before .before .args .d .now) (c .before .before .before .before .before .before .args .n) (omega arith), eq-eqb _ 59 (c .before .before .if2 .taken), ← (c .before .is-legal .ensures), c .if3 .left)
+returns-3 c = rw (
+  drop-1 (c .before .before .before .before .before .before .args .d .now)
+      (c .before .before .before .before .before .before .args .n) (omega arith),
+  eq-eqb _ 59 (c .before .before .if2 .taken),
+  ← (c .before .is-legal .ensures),
+  c .if3 .left,
+)
 
 returns-4 : tie.Need-returns-4
 unfolding closedOf
-returns-4 c = rw (drop-1 (c .before .before .before .before .args .d .now) (c .before .before .before .before .args .n) (omega arith), ne-eqb _ 59 (c .if2 .left))
+returns-4 c = rw (
+  drop-1 (c .before .before .before .before .args .d .now) (c .before .before .before .before .args .n) (omega arith),
+  ne-eqb _ 59 (c .if2 .left),
+)
 
 pub closed-spec : {M : Type 1} → statement M
 closed-spec = tie.close (tie.spec returns (λ c. search needs) (λ c κs. search needs) (λ c. search needs) returns-2 returns-3 returns-4)

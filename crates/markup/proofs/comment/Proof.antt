@@ -27,19 +27,25 @@ returns : tie.Need-returns Inv-loop μ-loop
 returns c =
     let l = c .before .before .before .before .before .loop in
     let a = c .before .before .before .before .before .before .before .args in
-    sym (l .inv .0 ∙ comment-closed (a .bad) (a .opened) (a .d .now) (l .i) (omega arith) (sym (c .before .before .before .two-dashes .ensures) ∙ c .before .before .if1 .taken) (sym (c .before .dashes-close .ensures) ∙ c .if2 .taken))
+    sym (l .inv .0 ∙ comment-closed (a .bad) (a .opened) (a .d .now) (l .i) (omega arith)
+    (sym (c .before .before .before .two-dashes .ensures) ∙ c .before .before .if1 .taken)
+    (sym (c .before .dashes-close .ensures) ∙ c .if2 .taken))
 
 returns-2 : tie.Need-returns-2 Inv-loop μ-loop
 returns-2 c =
     let l = c .before .before .before .before .before .loop in
     let a = c .before .before .before .before .before .before .before .args in
-    sym (l .inv .0 ∙ comment-broken (a .bad) (a .opened) (a .d .now) (l .i) (omega arith) (sym (c .before .before .before .two-dashes .ensures) ∙ c .before .before .if1 .taken) (sym (c .before .dashes-close .ensures) ∙ c .if2 .left))
+    sym (l .inv .0 ∙ comment-broken (a .bad) (a .opened) (a .d .now) (l .i) (omega arith)
+    (sym (c .before .before .before .two-dashes .ensures) ∙ c .before .before .if1 .taken)
+    (sym (c .before .dashes-close .ensures) ∙ c .if2 .left))
 
 loop-again : tie.Need-loop-again Inv-loop μ-loop
 loop-again c =
     let l = c .before .before .before .loop in
-    let a = c .before .before .before .before .before .args in
-    (l .inv .0 ∙ comment-next (a .bad) (a .opened) (a .d .now) (l .i) (omega arith) (sym (c .before .two-dashes .ensures) ∙ c .if1 .left), omega arith)
+    let a = c .before .before .before .before .before .args in (
+      l .inv .0 ∙ comment-next (a .bad) (a .opened) (a .d .now) (l .i) (omega arith) (sym (c .before .two-dashes .ensures) ∙ c .if1 .left),
+      omega arith,
+    )
 
 returns-3 : tie.Need-returns-3 Inv-loop μ-loop
 returns-3 c =
@@ -48,4 +54,5 @@ returns-3 c =
     rw (c .end-fault .ensures) (sym (l .inv .0 ∙ comment-end (a .bad) (a .opened) (a .d .now) (l .i) (omega arith)))
 
 pub comment-spec : {M : Type 1} → statement M
-comment-spec = tie.close (tie.spec Inv-loop μ-loop loop-holds (λ c κs. search needs) (λ c κs. search needs) add-t10 returns returns-2 (λ c. omega arith) (λ c. omega arith) loop-again (λ c κs. search needs) returns-3)
+comment-spec = tie.close (tie.spec Inv-loop μ-loop loop-holds (λ c κs. search needs) (λ c κs. search needs) add-t10 returns returns-2
+    (λ c. omega arith) (λ c. omega arith) loop-again (λ c κs. search needs) returns-3)

@@ -20,19 +20,25 @@ loop-holds c = (refl, omega arith)
 loop-less : tie.Need-loop-less Inv-loop μ-loop
 loop-less c =
     let a = c .before .before .before .before .before .before .args in
-    let l = move-less (a .bad) (a .d .now) (c .before .before .before .before .loop .n) _ (sym (c .before .before .before .move-gap .ensures) ∙ c .before .m .given .1) in
+    let l = move-less (a .bad) (a .d .now) (c .before .before .before .before .loop .n) _
+    (sym (c .before .before .before .move-gap .ensures) ∙ c .before .m .given .1) in
     omega arith
 
 loop-again : tie.Need-loop-again Inv-loop μ-loop
 loop-again c =
     let a = c .before .before .before .before .before .before .args in
-    let e = sym (c .before .before .before .move-gap .ensures) ∙ c .before .m .given .1 in
-    (c .before .before .before .before .loop .inv .0 ∙ gap-next (a .bad) (a .d .now) (c .before .before .before .before .loop .n) _ e, move-less (a .bad) (a .d .now) (c .before .before .before .before .loop .n) _ e .1)
+    let e = sym (c .before .before .before .move-gap .ensures) ∙ c .before .m .given .1 in (
+      c .before .before .before .before .loop .inv .0 ∙ gap-next (a .bad) (a .d .now) (c .before .before .before .before .loop .n) _ e,
+      move-less (a .bad) (a .d .now) (c .before .before .before .before .loop .n) _ e .1,
+    )
 
 returns : tie.Need-returns Inv-loop μ-loop
 returns c =
     let a = c .before .before .before .before .before .before .args in
-    sym (c .before .before .before .before .loop .inv .0 ∙ gap-stop (a .bad) (a .d .now) (c .before .before .before .before .loop .n) _ (sym (c .before .before .before .move-gap .ensures) ∙ c .before .r .given .1))
+    sym (c .before .before .before .before .loop .inv .0
+    ∙ gap-stop (a .bad) (a .d .now) (c .before .before .before .before .loop .n) _
+    (sym (c .before .before .before .move-gap .ensures) ∙ c .before .r .given .1))
 
 pub gap-spec : {M : Type 1} → statement M
-gap-spec = tie.close (tie.spec Inv-loop μ-loop loop-holds (λ c κs. search needs) (λ c. search needs) loop-less loop-again (λ c. search needs) returns)
+gap-spec = tie.close (tie.spec Inv-loop μ-loop loop-holds (λ c κs. search needs) (λ c. search needs) loop-less loop-again
+    (λ c. search needs) returns)

@@ -43,4 +43,5 @@ returns-3 c =
     sym (l .inv .0 ∙ stands-whole (a .d .now) (a .at) (a .w .now) (l .i) (omega arith))
 
 pub is-there-spec : {M : Type 1} → statement M
-is-there-spec = tie.close (tie.spec Inv-loop μ-loop loop-holds (λ c. omega arith) returns (λ c. omega arith) (λ c. omega arith) (λ c. omega arith) returns-2 (λ c. omega arith) (λ c. omega arith) loop-again returns-3)
+is-there-spec = tie.close (tie.spec Inv-loop μ-loop loop-holds (λ c. omega arith) returns (λ c. omega arith) (λ c. omega arith)
+    (λ c. omega arith) returns-2 (λ c. omega arith) (λ c. omega arith) loop-again returns-3)

@@ -19,24 +19,37 @@ returns-2 c =
 comment-requires : tie.Need-comment-requires
 comment-requires c κs =
     let a = c .before .before .before .before .before .before .before .before .args in
-    omega (arith, stands-long _ (drop (a .at) (a .d .now)) (sym (c .before .is-there .ensures) ∙ c .if3 .taken), length-drop (a .at) (a .d .now))
+    omega (
+      arith,
+      stands-long _ (drop (a .at) (a .d .now)) (sym (c .before .is-there .ensures) ∙ c .if3 .taken),
+      length-drop (a .at) (a .d .now),
+    )
 
 returns-3 : tie.Need-returns-3
 returns-3 c =
     let a = c .before .before .before .before .before .before .before .before .before .before .before .before .args in
-    sym (move-note (a .bad) (a .d .now) (a .at) (omega arith) (sym (c .before .before .before .before .before .before .before .before .is-white .ensures) ∙ c .before .before .before .before .before .before .before .if2 .left) (sym (c .before .before .before .before .before .is-there .ensures) ∙ c .before .before .before .before .if3 .taken)
+    sym (move-note (a .bad) (a .d .now) (a .at) (omega arith)
+    (sym (c .before .before .before .before .before .before .before .before .is-white .ensures)
+    ∙ c .before .before .before .before .before .before .before .if2 .left)
+    (sym (c .before .before .before .before .before .is-there .ensures) ∙ c .before .before .before .before .if3 .taken)
     ∙ ap onSkip (sym (c .before .before .before .comment .ensures) ∙ c .before .n .given .1))
 
 returns-4 : tie.Need-returns-4
 returns-4 c =
     let a = c .before .before .before .before .before .before .before .before .before .before .before .before .args in
-    sym (move-note (a .bad) (a .d .now) (a .at) (omega arith) (sym (c .before .before .before .before .before .before .before .before .is-white .ensures) ∙ c .before .before .before .before .before .before .before .if2 .left) (sym (c .before .before .before .before .before .is-there .ensures) ∙ c .before .before .before .before .if3 .taken)
+    sym (move-note (a .bad) (a .d .now) (a .at) (omega arith)
+    (sym (c .before .before .before .before .before .before .before .before .is-white .ensures)
+    ∙ c .before .before .before .before .before .before .before .if2 .left)
+    (sym (c .before .before .before .before .before .is-there .ensures) ∙ c .before .before .before .before .if3 .taken)
     ∙ ap onSkip (sym (c .before .before .before .comment .ensures) ∙ c .before .p .given .1))
 
 returns-5 : tie.Need-returns-5
 returns-5 c =
     let a = c .before .before .before .before .before .before .before .before .args in
-    sym (move-none (a .bad) (a .d .now) (a .at) (omega arith) (sym (c .before .before .before .before .is-white .ensures) ∙ c .before .before .before .if2 .left) (sym (c .before .is-there .ensures) ∙ c .if3 .left))
+    sym (move-none (a .bad) (a .d .now) (a .at) (omega arith)
+    (sym (c .before .before .before .before .is-white .ensures) ∙ c .before .before .before .if2 .left)
+    (sym (c .before .is-there .ensures) ∙ c .if3 .left))
 
 pub move-gap-spec : {M : Type 1} → statement M
-move-gap-spec = tie.close (tie.spec returns (λ c. search needs) (λ c κs. search needs) (λ c. search needs) returns-2 (λ c. search needs) (λ c κs. search needs) (λ c. search needs) comment-requires (λ c. search needs) returns-3 (λ c. search needs) returns-4 returns-5)
+move-gap-spec = tie.close (tie.spec returns (λ c. search needs) (λ c κs. search needs) (λ c. search needs) returns-2 (λ c. search needs)
+    (λ c κs. search needs) (λ c. search needs) comment-requires (λ c. search needs) returns-3 (λ c. search needs) returns-4 returns-5)

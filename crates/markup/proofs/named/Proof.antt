@@ -21,7 +21,8 @@ returns-3 : tie.Need-returns-3
 unfolding namedOf
 returns-3 c =
     rw (
-      sym (c .before .before .before .before .before .before .before .is-there .ensures) ∙ c .before .before .before .before .before .before .if1 .left,
+      sym (c .before .before .before .before .before .before .before .is-there .ensures)
+          ∙ c .before .before .before .before .before .before .if1 .left,
       sym (c .before .before .before .before .is-there2 .ensures) ∙ c .before .before .before .if2 .left,
       sym (c .before .is-there3 .ensures) ∙ c .if3 .taken,
     )
@@ -30,8 +31,10 @@ returns-4 : tie.Need-returns-4
 unfolding namedOf
 returns-4 c =
     rw (
-      sym (c .before .before .before .before .before .before .before .before .before .before .is-there .ensures) ∙ c .before .before .before .before .before .before .before .before .before .if1 .left,
-      sym (c .before .before .before .before .before .before .before .is-there2 .ensures) ∙ c .before .before .before .before .before .before .if2 .left,
+      sym (c .before .before .before .before .before .before .before .before .before .before .is-there .ensures)
+          ∙ c .before .before .before .before .before .before .before .before .before .if1 .left,
+      sym (c .before .before .before .before .before .before .before .is-there2 .ensures)
+          ∙ c .before .before .before .before .before .before .if2 .left,
       sym (c .before .before .before .before .is-there3 .ensures) ∙ c .before .before .before .if3 .left,
       sym (c .before .is-there4 .ensures) ∙ c .if4 .taken,
     )
@@ -40,9 +43,12 @@ returns-5 : tie.Need-returns-5
 unfolding namedOf
 returns-5 c =
     rw (
-      sym (c .before .before .before .before .before .before .before .before .before .before .before .before .before .is-there .ensures) ∙ c .before .before .before .before .before .before .before .before .before .before .before .before .if1 .left,
-      sym (c .before .before .before .before .before .before .before .before .before .before .is-there2 .ensures) ∙ c .before .before .before .before .before .before .before .before .before .if2 .left,
-      sym (c .before .before .before .before .before .before .before .is-there3 .ensures) ∙ c .before .before .before .before .before .before .if3 .left,
+      sym (c .before .before .before .before .before .before .before .before .before .before .before .before .before .is-there .ensures)
+          ∙ c .before .before .before .before .before .before .before .before .before .before .before .before .if1 .left,
+      sym (c .before .before .before .before .before .before .before .before .before .before .is-there2 .ensures)
+          ∙ c .before .before .before .before .before .before .before .before .before .if2 .left,
+      sym (c .before .before .before .before .before .before .before .is-there3 .ensures)
+          ∙ c .before .before .before .before .before .before .if3 .left,
       sym (c .before .before .before .before .is-there4 .ensures) ∙ c .before .before .before .if4 .left,
       sym (c .before .is-there5 .ensures) ∙ c .if5 .taken,
     )
@@ -51,13 +57,18 @@ returns-6 : tie.Need-returns-6
 unfolding namedOf
 returns-6 c =
     rw (
-      sym (c .before .before .before .before .before .before .before .before .before .before .before .before .before .is-there .ensures) ∙ c .before .before .before .before .before .before .before .before .before .before .before .before .if1 .left,
-      sym (c .before .before .before .before .before .before .before .before .before .before .is-there2 .ensures) ∙ c .before .before .before .before .before .before .before .before .before .if2 .left,
-      sym (c .before .before .before .before .before .before .before .is-there3 .ensures) ∙ c .before .before .before .before .before .before .if3 .left,
+      sym (c .before .before .before .before .before .before .before .before .before .before .before .before .before .is-there .ensures)
+          ∙ c .before .before .before .before .before .before .before .before .before .before .before .before .if1 .left,
+      sym (c .before .before .before .before .before .before .before .before .before .before .is-there2 .ensures)
+          ∙ c .before .before .before .before .before .before .before .before .before .if2 .left,
+      sym (c .before .before .before .before .before .before .before .is-there3 .ensures)
+          ∙ c .before .before .before .before .before .before .if3 .left,
       sym (c .before .before .before .before .is-there4 .ensures) ∙ c .before .before .before .if4 .left,
       sym (c .before .is-there5 .ensures) ∙ c .if5 .left,
     )
 
 pub named-spec : {M : Type 1} → statement M
 named-spec =
-    tie.close (tie.spec (λ c. search needs) (λ c κs. search needs) returns (λ c. search needs) (λ c κs. search needs) returns-2 (λ c. search needs) (λ c κs. search needs) returns-3 (λ c. search needs) (λ c κs. search needs) returns-4 (λ c. search needs) (λ c κs. search needs) returns-5 returns-6)
+    tie.close (tie.spec (λ c. search needs) (λ c κs. search needs) returns (λ c. search needs) (λ c κs. search needs) returns-2
+    (λ c. search needs) (λ c κs. search needs) returns-3 (λ c. search needs) (λ c κs. search needs) returns-4 (λ c. search needs)
+    (λ c κs. search needs) returns-5 returns-6)

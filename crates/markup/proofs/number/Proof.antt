@@ -24,8 +24,13 @@ loop-again c =
     let l = c .before .before .before .before .before .before .loop in
     let a = c .before .before .before .before .before .before .before .before .before .args in
     let k = l .inv .3 in
-    let e = rw k at (sym (c .before .before .before .of-kind .ensures) ∙ c .before .before .if1 .taken) in
-    (l .inv .0 ∙ figure-next (a .hex) (l .v) (a .d .now) (l .i) (omega arith) e ∙ rw (← (c .before .push .ensures .0), ← (c .hold .ensures .0)), omega arith, c .hold .ensures .1, k)
+    let e = rw k at (sym (c .before .before .before .of-kind .ensures) ∙ c .before .before .if1 .taken) in (
+      l .inv .0 ∙ figure-next (a .hex) (l .v) (a .d .now) (l .i) (omega arith) e
+          ∙ rw (← (c .before .push .ensures .0), ← (c .hold .ensures .0)),
+      omega arith,
+      c .hold .ensures .1,
+      k,
+    )
 
 returns : tie.Need-returns Inv-loop μ-loop
 returns c =
@@ -42,4 +47,5 @@ returns-2 c =
     (sym (l .inv .0 ∙ figure-end (a .hex) (l .v) (a .d .now) (l .i) (omega arith) (l .inv .2)), l .inv .1)
 
 pub number-spec : {M : Type 1} → statement M
-number-spec = tie.close (tie.spec Inv-loop μ-loop (λ c κs. search needs) loop-holds (λ c. omega arith) (λ c κs. search needs) (λ c κs. search needs) (λ c κs. search needs) (λ c. omega arith) (λ c. omega arith) loop-again returns returns-2)
+number-spec = tie.close (tie.spec Inv-loop μ-loop (λ c κs. search needs) loop-holds (λ c. omega arith) (λ c κs. search needs)
+    (λ c κs. search needs) (λ c κs. search needs) (λ c. omega arith) (λ c. omega arith) loop-again returns returns-2)

@@ -14,11 +14,20 @@ returns-2 c = rw (ne-eqb _ 0 (c .before .before .if1 .left), eq-eqb _ 1 (c .befo
 
 returns-3 : tie.Need-returns-3
 unfolding ofKind
-returns-3 c = rw (ne-eqb _ 0 (c .before .before .before .if1 .left), ne-eqb _ 1 (c .before .before .if2 .left), eq-eqb _ 2 (c .before .if3 .taken)) (c .is-digit .ensures)
+returns-3 c = rw (
+  ne-eqb _ 0 (c .before .before .before .if1 .left),
+  ne-eqb _ 1 (c .before .before .if2 .left),
+  eq-eqb _ 2 (c .before .if3 .taken),
+) (c .is-digit .ensures)
 
 returns-4 : tie.Need-returns-4
 unfolding ofKind
-returns-4 c = rw (ne-eqb _ 0 (c .before .before .before .if1 .left), ne-eqb _ 1 (c .before .before .if2 .left), ne-eqb _ 2 (c .before .if3 .left)) (c .is-hex .ensures)
+returns-4 c = rw (
+  ne-eqb _ 0 (c .before .before .before .if1 .left),
+  ne-eqb _ 1 (c .before .before .if2 .left),
+  ne-eqb _ 2 (c .before .if3 .left),
+) (c .is-hex .ensures)
 
 pub of-kind-spec : {M : Type 1} → statement M
-of-kind-spec = tie.close (tie.spec (λ c κs. search needs) returns (λ c κs. search needs) returns-2 (λ c κs. search needs) returns-3 (λ c κs. search needs) returns-4)
+of-kind-spec = tie.close (tie.spec (λ c κs. search needs) returns (λ c κs. search needs) returns-2 (λ c κs. search needs) returns-3
+    (λ c κs. search needs) returns-4)

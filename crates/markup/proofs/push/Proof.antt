@@ -13,4 +13,5 @@ unfolding pushOf
 returns-2 c = (rw (c .if1 .left, ← (c .before .digit-of .ensures .0)), omega arith)
 
 pub push-spec : {M : Type 1} → statement M
-push-spec = tie.close (tie.spec (λ c κs. search needs) (λ c. search needs) (λ c. search needs) (λ c. search needs) (λ c. search needs) returns returns-2)
+push-spec = tie.close (tie.spec (λ c κs. search needs) (λ c. search needs) (λ c. search needs) (λ c. search needs) (λ c. search needs)
+    returns returns-2)

@@ -14,12 +14,20 @@ use Rattle.markup.proofs.reference.Tie as tie
 add-numbered : tie.Need-add-numbered
 add-numbered c =
     let a = c .before .before .before .before .args in
-    omega (arith, stands-long _ (drop (a .at + 1) (a .d .now)) (sym (c .before .is-there .ensures) ∙ c .if1 .taken), length-drop (a .at + 1) (a .d .now))
+    omega (
+      arith,
+      stands-long _ (drop (a .at + 1) (a .d .now)) (sym (c .before .is-there .ensures) ∙ c .if1 .taken),
+      length-drop (a .at + 1) (a .d .now),
+    )
 
 numbered-requires : tie.Need-numbered-requires
 numbered-requires c κs =
     let a = c .before .before .before .before .args in
-    omega (arith, stands-long _ (drop (a .at + 1) (a .d .now)) (sym (c .before .is-there .ensures) ∙ c .if1 .taken), length-drop (a .at + 1) (a .d .now))
+    omega (
+      arith,
+      stands-long _ (drop (a .at + 1) (a .d .now)) (sym (c .before .is-there .ensures) ∙ c .if1 .taken),
+      length-drop (a .at + 1) (a .d .now),
+    )
 
 returns : tie.Need-returns
 unfolding referenceOf
@@ -31,26 +39,46 @@ returns c =
 add-numbered-2 : tie.Need-add-numbered-2
 add-numbered-2 c =
     let a = c .before .before .before .before .before .before .before .args in
-    omega (arith, stands-long _ (drop (a .at + 1) (a .d .now)) (sym (c .before .is-there2 .ensures) ∙ c .if2 .taken), length-drop (a .at + 1) (a .d .now))
+    omega (
+      arith,
+      stands-long _ (drop (a .at + 1) (a .d .now)) (sym (c .before .is-there2 .ensures) ∙ c .if2 .taken),
+      length-drop (a .at + 1) (a .d .now),
+    )
 
 numbered-requires-2 : tie.Need-numbered-requires-2
 numbered-requires-2 c κs =
     let a = c .before .before .before .before .before .before .before .args in
-    omega (arith, stands-long _ (drop (a .at + 1) (a .d .now)) (sym (c .before .is-there2 .ensures) ∙ c .if2 .taken), length-drop (a .at + 1) (a .d .now))
+    omega (
+      arith,
+      stands-long _ (drop (a .at + 1) (a .d .now)) (sym (c .before .is-there2 .ensures) ∙ c .if2 .taken),
+      length-drop (a .at + 1) (a .d .now),
+    )
 
 returns-2 : tie.Need-returns-2
 unfolding referenceOf
 returns-2 c =
     let a = c .before .before .before .before .before .before .before .before .args in
     let e : a .at + 1 + 1 ≡ a .at + 2 = omega arith in
-    rw (sym (c .before .before .before .before .before .is-there .ensures) ∙ c .before .before .before .before .if1 .left, sym (c .before .before .is-there2 .ensures) ∙ c .before .if2 .taken, drop-drop 1 (a .at + 1) (a .d .now), e) (c .numbered2 .ensures)
+    rw (
+      sym (c .before .before .before .before .before .is-there .ensures) ∙ c .before .before .before .before .if1 .left,
+      sym (c .before .before .is-there2 .ensures) ∙ c .before .if2 .taken,
+      drop-drop 1 (a .at + 1) (a .d .now),
+      e,
+    ) (c .numbered2 .ensures)
 
 returns-3 : tie.Need-returns-3
 unfolding referenceOf
 returns-3 c =
     let a = c .before .before .before .before .before .before .before .before .before .before .args in
-    rw (sym (c .before .before .before .before .before .before .before .is-there .ensures) ∙ c .before .before .before .before .before .before .if1 .left, sym (c .before .before .before .before .is-there2 .ensures) ∙ c .before .before .before .if2 .left, ← (c .before .named .ensures))
+    rw (
+      sym (c .before .before .before .before .before .before .before .is-there .ensures)
+          ∙ c .before .before .before .before .before .before .if1 .left,
+      sym (c .before .before .before .before .is-there2 .ensures) ∙ c .before .before .before .if2 .left,
+      ← (c .before .named .ensures),
+    )
     (c .closed .ensures ∙ rw (c .before .before .run .ensures .0, rest-at (ofKind 1) (a .d .now) (a .at + 1)))
 
 pub reference-spec : {M : Type 1} → statement M
-reference-spec = tie.close (tie.spec (λ c. search needs) (λ c. search needs) (λ c κs. search needs) add-numbered numbered-requires returns (λ c. search needs) (λ c κs. search needs) add-numbered-2 numbered-requires-2 returns-2 (λ c κs. search needs) (λ c κs. search needs) (λ c κs. search needs) returns-3)
+reference-spec = tie.close (tie.spec (λ c. search needs) (λ c. search needs) (λ c κs. search needs) add-numbered numbered-requires returns
+    (λ c. search needs) (λ c κs. search needs) add-numbered-2 numbered-requires-2 returns-2 (λ c κs. search needs) (λ c κs. search needs)
+    (λ c κs. search needs) returns-3)

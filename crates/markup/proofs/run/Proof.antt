@@ -20,14 +20,18 @@ loop-holds c = (refl, omega arith)
 loop-again : tie.Need-loop-again Inv-loop μ-loop
 loop-again c =
     let l = c .before .before .before .before .loop in
-    let a = c .before .before .before .before .before .before .args in
-    (l .inv .0 ∙ run-next (ofKind (a .kind)) (a .d .now) (l .i) (omega arith) (sym (c .before .of-kind .ensures) ∙ c .if1 .taken), omega arith)
+    let a = c .before .before .before .before .before .before .args in (
+      l .inv .0 ∙ run-next (ofKind (a .kind)) (a .d .now) (l .i) (omega arith) (sym (c .before .of-kind .ensures) ∙ c .if1 .taken),
+      omega arith,
+    )
 
 returns : tie.Need-returns Inv-loop μ-loop
 returns c =
     let l = c .before .before .before .before .loop in
-    let a = c .before .before .before .before .before .before .args in
-    (sym (l .inv .0 ∙ run-over (ofKind (a .kind)) (a .d .now) (l .i) (omega arith) (sym (c .before .of-kind .ensures) ∙ c .if1 .left)), l .inv .1)
+    let a = c .before .before .before .before .before .before .args in (
+      sym (l .inv .0 ∙ run-over (ofKind (a .kind)) (a .d .now) (l .i) (omega arith) (sym (c .before .of-kind .ensures) ∙ c .if1 .left)),
+      l .inv .1,
+    )
 
 returns-2 : tie.Need-returns-2 Inv-loop μ-loop
 returns-2 c =
@@ -36,4 +40,5 @@ returns-2 c =
     (sym (l .inv .0 ∙ run-end (ofKind (a .kind)) (a .d .now) (l .i) (omega arith)), l .inv .1)
 
 pub run-spec : {M : Type 1} → statement M
-run-spec = tie.close (tie.spec Inv-loop μ-loop loop-holds (λ c. omega arith) (λ c κs. search needs) (λ c. omega arith) (λ c. omega arith) loop-again returns returns-2)
+run-spec = tie.close (tie.spec Inv-loop μ-loop loop-holds (λ c. omega arith) (λ c κs. search needs) (λ c. omega arith) (λ c. omega arith)
+    loop-again returns returns-2)

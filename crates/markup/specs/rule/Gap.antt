@@ -14,7 +14,8 @@ use Rattle.markup.specs.declared.Move.the-variants.{Go, Stop}
 unfoldable pub commentOf : Bool → ℕ → ℕ → List ℕ → Skip
 commentOf bad opened p [] = Broken (endFault bad p opened)
 commentOf bad opened p (b ∷ s) =
-    cond (stands (45 ∷ 45 ∷ []) (b ∷ s)) (cond (stands (45 ∷ 45 ∷ 62 ∷ []) (b ∷ s)) (Past (p + 3)) (Broken p)) (commentOf bad opened (p + 1) s)
+    cond (stands (45 ∷ 45 ∷ []) (b ∷ s)) (cond (stands (45 ∷ 45 ∷ 62 ∷ []) (b ∷ s)) (Past (p + 3)) (Broken p))
+    (commentOf bad opened (p + 1) s)
 
 abbrev pub onSkip : Skip → Move
 onSkip (Past n) = Go n

@@ -29,7 +29,11 @@ abbrev pub digitKind : Bool → ℕ
 digitKind hex = cond hex 3 2
 
 unfoldable pub figureOf : Bool → ℕ → ℕ → List ℕ → Figure
-figureOf hex v p s = record { value = capped (numberOf hex v (bytesOf (ofKind (digitKind hex)) s)); next = runOf (ofKind (digitKind hex)) p s }
+figureOf hex v p s = record {
+  value = capped (numberOf hex v (bytesOf (ofKind (digitKind hex)) s));
+  next = runOf (ofKind (digitKind hex)) p
+      s;
+}
 
 -- the end of a reference that says c: n is the place where ; is due
 unfoldable pub closedOf : ℕ → ℕ → List ℕ → Char

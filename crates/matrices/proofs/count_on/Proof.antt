@@ -9,8 +9,11 @@ use Rattle.matrices.proofs.count_on.Tie as tie
 
 count-ones-requires : tie.Need-count-ones-requires
 count-ones-requires c κs =
-    let a = c .before .before .before .before .args in
-    (c .before .before .before .before .pre .0 .0, all-there (a .out .now) (a .columns) (a .flags + a .k) (a .values + 8 * a .k) (a .records) (a .columns - a .k) (omega (arith, c .if2 .left)) (c .before .before .before .before .pre .1 .0))
+    let a = c .before .before .before .before .args in (
+      c .before .before .before .before .pre .0 .0,
+      all-there (a .out .now) (a .columns) (a .flags + a .k) (a .values + 8 * a .k) (a .records) (a .columns - a .k)
+          (omega (arith, c .if2 .left)) (c .before .before .before .before .pre .1 .0),
+    )
 
 returns-3 : tie.Need-returns-3
 returns-3 c = known-more (c .before .before .count-ones .ensures) (c .before .if3 .taken)

@@ -27,21 +27,72 @@ put-records-requires c κs =
     let e : a .columns ≡ length cs = rw (tested-rows (p .0 .0)) (p .1 .0) in
     let n : length (allEntries (a .t .now) (a .h .rows) cs rs) ≡ a .records * a .columns =
     length-all (a .t .now) (a .h .rows) cs rs ∙ ap (λ (x : ℕ). x * length cs) (sym (s .2)) ∙ ap (λ (x : ℕ). a .records * x) (sym e) in (
-      record { tens = c .before .before .before .before .before .before .before .before .before .powers .ensures; tested = p .0 .0; room = search needs; marks = search needs; marks-too = search needs },
-      (e, (rw (tested-length (p .0 .0)) (s .1), record { behind = omega (arith, n); inside = omega (arith, n, p .1 .3, c .before .before .before .before .before .before .before .put-header .kept .0) })),
+      record {
+        tens = c .before .before .before .before .before .before .before .before .before .powers .ensures;
+        tested = p .0 .0;
+        room = search needs;
+        marks = search needs;
+        marks-too = search needs;
+      },
+      (
+        e,
+        (
+          rw (tested-length (p .0 .0)) (s .1),
+          record {
+            behind = omega (arith, n);
+            inside = omega
+                (arith, n, p .1 .3, c .before .before .before .before .before .before .before .put-header .kept .0);
+          },
+        ),
+      ),
     )
 
 put-summaries-requires : tie.Need-put-summaries-requires
 put-summaries-requires c κs =
-    let p = c .before .before .before .before .before .before .before .before .before .before .before .before .before .before .before .before .before .before .before .pre in (
-      (omega (arith, p .1 .2), refl, omega arith, omega (arith, p .1 .3, c .before .before .before .before .before .before .put-records .kept .1 .1 .1 .1 .1 .1 .1 .1 .0, c .before .before .before .before .before .before .before .before .before .before .before .before .before .before .put-header .kept .0), omega (arith, p .1 .2)),
-      filled-there (p .0 .0) (c .before .before .before .before .before .before .before .before .before .before .before .before .before .before .before .before .before .before .before .args .d .now) (c .before .before .before .before .before .before .before .before .before .before .before .before .before .before .before .before .before .before .before .args .out .now) (c .before .before .before .before .before .before .before .before .before .before .before .before .before .before .before .before .before .before .before .args .records) (c .before .before .before .before .before .before .before .before .before .before .before .before .before .before .before .before .before .before .before .args .columns) (p .0 .1) (p .1 .0) (p .1 .3) (c .before .before .before .before .before .before .before .before .before .before .before .before .before .before .put-header .ensures) (c .before .before .before .before .before .before .put-records .ensures),
+    let p = c .before .before .before .before .before .before .before .before .before .before .before .before .before .before .before
+    .before .before .before .before .pre in (
+      (
+        omega (arith, p .1 .2),
+        refl,
+        omega arith,
+        omega (
+          arith,
+          p .1 .3,
+          c .before .before .before .before .before .before .put-records .kept .1 .1 .1 .1 .1 .1 .1 .1 .0,
+          c .before .before .before .before .before .before .before .before .before .before .before .before .before .before .put-header
+              .kept .0,
+        ),
+        omega (arith, p .1 .2),
+      ),
+      filled-there (p .0 .0)
+          (c .before .before .before .before .before .before .before .before .before .before .before .before .before .before .before .before
+          .before .before .before .args .d .now)
+          (c .before .before .before .before .before .before .before .before .before .before .before .before .before .before .before .before
+          .before .before .before .args .out .now)
+          (c .before .before .before .before .before .before .before .before .before .before .before .before .before .before .before .before
+          .before .before .before .args .records)
+          (c .before .before .before .before .before .before .before .before .before .before .before .before .before .before .before .before
+          .before .before .before .args .columns) (p .0 .1) (p .1 .0) (p .1 .3)
+          (c .before .before .before .before .before .before .before .before .before .before .before .before .before .before .put-header
+          .ensures) (c .before .before .before .before .before .before .put-records .ensures),
     )
 
 returns : tie.Need-returns
 returns c =
-    let p = c .before .before .before .before .before .before .before .before .before .before .before .before .before .before .before .before .before .before .before .before .before .before .pre in
-    filled (p .0 .0) (c .before .before .before .before .before .before .before .before .before .before .before .before .before .before .before .before .before .before .before .before .before .before .args .d .now) (c .before .before .before .before .before .before .before .before .before .before .before .before .before .before .before .before .before .before .before .before .before .before .args .out .now) (c .before .before .before .before .before .before .before .before .before .before .before .before .before .before .before .before .before .before .before .before .before .before .args .records) (c .before .before .before .before .before .before .before .before .before .before .before .before .before .before .before .before .before .before .before .before .before .before .args .columns) (p .0 .1) (p .1 .0) (p .1 .3) (c .before .before .before .before .before .before .before .before .before .before .before .before .before .before .before .before .before .put-header .ensures) (c .before .before .before .before .before .before .before .before .before .put-records .ensures) (c .before .before .put-summaries .ensures)
+    let p = c .before .before .before .before .before .before .before .before .before .before .before .before .before .before .before
+    .before .before .before .before .before .before .before .pre in
+    filled (p .0 .0)
+    (c .before .before .before .before .before .before .before .before .before .before .before .before .before .before .before .before
+    .before .before .before .before .before .before .args .d .now)
+    (c .before .before .before .before .before .before .before .before .before .before .before .before .before .before .before .before
+    .before .before .before .before .before .before .args .out .now)
+    (c .before .before .before .before .before .before .before .before .before .before .before .before .before .before .before .before
+    .before .before .before .before .before .before .args .records)
+    (c .before .before .before .before .before .before .before .before .before .before .before .before .before .before .before .before
+    .before .before .before .before .before .before .args .columns) (p .0 .1) (p .1 .0) (p .1 .3)
+    (c .before .before .before .before .before .before .before .before .before .before .before .before .before .before .before .before
+    .before .put-header .ensures) (c .before .before .before .before .before .before .before .before .before .put-records .ensures)
+    (c .before .before .put-summaries .ensures)
 
 pub fill-spec : {M : Type 1} → statement M
 fill-spec =

@@ -24,8 +24,10 @@ abbrev Inv-loop : tie.InvT-loop
 Inv-loop powers t h d columns list₀ allowed₀ present₀ out₀ flags values w k₀ from₀ list allowed present out k from =
     (length list ≡ length list₀) × (length allowed ≡ length allowed₀) × (length present ≡ length present₀) × (length out ≡ length out₀)
     × AllLong (h .length) (endedOf (recordsFrom w (drop from d)))
-    × (k + length (allEntries t (h .rows) (columnsFrom t (h .rows) 0 (h .rows)) (endedOf (recordsFrom w (drop from d)))) ≡ length (allEntries t (h .rows) (columnsFrom t (h .rows) 0 (h .rows)) (endedOf (recordsOf d))))
-    × (putEntries out (flags + k) (values + 8 * k) (allEntries t (h .rows) (columnsFrom t (h .rows) 0 (h .rows)) (endedOf (recordsFrom w (drop from d))))
+    × (k + length (allEntries t (h .rows) (columnsFrom t (h .rows) 0 (h .rows)) (endedOf (recordsFrom w (drop from d))))
+    ≡ length (allEntries t (h .rows) (columnsFrom t (h .rows) 0 (h .rows)) (endedOf (recordsOf d))))
+    × (putEntries out (flags + k) (values + 8 * k)
+    (allEntries t (h .rows) (columnsFrom t (h .rows) 0 (h .rows)) (endedOf (recordsFrom w (drop from d))))
     ≡ putEntries out₀ flags values (allEntries t (h .rows) (columnsFrom t (h .rows) 0 (h .rows)) (endedOf (recordsOf d))))
 
 abbrev μ-loop : tie.MeasureT-loop
@@ -33,28 +35,52 @@ abbrev μ-loop : tie.MeasureT-loop
 
 loop-holds : tie.Need-loop-holds Inv-loop μ-loop
 unfolding recordsOf
-loop-holds c = rw (c .find-terminator .ensures .is) (refl, refl, refl, refl, c .before .before .before .before .before .pre .1 .1 .0, omega arith, simp add-zero)
+loop-holds c = rw (c .find-terminator .ensures .is)
+    (refl, refl, refl, refl, c .before .before .before .before .before .pre .1 .1 .0, omega arith, simp add-zero)
 
 -- the record that starts here, and the records behind it
 module _ (c : tie.After-known-told Inv-loop μ-loop) where
-  ended : EndedAt (c .before .before .before .before .before .before .before .before .before .before .before .args .d .now) (c .before .before .before .before .before .before .find-terminator .result) (c .before .before .before .before .before .loop .from) (recordsFrom (c .before .before .before .before .before .before .find-terminator .result) (drop (c .before .before .before .before .before .loop .from) (c .before .before .before .before .before .before .before .before .before .before .before .args .d .now)))
+  ended : EndedAt (c .before .before .before .before .before .before .before .before .before .before .before .args .d .now)
+      (c .before .before .before .before .before .before .find-terminator .result) (c .before .before .before .before .before .loop .from)
+      (recordsFrom (c .before .before .before .before .before .before .find-terminator .result)
+      (drop (c .before .before .before .before .before .loop .from)
+      (c .before .before .before .before .before .before .before .before .before .before .before .args .d .now)))
       (c .before .start .given .0 .0) (c .before .start .given .0 .1 .0) (c .before .start .given .0 .1 .1 .0)
-  ended = next-ended (c .before .before .before .before .before .before .before .before .before .before .before .args .d .now) (c .before .before .before .before .before .before .find-terminator .result) (c .before .before .before .before .before .loop .from) (sym (c .before .before .before .next-from .ensures) ∙ c .before .start .given .1)
+  ended = next-ended (c .before .before .before .before .before .before .before .before .before .before .before .args .d .now)
+      (c .before .before .before .before .before .before .find-terminator .result) (c .before .before .before .before .before .loop .from)
+      (sym (c .before .before .before .next-from .ensures) ∙ c .before .start .given .1)
 
-  next : recordsFrom (c .before .before .before .before .before .before .find-terminator .result) (drop (c .before .before .before .before .before .loop .from) (c .before .before .before .before .before .before .before .before .before .before .before .args .d .now))
-      ≡ record-and (part (c .before .before .before .before .before .before .before .before .before .before .before .args .d .now) (c .before .start .given .0 .0) (c .before .start .given .0 .1 .0)) (recordsFrom (c .before .before .before .before .before .before .find-terminator .result) (drop (c .before .start .given .0 .1 .1 .0) (c .before .before .before .before .before .before .before .before .before .before .before .args .d .now)))
-  next = ended .records ∙ ap (λ (x : ℕ). record-and (part (c .before .before .before .before .before .before .before .before .before .before .before .args .d .now) x (c .before .start .given .0 .1 .0)) (recordsFrom (c .before .before .before .before .before .before .find-terminator .result) (drop (c .before .start .given .0 .1 .1 .0) (c .before .before .before .before .before .before .before .before .before .before .before .args .d .now)))) (sym (ended .starts))
+  next : recordsFrom (c .before .before .before .before .before .before .find-terminator .result)
+      (drop (c .before .before .before .before .before .loop .from)
+      (c .before .before .before .before .before .before .before .before .before .before .before .args .d .now))
+      ≡ record-and (part (c .before .before .before .before .before .before .before .before .before .before .before .args .d .now)
+      (c .before .start .given .0 .0) (c .before .start .given .0 .1 .0))
+      (recordsFrom (c .before .before .before .before .before .before .find-terminator .result)
+      (drop (c .before .start .given .0 .1 .1 .0)
+      (c .before .before .before .before .before .before .before .before .before .before .before .args .d .now)))
+  next = ended .records ∙ ap (λ (x : ℕ). record-and
+      (part (c .before .before .before .before .before .before .before .before .before .before .before .args .d .now) x
+      (c .before .start .given .0 .1 .0)) (recordsFrom (c .before .before .before .before .before .before .find-terminator .result)
+      (drop (c .before .start .given .0 .1 .1 .0)
+      (c .before .before .before .before .before .before .before .before .before .before .before .args .d .now)))) (sym (ended .starts))
 
   -- how many entries it has, and those behind it
   many : let a = c .before .before .before .before .before .before .before .before .before .before .before .args in let v = a .h .rows in
-      length (allEntries (a .t .now) v (columnsFrom (a .t .now) v 0 v) (endedOf (recordsFrom (c .before .before .before .before .before .before .find-terminator .result) (drop (c .before .before .before .before .before .loop .from) (a .d .now)))))
-      ≡ length (columnsFrom (a .t .now) v 0 v) + length (allEntries (a .t .now) v (columnsFrom (a .t .now) v 0 v) (endedOf (recordsFrom (c .before .before .before .before .before .before .find-terminator .result) (drop (c .before .start .given .0 .1 .1 .0) (a .d .now)))))
+      length (allEntries (a .t .now) v (columnsFrom (a .t .now) v 0 v)
+      (endedOf (recordsFrom (c .before .before .before .before .before .before .find-terminator .result)
+      (drop (c .before .before .before .before .before .loop .from) (a .d .now)))))
+      ≡ length (columnsFrom (a .t .now) v 0 v) + length
+      (allEntries (a .t .now) v (columnsFrom (a .t .now) v 0 v)
+      (endedOf (recordsFrom (c .before .before .before .before .before .before .find-terminator .result)
+      (drop (c .before .start .given .0 .1 .1 .0) (a .d .now)))))
   many =
       let a = c .before .before .before .before .before .before .before .before .before .before .before .args in
       let v = a .h .rows in
       let cs = columnsFrom (a .t .now) v 0 v in
       let r = part (a .d .now) (c .before .start .given .0 .0) (c .before .start .given .0 .1 .0) in
-      let rest = allEntries (a .t .now) v cs (endedOf (recordsFrom (c .before .before .before .before .before .before .find-terminator .result) (drop (c .before .start .given .0 .1 .1 .0) (a .d .now)))) in
+      let rest = allEntries (a .t .now) v cs (endedOf
+      (recordsFrom (c .before .before .before .before .before .before .find-terminator .result)
+      (drop (c .before .start .given .0 .1 .1 .0) (a .d .now)))) in
       ap (λ (es : List Entry). length es) (left-next next (a .t .now) v cs) ∙ length-append (entriesOf (a .t .now) v r cs) rest
       ∙ ap (λ (x : ℕ). x + length rest) (length-entries (a .t .now) v r cs)
 
@@ -71,44 +97,112 @@ next-from-requires : tie.Need-next-from-requires Inv-loop μ-loop
 next-from-requires c κs = c .before .before .find-terminator .ensures .few
 
 add-put-record : tie.Need-add-put-record Inv-loop μ-loop
-add-put-record c = let p = c .before .before .before .before .before .before .before .before .before .before .before .before .before .before .before .before .pre .1 .1 .1 in omega (arith, c .before .before .before .before .before .before .before .before .before .before .loop .inv .5, p .behind, p .inside, c .before .before .before .before .before .before .before .before .before .before .before .before .before .before .before .before .good .1 .1 .1 .1 .1 .1 .1 .1 .0)
+add-put-record
+    c = let p = c .before .before .before .before .before .before .before .before .before .before .before .before .before .before .before
+    .before .pre .1 .1 .1 in omega (
+      arith,
+      c .before .before .before .before .before .before .before .before .before .before .loop .inv .5,
+      p .behind,
+      p .inside,
+      c .before .before .before .before .before .before .before .before .before .before .before .before .before .before .before .before
+          .good .1 .1 .1 .1 .1 .1 .1 .1 .0,
+    )
 
 mul-put-record : tie.Need-mul-put-record Inv-loop μ-loop
-mul-put-record c = let p = c .before .before .before .before .before .before .before .before .before .before .before .before .before .before .before .before .pre .1 .1 .1 in omega (arith, c .before .before .before .before .before .before .before .before .before .before .loop .inv .5, p .behind, p .inside, c .before .before .before .before .before .before .before .before .before .before .before .before .before .before .before .before .good .1 .1 .1 .1 .1 .1 .1 .1 .0)
+mul-put-record
+    c = let p = c .before .before .before .before .before .before .before .before .before .before .before .before .before .before .before
+    .before .pre .1 .1 .1 in omega (
+      arith,
+      c .before .before .before .before .before .before .before .before .before .before .loop .inv .5,
+      p .behind,
+      p .inside,
+      c .before .before .before .before .before .before .before .before .before .before .before .before .before .before .before .before
+          .good .1 .1 .1 .1 .1 .1 .1 .1 .0,
+    )
 
 add-put-record-2 : tie.Need-add-put-record-2 Inv-loop μ-loop
-add-put-record-2 c = let p = c .before .before .before .before .before .before .before .before .before .before .before .before .before .before .before .before .pre .1 .1 .1 in omega (arith, c .before .before .before .before .before .before .before .before .before .before .loop .inv .5, p .behind, p .inside, c .before .before .before .before .before .before .before .before .before .before .before .before .before .before .before .before .good .1 .1 .1 .1 .1 .1 .1 .1 .0)
+add-put-record-2
+    c = let p = c .before .before .before .before .before .before .before .before .before .before .before .before .before .before .before
+    .before .pre .1 .1 .1 in omega (
+      arith,
+      c .before .before .before .before .before .before .before .before .before .before .loop .inv .5,
+      p .behind,
+      p .inside,
+      c .before .before .before .before .before .before .before .before .before .before .before .before .before .before .before .before
+          .good .1 .1 .1 .1 .1 .1 .1 .1 .0,
+    )
 
 put-record-requires : tie.Need-put-record-requires Inv-loop μ-loop
 put-record-requires c κs =
-    let p = c .before .before .before .before .before .before .before .before .before .before .before .before .before .before .before .before .pre in
+    let p = c .before .before .before .before .before .before .before .before .before .before .before .before .before .before .before
+    .before .pre in
     let l = c .before .before .before .before .before .before .before .before .before .before .loop in
     let n = many (c .before .before .before .before .before) in (
-      record { tens = p .0 .tens; tested = p .0 .tested; room = l .inv .0 ∙ p .0 .room; marks = l .inv .1 ∙ p .0 .marks; marks-too = l .inv .2 ∙ p .0 .marks-too },
+      record {
+        tens = p .0 .tens;
+        tested = p .0 .tested;
+        room = l .inv .0 ∙ p .0 .room;
+        marks = l .inv .1
+            ∙ p .0 .marks;
+        marks-too = l .inv .2 ∙ p .0 .marks-too;
+      },
       (
-        long-next (next (c .before .before .before .before .before)) (c .before .before .before .before .before .before .before .before .before .before .before .before .before .before .before .before .args .h .length) (l .inv .4) .0,
-        record { behind = omega (arith, n, l .inv .5, p .1 .1 .1 .behind); inside = omega (arith, n, l .inv .3, l .inv .5, p .1 .1 .1 .inside) },
+        long-next (next (c .before .before .before .before .before))
+            (c .before .before .before .before .before .before .before .before .before .before .before .before .before .before .before
+            .before .args .h .length) (l .inv .4) .0,
+        record {
+          behind = omega (arith, n, l .inv .5, p .1 .1 .1 .behind);
+          inside = omega
+              (arith, n, l .inv .3, l .inv .5, p .1 .1 .1 .inside);
+        },
       ),
     )
 
 add-k : tie.Need-add-k Inv-loop μ-loop
-add-k c = let p = c .before .before .before .before .before .before .before .before .before .before .before .before .before .before .before .before .before .before .before .before .before .before .before .before .pre in omega (arith, many (c .before .before .before .before .before .before .before .before .before .before .before .before .before), p .1 .0, c .before .before .before .before .before .before .before .before .before .before .before .before .before .before .before .before .before .before .loop .inv .5, p .1 .1 .1 .behind, p .1 .1 .1 .inside, c .before .before .before .before .before .before .before .before .before .before .before .before .before .before .before .before .before .before .before .before .before .before .before .before .good .1 .1 .1 .1 .1 .1 .1 .1 .0)
+add-k c = let p = c .before .before .before .before .before .before .before .before .before .before .before .before .before .before .before
+    .before .before .before .before .before .before .before .before .before .pre in
+    omega (
+      arith,
+      many (c .before .before .before .before .before .before .before .before .before .before .before .before .before),
+      p .1 .0,
+      c .before .before .before .before .before .before .before .before .before .before .before .before .before .before .before .before
+          .before .before .loop .inv .5,
+      p .1 .1 .1 .behind,
+      p .1 .1 .1 .inside,
+      c .before .before .before .before .before .before .before .before .before .before .before .before .before .before .before .before
+          .before .before .before .before .before .before .before .before .good .1 .1 .1 .1 .1 .1 .1 .1 .0,
+    )
 
 loop-less : tie.Need-loop-less Inv-loop μ-loop
-loop-less c = let e = ended (c .before .before .before .before .before .before .before .before .before .before .before .before .before) in omega (arith, e .after, e .inside, e .next, e .sized, c .before .before .before .before .before .before .before .before .before .before .before .before .before .before .before .before .before .loop-test .taken)
+loop-less c = let e = ended (c .before .before .before .before .before .before .before .before .before .before .before .before .before) in
+    omega (
+      arith,
+      e .after,
+      e .inside,
+      e .next,
+      e .sized,
+      c .before .before .before .before .before .before .before .before .before .before .before .before .before .before .before .before
+          .before .loop-test .taken,
+    )
 
 loop-again : tie.Need-loop-again Inv-loop μ-loop
 loop-again c =
-    let a = c .before .before .before .before .before .before .before .before .before .before .before .before .before .before .before .before .before .before .before .before .before .before .before .before .args in
-    let l = c .before .before .before .before .before .before .before .before .before .before .before .before .before .before .before .before .before .before .loop in
-    let p = c .before .before .before .before .before .before .before .before .before .before .before .before .before .before .before .before .before .before .before .before .before .before .before .before .pre in
+    let a = c .before .before .before .before .before .before .before .before .before .before .before .before .before .before .before
+    .before .before .before .before .before .before .before .before .before .args in
+    let l = c .before .before .before .before .before .before .before .before .before .before .before .before .before .before .before
+    .before .before .before .loop in
+    let p = c .before .before .before .before .before .before .before .before .before .before .before .before .before .before .before
+    .before .before .before .before .before .before .before .before .before .pre in
     let t = a .t .now in
     let v = a .h .rows in
     let cs = columnsFrom t v 0 v in
-    let g = c .before .before .before .before .before .before .before .before .before .before .before .before .before .before .start .given in
+    let g = c .before .before .before .before .before .before .before .before .before .before .before .before .before .before .start
+    .given in
     let r = part (a .d .now) (g .0 .0) (g .0 .1 .0) in
     let xs = entriesOf t v r cs in
-    let ys = allEntries t v cs (endedOf (recordsFrom (c .before .before .before .before .before .before .before .before .before .before .before .before .before .before .before .before .before .before .before .find-terminator .result) (drop (g .0 .1 .1 .0) (a .d .now)))) in
+    let ys = allEntries t v cs (endedOf (recordsFrom
+    (c .before .before .before .before .before .before .before .before .before .before .before .before .before .before .before .before
+    .before .before .before .find-terminator .result) (drop (g .0 .1 .1 .0) (a .d .now)))) in
     let n = length-entries t v r cs in
     let f : a .flags + (l .k + a .columns) ≡ a .flags + l .k + length xs = omega (arith, n, p .1 .0) in
     let w : a .values + 8 * (l .k + a .columns) ≡ a .values + 8 * l .k + 8 * length xs = omega (arith, n, p .1 .0) in (
@@ -116,11 +210,26 @@ loop-again c =
       c .before .before .before .before .before .before .before .put-record .kept .1 .1 .1 .1 .1 .0 ∙ l .inv .1,
       c .before .before .before .before .before .before .before .put-record .kept .1 .1 .1 .1 .1 .1 .0 ∙ l .inv .2,
       c .before .before .before .before .before .before .before .put-record .kept .1 .1 .1 .1 .1 .1 .1 .0 ∙ l .inv .3,
-      long-next (next (c .before .before .before .before .before .before .before .before .before .before .before .before .before)) (a .h .length) (l .inv .4) .1,
-      omega (arith, many (c .before .before .before .before .before .before .before .before .before .before .before .before .before), p .1 .0, l .inv .5),
+      long-next (next (c .before .before .before .before .before .before .before .before .before .before .before .before .before))
+          (a .h .length) (l .inv .4) .1,
+      omega (
+        arith,
+        many (c .before .before .before .before .before .before .before .before .before .before .before .before .before),
+        p .1 .0,
+        l .inv .5,
+      ),
       rw (c .before .before .before .before .before .before .before .put-record .ensures, f, w)
-          (entries-then (l .out) (a .flags + l .k) (a .values + 8 * l .k) xs ys (omega (arith, n, many (c .before .before .before .before .before .before .before .before .before .before .before .before .before), l .inv .5, p .1 .1 .1 .behind))
-          ∙ ap (λ (es : List Entry). putEntries (l .out) (a .flags + l .k) (a .values + 8 * l .k) es) (sym (left-next (next (c .before .before .before .before .before .before .before .before .before .before .before .before .before)) t v cs)) ∙ l .inv .6),
+          (entries-then (l .out) (a .flags + l .k) (a .values + 8 * l .k) xs ys
+          (omega (
+            arith,
+            n,
+            many (c .before .before .before .before .before .before .before .before .before .before .before .before .before),
+            l .inv .5,
+            p .1 .1 .1 .behind,
+          ))
+          ∙ ap (λ (es : List Entry). putEntries (l .out) (a .flags + l .k) (a .values + 8 * l .k) es)
+          (sym (left-next (next (c .before .before .before .before .before .before .before .before .before .before .before .before .before))
+          t v cs)) ∙ l .inv .6),
     )
 
 -- where nothing is left, all is put
@@ -165,9 +274,11 @@ returns c =
     let a = c .before .before .before .before .before .before .before .before .before .before .args in
     let l = c .before .before .before .before .loop in
     let v = a .h .rows in
-    let u = next-unended (a .d .now) (c .before .before .before .before .before .find-terminator .result) (l .from) (sym (c .before .before .next-from .ensures) ∙ c .enum-told .given .1) in
+    let u = next-unended (a .d .now) (c .before .before .before .before .before .find-terminator .result) (l .from)
+    (sym (c .before .before .next-from .ensures) ∙ c .enum-told .given .1) in
     sym (entries-none (l .out) (a .flags + l .k) (a .values + 8 * l .k))
-    ∙ ap (λ (es : List Entry). putEntries (l .out) (a .flags + l .k) (a .values + 8 * l .k) es) (sym (left-unended (u .records) (a .t .now) v (columnsFrom (a .t .now) v 0 v))) ∙ l .inv .6
+    ∙ ap (λ (es : List Entry). putEntries (l .out) (a .flags + l .k) (a .values + 8 * l .k) es)
+    (sym (left-unended (u .records) (a .t .now) v (columnsFrom (a .t .now) v 0 v))) ∙ l .inv .6
 
 returns-2 : tie.Need-returns-2 Inv-loop μ-loop
 returns-2 c =
@@ -175,9 +286,11 @@ returns-2 c =
     let l = c .before .before .before .before .loop in
     let v = a .h .rows in
     let w = c .before .before .before .before .before .find-terminator .result in
-    let o = over-past (a .d .now) w (l .from) (next-nothing (a .d .now) w (l .from) (sym (c .before .before .next-from .ensures) ∙ c .enum-told2 .given .1)) in
+    let o = over-past (a .d .now) w (l .from) (next-nothing (a .d .now) w (l .from)
+    (sym (c .before .before .next-from .ensures) ∙ c .enum-told2 .given .1)) in
     sym (entries-none (l .out) (a .flags + l .k) (a .values + 8 * l .k))
-    ∙ ap (λ (es : List Entry). putEntries (l .out) (a .flags + l .k) (a .values + 8 * l .k) es) (sym (left-over o (a .t .now) v (columnsFrom (a .t .now) v 0 v))) ∙ l .inv .6
+    ∙ ap (λ (es : List Entry). putEntries (l .out) (a .flags + l .k) (a .values + 8 * l .k) es)
+    (sym (left-over o (a .t .now) v (columnsFrom (a .t .now) v 0 v))) ∙ l .inv .6
 
 returns-3 : tie.Need-returns-3 Inv-loop μ-loop
 returns-3 c =
@@ -186,7 +299,8 @@ returns-3 c =
     let v = a .h .rows in
     let o = over-past (a .d .now) (c .before .before .find-terminator .result) (l .from) (c .loop-test .left) in
     sym (entries-none (l .out) (a .flags + l .k) (a .values + 8 * l .k))
-    ∙ ap (λ (es : List Entry). putEntries (l .out) (a .flags + l .k) (a .values + 8 * l .k) es) (sym (left-over o (a .t .now) v (columnsFrom (a .t .now) v 0 v))) ∙ l .inv .6
+    ∙ ap (λ (es : List Entry). putEntries (l .out) (a .flags + l .k) (a .values + 8 * l .k) es)
+    (sym (left-over o (a .t .now) v (columnsFrom (a .t .now) v 0 v))) ∙ l .inv .6
 
 pub put-records-spec : {M : Type 1} → statement M
 put-records-spec =

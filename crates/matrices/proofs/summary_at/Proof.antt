@@ -7,7 +7,8 @@ use Rattle.matrices.proofs.summary_at.Statement.{statement}
 use Rattle.matrices.proofs.summary_at.Tie as tie
 
 returns : tie.Need-returns
-returns c = c .told .ensures ∙ c .before .before .before .before .pre .1 .1 .at (c .before .before .before .before .args .k) (omega arith) (c .before .before .if1 .taken)
+returns c = c .told .ensures ∙ c .before .before .before .before .pre .1 .1 .at (c .before .before .before .before .args .k) (omega arith)
+    (c .before .before .if1 .taken)
 
 pub summary-at-spec : {M : Type 1} → statement M
 summary-at-spec =

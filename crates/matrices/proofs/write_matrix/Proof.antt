@@ -12,7 +12,9 @@ use Rattle.matrices.proofs.write_matrix.Tie as tie
 
 write-sound-requires : tie.Need-write-sound-requires
 write-sound-requires c κs =
-    sym (c .before .before .before .before .judge-file .ensures .says) ∙ so-far-sound (fileSaid (c .before .before .before .before .judge-file .result)) (sym (c .before .before .before .goes-on .ensures) ∙ c .before .before .if1 .taken)
+    sym (c .before .before .before .before .judge-file .ensures .says)
+    ∙ so-far-sound (fileSaid (c .before .before .before .before .judge-file .result))
+    (sym (c .before .before .before .goes-on .ensures) ∙ c .before .before .if1 .taken)
     ∙ ap soundWith (sym (c .before .count-in .ensures))
 
 returns : tie.Need-returns
@@ -20,7 +22,9 @@ returns c = c .before .before .write-sound .ensures
 
 returns-2 : tie.Need-returns-2
 unfolding matrixSaid
-returns-2 c = refused-file (c .before .before .before .before .before .args .t .now) (c .before .before .before .before .before .args .d .now) (c .before .before .before .before .before .args .out .now) (c .before .before .judge-file .ensures .says) (sym (c .before .goes-on .ensures) ∙ c .if1 .left)
+returns-2 c = refused-file (c .before .before .before .before .before .args .t .now)
+    (c .before .before .before .before .before .args .d .now) (c .before .before .before .before .before .args .out .now)
+    (c .before .before .judge-file .ensures .says) (sym (c .before .goes-on .ensures) ∙ c .if1 .left)
 
 pub write-matrix-spec : {M : Type 1} → statement M
 write-matrix-spec =

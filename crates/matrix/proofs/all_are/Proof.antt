@@ -22,8 +22,10 @@ loop-again c = (omega arith, are-more _ _ _ _ _ (c .before .before .loop .inv .1
 returns : tie.Need-returns Inv-loop μ-loop
 returns c =
     let e : c .before .loop .k ≡ c .before .before .args .n = omega arith in
-    c .before .loop .inv .1 ∙ ap (λ (k : ℕ). allAre (c .before .before .args .s .now) (c .before .before .args .i) k (c .before .before .args .b)) e
+    c .before .loop .inv .1 ∙ ap (λ (k : ℕ). allAre (c .before .before .args .s .now) (c .before .before .args .i) k
+    (c .before .before .args .b)) e
 
 pub all-are-spec : {M : Type 1} → statement M
 all-are-spec =
-    tie.close (tie.spec Inv-loop μ-loop loop-holds (λ c. omega arith) (λ c. omega arith) (λ c. omega arith) (λ c. omega arith) loop-again returns)
+    tie.close (tie.spec Inv-loop μ-loop loop-holds (λ c. omega arith) (λ c. omega arith) (λ c. omega arith) (λ c. omega arith) loop-again
+    returns)

@@ -25,14 +25,16 @@ loop-holds c = rw (c .empty .ensures) (omega arith, c .before .before .pre .1, r
 
 add-flag : tie.Need-add-flag Inv-loop μ-loop
 add-flag c = let l = c .before .loop in let a = c .before .before .before .before .args in
-    let h = there-here (a .s .now) (a .step) (l .flag) (l .value) (l .left) (c .loop-test .taken) (l .inv .1) in omega (arith, h .0, c .before .before .before .before .pre .0)
+    let h = there-here (a .s .now) (a .step) (l .flag) (l .value) (l .left) (c .loop-test .taken) (l .inv .1) in
+    omega (arith, h .0, c .before .before .before .before .pre .0)
 
 mul-value : tie.Need-mul-value Inv-loop μ-loop
 mul-value c = omega (arith, c .before .before .before .before .pre .0)
 
 add-value : tie.Need-add-value Inv-loop μ-loop
 add-value c = let l = c .before .loop in let a = c .before .before .before .before .args in
-    let h = there-here (a .s .now) (a .step) (l .flag) (l .value) (l .left) (c .loop-test .taken) (l .inv .1) in omega (arith, h .1, c .before .before .before .before .pre .0)
+    let h = there-here (a .s .now) (a .step) (l .flag) (l .value) (l .left) (c .loop-test .taken) (l .inv .1) in
+    omega (arith, h .1, c .before .before .before .before .pre .0)
 
 read-if1 : tie.Need-shared-slice-read-if1 Inv-loop μ-loop
 read-if1 c = let l = c .before .before .loop in let a = c .before .before .before .before .before .args in
@@ -40,10 +42,12 @@ read-if1 c = let l = c .before .before .loop in let a = c .before .before .befor
 
 get-f64-requires : tie.Need-get-f64-requires Inv-loop μ-loop
 get-f64-requires c κs = let l = c .before .before .before .loop in let a = c .before .before .before .before .before .before .args in
-    let h = there-here (a .s .now) (a .step) (l .flag) (l .value) (l .left) (c .before .before .loop-test .taken) (l .inv .1) in (h .1, h .2)
+    let h = there-here (a .s .now) (a .step) (l .flag) (l .value) (l .left) (c .before .before .loop-test .taken)
+    (l .inv .1) in (h .1, h .2)
 
 extend-requires : tie.Need-extend-requires Inv-loop μ-loop
-extend-requires c κs = let l = c .before .before .before .before .loop in omega (arith, l .inv .0, c .before .before .before .loop-test .taken)
+extend-requires c κs = let l = c .before .before .before .before .loop in
+    omega (arith, l .inv .0, c .before .before .before .loop-test .taken)
 
 loop-again : tie.Need-loop-again Inv-loop μ-loop
 unfolding extendedBy
@@ -52,8 +56,11 @@ loop-again c =
     let a = c .before .before .before .before .before .before .before .before .args in
     let some = c .before .before .before .before .loop-test .taken in
     let e = column-on (a .s .now) (a .step) (l .flag) (l .value) (l .left) some (c .before .before .if1 .taken) in
-    rw (c .extend .ensures, c .before .get-f64 .ensures)
-    (rw count-on (omega (arith, l .inv .0)), there-on (a .s .now) (a .step) (l .flag) (l .value) (l .left) some (l .inv .1), rw e at (l .inv .2))
+    rw (c .extend .ensures, c .before .get-f64 .ensures) (
+      rw count-on (omega (arith, l .inv .0)),
+      there-on (a .s .now) (a .step) (l .flag) (l .value) (l .left) some (l .inv .1),
+      rw e at (l .inv .2),
+    )
 
 loop-again-2 : tie.Need-loop-again-2 Inv-loop μ-loop
 loop-again-2 c =

@@ -7,7 +7,8 @@ use Rattle.matrix.proofs.count_record.Statement.{statement}
 use Rattle.matrix.proofs.count_record.Tie as tie
 
 returns : tie.Need-returns
-returns c = all-zeros (c .before .before .before .args .s .now) (c .before .before .before .args .value) (c .before .before .before .args .ones .now) (sym (c .before .all-are .ensures) ∙ c .if1 .taken)
+returns c = all-zeros (c .before .before .before .args .s .now) (c .before .before .before .args .value)
+    (c .before .before .before .args .ones .now) (sym (c .before .all-are .ensures) ∙ c .if1 .taken)
 
 pub count-record-spec : {M : Type 1} → statement M
 count-record-spec = tie.close (tie.spec (λ c κs. search needs) returns (λ c κs. search needs) (λ c. search needs))

@@ -25,7 +25,12 @@ element-copy-out-ones : tie.Need-element-copy-out-ones Inv-loop μ-loop
 element-copy-out-ones c = c .before .before .loop-test .taken
 
 add-ones : tie.Need-add-ones Inv-loop μ-loop
-add-ones c = let l = c .before .before .before .before .loop in omega (arith, l .inv .1 .rest (l .j) (omega arith), c .before .before .before .before .before .before .pre .1 .at (l .j) (c .before .before .before .loop-test .taken))
+add-ones c = let l = c .before .before .before .before .loop in
+    omega (
+      arith,
+      l .inv .1 .rest (l .j) (omega arith),
+      c .before .before .before .before .before .before .pre .1 .at (l .j) (c .before .before .before .loop-test .taken),
+    )
 
 element-write-ones : tie.Need-element-write-ones Inv-loop μ-loop
 element-write-ones c = c .before .before .before .loop-test .taken
@@ -33,14 +38,24 @@ element-write-ones c = c .before .before .before .loop-test .taken
 loop-again : tie.Need-loop-again Inv-loop μ-loop
 loop-again c =
     let l = c .before .before .before .before .loop in
-    let h = c .before .before .before .loop-test .taken in
-    (omega arith, partly-unit (l .inv .1) (omega (arith, h, l .inv .1 .long, c .before .before .before .before .before .before .pre .1 .long)) (sym (c .before .before .get-u64 .ensures) ∙ c .before .if1 .taken))
+    let h = c .before .before .before .loop-test .taken in (
+      omega arith,
+      partly-unit (l .inv .1) (omega (
+        arith,
+        h,
+        l .inv .1 .long,
+        c .before .before .before .before .before .before .pre .1 .long,
+      )) (sym (c .before .before .get-u64 .ensures) ∙ c .before .if1 .taken),
+    )
 
 returns : tie.Need-returns Inv-loop μ-loop
 returns c = none-counted (c .before .before .before .before .loop .inv .1)
 
 loop-again-2 : tie.Need-loop-again-2 Inv-loop μ-loop
-loop-again-2 c = (omega (arith, c .before .before .before .loop-test .taken), partly-zero (c .before .before .before .before .loop .inv .1) (sym (c .before .before .get-u64 .ensures) ∙ c .if2 .left))
+loop-again-2 c = (
+  omega (arith, c .before .before .before .loop-test .taken),
+  partly-zero (c .before .before .before .before .loop .inv .1) (sym (c .before .before .get-u64 .ensures) ∙ c .if2 .left),
+)
 
 returns-2 : tie.Need-returns-2 Inv-loop μ-loop
 returns-2 c = partly-all (c .before .loop .inv .1) (c .loop-test .left)

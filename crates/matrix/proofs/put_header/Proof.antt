@@ -14,8 +14,18 @@ cast-put-u32 c = let p = c .before .before .pre in let m = le-mul-of-pos-right (
 
 returns : tie.Need-returns
 returns c =
-    let a = c .before .before .before .before .before .before .before .before .before .before .before .before .before .before .before .before .before .before .before .before .before .before .before .before .before .args in
-    rw (c .before .before .put-u326 .ensures, c .before .before .before .before .before .before .put-u325 .ensures, c .before .before .before .before .before .before .before .before .before .before .put-u324 .ensures, c .before .before .before .before .before .before .before .before .before .before .before .before .before .before .put-u323 .ensures, c .before .before .before .before .before .before .before .before .before .before .before .before .before .before .before .before .before .before .put-u322 .ensures, c .before .before .before .before .before .before .before .before .before .before .before .before .before .before .before .before .before .before .before .before .before .before .put-u32 .ensures)
+    let a = c .before .before .before .before .before .before .before .before .before .before .before .before .before .before .before
+    .before .before .before .before .before .before .before .before .before .before .args in
+    rw (
+      c .before .before .put-u326 .ensures,
+      c .before .before .before .before .before .before .put-u325 .ensures,
+      c .before .before .before .before .before .before .before .before .before .before .put-u324 .ensures,
+      c .before .before .before .before .before .before .before .before .before .before .before .before .before .before .put-u323 .ensures,
+      c .before .before .before .before .before .before .before .before .before .before .before .before .before .before .before .before
+          .before .before .put-u322 .ensures,
+      c .before .before .before .before .before .before .before .before .before .before .before .before .before .before .before .before
+          .before .before .before .before .before .before .put-u32 .ensures,
+    )
     (header-put (a .out .now) (a .records) (a .columns) _ _ _ refl refl refl)
 
 pub put-header-spec : {M : Type 1} → statement M

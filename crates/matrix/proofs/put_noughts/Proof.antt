@@ -8,9 +8,15 @@ use Rattle.matrix.proofs.put_noughts.Tie as tie
 returns : tie.Need-returns
 returns c =
     let a = c .before .before .before .before .before .before .before .before .before .before .before .before .before .before .args in
-    rw (c .before .before .put-number .ensures, c .before .before .before .before .before .before .put-u642 .ensures, c .before .before .before .before .before .before .before .before .before .before .put-u64 .ensures, c .before .before .before .before .before .before .before .before .before .before .before .before .presence-of .ensures) (noughts-put (a .out .now) (a .flags) (a .values) (a .there))
+    rw (
+      c .before .before .put-number .ensures,
+      c .before .before .before .before .before .before .put-u642 .ensures,
+      c .before .before .before .before .before .before .before .before .before .before .put-u64 .ensures,
+      c .before .before .before .before .before .before .before .before .before .before .before .before .presence-of .ensures,
+    ) (noughts-put (a .out .now) (a .flags) (a .values) (a .there))
 
 pub put-noughts-spec : {M : Type 1} → statement M
 put-noughts-spec =
     tie.close
-    (tie.spec (λ c κs. search needs) (λ c κs. search needs) (λ c. search needs) (λ c κs. search needs) (λ c κs. search needs) (λ c. search needs) returns)
+    (tie.spec (λ c κs. search needs) (λ c κs. search needs) (λ c. search needs) (λ c κs. search needs) (λ c κs. search needs)
+    (λ c. search needs) returns)

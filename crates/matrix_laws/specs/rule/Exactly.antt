@@ -14,6 +14,7 @@ Refusal (faultIn n v) = Unit {0}
 pub data SizeOutcome (records columns room : ℕ) : MatrixVerdict → Type 0 where
   no-column : columns ≡ 0 → SizeOutcome records columns room (refused 80)
   too-large : (columns ≡ 0 → ⊥) → 16777216 < totalOf records columns → SizeOutcome records columns room (refused 81)
-  short-room : (columns ≡ 0 → ⊥) → totalOf records columns ≤ 16777216 → room < totalOf records columns → SizeOutcome records columns room (refused 82)
+  short-room : (columns ≡ 0 → ⊥) → totalOf records columns ≤ 16777216 → room < totalOf records columns
+      → SizeOutcome records columns room (refused 82)
   all-written : (columns ≡ 0 → ⊥) → totalOf records columns ≤ 16777216 → totalOf records columns ≤ room
       → SizeOutcome records columns room (written (totalOf records columns) records columns)

@@ -28,7 +28,8 @@ returns-2 c =
     let u = c .before .hull-of .ensures in
     let h = c .before .hull-of .result in
     c .hull-width .ensures
-    ∙ sym (hull-width (a .r .kind) f (a .r .lines) h u (sym (hull-fits (a .r .kind) f (a .r .lines) h u) ∙ c .before .before .before .before .pre .1 .fits))
+    ∙ sym (hull-width (a .r .kind) f (a .r .lines) h u
+    (sym (hull-fits (a .r .kind) f (a .r .lines) h u) ∙ c .before .before .before .before .pre .1 .fits))
 
 pub lines-width-spec : {M : Type 1} → statement M
 lines-width-spec =

@@ -10,7 +10,10 @@ width-of-requires c κs =
     let p = c .before .before .pre in
     (p .0, rw (c .of .ensures, c .before .plain-columns .ensures) (p .1 .ready))
 
-width-here : (c : tie.After-with-width) → c .before .width-of .result ≡ plainWidth (c .before .before .before .before .args .h) (c .before .before .before .before .args .r) (c .before .before .before .before .args .before) (numberIn (c .before .before .before .before .args .room .now) (c .before .before .before .before .args .before))
+width-here : (c : tie.After-with-width) → c .before .width-of .result
+    ≡ plainWidth (c .before .before .before .before .args .h) (c .before .before .before .before .args .r)
+    (c .before .before .before .before .args .before)
+    (numberIn (c .before .before .before .before .args .room .now) (c .before .before .before .before .args .before))
 width-here c =
     let a = c .before .before .before .before .args in
     width-plain (a .room .now) (a .h) (a .r) (a .before) (c .before .before .before .before .pre .1) _ _ _
@@ -20,8 +23,10 @@ room-good-requires : tie.Need-room-good-requires
 room-good-requires c κs =
     let a = c .before .before .before .before .before .args in
     let m = c .before .before .before .before .before .pre .1 in
-    rw (c .of2 .ensures, c .before .with-width .ensures, c .before .before .before .before .plain-columns .ensures)
-    (placed-wide (a .room .now) (a .h) (a .r) (a .before) m _, wide-few (a .room .now) (a .h) (a .r) (a .before) m _ (width-here (c .before)))
+    rw (c .of2 .ensures, c .before .with-width .ensures, c .before .before .before .before .plain-columns .ensures) (
+      placed-wide (a .room .now) (a .h) (a .r) (a .before) m _,
+      wide-few (a .room .now) (a .h) (a .r) (a .before) m _ (width-here (c .before)),
+    )
 
 returns : tie.Need-returns
 returns c =

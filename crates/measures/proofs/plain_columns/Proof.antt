@@ -7,10 +7,12 @@ use Rattle.measures.proofs.plain_columns.Statement.{statement}
 use Rattle.measures.proofs.plain_columns.Tie as tie
 
 -- the two signed columns, where the struct is first looked into
-from-back : (c : tie.After-struct-told2) → toZ w64 (ofZ w64 (c .before .before .before .args .r .block .from)) ≡ c .before .before .before .args .r .block .from
+from-back : (c : tie.After-struct-told2) → toZ w64 (ofZ w64 (c .before .before .before .args .r .block .from))
+    ≡ c .before .before .before .args .r .block .from
 from-back c = search needs
 
-to-back : (c : tie.After-struct-told2) → toZ w64 (ofZ w64 (c .before .before .before .args .r .block .to)) ≡ c .before .before .before .args .r .block .to
+to-back : (c : tie.After-struct-told2) → toZ w64 (ofZ w64 (c .before .before .before .args .r .block .to))
+    ≡ c .before .before .before .args .r .block .to
 to-back c = search needs
 
 returns : tie.Need-returns

@@ -95,6 +95,7 @@ pub data In (x : Entry) : List Entry → Type 0 where
 -- ---- "Refusals: 20, then 70 output or list too short", each exactly when; else how many bytes and entries
 pub data MendOutcome (t : List ℤ) (d : List ℕ) (room cells : ℕ) : Outcome → Type 0 where
   bad-table : wellFormed t ≡ false → MendOutcome t d room cells (mending.refused 20)
-  no-room : wellFormed t ≡ true → (room < length (bytesIn t d)) ⊎ (cells < 3 * length (listIn t d)) → MendOutcome t d room cells (mending.refused 70)
+  no-room : wellFormed t ≡ true → (room < length (bytesIn t d)) ⊎ (cells < 3 * length (listIn t d))
+      → MendOutcome t d room cells (mending.refused 70)
   is-mended : wellFormed t ≡ true → length (bytesIn t d) ≤ room → 3 * length (listIn t d) ≤ cells
       → MendOutcome t d room cells (done (length (bytesIn t d)) (length (listIn t d)))

@@ -10,12 +10,14 @@ returns : tie.Need-returns
 returns c = let a = c .before .before .args in rw (room-less (a .z .others) (a .z .short) (a .cells) (omega (arith, c .if1 .taken)))
 
 returns-2 : tie.Need-returns-2
-returns-2 c = let a = c .before .before .before .before .before .args in rw (room-less (a .z .others) (a .z .short) (a .cells) (omega (arith, c .if2 .taken, c .before .before .before .if1 .left)))
+returns-2 c = let a = c .before .before .before .before .before .args in
+    rw (room-less (a .z .others) (a .z .short) (a .cells) (omega (arith, c .if2 .taken, c .before .before .before .if1 .left)))
 
 returns-3 : tie.Need-returns-3
 returns-3 c =
     let a = c .before .before .before .before .before .before .before .args in
-    rw (room-some (a .z .others) (a .z .short) (a .cells) (omega (arith, c .before .before .if2 .left, c .before .before .before .before .before .if1 .left)))
+    rw (room-some (a .z .others) (a .z .short) (a .cells)
+    (omega (arith, c .before .before .if2 .left, c .before .before .before .before .before .if1 .left)))
     (room-bytes (a .z .kept) (a .z .width + a .size) (a .room) (omega arith))
 
 pub has-room-spec : {M : Type 1} → statement M

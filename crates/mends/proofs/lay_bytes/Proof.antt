@@ -25,16 +25,19 @@ abbrev μ-loop : tie.MeasureT-loop
 μ-loop d from stop out₀ at j₀ o₀ out j o = stop - j
 
 slice-write-out : tie.Need-slice-write-out Inv-loop μ-loop
-slice-write-out c = let l = c .before .before .before .loop in omega (arith, l .inv .2, l .inv .3, c .before .before .before .before .before .before .pre .2, c .before .before .loop-test .taken)
+slice-write-out c = let l = c .before .before .before .loop in
+    omega (arith, l .inv .2, l .inv .3, c .before .before .before .before .before .before .pre .2, c .before .before .loop-test .taken)
 
 add-o : tie.Need-add-o Inv-loop μ-loop
-add-o c = let l = c .before .before .before .loop in omega (arith, l .inv .2, l .inv .3, c .before .before .before .before .before .before .pre .2, c .before .before .loop-test .taken)
+add-o c = let l = c .before .before .before .loop in
+    omega (arith, l .inv .2, l .inv .3, c .before .before .before .before .before .before .pre .2, c .before .before .loop-test .taken)
 
 loop-again : tie.Need-loop-again Inv-loop μ-loop
 loop-again c =
     let l = c .before .before .before .loop in
     let q = c .before .before .before .before .before .before .pre in
-    let n = plain-next (c .before .before .before .before .before .before .args .d .now) (l .j) (c .before .before .before .before .before .before .args .stop) (c .before .before .loop-test .taken) (q .1) in (
+    let n = plain-next (c .before .before .before .before .before .before .args .d .now) (l .j)
+    (c .before .before .before .before .before .before .args .stop) (c .before .before .loop-test .taken) (q .1) in (
       omega (arith, c .before .before .loop-test .taken),
       l .inv .1 ∙ ap (sets (l .out) (l .o)) n ∙ rw (c .plain .ensures, add-one (l .o)),
       omega (arith, l .inv .2, c .before .before .loop-test .taken),
@@ -48,7 +51,10 @@ returns c =
     let z = plain-over (a .d .now) (l .j) (a .stop) (c .loop-test .left) in
     record {
       stored = sym (l .inv .1 ∙ ap (sets (l .out) (l .o)) z);
-      next = rw (length-plain (part (a .d .now) (a .from) (a .stop)), part-length (a .d .now) (a .from) (a .stop) (c .before .before .before .before .pre .1));
+      next = rw (
+        length-plain (part (a .d .now) (a .from) (a .stop)),
+        part-length (a .d .now) (a .from) (a .stop) (c .before .before .before .before .pre .1),
+      );
     }
 
 pub lay-bytes-spec : {M : Type 1} → statement M

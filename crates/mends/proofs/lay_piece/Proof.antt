@@ -10,7 +10,8 @@ use Rattle.mends.proofs.lay_piece.Tie as tie
 returns : tie.Need-returns
 returns c =
     let a = c .before .before .before .args in
-    rw (record-empty _ (a .e) (a .width) _ _ (c .before .before .before .pre .0 .0) (c .if1 .taken)) (record { stored = refl; next = omega arith })
+    rw (record-empty _ (a .e) (a .width) _ _ (c .before .before .before .pre .0 .0) (c .if1 .taken))
+    (record { stored = refl; next = omega arith })
 
 lay-bytes-requires : tie.Need-lay-bytes-requires
 lay-bytes-requires c κs =
@@ -37,30 +38,53 @@ add-end : tie.Need-add-end
 add-end c =
     let a = c .before .before .before .before .before .before .before .before .before .before .before .args in
     let q = c .before .before .before .before .before .before .before .before .before .before .before .pre in
-    let n = record-length _ (a .e) (a .width) _ _ (q .0 .0) (c .before .before .before .before .before .before .before .before .if1 .left) (q .0 .1) (q .1 .0) in
+    let n = record-length _ (a .e) (a .width) _ _ (q .0 .0) (c .before .before .before .before .before .before .before .before .if1 .left)
+    (q .0 .1) (q .1 .0) in
     omega (arith, n, q .1 .0, q .1 .1)
 
 lay-ending-requires : tie.Need-lay-ending-requires
 lay-ending-requires c κs =
     let a = c .before .before .before .before .before .before .before .before .before .before .before .before .args in
     let q = c .before .before .before .before .before .before .before .before .before .before .before .before .pre in
-    let n = record-length _ (a .e) (a .width) _ _ (q .0 .0) (c .before .before .before .before .before .before .before .before .before .if1 .left) (q .0 .1) (q .1 .0) in
-    (q .0 .1, omega (arith, n, q .1 .0, q .1 .1, stored-length (c .before .before .before .before .before .before .before .lay-bytes .ensures), stored-length (blank-stored _ (a .at + (a .p .stop - a .from)) (a .width - (a .p .stop - a .from)) (c .before .before .before .blank .ensures))))
+    let n = record-length _ (a .e) (a .width) _ _ (q .0 .0)
+    (c .before .before .before .before .before .before .before .before .before .if1 .left) (q .0 .1) (q .1 .0) in (
+      q .0 .1,
+      omega (
+        arith,
+        n,
+        q .1 .0,
+        q .1 .1,
+        stored-length
+            (c .before .before .before .before .before .before .before .lay-bytes .ensures),
+        stored-length (blank-stored _ (a .at + (a .p .stop - a .from)) (a .width - (a .p .stop - a .from))
+            (c .before .before .before .blank .ensures)),
+      ),
+    )
 
 add-result : tie.Need-add-result
 add-result c =
-    let a = c .before .before .before .before .before .before .before .before .before .before .before .before .before .before .before .before .args in
-    let q = c .before .before .before .before .before .before .before .before .before .before .before .before .before .before .before .before .pre in
-    let n = record-length _ (a .e) (a .width) _ _ (q .0 .0) (c .before .before .before .before .before .before .before .before .before .before .before .before .before .if1 .left) (q .0 .1) (q .1 .0) in
+    let a = c .before .before .before .before .before .before .before .before .before .before .before .before .before .before .before
+    .before .args in
+    let q = c .before .before .before .before .before .before .before .before .before .before .before .before .before .before .before
+    .before .pre in
+    let n = record-length _ (a .e) (a .width) _ _ (q .0 .0)
+    (c .before .before .before .before .before .before .before .before .before .before .before .before .before .if1 .left) (q .0 .1)
+    (q .1 .0) in
     omega (arith, n, q .1 .0, q .1 .1)
 
 returns-2 : tie.Need-returns-2
 returns-2 c =
-    let a = c .before .before .before .before .before .before .before .before .before .before .before .before .before .before .before .before .args in
-    let q = c .before .before .before .before .before .before .before .before .before .before .before .before .before .before .before .before .pre in
-    let x = record-full _ (a .e) (a .width) _ _ (q .0 .0) (c .before .before .before .before .before .before .before .before .before .before .before .before .before .if1 .left) in
+    let a = c .before .before .before .before .before .before .before .before .before .before .before .before .before .before .before
+    .before .args in
+    let q = c .before .before .before .before .before .before .before .before .before .before .before .before .before .before .before
+    .before .pre in
+    let x = record-full _ (a .e) (a .width) _ _ (q .0 .0)
+    (c .before .before .before .before .before .before .before .before .before .before .before .before .before .if1 .left) in
     let k : a .at + (a .p .stop - a .from) + (a .width - (a .p .stop - a .from)) ≡ a .at + a .width = omega (arith, q .1 .0) in
-    rw x (stored-join (stored-join (c .before .before .before .before .before .before .before .before .before .before .before .lay-bytes .ensures) (rw k at (blank-stored _ (a .at + (a .p .stop - a .from)) (a .width - (a .p .stop - a .from)) (c .before .before .before .before .before .before .before .blank .ensures)))) (c .before .before .before .lay-ending .ensures))
+    rw x (stored-join
+    (stored-join (c .before .before .before .before .before .before .before .before .before .before .before .lay-bytes .ensures)
+    (rw k at (blank-stored _ (a .at + (a .p .stop - a .from)) (a .width - (a .p .stop - a .from))
+    (c .before .before .before .before .before .before .before .blank .ensures)))) (c .before .before .before .lay-ending .ensures))
 
 pub lay-piece-spec : {M : Type 1} → statement M
 lay-piece-spec =
@@ -75,5 +99,9 @@ lay-piece-spec =
     add-end
     lay-ending-requires
     add-result
-    (λ c. let a = c .before .before .before .before .before .before .before .before .before .before .before .before .before .before .before .before .args in stored-length (c .before .before .before .lay-ending .ensures) ∙ stored-length (blank-stored _ (a .at + (a .p .stop - a .from)) (a .width - (a .p .stop - a .from)) (c .before .before .before .before .before .before .before .blank .ensures)) ∙ stored-length (c .before .before .before .before .before .before .before .before .before .before .before .lay-bytes .ensures))
+    (λ c. let a = c .before .before .before .before .before .before .before .before .before .before .before .before .before .before .before
+    .before .args in stored-length (c .before .before .before .lay-ending .ensures)
+    ∙ stored-length (blank-stored _ (a .at + (a .p .stop - a .from)) (a .width - (a .p .stop - a .from))
+    (c .before .before .before .before .before .before .before .blank .ensures))
+    ∙ stored-length (c .before .before .before .before .before .before .before .before .before .before .before .lay-bytes .ensures))
     returns-2)

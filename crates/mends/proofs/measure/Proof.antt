@@ -72,6 +72,10 @@ measure-spec =
     (λ c κs. search needs)
     tally-requires
     (λ c. omega (arith, c .before .before .before .before .next-piece .ensures .within))
-    (λ c. omega (arith, c .before .before .before .before .next-piece .ensures .within, c .before .before .before .before .next-piece .ensures .ahead))
+    (λ c. omega (
+      arith,
+      c .before .before .before .before .next-piece .ensures .within,
+      c .before .before .before .before .next-piece .ensures .ahead,
+    ))
     loop-again
     returns)

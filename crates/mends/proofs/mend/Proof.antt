@@ -20,7 +20,8 @@ use Rattle.pieces.specs.rule.Pieces.{cutFrom}
 use Rattle.mends.specs.declared.Sizes.{Sizes}
 use Rattle.mends.specs.rule.Mend.{mendedOf, entriesOf, numbersOf}
 use Rattle.mends.specs.Mend.{Ends, Measured}
-use Rattle.mends.specs.Whole.{Counts, counts, said-bytes, said-list, wide-enough, mends-bad, mends-short, mends-done, mends-copied, room-both, room-out, room-list, room-copy}
+use Rattle.mends.specs.Whole.{Counts, counts, said-bytes, said-list, wide-enough, mends-bad, mends-short, mends-done, mends-copied}
+use Rattle.mends.specs.Whole.{room-both, room-out, room-list, room-copy}
 use Rattle.mends.proofs.mend.Statement.{statement}
 use Rattle.mends.proofs.mend.Tie as tie
 
@@ -28,18 +29,22 @@ returns : tie.Need-returns
 returns c = mends-bad _ _ _ _ (sym (c .before .well-formed .ensures .says) ∙ not-true _ (c .if1 .taken))
 
 measure-requires : tie.Need-measure-requires
-measure-requires c κs = rw (c .before .read .ensures) (length-low _ (sym (c .before .before .before .well-formed .ensures .says) ∙ not-false _ (c .before .before .if1 .left)))
+measure-requires c κs = rw (c .before .read .ensures)
+    (length-low _ (sym (c .before .before .before .well-formed .ensures .says) ∙ not-false _ (c .before .before .if1 .left)))
 
 has-room-requires : tie.Need-has-room-requires
 has-room-requires c κs =
-    let l = length-low _ (sym (c .before .before .before .before .well-formed .ensures .says) ∙ not-false _ (c .before .before .before .if1 .left)) in
+    let l = length-low _ (sym (c .before .before .before .before .well-formed .ensures .says)
+    ∙ not-false _ (c .before .before .before .if1 .left)) in
     let m = rw (c .before .before .read .ensures) at (c .measure .ensures) in
     (omega (arith, l, m .wide, c .before .ending .ensures .sized .few), c .before .ending .ensures .sized .some)
 
 returns-2 : tie.Need-returns-2
 returns-2 c =
-    let g = sym (c .before .before .before .before .before .before .well-formed .ensures .says) ∙ not-false _ (c .before .before .before .before .before .if1 .left) in
-    let k = counts _ _ _ _ (c .before .before .before .ending .ensures) (rw (c .before .before .before .before .read .ensures) at (c .before .before .measure .ensures)) in
+    let g = sym (c .before .before .before .before .before .before .well-formed .ensures .says)
+    ∙ not-false _ (c .before .before .before .before .before .if1 .left) in
+    let k = counts _ _ _ _ (c .before .before .before .ending .ensures)
+    (rw (c .before .before .before .before .read .ensures) at (c .before .before .measure .ensures)) in
     mends-short _ _ _ _ g _ _ k (sym (c .before .has-room .ensures) ∙ not-true _ (c .if2 .taken))
 
 -- what is known where there is room
@@ -63,7 +68,8 @@ module _ (s : tie.Else2) where
   z = s .before .before .measure .result
 
   good : wellFormed table ≡ true
-  good = sym (s .before .before .before .before .before .before .well-formed .ensures .says) ∙ not-false _ (s .before .before .before .before .before .if1 .left)
+  good = sym (s .before .before .before .before .before .before .well-formed .ensures .says)
+      ∙ not-false _ (s .before .before .before .before .before .if1 .left)
 
   ends : Ends file e
   ends = s .before .before .before .ending .ensures
@@ -82,7 +88,8 @@ module _ (s : tie.Else2) where
 
   entries-fit : z .others + z .short < 18446744073709551616
   entries-fit =
-      let h : length list < 18446744073709551616 = s .before .before .before .before .before .before .before .before .before .good .1 .1 .1 .0 .0 in
+      let h : length list
+      < 18446744073709551616 = s .before .before .before .before .before .before .before .before .before .good .1 .1 .1 .0 .0 in
       omega (arith, both .0, h)
 
   sizes-fit : z .width + e .size < 18446744073709551616
@@ -91,11 +98,14 @@ module _ (s : tie.Else2) where
       omega (arith, h, length-low table good, measured .wide, ends .sized .few)
     where
       ap-file : length file < 9223372036854775808
-      ap-file = let h : length file * 1 < 9223372036854775808 = s .before .before .before .before .before .before .before .before .before .good .1 .0 .1 in omega (arith, h)
+      ap-file = let h : length file * 1
+          < 9223372036854775808 = s .before .before .before .before .before .before .before .before .before .good .1 .0 .1 in
+          omega (arith, h)
 
   bytes-fit : z .kept * (z .width + e .size) < 18446744073709551616
   bytes-fit =
-      let h : length out < 18446744073709551616 = s .before .before .before .before .before .before .before .before .before .good .1 .1 .0 .0 in
+      let h : length out
+      < 18446744073709551616 = s .before .before .before .before .before .before .before .before .before .good .1 .1 .0 .0 in
       omega (arith, both .1, h)
 
 add-entries : tie.Need-add-entries
@@ -153,9 +163,12 @@ mend-spec =
     mul-bytes
     copy-in-requires
     mend-into-requires
-    (λ c. let s = c .before .before .before .before .before .before .before .before .before in ap length (c .before .before .copy-in .ensures) ∙ length-put (out s) (run 0 (length (file s))) (take (length (file s)) (file s)))
+    (λ c. let s = c .before .before .before .before .before .before .before .before .before in
+    ap length (c .before .before .copy-in .ensures) ∙ length-put (out s) (run 0 (length (file s))) (take (length (file s)) (file s)))
     returns-3
-    (λ c. let s = c .before .before .before .before .before .before .before .before .before .before .before in ap length (c .before .before .before .mend-into .ensures .0) ∙ length-sets (out s) 0 (mendedOf (z s .width) (e s) (cutFrom 0 (file s))))
-    (λ c. let s = c .before .before .before .before .before .before .before .before .before .before .before in ap length (c .before .before .before .mend-into .ensures .1)
+    (λ c. let s = c .before .before .before .before .before .before .before .before .before .before .before in
+    ap length (c .before .before .before .mend-into .ensures .0) ∙ length-sets (out s) 0 (mendedOf (z s .width) (e s) (cutFrom 0 (file s))))
+    (λ c. let s = c .before .before .before .before .before .before .before .before .before .before .before in
+    ap length (c .before .before .before .mend-into .ensures .1)
     ∙ length-sets (list s) 0 (numbersOf (entriesOf (z s .width) (e s) 1 0 (cutFrom 0 (file s)))))
     returns-4)

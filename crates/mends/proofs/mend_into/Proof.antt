@@ -7,7 +7,8 @@ use lib.ListN.{length, drop}
 use lib.Seq.{sets}
 use Rattle.pieces.specs.rule.Pieces.{cutFrom}
 use Rattle.mends.specs.rule.Mend.{widthOf, mendedOf, entriesOf, numbersOf}
-use Rattle.mends.specs.Mend.{stored-on, stored-length, mended-next, mended-length, entries-next, entries-length, width-next, mended-over, entries-over}
+use Rattle.mends.specs.Mend.{stored-on, stored-length, mended-next, mended-length, entries-next, entries-length, width-next}
+use Rattle.mends.specs.Mend.{mended-over, entries-over}
 use Rattle.mends.proofs.mend_into.Statement.{statement}
 use Rattle.mends.proofs.mend_into.Tie as tie
 
@@ -19,7 +20,8 @@ Inv-loop d e width out₀ list₀ i₀ number₀ at₀ k₀ out list i number at
     × (sets out₀ 0 (mendedOf width e (cutFrom 0 d)) ≡ sets out at (mendedOf width e (cutFrom 0 (drop i d))))
     × (at + length (mendedOf width e (cutFrom 0 (drop i d))) ≤ length out)
     × (length out ≡ length out₀)
-    × (sets list₀ 0 (numbersOf (entriesOf width e 1 0 (cutFrom 0 d))) ≡ sets list k (numbersOf (entriesOf width e (number + 1) i (cutFrom 0 (drop i d)))))
+    × (sets list₀ 0 (numbersOf (entriesOf width e 1 0 (cutFrom 0 d)))
+    ≡ sets list k (numbersOf (entriesOf width e (number + 1) i (cutFrom 0 (drop i d)))))
     × (k + length (numbersOf (entriesOf width e (number + 1) i (cutFrom 0 (drop i d)))) ≤ length list)
     × (length list ≡ length list₀)
 
@@ -27,7 +29,17 @@ abbrev μ-loop : tie.MeasureT-loop
 μ-loop d e width out₀ list₀ i₀ number₀ at₀ k₀ out list i number at k = length d - i
 
 loop-holds : tie.Need-loop-holds Inv-loop μ-loop
-loop-holds c = let q = c .before .before .pre in (omega arith, omega arith, q .0 .1, refl, omega (arith, q .1 .0), refl, refl, omega (arith, q .1 .1), refl)
+loop-holds c = let q = c .before .before .pre in (
+  omega arith,
+  omega arith,
+  q .0 .1,
+  refl,
+  omega (arith, q .1 .0),
+  refl,
+  refl,
+  omega (arith, q .1 .1),
+  refl,
+)
 
 note-piece-requires : tie.Need-note-piece-requires Inv-loop μ-loop
 note-piece-requires c κs =
@@ -42,13 +54,16 @@ lay-piece-requires c κs =
     let l = c .before .before .before .before .before .before .loop in
     let a = c .before .before .before .before .before .before .before .before .before .args in
     let u = c .before .before .before .before .next-piece .ensures in
-    let n = mended-length _ (a .e) (a .width) _ _ u in
-    ((u, c .before .before .before .before .before .before .before .before .before .pre .0 .0), (width-next _ (a .e) (a .width) _ _ u (l .inv .2) .0, omega (arith, n, l .inv .4)))
+    let n = mended-length _ (a .e) (a .width) _ _ u in (
+      (u, c .before .before .before .before .before .before .before .before .before .pre .0 .0),
+      (width-next _ (a .e) (a .width) _ _ u (l .inv .2) .0, omega (arith, n, l .inv .4)),
+    )
 
 loop-again : tie.Need-loop-again Inv-loop μ-loop
 loop-again c =
     let l = c .before .before .before .before .before .before .before .before .before .before .before .before .loop in
-    let a = c .before .before .before .before .before .before .before .before .before .before .before .before .before .before .before .args in
+    let a = c .before .before .before .before .before .before .before .before .before .before .before .before .before .before .before
+    .args in
     let u = c .before .before .before .before .before .before .before .before .before .before .next-piece .ensures in
     let s = c .before .before .before .before .before .before .before .before .note-piece .ensures in
     let r = c .before .before .before .before .before .lay-piece .ensures in
@@ -87,7 +102,11 @@ mend-into-spec =
     note-piece-requires
     lay-piece-requires
     (λ c. omega (arith, c .before .before .before .before .before .before .before .before .before .before .next-piece .ensures .within))
-    (λ c. omega (arith, c .before .before .before .before .before .before .before .before .before .before .next-piece .ensures .within, c .before .before .before .before .before .before .before .before .before .before .next-piece .ensures .ahead))
+    (λ c. omega (
+      arith,
+      c .before .before .before .before .before .before .before .before .before .before .next-piece .ensures .within,
+      c .before .before .before .before .before .before .before .before .before .before .next-piece .ensures .ahead,
+    ))
     loop-again
     (λ c. c .before .loop .inv .5)
     (λ c. c .before .loop .inv .8)

@@ -16,7 +16,8 @@ use Rattle.mends.proofs.note_bytes.Tie as tie
 abbrev Inv-loop : tie.InvT-loop
 Inv-loop d from stop number list₀ k j₀ m₀ list j m =
     (j ≤ length d)
-    × (sets list₀ k (numbersOf (byteEntries number from (part d from stop))) ≡ sets list m (numbersOf (byteEntries number j (part d j stop))))
+    × (sets list₀ k (numbersOf (byteEntries number from (part d from stop)))
+    ≡ sets list m (numbersOf (byteEntries number j (part d j stop))))
     × (k + length (numbersOf (byteEntries number from (part d from stop))) ≡ m + length (numbersOf (byteEntries number j (part d j stop))))
     × (length list ≡ length list₀)
     × (j < length d → lowAt d j ≡ true)
@@ -87,8 +88,17 @@ note-bytes-spec =
     note-requires
     add-m
     (λ c. omega (arith, c .before .before .before .loop-test .taken))
-    (λ c κs. omega (arith, c .before .before .before .loop-test .taken, c .before .before .before .before .before .before .before .pre .0 .1))
-    (λ c. omega (arith, c .low-from2 .ensures .clear .on, c .before .before .before .before .loop-test .taken, c .before .before .before .before .before .before .before .before .pre .0 .1))
+    (λ c κs. omega (
+      arith,
+      c .before .before .before .loop-test .taken,
+      c .before .before .before .before .before .before .before .pre .0 .1,
+    ))
+    (λ c. omega (
+      arith,
+      c .low-from2 .ensures .clear .on,
+      c .before .before .before .before .loop-test .taken,
+      c .before .before .before .before .before .before .before .before .pre .0 .1,
+    ))
     loop-again
     (λ c. c .before .loop .inv .3)
     returns)

@@ -25,16 +25,25 @@ returns c = rw (c .before .before .before .before .if1 .taken, c .if2 .taken) (c
 note-requires-2 : tie.Need-note-requires-2
 unfolding numbersOf listedIf
 note-requires-2 c κs =
-    let r = rw (c .before .before .before .before .before .if1 .taken, c .before .if2 .left) at (c .before .before .before .before .before .before .pre .1) in
-    (omega (arith, stored-length (c .before .before .before .note .ensures)), (omega arith, c .before .before .before .before .before .before .pre .0 .0, c .before .before .before .before .before .before .pre .0 .1))
+    let r = rw (c .before .before .before .before .before .if1 .taken, c .before .if2 .left) at
+    (c .before .before .before .before .before .before .pre .1) in (
+      omega (arith, stored-length (c .before .before .before .note .ensures)),
+      (
+        omega arith,
+        c .before .before .before .before .before .before .pre .0 .0,
+        c .before .before .before .before .before .before .pre .0 .1,
+      ),
+    )
 
 add-result : tie.Need-add-result
 unfolding numbersOf listedIf
-add-result c = let r = rw (c .before .before .before .before .before .before .before .if1 .taken, c .before .before .before .if2 .left) at (c .before .before .before .before .before .before .before .before .pre .1) in omega arith
+add-result c = let r = rw (c .before .before .before .before .before .before .before .if1 .taken, c .before .before .before .if2 .left) at
+    (c .before .before .before .before .before .before .before .before .pre .1) in omega arith
 
 returns-2 : tie.Need-returns-2
 unfolding numbersOf listedIf
-returns-2 c = rw (c .before .before .before .before .before .before .before .if1 .taken, c .before .before .before .if2 .left) (stored-join (c .before .before .before .before .before .note .ensures) (c .before .note2 .ensures))
+returns-2 c = rw (c .before .before .before .before .before .before .before .if1 .taken, c .before .before .before .if2 .left)
+    (stored-join (c .before .before .before .before .before .note .ensures) (c .before .note2 .ensures))
 
 returns-3 : tie.Need-returns-3
 unfolding numbersOf listedIf
@@ -48,7 +57,8 @@ note-requires-3 c κs =
 
 add-result-2 : tie.Need-add-result-2
 unfolding numbersOf listedIf
-add-result-2 c = let r = rw (c .before .before .before .before .if1 .left, c .before .before .before .if3 .left) at (c .before .before .before .before .before .pre .1) in omega arith
+add-result-2 c = let r = rw (c .before .before .before .before .if1 .left, c .before .before .before .if3 .left) at
+    (c .before .before .before .before .before .pre .1) in omega arith
 
 returns-4 : tie.Need-returns-4
 unfolding listedIf

@@ -26,7 +26,8 @@ add-result c =
 returns : tie.Need-returns
 returns c =
     let a = c .before .before .before .before .before .before .args in
-    rw (piece-empty _ (a .e) (a .width) _ _ (c .before .before .before .before .before .before .pre .0) (a .number) (c .before .before .before .if1 .taken)) (c .before .note .ensures)
+    rw (piece-empty _ (a .e) (a .width) _ _ (c .before .before .before .before .before .before .pre .0) (a .number)
+    (c .before .before .before .if1 .taken)) (c .before .note .ensures)
 
 note-end-requires : tie.Need-note-end-requires
 note-end-requires c κs =
@@ -38,7 +39,8 @@ note-end-requires c κs =
 returns-2 : tie.Need-returns-2
 returns-2 c =
     let a = c .before .before .before .before .before .before .before .before .before .args in
-    let x = piece-plain _ (a .e) (a .width) _ _ (c .before .before .before .before .before .before .before .before .before .pre .0) (a .number) (c .before .before .before .before .before .before .if1 .left) (c .before .before .before .if2 .taken) in
+    let x = piece-plain _ (a .e) (a .width) _ _ (c .before .before .before .before .before .before .before .before .before .pre .0)
+    (a .number) (c .before .before .before .before .before .before .if1 .left) (c .before .before .before .if2 .taken) in
     rw x (rw (c .before .before .before .before .before .same .ensures) at (c .before .note-end .ensures))
 
 note-bytes-requires : tie.Need-note-bytes-requires
@@ -53,14 +55,21 @@ note-end-requires-2 c κs =
     let a = c .before .before .before .before .before .before .before .before .before .before .args in
     let q = c .before .before .before .before .before .before .before .before .before .before .pre in
     let s = c .before .before .note-bytes .ensures in
-    let n = piece-length _ (a .e) (a .width) _ _ (q .0) (a .number) (c .before .before .before .before .before .before .before .if1 .left) in
-    ((q .1 .0, omega (arith, q .0 .within)), rw (c .before .before .before .before .before .before .same .ensures) (omega (arith, n, q .1 .1, s .next, stored-length s)))
+    let n = piece-length _ (a .e) (a .width) _ _ (q .0) (a .number)
+    (c .before .before .before .before .before .before .before .if1 .left) in (
+      (q .1 .0, omega (arith, q .0 .within)),
+      rw (c .before .before .before .before .before .before .same .ensures)
+          (omega (arith, n, q .1 .1, s .next, stored-length s)),
+    )
 
 returns-3 : tie.Need-returns-3
 returns-3 c =
     let a = c .before .before .before .before .before .before .before .before .before .before .before .before .args in
-    let x = piece-full _ (a .e) (a .width) _ _ (c .before .before .before .before .before .before .before .before .before .before .before .before .pre .0) (a .number) (c .before .before .before .before .before .before .before .before .before .if1 .left) in
-    rw x (stored-join (c .before .before .before .before .note-bytes .ensures) (rw (c .before .before .before .before .before .before .before .before .same .ensures) at (c .before .note-end2 .ensures)))
+    let x = piece-full _ (a .e) (a .width) _ _
+    (c .before .before .before .before .before .before .before .before .before .before .before .before .pre .0) (a .number)
+    (c .before .before .before .before .before .before .before .before .before .if1 .left) in
+    rw x (stored-join (c .before .before .before .before .note-bytes .ensures)
+    (rw (c .before .before .before .before .before .before .before .before .same .ensures) at (c .before .note-end2 .ensures)))
 
 pub note-piece-spec : {M : Type 1} → statement M
 note-piece-spec =

@@ -18,14 +18,25 @@ add-others-2 c = let h : c .other .result ≤ 1 = rw (c .other .ensures) (other-
 
 returns-2 : tie.Need-returns-2
 unfolding tallied
-returns-2 c = rw (ne-eqb _ _ (c .before .before .before .before .before .if1 .left), lt-ltb _ _ (c .before .if2 .taken), c .before .before .before .other .ensures)
+returns-2 c = rw (
+  ne-eqb _ _ (c .before .before .before .before .before .if1 .left),
+  lt-ltb _ _ (c .before .if2 .taken),
+  c .before .before .before .other .ensures,
+)
 
 add-short : tie.Need-add-short
-add-short c = let h : c .before .shorter .result ≤ 1 = rw (c .before .shorter .ensures) (one-few (ltb (c .before .before .before .before .before .before .before .args .long) (c .before .before .before .before .before .before .before .args .z .width))) in omega arith
+add-short c = let h : c .before .shorter .result ≤ 1 = rw (c .before .shorter .ensures)
+    (one-few (ltb (c .before .before .before .before .before .before .before .args .long)
+    (c .before .before .before .before .before .before .before .args .z .width))) in omega arith
 
 returns-3 : tie.Need-returns-3
 unfolding tallied
-returns-3 c = rw (ne-eqb _ _ (c .before .before .before .before .before .before .before .if1 .left), le-ltb _ _ (c .before .before .before .if2 .left), c .before .before .shorter .ensures, c .before .before .before .before .before .other .ensures)
+returns-3 c = rw (
+  ne-eqb _ _ (c .before .before .before .before .before .before .before .if1 .left),
+  le-ltb _ _ (c .before .before .before .if2 .left),
+  c .before .before .shorter .ensures,
+  c .before .before .before .before .before .other .ensures,
+)
 
 pub tally-spec : {M : Type 1} → statement M
 tally-spec =

@@ -111,7 +111,8 @@ said M.NoRoom = refused 70
 unfoldable pub mendedAs : List ℤ → List ℕ → ℕ → ℕ → Outcome
 mendedAs t d room cells =
     cond (wellFormed t)
-    (cond (ltb room (length (bytesIn t d)) || ltb cells (3 * length (listIn t d))) (refused 70) (done (length (bytesIn t d)) (length (listIn t d))))
+    (cond (ltb room (length (bytesIn t d)) || ltb cells (3 * length (listIn t d))) (refused 70)
+    (done (length (bytesIn t d)) (length (listIn t d))))
     (refused 20)
 
 -- a buffer afterwards: "before anything is written" on a refusal, and what lies beyond is kept

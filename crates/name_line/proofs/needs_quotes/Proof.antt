@@ -29,19 +29,28 @@ next-part-requires c κs = (c .before .before .pre, c .loop .inv .1)
 
 returns : tie.Need-returns Inv-loop μ-loop
 returns c =
-    let s = part-said _ _ _ _ _ _ (c .before .before .before .before .before .before .next-part .ensures) (c .before .before .before .before .sign .given .1) in
-    sym (c .before .before .before .before .before .before .before .loop .inv .0 ∙ special-next (s .split) (c .before .before .byte-of .ensures) ∙ rw (sym (c .before .special .ensures), c .if1 .taken))
+    let s = part-said _ _ _ _ _ _ (c .before .before .before .before .before .before .next-part .ensures)
+    (c .before .before .before .before .sign .given .1) in
+    sym (c .before .before .before .before .before .before .before .loop .inv .0
+    ∙ special-next (s .split) (c .before .before .byte-of .ensures) ∙ rw (sym (c .before .special .ensures), c .if1 .taken))
 
 loop-less : tie.Need-loop-less Inv-loop μ-loop
-loop-less c = let s = part-said _ _ _ _ _ _ (c .before .before .before .before .before .before .next-part .ensures) (c .before .before .before .before .sign .given .1) in shorter (s .split)
+loop-less c = let s = part-said _ _ _ _ _ _ (c .before .before .before .before .before .before .next-part .ensures)
+    (c .before .before .before .before .sign .given .1) in shorter (s .split)
 
 loop-again : tie.Need-loop-again Inv-loop μ-loop
 loop-again c =
-    let s = part-said _ _ _ _ _ _ (c .before .before .before .before .before .before .next-part .ensures) (c .before .before .before .before .sign .given .1) in
-    (c .before .before .before .before .before .before .before .loop .inv .0 ∙ special-next (s .split) (c .before .before .byte-of .ensures) ∙ rw (sym (c .before .special .ensures), c .if1 .left), s .rests)
+    let s = part-said _ _ _ _ _ _ (c .before .before .before .before .before .before .next-part .ensures)
+    (c .before .before .before .before .sign .given .1) in (
+      c .before .before .before .before .before .before .before .loop .inv .0
+          ∙ special-next (s .split) (c .before .before .byte-of .ensures)
+          ∙ rw (sym (c .before .special .ensures), c .if1 .left),
+      s .rests,
+    )
 
 returns-2 : tie.Need-returns-2 Inv-loop μ-loop
-returns-2 c = sym (c .before .before .before .loop .inv .0 ∙ special-none (part-over _ _ _ (c .before .before .next-part .ensures) (c .enum-told .given .1)))
+returns-2 c = sym (c .before .before .before .loop .inv .0
+    ∙ special-none (part-over _ _ _ (c .before .before .next-part .ensures) (c .enum-told .given .1)))
 
 pub needs-quotes-spec : {M : Type 1} → statement M
 needs-quotes-spec =

@@ -16,14 +16,16 @@ returns c =
     sent-as (c .before .before .send-xml .ensures)
     (ap fieldBytes
     (ap (λ (s : Script). xmlText (s .latin) (a .d .now) (a .place) (a .long)) e
-    ∙ sym (name-xml (a .d .now) (a .place) (a .long) (sym (ap (λ (s : Script). s .xml) e) ∙ c .before .before .before .before .if1 .taken))))
+    ∙ sym (name-xml (a .d .now) (a .place) (a .long)
+    (sym (ap (λ (s : Script). s .xml) e) ∙ c .before .before .before .before .if1 .taken))))
 
 returns-2 : tie.Need-returns-2
 returns-2 c =
     let a = c .before .before .before .before .before .before .before .args in
     let e = c .before .before .before .before .before .before .before .pre .1 in
     sent-as (c .before .before .send-plain .ensures)
-    (ap fieldBytes (sym (name-plain (a .d .now) (a .place) (a .long) (sym (ap (λ (s : Script). s .xml) e) ∙ c .before .before .before .before .if1 .left))))
+    (ap fieldBytes (sym (name-plain (a .d .now) (a .place) (a .long)
+    (sym (ap (λ (s : Script). s .xml) e) ∙ c .before .before .before .before .if1 .left))))
 
 pub send-name-spec : {M : Type 1} → statement M
 send-name-spec =

@@ -22,13 +22,38 @@ loop-holds : tie.Need-loop-holds Inv-loop μ-loop
 loop-holds c = (omega arith, all-owed _ _ _ (names-whole _ _ _))
 
 place-at-requires : tie.Need-place-at-requires Inv-loop μ-loop
-place-at-requires c κs = (omega (arith, c .before .before .before .before .loop-test .taken, c .before .before .before .before .before .before .before .before .before .pre .1 .0), omega (arith, c .before .before .before .before .loop-test .taken, c .before .before .before .before .before .before .before .before .before .pre .1 .1))
+place-at-requires c κs = (
+  omega (
+    arith,
+    c .before .before .before .before .loop-test .taken,
+    c .before .before .before .before .before .before .before .before .before .pre .1 .0,
+  ),
+  omega (
+    arith,
+    c .before .before .before .before .loop-test .taken,
+    c .before .before .before .before .before .before .before .before .before .pre .1 .1,
+  ),
+)
 
 long-at-requires : tie.Need-long-at-requires Inv-loop μ-loop
-long-at-requires c κs = (omega (arith, c .before .before .before .before .before .loop-test .taken, c .before .before .before .before .before .before .before .before .before .before .pre .1 .0), omega (arith, c .before .before .before .before .before .loop-test .taken, c .before .before .before .before .before .before .before .before .before .before .pre .1 .1))
+long-at-requires c κs = (
+  omega (
+    arith,
+    c .before .before .before .before .before .loop-test .taken,
+    c .before .before .before .before .before .before .before .before .before .before .pre .1 .0,
+  ),
+  omega (
+    arith,
+    c .before .before .before .before .before .loop-test .taken,
+    c .before .before .before .before .before .before .before .before .before .before .pre .1 .1,
+  ),
+)
 
 send-name-requires : tie.Need-send-name-requires Inv-loop μ-loop
-send-name-requires c κs = (c .before .before .before .before .before .before .before .before .before .before .before .before .pre .0, c .before .before .before .before .before .before .before .before .before .script-of .ensures)
+send-name-requires c κs = (
+  c .before .before .before .before .before .before .before .before .before .before .before .before .pre .0,
+  c .before .before .before .before .before .before .before .before .before .script-of .ensures,
+)
 
 add-i : tie.Need-add-i Inv-loop μ-loop
 add-i c = omega (arith, c .before .before .before .before .before .before .before .before .before .before .loop-test .taken)
@@ -39,15 +64,21 @@ loop-less c = omega (arith, c .before .before .before .before .before .before .b
 loop-again : tie.Need-loop-again Inv-loop μ-loop
 loop-again c = (
   omega (arith, c .before .before .before .before .before .before .before .before .before .before .loop-test .taken),
-  less-owed (less-owed (c .before .before .before .before .before .before .before .before .before .before .before .loop .inv .1) (left-next _ _ _ (c .before .before .before .before .before .before .before .before .before .before .loop-test .taken)) (c .before .before .before .before .before .before .before .before .send-comma .ensures)) refl
-      (sent-as (c .before .before .send-name .ensures) (name-of (c .before .before .before .before .before .before .before .before .before .before .before .before .before .before .before .args .d .now) _ _ (c .before .before .before .before .before .place-at .ensures) (c .before .before .before .before .long-at .ensures))),
+  less-owed (less-owed (c .before .before .before .before .before .before .before .before .before .before .before .loop .inv .1)
+      (left-next _ _ _ (c .before .before .before .before .before .before .before .before .before .before .loop-test .taken))
+      (c .before .before .before .before .before .before .before .before .send-comma .ensures)) refl
+      (sent-as (c .before .before .send-name .ensures)
+      (name-of (c .before .before .before .before .before .before .before .before .before .before .before .before .before .before .before
+      .args .d .now) _ _ (c .before .before .before .before .before .place-at .ensures)
+      (c .before .before .before .before .long-at .ensures))),
 )
 
 same-length : tie.Need-same-length Inv-loop μ-loop
 same-length c = c .before .before .send-end .ensures .room ∙ c .before .before .before .before .before .loop .inv .1 .same-room
 
 returns : tie.Need-returns Inv-loop μ-loop
-returns c = c .before .before .before .before .before .loop .inv .1 .pays (sent-as (c .before .before .send-end .ensures) (sym (left-end _ _ _ (c .before .before .before .before .loop-test .left))))
+returns c = c .before .before .before .before .before .loop .inv .1 .pays
+    (sent-as (c .before .before .send-end .ensures) (sym (left-end _ _ _ (c .before .before .before .before .loop-test .left))))
 
 pub send-names-spec : {M : Type 1} → statement M
 send-names-spec =

@@ -30,18 +30,24 @@ next-part-requires : tie.Need-next-part-requires Inv-loop μ-loop
 next-part-requires c κs = (c .before .before .before .pre, c .loop .inv .1)
 
 loop-less : tie.Need-loop-less Inv-loop μ-loop
-loop-less c = shorter (part-said _ _ _ _ _ _ (c .before .before .before .before .before .before .before .before .next-part .ensures) (c .before .before .before .before .before .before .sign .given .1) .split)
+loop-less c = shorter (part-said _ _ _ _ _ _ (c .before .before .before .before .before .before .before .before .next-part .ensures)
+    (c .before .before .before .before .before .before .sign .given .1) .split)
 
 loop-again : tie.Need-loop-again Inv-loop μ-loop
 loop-again c =
-    let s = part-said _ _ _ _ _ _ (c .before .before .before .before .before .before .before .before .next-part .ensures) (c .before .before .before .before .before .before .sign .given .1) in
-    (less-owed (c .before .before .before .before .before .before .before .before .before .loop .inv .0) (doubled-next (s .split) (c .before .before .before .byte-of .ensures)) (c .before .before .send-doubled .ensures), s .rests)
+    let s = part-said _ _ _ _ _ _ (c .before .before .before .before .before .before .before .before .next-part .ensures)
+    (c .before .before .before .before .before .before .sign .given .1) in (
+      less-owed (c .before .before .before .before .before .before .before .before .before .loop .inv .0)
+          (doubled-next (s .split) (c .before .before .before .byte-of .ensures)) (c .before .before .send-doubled .ensures),
+      s .rests,
+    )
 
 same-length : tie.Need-same-length Inv-loop μ-loop
 same-length c = c .before .before .before .loop .inv .0 .same-room
 
 returns : tie.Need-returns Inv-loop μ-loop
-returns c = none-owed (c .before .before .before .loop .inv .0) (doubled-none (part-over _ _ _ (c .before .before .next-part .ensures) (c .enum-told .given .1)))
+returns c = none-owed (c .before .before .before .loop .inv .0)
+    (doubled-none (part-over _ _ _ (c .before .before .next-part .ensures) (c .enum-told .given .1)))
 
 pub send-signs-spec : {M : Type 1} → statement M
 send-signs-spec =

@@ -13,18 +13,26 @@ use Rattle.name_line.proofs.send_xml.Statement.{statement}
 use Rattle.name_line.proofs.send_xml.Tie as tie
 
 slice-aggregate-xml-send-rest : tie.Need-slice-aggregate-xml-send-rest
-slice-aggregate-xml-send-rest c = sym (length-take-le (c .before .before .end-of .result) (c .before .before .before .before .before .args .d .now) (c .before .before .end-of .ensures .1))
+slice-aggregate-xml-send-rest c = sym (length-take-le (c .before .before .end-of .result)
+    (c .before .before .before .before .before .args .d .now) (c .before .before .end-of .ensures .1))
 
 xml-send-rest-requires : tie.Need-xml-send-rest-requires
-xml-send-rest-requires c κs = omega (arith, length-take-le (c .before .before .before .end-of .result) (c .before .before .before .before .before .before .args .d .now) (c .before .before .before .end-of .ensures .1), c .before .before .from-of .ensures .1)
+xml-send-rest-requires c κs = omega (
+  arith,
+  length-take-le (c .before .before .before .end-of .result)
+      (c .before .before .before .before .before .before .args .d .now) (c .before .before .before .end-of .ensures .1),
+  c .before .before .from-of .ensures .1,
+)
 
 returns : tie.Need-returns
 returns c =
     let a = c .before .before .before .before .before .before .before .before .before .args in
     sent-as (c .before .before .xml-send-rest .ensures)
     (ap fieldBytes
-    (ap (λ (q : ℕ). restText (a .latin) (take (c .before .before .before .before .before .before .end-of .result) (a .d .now)) q) (c .before .before .before .before .before .from-of .ensures .0)
-    ∙ ap (λ (q : ℕ). restText (a .latin) (take q (a .d .now)) (fromOf q (a .place))) (c .before .before .before .before .before .before .end-of .ensures .0)
+    (ap (λ (q : ℕ). restText (a .latin) (take (c .before .before .before .before .before .before .end-of .result) (a .d .now)) q)
+    (c .before .before .before .before .before .from-of .ensures .0)
+    ∙ ap (λ (q : ℕ). restText (a .latin) (take q (a .d .now)) (fromOf q (a .place)))
+    (c .before .before .before .before .before .before .end-of .ensures .0)
     ∙ rest-is (a .latin) (a .d .now) (a .place) (a .long)))
 
 pub send-xml-spec : {M : Type 1} → statement M

@@ -28,18 +28,29 @@ next-sign-requires : tie.Need-next-sign-requires Inv-loop μ-loop
 next-sign-requires c κs = (c .loop .inv .1, c .loop .inv .2)
 
 returns : tie.Need-returns Inv-loop μ-loop
-returns c = let o = told-one _ _ (c .before .before .before .before .before .before .next-sign .ensures) (c .before .before .before .before .sign .given .1) in sym (c .before .before .before .before .before .before .before .loop .inv .0 ∙ special-next (o .split) (c .before .before .byte-of .ensures) ∙ rw (sym (c .before .special .ensures), c .if1 .taken))
+returns c = let o = told-one _ _ (c .before .before .before .before .before .before .next-sign .ensures)
+    (c .before .before .before .before .sign .given .1) in
+    sym (c .before .before .before .before .before .before .before .loop .inv .0
+    ∙ special-next (o .split) (c .before .before .byte-of .ensures) ∙ rw (sym (c .before .special .ensures), c .if1 .taken))
 
 loop-less : tie.Need-loop-less Inv-loop μ-loop
-loop-less c = let o = told-one _ _ (c .before .before .before .before .before .before .next-sign .ensures) (c .before .before .before .before .sign .given .1) in shorter (o .split)
+loop-less c = let o = told-one _ _ (c .before .before .before .before .before .before .next-sign .ensures)
+    (c .before .before .before .before .sign .given .1) in shorter (o .split)
 
 loop-again : tie.Need-loop-again Inv-loop μ-loop
 loop-again c =
-    let o = told-one _ _ (c .before .before .before .before .before .before .next-sign .ensures) (c .before .before .before .before .sign .given .1) in
-    (c .before .before .before .before .before .before .before .loop .inv .0 ∙ special-next (o .split) (c .before .before .byte-of .ensures) ∙ rw (sym (c .before .special .ensures), c .if1 .left), o .next, o .small)
+    let o = told-one _ _ (c .before .before .before .before .before .before .next-sign .ensures)
+    (c .before .before .before .before .sign .given .1) in (
+      c .before .before .before .before .before .before .before .loop .inv .0
+          ∙ special-next (o .split) (c .before .before .byte-of .ensures)
+          ∙ rw (sym (c .before .special .ensures), c .if1 .left),
+      o .next,
+      o .small,
+    )
 
 returns-2 : tie.Need-returns-2 Inv-loop μ-loop
-returns-2 c = sym (c .before .before .before .loop .inv .0 ∙ special-none (told-over (c .before .before .next-sign .ensures) (c .enum-told .given .1)))
+returns-2 c = sym (c .before .before .before .loop .inv .0
+    ∙ special-none (told-over (c .before .before .next-sign .ensures) (c .enum-told .given .1)))
 
 pub xml-needs-quotes-spec : {M : Type 1} → statement M
 xml-needs-quotes-spec =

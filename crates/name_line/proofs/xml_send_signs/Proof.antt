@@ -30,18 +30,25 @@ next-sign-requires : tie.Need-next-sign-requires Inv-loop μ-loop
 next-sign-requires c κs = (c .loop .inv .1, c .loop .inv .2)
 
 loop-less : tie.Need-loop-less Inv-loop μ-loop
-loop-less c = let o = told-one _ _ (c .before .before .before .before .before .before .before .before .next-sign .ensures) (c .before .before .before .before .before .before .sign .given .1) in shorter (o .split)
+loop-less c = let o = told-one _ _ (c .before .before .before .before .before .before .before .before .next-sign .ensures)
+    (c .before .before .before .before .before .before .sign .given .1) in shorter (o .split)
 
 loop-again : tie.Need-loop-again Inv-loop μ-loop
 loop-again c =
-    let o = told-one _ _ (c .before .before .before .before .before .before .before .before .next-sign .ensures) (c .before .before .before .before .before .before .sign .given .1) in
-    (less-owed (c .before .before .before .before .before .before .before .before .before .loop .inv .0) (doubled-next (o .split) (c .before .before .before .byte-of .ensures)) (c .before .before .send-doubled .ensures), o .next, o .small)
+    let o = told-one _ _ (c .before .before .before .before .before .before .before .before .next-sign .ensures)
+    (c .before .before .before .before .before .before .sign .given .1) in (
+      less-owed (c .before .before .before .before .before .before .before .before .before .loop .inv .0)
+          (doubled-next (o .split) (c .before .before .before .byte-of .ensures)) (c .before .before .send-doubled .ensures),
+      o .next,
+      o .small,
+    )
 
 same-length : tie.Need-same-length Inv-loop μ-loop
 same-length c = c .before .before .before .loop .inv .0 .same-room
 
 returns : tie.Need-returns Inv-loop μ-loop
-returns c = none-owed (c .before .before .before .loop .inv .0) (doubled-none (told-over (c .before .before .next-sign .ensures) (c .enum-told .given .1)))
+returns c = none-owed (c .before .before .before .loop .inv .0)
+    (doubled-none (told-over (c .before .before .next-sign .ensures) (c .enum-told .given .1)))
 
 pub xml-send-signs-spec : {M : Type 1} → statement M
 xml-send-signs-spec =

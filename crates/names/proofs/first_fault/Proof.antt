@@ -9,7 +9,8 @@ use lib.ListN.{getD, length, length-set}
 use borrow.Author.Needs.{needs}
 use Rattle.below.specs.rule.Below.{anyBelow}
 use Rattle.names.specs.Clash.{faultFrom, faultOf}
-use Rattle.names.proofs.Clashes.{fault-here, fault-on, fault-none, wrong-zero, wrong-pair, wrong-not, none-more, placeOf, Marked, held, marked-more}
+use Rattle.names.proofs.Clashes.{fault-here, fault-on, fault-none, wrong-zero, wrong-pair, wrong-not, none-more, placeOf, Marked}
+use Rattle.names.proofs.Clashes.{held, marked-more}
 use Rattle.names.proofs.first_fault.Statement.{statement}
 use Rattle.names.proofs.first_fault.Tie as tie
 
@@ -45,7 +46,8 @@ loop-again c =
     let keys = c .before .before .before .before .before .before .before .before .before .args .keys .now in (
       omega arith,
       c .before .before .before .loop .inv .1,
-      none-more keys (getD keys (c .before .before .before .before .before .before .before .before .rows .j) 0) (c .before .before .before .loop .i) (c .before .before .before .loop .inv .2) (c .if2 .left),
+      none-more keys (getD keys (c .before .before .before .before .before .before .before .before .rows .j) 0)
+          (c .before .before .before .loop .i) (c .before .before .before .loop .inv .2) (c .if2 .left),
     )
 
 rows-again : tie.Need-rows-again Inv-loop μ-loop Inv-rows μ-rows
@@ -55,7 +57,8 @@ rows-again c =
     let v = c .before .before .before .before .before .before .rows in
     let e : c .before .loop .i ≡ v .j = omega arith in
     let n : anyBelow (v .j) (λ i. eqb (getD keys i 0) (getD keys (v .j) 0)) ≡ false = rw e at (c .before .loop .inv .2) in (
-      v .inv .0 ∙ fault-on keys (c .before .before .before .before .before .before .before .args .count) (v .j) (c .before .before .before .before .before .rows-test .taken) (wrong-not keys (v .j) (c .before .before .before .if1 .left) n),
+      v .inv .0 ∙ fault-on keys (c .before .before .before .before .before .before .before .args .count) (v .j)
+          (c .before .before .before .before .before .rows-test .taken) (wrong-not keys (v .j) (c .before .before .before .if1 .left) n),
       omega arith,
       c .before .loop .inv .1 ∙ v .inv .2,
       simp length-set (v .inv .3),
@@ -65,13 +68,17 @@ rows-again c =
 returns : tie.Need-returns Inv-loop μ-loop Inv-rows μ-rows
 returns c =
     let e : c .before .rows .j ≡ c .before .before .args .count = omega arith in
-    c .before .rows .inv .2 ∙ sym e ∙ sym (c .before .rows .inv .0 ∙ fault-none (c .before .before .args .keys .now) (c .before .before .args .count) (c .before .rows .j) (c .rows-test .left))
+    c .before .rows .inv .2 ∙ sym e ∙ sym (c .before .rows .inv .0
+    ∙ fault-none (c .before .before .args .keys .now) (c .before .before .args .count) (c .before .rows .j) (c .rows-test .left))
 
 returns-2 : tie.Need-returns-2 Inv-loop μ-loop Inv-rows μ-rows
-returns-2 c = sym (c .before .before .before .rows .inv .0 ∙ fault-here _ _ _ (c .before .before .rows-test .taken) (wrong-zero _ _ (c .if1 .taken)))
+returns-2 c = sym (c .before .before .before .rows .inv .0
+    ∙ fault-here _ _ _ (c .before .before .rows-test .taken) (wrong-zero _ _ (c .if1 .taken)))
 
 returns-3 : tie.Need-returns-3 Inv-loop μ-loop Inv-rows μ-rows
-returns-3 c = sym (c .before .before .before .before .before .before .before .before .rows .inv .0 ∙ fault-here _ _ _ (c .before .before .before .before .before .before .before .rows-test .taken) (wrong-pair _ _ (c .before .before .before .loop .i) (c .before .before .loop-test .taken) (c .if2 .taken)))
+returns-3 c = sym (c .before .before .before .before .before .before .before .before .rows .inv .0
+    ∙ fault-here _ _ _ (c .before .before .before .before .before .before .before .rows-test .taken)
+    (wrong-pair _ _ (c .before .before .before .loop .i) (c .before .before .loop-test .taken) (c .if2 .taken)))
 
 pub first-fault-spec : {M : Type 1} → statement M
 first-fault-spec =

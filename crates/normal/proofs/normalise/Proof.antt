@@ -20,24 +20,34 @@ good c = sym (c .before .before .well-formed .ensures .says) ∙ not-false _ (c 
 
 returns-2 : tie.Need-returns-2
 unfolding normalSaid
-returns-2 c = shared-as _ _ (good (c .before .before)) _ (c .before .before .read .ensures) (c .before .none-shared .ensures) (not-true _ (c .if2 .taken))
+returns-2 c = shared-as _ _ (good (c .before .before)) _ (c .before .before .read .ensures) (c .before .none-shared .ensures)
+    (not-true _ (c .if2 .taken))
 
 returns-3 : tie.Need-returns-3
 unfolding normalSaid judgedAs
 returns-3 c =
-    short-as _ _ (good (c .before .before .before)) _ (c .before .before .before .read .ensures) (c .before .before .none-shared .ensures) (not-false _ (c .before .if2 .left)) (c .if3 .taken)
+    short-as _ _ (good (c .before .before .before)) _ (c .before .before .before .read .ensures) (c .before .before .none-shared .ensures)
+    (not-false _ (c .before .if2 .left)) (c .if3 .taken)
 
 returns-4 : tie.Need-returns-4
 unfolding normalSaid
 returns-4 c =
-    judged-not _ _ (good (c .before .before .before .before .before .before .before)) _ (c .before .before .before .before .before .before .before .read .ensures) (c .before .before .before .before .before .before .none-shared .ensures) (not-false _ (c .before .before .before .before .before .if2 .left)) (c .before .before .before .before .if3 .left)
+    judged-not _ _ (good (c .before .before .before .before .before .before .before)) _
+    (c .before .before .before .before .before .before .before .read .ensures)
+    (c .before .before .before .before .before .before .none-shared .ensures)
+    (not-false _ (c .before .before .before .before .before .if2 .left)) (c .before .before .before .before .if3 .left)
     (c .before .before .judge .ensures) (c .before .is-sound .ensures) (not-true _ (c .if4 .taken))
 
 returns-5 : tie.Need-returns-5
 unfolding normalSaid
 returns-5 c =
-    judged-done _ _ (good (c .before .before .before .before .before .before .before .before .before .before .before)) _ (c .before .before .before .before .before .before .before .before .before .before .before .read .ensures) (c .before .before .before .before .before .before .before .before .before .before .none-shared .ensures) (not-false _ (c .before .before .before .before .before .before .before .before .before .if2 .left)) (c .before .before .before .before .before .before .before .before .if3 .left)
-    (c .before .before .before .before .before .before .judge .ensures) (c .before .before .before .before .before .is-sound .ensures) (not-false _ (c .before .before .before .before .if4 .left)) (c .before .before .settle-all .ensures)
+    judged-done _ _ (good (c .before .before .before .before .before .before .before .before .before .before .before)) _
+    (c .before .before .before .before .before .before .before .before .before .before .before .read .ensures)
+    (c .before .before .before .before .before .before .before .before .before .before .none-shared .ensures)
+    (not-false _ (c .before .before .before .before .before .before .before .before .before .if2 .left))
+    (c .before .before .before .before .before .before .before .before .if3 .left)
+    (c .before .before .before .before .before .before .judge .ensures) (c .before .before .before .before .before .is-sound .ensures)
+    (not-false _ (c .before .before .before .before .if4 .left)) (c .before .before .settle-all .ensures)
 
 pub normalise-spec : {M : Type 1} → statement M
 normalise-spec =
@@ -49,10 +59,15 @@ normalise-spec =
     (λ c κs. known _ (good c) _ (c .read .ensures))
     returns-2
     returns-3
-    (λ c κs. rows-ready _ (c .before .before .before .before .before .before .before .before .args .bytes .now) (good (c .before .before .before .before)) _ (c .before .before .before .before .read .ensures) (c .before .if3 .left))
+    (λ c κs. rows-ready _ (c .before .before .before .before .before .before .before .before .args .bytes .now)
+    (good (c .before .before .before .before)) _ (c .before .before .before .before .read .ensures) (c .before .if3 .left))
     (λ c κs. search needs)
     (λ c. search needs)
     returns-4
-    (λ c κs. (known _ (good (c .before .before .before .before .before .before .before .before)) _ (c .before .before .before .before .before .before .before .before .read .ensures) .0, c .before .before .before .before .before .if3 .left))
+    (λ c κs. (
+      known _ (good (c .before .before .before .before .before .before .before .before)) _
+          (c .before .before .before .before .before .before .before .before .read .ensures) .0,
+      c .before .before .before .before .before .if3 .left,
+    ))
     (λ c. search needs)
     returns-5)

@@ -15,19 +15,25 @@ back : (c : tie.After-known-told) → toZ w64 (ofZ w64 (c .before .said .given .
 back c = search needs
 
 slice-aggregate-set : tie.Need-slice-aggregate-set
-slice-aggregate-set c = sym (length-take-le _ (c .before .before .before .before .before .args .list .now) (held _ _ _ _ _ (c .before .before .said2 .given .1) (c .before .before .before .before .before .pre .1 .1) .0))
+slice-aggregate-set c = sym (length-take-le _ (c .before .before .before .before .before .args .list .now)
+    (held _ _ _ _ _ (c .before .before .said2 .given .1) (c .before .before .before .before .before .pre .1 .1) .0))
 
 returns : tie.Need-returns
 unfolding valueOf
-returns c = written-back _ _ _ _ _ (held _ _ _ _ _ (c .before .before .before .before .before .enum-told .given .1) (c .before .before .before .before .before .before .before .before .pre .1 .1)) refl (c .before .before .write-row .ensures)
+returns c = written-back _ _ _ _ _ (held _ _ _ _ _ (c .before .before .before .before .before .enum-told .given .1)
+    (c .before .before .before .before .before .before .before .before .pre .1 .1)) refl (c .before .before .write-row .ensures)
 
 returns-2 : tie.Need-returns-2
 unfolding valueOf
-returns-2 c = written-back _ _ _ _ _ (held _ _ _ _ _ (c .before .before .before .before .before .before .said .given .1) (c .before .before .before .before .before .before .before .before .before .pre .1 .1)) (rw (back (c .before .before .before .before .before))) (c .before .before .write-row2 .ensures)
+returns-2 c = written-back _ _ _ _ _ (held _ _ _ _ _ (c .before .before .before .before .before .before .said .given .1)
+    (c .before .before .before .before .before .before .before .before .before .pre .1 .1))
+    (rw (back (c .before .before .before .before .before))) (c .before .before .write-row2 .ensures)
 
 returns-3 : tie.Need-returns-3
 unfolding valueOf
-returns-3 c = written-back _ _ _ _ _ (held _ _ _ _ _ (c .before .before .before .before .before .before .before .said2 .given .1) (c .before .before .before .before .before .before .before .before .before .before .pre .1 .1) .1) refl (c .before .before .write-row3 .ensures)
+returns-3 c = written-back _ _ _ _ _ (held _ _ _ _ _ (c .before .before .before .before .before .before .before .said2 .given .1)
+    (c .before .before .before .before .before .before .before .before .before .before .pre .1 .1) .1) refl
+    (c .before .before .write-row3 .ensures)
 
 pub put-back-spec : {M : Type 1} → statement M
 put-back-spec =

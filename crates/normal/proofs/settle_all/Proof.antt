@@ -9,12 +9,19 @@ use Rattle.normal.proofs.settle_all.Statement.{statement}
 use Rattle.normal.proofs.settle_all.Tie as tie
 
 settle-rows-requires : tie.Need-settle-rows-requires
-settle-rows-requires c κs = (c .before .before .before .before .powers .ensures, table-settles _ _ (c .before .before .before .before .before .before .pre .0) (c .before .before .before .before .before .before .pre .1) (inl (c .before .before .before .if1 .taken)))
+settle-rows-requires c κs = (
+  c .before .before .before .before .powers .ensures,
+  table-settles _ _ (c .before .before .before .before .before .before .pre .0) (c .before .before .before .before .before .before .pre .1)
+      (inl (c .before .before .before .if1 .taken)),
+)
 
 settle-rows-requires-2 : tie.Need-settle-rows-requires-2
 settle-rows-requires-2 c κs =
-    let h : 9999 ≤ 10000 = omega arith in
-    (c .before .before .before .before .powers .ensures, table-settles _ _ (c .before .before .before .before .before .before .pre .0) (c .before .before .before .before .before .before .pre .1) (inr h))
+    let h : 9999 ≤ 10000 = omega arith in (
+      c .before .before .before .before .powers .ensures,
+      table-settles _ _ (c .before .before .before .before .before .before .pre .0)
+          (c .before .before .before .before .before .before .pre .1) (inr h),
+    )
 
 pub settle-all-spec : {M : Type 1} → statement M
 settle-all-spec =

@@ -11,8 +11,14 @@ returns c = stays-back _ _ _ _ (c .before .stays .ensures) (c .if1 .taken)
 
 put-back-requires : tie.Need-put-back-requires
 put-back-requires c κs =
-    let p = c .before .before .before .before .before .before .before .before .before .pre in
-    (p .0, (p .1 .write, held-as _ _ _ _ (p .1) (c .before .before .before .before .before .before .before .stays .ensures) (c .before .before .before .before .before .before .if1 .left) (c .before .before .before .read-row .ensures)))
+    let p = c .before .before .before .before .before .before .before .before .before .pre in (
+      p .0,
+      (
+        p .1 .write,
+        held-as _ _ _ _ (p .1) (c .before .before .before .before .before .before .before .stays .ensures)
+            (c .before .before .before .before .before .before .if1 .left) (c .before .before .before .read-row .ensures),
+      ),
+    )
 
 pub settle-row-spec : {M : Type 1} → statement M
 settle-row-spec =

@@ -28,7 +28,8 @@ loop-again c =
       omega arith,
       c .before .before .before .settle-row .kept .1 .1 .1 .1 .0 ∙ l .inv .1,
       c .before .before .before .settle-row .kept .1 .1 .1 .1 .1 .0 ∙ l .inv .2,
-      settled-step _ _ _ _ (c .before .before .before .settle-row .ensures) (c .before .before .before .before .before .before .read .ensures) (l .inv .3),
+      settled-step _ _ _ _ (c .before .before .before .settle-row .ensures)
+          (c .before .before .before .before .before .before .read .ensures) (l .inv .3),
     )
 
 pub settle-rows-spec : {M : Type 1} → statement M
@@ -38,7 +39,8 @@ settle-rows-spec =
     Inv-loop
     μ-loop
     (λ c. (omega arith, refl, refl, settled-none _ _ _))
-    (λ c κs. let f = c .before .before .before .pre .1 .few in let s = c .before .before .before .pre .1 .stand in (omega arith, omega arith))
+    (λ c κs. let f = c .before .before .before .pre .1 .few in
+    let s = c .before .before .before .pre .1 .stand in (omega arith, omega arith))
     settle-row-requires
     (λ c. omega arith)
     (λ c. omega arith)

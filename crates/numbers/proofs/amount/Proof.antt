@@ -11,7 +11,8 @@ use Rattle.widths.specs.rule.Width.{tailOf, leastWhole}
 use Rattle.widths.specs.Width.{tail-point, tail-few}
 use Rattle.fields.specs.rule.Number.{says}
 use Rattle.numbers.specs.Numeral.{saidOf, decimalsRead}
-use Rattle.numbers.proofs.Laws.{rest-is, few-digits, value-small, amount-short, amount-bad, amount-plain, amount-pointless, amount-decimals, decimals-room}
+use Rattle.numbers.proofs.Laws.{rest-is, few-digits, value-small, amount-short, amount-bad, amount-plain, amount-pointless}
+use Rattle.numbers.proofs.Laws.{amount-decimals, decimals-room}
 use Rattle.numbers.proofs.amount.Statement.{statement}
 use Rattle.numbers.proofs.amount.Tie as tie
 
@@ -24,13 +25,16 @@ too-short-requires c κs = (c .tail .ensures, rw (c .tail .ensures) (tail-few _ 
 
 -- where the point has its place: before the tail
 module _ (c : tie.Else1) where
-  place : length (c .before .before .before .before .args .s .now) - c .before .before .tail .result ≡ length (c .before .before .before .before .args .s .now) - tailOf (c .before .before .before .before .args .f)
+  place : length (c .before .before .before .before .args .s .now) - c .before .before .tail .result
+      ≡ length (c .before .before .before .before .args .s .now) - tailOf (c .before .before .before .before .args .f)
   place = rw (c .before .before .tail .ensures)
 
-  room : leastWhole (c .before .before .before .before .args .f) + tailOf (c .before .before .before .before .args .f) ≤ length (c .before .before .before .before .args .s .now)
+  room : leastWhole (c .before .before .before .before .args .f) + tailOf (c .before .before .before .before .args .f)
+      ≤ length (c .before .before .before .before .args .s .now)
   room = ltb-false _ _ (sym (c .before .too-short .ensures) ∙ c .if1 .left)
 
-  short : length (take (length (c .before .before .before .before .args .s .now) - c .before .before .tail .result) (c .before .before .before .before .args .s .now)) ≤ 17
+  short : length (take (length (c .before .before .before .before .args .s .now) - c .before .before .tail .result)
+      (c .before .before .before .before .args .s .now)) ≤ 17
   short = simp length-take (omega arith)
 
 sub-k : tie.Need-sub-k
@@ -41,25 +45,43 @@ slice-aggregate-digits-after c = sym (length-take-le _ _ (omega arith))
 
 digits-after-requires : tie.Need-digits-after-requires
 digits-after-requires c κs =
-    let l = short (c .before) in few-digits (take (length (c .before .before .before .before .before .args .s .now) - c .before .before .before .tail .result) (c .before .before .before .before .before .args .s .now)) (omega arith)
+    let l = short (c .before) in few-digits (take
+    (length (c .before .before .before .before .before .args .s .now) - c .before .before .before .tail .result)
+    (c .before .before .before .before .before .args .s .now)) (omega arith)
 
 signed-requires : tie.Need-signed-requires
-signed-requires c κs = value-small _ _ (short (c .before .before .before .before .before .before .before)) (sym (c .before .before .before .before .before .digits-after .ensures) ∙ c .before .before .before .whole .given .1)
+signed-requires c κs = value-small _ _ (short (c .before .before .before .before .before .before .before))
+    (sym (c .before .before .before .before .before .digits-after .ensures) ∙ c .before .before .before .whole .given .1)
 
 returns-2 : tie.Need-returns-2
 unfolding saidOf
 returns-2 c =
     ap says (toZ-ofZ (sfits-of (c .signed .ok)) ∙ c .signed .ensures)
-    ∙ sym (amount-plain _ _ _ _ (place (c .before .before .before .before .before .before .before .before)) (room (c .before .before .before .before .before .before .before .before)) _ (sym (c .before .before .before .before .before .before .digits-after .ensures) ∙ c .before .before .before .before .whole .given .1) (c .before .if2 .taken) (c .before .before .before .before .before .before .before .before .before .before .before .before .pre .0 .plain (c .before .if2 .taken)))
+    ∙ sym (amount-plain _ _ _ _ (place (c .before .before .before .before .before .before .before .before))
+    (room (c .before .before .before .before .before .before .before .before)) _
+    (sym (c .before .before .before .before .before .before .digits-after .ensures) ∙ c .before .before .before .before .whole .given .1)
+    (c .before .if2 .taken)
+    (c .before .before .before .before .before .before .before .before .before .before .before .before .pre .0 .plain
+    (c .before .if2 .taken)))
 
 returns-3 : tie.Need-returns-3
 unfolding saidOf
-returns-3 c = sym (amount-pointless _ _ _ _ (place (c .before .before .before .before .before .before .before .before .before)) (room (c .before .before .before .before .before .before .before .before .before)) _ (sym (c .before .before .before .before .before .before .before .digits-after .ensures) ∙ c .before .before .before .before .before .whole .given .1) (c .before .before .if2 .left) (c .if3 .taken))
+returns-3 c = sym (amount-pointless _ _ _ _ (place (c .before .before .before .before .before .before .before .before .before))
+    (room (c .before .before .before .before .before .before .before .before .before)) _
+    (sym (c .before .before .before .before .before .before .before .digits-after .ensures)
+    ∙ c .before .before .before .before .before .whole .given .1) (c .before .before .if2 .left) (c .if3 .taken))
 
 -- where the block has a point, its place lies before the end
 module _ (c : tie.Else2) where
-  inner : length (c .before .before .before .before .before .before .before .before .before .before .before .args .s .now) - c .before .before .before .before .before .before .before .before .before .tail .result < length (c .before .before .before .before .before .before .before .before .before .before .before .args .s .now)
-  inner = let t = tail-point (c .before .before .before .before .before .before .before .before .before .before .before .args .f) (c .if2 .left) in omega (arith, c .before .before .before .before .before .before .before .before .before .tail .ensures, room (c .before .before .before .before .before .before .before))
+  inner : length (c .before .before .before .before .before .before .before .before .before .before .before .args .s .now) -
+      c .before .before .before .before .before .before .before .before .before .tail .result
+      < length (c .before .before .before .before .before .before .before .before .before .before .before .args .s .now)
+  inner = let t = tail-point (c .before .before .before .before .before .before .before .before .before .before .before .args .f)
+      (c .if2 .left) in omega (
+        arith,
+        c .before .before .before .before .before .before .before .before .before .tail .ensures,
+        room (c .before .before .before .before .before .before .before),
+      )
 
 shared-slice-read-if3 : tie.Need-shared-slice-read-if3
 shared-slice-read-if3 c = inner (c .before)
@@ -73,18 +95,37 @@ part-decimals-after-start c = let h = inner (c .before .before) in search needs
 decimals-after-requires : tie.Need-decimals-after-requires
 decimals-after-requires c κs =
     let h = inner (c .before .before .before) in
-    decimals-room (c .before .before .before .before .before .before .before .before .before .before .before .before .before .before .args .s .now) (length (c .before .before .before .before .before .before .before .before .before .before .before .before .before .before .args .s .now) - c .before .before .before .before .before .before .before .before .before .before .before .before .tail .result) _ (omega arith) (omega arith) (sym (c .before .before .before .before .before .before .before .before .digits-after .ensures) ∙ c .before .before .before .before .before .before .whole .given .1)
+    decimals-room
+    (c .before .before .before .before .before .before .before .before .before .before .before .before .before .before .args .s .now)
+    (length (c .before .before .before .before .before .before .before .before .before .before .before .before .before .before .args .s
+    .now) - c .before .before .before .before .before .before .before .before .before .before .before .before .tail .result) _ (omega arith)
+    (omega arith) (sym (c .before .before .before .before .before .before .before .before .digits-after .ensures)
+    ∙ c .before .before .before .before .before .before .whole .given .1)
 
 returns-4 : tie.Need-returns-4
 returns-4 c =
     let h = inner (c .before .before .before .before) in
-    c .decimals-after .ensures ∙ ap (decimalsRead (c .before .before .before .before .before .before .before .before .before .before .before .before .before .before .before .args .minus) (c .before .before .before .before .before .before .before .whole .given .0 .0)) (rest-is (c .before .before .before .before .before .before .before .before .before .before .before .before .before .before .before .args .s .now) (length (c .before .before .before .before .before .before .before .before .before .before .before .before .before .before .before .args .s .now) - c .before .before .before .before .before .before .before .before .before .before .before .before .before .tail .result + 1) (omega arith))
-    ∙ sym (amount-decimals _ _ _ _ (place (c .before .before .before .before .before .before .before .before .before .before .before)) (room (c .before .before .before .before .before .before .before .before .before .before .before)) _ (sym (c .before .before .before .before .before .before .before .before .before .digits-after .ensures) ∙ c .before .before .before .before .before .before .before .whole .given .1) (c .before .before .before .before .if2 .left) (c .before .before .if3 .left))
+    c .decimals-after .ensures ∙ ap (decimalsRead
+    (c .before .before .before .before .before .before .before .before .before .before .before .before .before .before .before .args .minus)
+    (c .before .before .before .before .before .before .before .whole .given .0 .0))
+    (rest-is (c .before .before .before .before .before .before .before .before .before .before .before .before .before .before .before
+    .args .s .now)
+    (length (c .before .before .before .before .before .before .before .before .before .before .before .before .before .before .before .args
+    .s .now) - c .before .before .before .before .before .before .before .before .before .before .before .before .before .tail .result + 1)
+    (omega arith))
+    ∙ sym (amount-decimals _ _ _ _ (place (c .before .before .before .before .before .before .before .before .before .before .before))
+    (room (c .before .before .before .before .before .before .before .before .before .before .before)) _
+    (sym (c .before .before .before .before .before .before .before .before .before .digits-after .ensures)
+    ∙ c .before .before .before .before .before .before .before .whole .given .1) (c .before .before .before .before .if2 .left)
+    (c .before .before .if3 .left))
 
 returns-5 : tie.Need-returns-5
 unfolding saidOf
-returns-5 c = sym (amount-bad _ _ _ _ (place (c .before .before .before .before)) (room (c .before .before .before .before)) (sym (c .before .before .digits-after .ensures) ∙ c .enum-told .given .1))
+returns-5 c = sym (amount-bad _ _ _ _ (place (c .before .before .before .before)) (room (c .before .before .before .before))
+    (sym (c .before .before .digits-after .ensures) ∙ c .enum-told .given .1))
 
 pub amount-spec : {M : Type 1} → statement M
 amount-spec =
-    tie.close (tie.spec (λ c κs. search needs) too-short-requires returns sub-k slice-aggregate-digits-after digits-after-requires (λ c. search needs) signed-requires returns-2 shared-slice-read-if3 returns-3 (λ c. search needs) sub-decimals-after part-decimals-after-start (λ c. search needs) decimals-after-requires (λ c. search needs) returns-4 returns-5)
+    tie.close (tie.spec (λ c κs. search needs) too-short-requires returns sub-k slice-aggregate-digits-after digits-after-requires
+    (λ c. search needs) signed-requires returns-2 shared-slice-read-if3 returns-3 (λ c. search needs) sub-decimals-after
+    part-decimals-after-start (λ c. search needs) decimals-after-requires (λ c. search needs) returns-4 returns-5)

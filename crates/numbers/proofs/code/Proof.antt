@@ -17,27 +17,34 @@ unfolding saidOf
 returns c = sym (code-none _ _ (c .before .leading-spaces .ensures .1) (c .if1 .taken))
 
 digits-after-requires : tie.Need-digits-after-requires
-digits-after-requires c κs = few-rest (c .before .before .before .before .args .s .now) (c .before .before .leading-spaces .result) (c .before .before .leading-spaces .ensures .0) (c .before .before .before .before .pre)
+digits-after-requires c κs = few-rest (c .before .before .before .before .args .s .now) (c .before .before .leading-spaces .result)
+    (c .before .before .leading-spaces .ensures .0) (c .before .before .before .before .pre)
 
 -- what the digits after the spaces were read as
-read : (c : tie.After-digits-after) → c .digits-after .result ≡ digitsRead 0 (drop (c .before .before .before .leading-spaces .result) (c .before .before .before .before .before .args .s .now))
+read : (c : tie.After-digits-after) → c .digits-after .result
+    ≡ digitsRead 0 (drop (c .before .before .before .leading-spaces .result) (c .before .before .before .before .before .args .s .now))
 read c = c .digits-after .ensures ∙ ap (digitsRead 0) (rest-is _ _ (c .before .before .before .leading-spaces .ensures .0))
 
 signed-requires : tie.Need-signed-requires
 signed-requires c κs =
     let s = c .before .before .before .before .before .before .before .before .args .s .now in
-    value-small (drop (c .before .before .before .before .before .before .leading-spaces .result) s) _ (simp length-drop (omega arith)) (sym (read (c .before .before .before)) ∙ c .before .n .given .1)
+    value-small (drop (c .before .before .before .before .before .before .leading-spaces .result) s) _ (simp length-drop (omega arith))
+    (sym (read (c .before .before .before)) ∙ c .before .n .given .1)
 
 returns-2 : tie.Need-returns-2
 unfolding saidOf numberOf
 returns-2 c =
     ap says (toZ-ofZ (sfits-of (c .signed .ok)) ∙ c .signed .ensures)
-    ∙ sym (code-says _ _ (c .before .before .before .before .before .before .before .leading-spaces .ensures .1) _ (c .before .before .before .before .before .before .if1 .left) (sym (read (c .before .before .before .before)) ∙ c .before .before .n .given .1))
+    ∙ sym (code-says _ _ (c .before .before .before .before .before .before .before .leading-spaces .ensures .1) _
+    (c .before .before .before .before .before .before .if1 .left)
+    (sym (read (c .before .before .before .before)) ∙ c .before .before .n .given .1))
 
 returns-3 : tie.Need-returns-3
 unfolding saidOf
-returns-3 c = sym (code-wrong _ _ (c .before .before .before .before .before .leading-spaces .ensures .1) (c .before .before .before .before .if1 .left) (sym (read (c .before .before)) ∙ c .enum-told .given .1))
+returns-3 c = sym (code-wrong _ _ (c .before .before .before .before .before .leading-spaces .ensures .1)
+    (c .before .before .before .before .if1 .left) (sym (read (c .before .before)) ∙ c .enum-told .given .1))
 
 pub code-spec : {M : Type 1} → statement M
 code-spec =
-    tie.close (tie.spec (λ c κs. search needs) returns (λ c. search needs) (λ c. search needs) (λ c. search needs) digits-after-requires (λ c. search needs) signed-requires (λ c. search needs) returns-2 returns-3)
+    tie.close (tie.spec (λ c κs. search needs) returns (λ c. search needs) (λ c. search needs) (λ c. search needs) digits-after-requires
+    (λ c. search needs) signed-requires (λ c. search needs) returns-2 returns-3)

@@ -11,7 +11,11 @@ use Rattle.numbers.proofs.decimals_after.Statement.{statement}
 use Rattle.numbers.proofs.decimals_after.Tie as tie
 
 signed-requires : tie.Need-signed-requires
-signed-requires c κs = omega (arith, value-room _ _ _ (sym (c .before .before .before .digits-after .ensures) ∙ c .before .n .given .1), c .before .before .before .before .before .pre)
+signed-requires c κs = omega (
+  arith,
+  value-room _ _ _ (sym (c .before .before .before .digits-after .ensures) ∙ c .before .n .given .1),
+  c .before .before .before .before .before .pre,
+)
 
 returns : tie.Need-returns
 unfolding saidOf decimalsRead

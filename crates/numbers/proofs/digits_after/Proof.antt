@@ -60,7 +60,12 @@ mul-value c = let l = c .before .before .before .before in
 
 add-value : tie.Need-add-value Inv-loop μ-loop
 add-value c = let l = c .before .before .before .before .before in
-    omega (arith, c .wide .ensures, room-small (l .loop .value) (length (l .before .before .args .s .now) - l .loop .i) (10 ^ 18) (l .loop .inv .1))
+    omega (
+      arith,
+      c .wide .ensures,
+      room-small (l .loop .value) (length (l .before .before .args .s .now) - l .loop .i) (10 ^ 18)
+          (l .loop .inv .1),
+    )
 
 loop-again : tie.Need-loop-again Inv-loop μ-loop
 loop-again c =
@@ -72,7 +77,8 @@ loop-again c =
     let v : l .loop .value * 10 + c .wide .result - 48 ≡ l .loop .value * 10 + (b - 48) = omega (arith, c .wide .ensures) in (
       omega arith,
       rw v (step-room _ _ _ _ (omega arith) r),
-      rw v (sym (digit _ _ _ (c .before .before .before .before .loop-test .taken) (rw (le-leb _ _ (c .before .before .if1 .left), le-leb _ _ (c .before .if2 .left)))) ∙ l .loop .inv .2),
+      rw v (sym (digit _ _ _ (c .before .before .before .before .loop-test .taken)
+          (rw (le-leb _ _ (c .before .before .if1 .left), le-leb _ _ (c .before .if2 .left)))) ∙ l .loop .inv .2),
     )
 
 returns-3 : tie.Need-returns-3 Inv-loop μ-loop
@@ -80,4 +86,5 @@ returns-3 c = sym (none _ _ _ (c .loop-test .left)) ∙ c .before .loop .inv .2
 
 pub digits-after-spec : {M : Type 1} → statement M
 digits-after-spec =
-    tie.close (tie.spec Inv-loop μ-loop loop-holds (λ c. omega arith) returns returns-2 mul-value (λ c κs. search needs) add-value (λ c. omega (arith, c .wide .ensures)) (λ c. omega arith) (λ c. omega arith) loop-again returns-3)
+    tie.close (tie.spec Inv-loop μ-loop loop-holds (λ c. omega arith) returns returns-2 mul-value (λ c κs. search needs) add-value
+    (λ c. omega (arith, c .wide .ensures)) (λ c. omega arith) (λ c. omega arith) loop-again returns-3)

@@ -15,23 +15,37 @@ unfolding saidOf
 returns c = sym (quantity-none _ _ (c .before .leading-spaces .ensures .1) _ (c .if1 .taken))
 
 amount-requires : tie.Need-amount-requires
-amount-requires c κs = (c .before .before .before .before .before .before .pre .0, short-rest (c .before .before .before .before .before .before .args .s .now) (c .before .before .before .before .leading-spaces .result + 1) (omega arith) (c .before .before .before .before .before .before .pre .1))
+amount-requires c κs = (
+  c .before .before .before .before .before .before .pre .0,
+  short-rest (c .before .before .before .before .before .before .args .s .now)
+      (c .before .before .before .before .leading-spaces .result + 1) (omega arith)
+      (c .before .before .before .before .before .before .pre .1),
+)
 
 returns-2 : tie.Need-returns-2
 returns-2 c =
     let a = c .before .before .before .before .before .before .before .args in
-    c .amount .ensures ∙ ap (amountOf (a .f) true) (rest-is (a .s .now) (c .before .before .before .before .before .leading-spaces .result + 1) (omega arith))
-    ∙ sym (quantity-minus _ _ (c .before .before .before .before .before .leading-spaces .ensures .1) (a .f) (c .before .before .before .before .if1 .left) (c .before .before .if2 .taken))
+    c .amount .ensures ∙ ap (amountOf (a .f) true)
+    (rest-is (a .s .now) (c .before .before .before .before .before .leading-spaces .result + 1) (omega arith))
+    ∙ sym (quantity-minus _ _ (c .before .before .before .before .before .leading-spaces .ensures .1) (a .f)
+    (c .before .before .before .before .if1 .left) (c .before .before .if2 .taken))
 
 amount-requires-2 : tie.Need-amount-requires-2
-amount-requires-2 c κs = (c .before .before .before .before .before .before .pre .0, short-rest (c .before .before .before .before .before .before .args .s .now) (c .before .before .before .before .leading-spaces .result) (omega arith) (c .before .before .before .before .before .before .pre .1))
+amount-requires-2 c κs = (
+  c .before .before .before .before .before .before .pre .0,
+  short-rest (c .before .before .before .before .before .before .args .s .now) (c .before .before .before .before .leading-spaces .result)
+      (omega arith) (c .before .before .before .before .before .before .pre .1),
+)
 
 returns-3 : tie.Need-returns-3
 returns-3 c =
     let a = c .before .before .before .before .before .before .before .args in
-    c .amount2 .ensures ∙ ap (amountOf (a .f) false) (rest-is (a .s .now) (c .before .before .before .before .before .leading-spaces .result) (omega arith))
-    ∙ sym (quantity-plain _ _ (c .before .before .before .before .before .leading-spaces .ensures .1) (a .f) (c .before .before .before .before .if1 .left) (c .before .before .if2 .left))
+    c .amount2 .ensures ∙ ap (amountOf (a .f) false)
+    (rest-is (a .s .now) (c .before .before .before .before .before .leading-spaces .result) (omega arith))
+    ∙ sym (quantity-plain _ _ (c .before .before .before .before .before .leading-spaces .ensures .1) (a .f)
+    (c .before .before .before .before .if1 .left) (c .before .before .if2 .left))
 
 pub quantity-spec : {M : Type 1} → statement M
 quantity-spec =
-    tie.close (tie.spec (λ c κs. search needs) returns (λ c. search needs) (λ c. search needs) (λ c. search needs) (λ c. search needs) (λ c. search needs) amount-requires returns-2 (λ c. search needs) (λ c. search needs) (λ c. search needs) amount-requires-2 returns-3)
+    tie.close (tie.spec (λ c κs. search needs) returns (λ c. search needs) (λ c. search needs) (λ c. search needs) (λ c. search needs)
+    (λ c. search needs) amount-requires returns-2 (λ c. search needs) (λ c. search needs) (λ c. search needs) amount-requires-2 returns-3)

@@ -7,7 +7,12 @@ use Rattle.pages.proofs.line_at.Tie as tie
 
 returns : tie.Need-returns
 unfolding lineAt
-returns c = rw (← c .before .before .before .before .past-notes .ensures, ← c .before .before .before .value-span .ensures, ← c .before .before .string-span .ensures, ← c .find-word .ensures)
+returns c = rw (
+  ← c .before .before .before .before .past-notes .ensures,
+  ← c .before .before .before .value-span .ensures,
+  ← c .before .before .string-span .ensures,
+  ← c .find-word .ensures,
+)
 
 pub line-at-spec : {M : Type 1} → statement M
 line-at-spec =

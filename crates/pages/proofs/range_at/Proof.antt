@@ -7,11 +7,24 @@ use Rattle.pages.proofs.range_at.Tie as tie
 
 returns : tie.Need-returns
 unfolding rangeAt
-returns c = rw (← c .before .before .before .before .before .before .before .before .past-notes .ensures, ← c .before .before .before .before .before .before .before .value-span .ensures, ← c .before .before .before .before .before .find-word .ensures, c .before .before .before .before .if1 .taken, ← c .before .before .before .past-gap .ensures, ← c .before .before .value-span2 .ensures, ← c .find-word2 .ensures)
+returns c = rw (
+  ← c .before .before .before .before .before .before .before .before .past-notes .ensures,
+  ← c .before .before .before .before .before .before .before .value-span .ensures,
+  ← c .before .before .before .before .before .find-word .ensures,
+  c .before .before .before .before .if1 .taken,
+  ← c .before .before .before .past-gap .ensures,
+  ← c .before .before .value-span2 .ensures,
+  ← c .find-word2 .ensures,
+)
 
 returns-2 : tie.Need-returns-2
 unfolding rangeAt
-returns-2 c = rw (← c .before .before .before .before .past-notes .ensures, ← c .before .before .before .value-span .ensures, ← c .before .find-word .ensures, c .if1 .left)
+returns-2 c = rw (
+  ← c .before .before .before .before .past-notes .ensures,
+  ← c .before .before .before .value-span .ensures,
+  ← c .before .find-word .ensures,
+  c .if1 .left,
+)
 
 pub range-at-spec : {M : Type 1} → statement M
 range-at-spec =

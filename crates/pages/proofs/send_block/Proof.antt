@@ -8,7 +8,8 @@ use Rattle.pages.proofs.send_block.Tie as tie
 
 returns : tie.Need-returns
 unfolding blockPage
-returns c = rw (c .before .before .before .before .if1 .taken) (record { sent = nothing-sent _ _ _; stands = rw (c .past-keyword .ensures, c .before .before .past-statement .ensures) })
+returns c = rw (c .before .before .before .before .if1 .taken)
+    (record { sent = nothing-sent _ _ _; stands = rw (c .past-keyword .ensures, c .before .before .past-statement .ensures) })
 
 returns-2 : tie.Need-returns-2
 unfolding blockPage

@@ -8,7 +8,10 @@ use Rattle.pages.proofs.send_count.Statement.{statement}
 use Rattle.pages.proofs.send_count.Tie as tie
 
 send-digits-requires : tie.Need-send-digits-requires
-send-digits-requires c κs = (c .before .before .before .pre .0, (c .before .before .before .pre .1, omega (arith, digits-few (c .before .before .before .args .n), c .before .digit-count .ensures)))
+send-digits-requires c κs = (
+  c .before .before .before .pre .0,
+  (c .before .before .before .pre .1, omega (arith, digits-few (c .before .before .before .args .n), c .before .digit-count .ensures)),
+)
 
 returns : tie.Need-returns
 unfolding plainDigits

@@ -7,13 +7,19 @@ use Rattle.pages.proofs.send_digits.Statement.{statement}
 use Rattle.pages.proofs.send_digits.Tie as tie
 
 put-digits-requires : tie.Need-put-digits-requires
-put-digits-requires c κs = (c .before .before .pre .0, (c .before .before .pre .1 .0, c .before .before .pre .1 .1, omega (arith, c .before .before .pre .1 .1)))
+put-digits-requires c κs = (
+  c .before .before .pre .0,
+  (c .before .before .pre .1 .0, c .before .before .pre .1 .1, omega (arith, c .before .before .pre .1 .1)),
+)
 
 slice-aggregate-send-bytes : tie.Need-slice-aggregate-send-bytes
-slice-aggregate-send-bytes c = room-kept _ _ _ (omega (arith, c .before .before .before .before .before .before .pre .1 .1)) (c .before .before .before .put-digits .ensures)
+slice-aggregate-send-bytes c = room-kept _ _ _ (omega (arith, c .before .before .before .before .before .before .pre .1 .1))
+    (c .before .before .before .put-digits .ensures)
 
 returns : tie.Need-returns
-returns c = sent-as (c .before .before .send-bytes .ensures) (digits-stand _ _ _ (omega (arith, c .before .before .before .before .before .before .before .before .before .pre .1 .1)) (c .before .before .before .before .before .before .put-digits .ensures))
+returns c = sent-as (c .before .before .send-bytes .ensures)
+    (digits-stand _ _ _ (omega (arith, c .before .before .before .before .before .before .before .before .before .pre .1 .1))
+    (c .before .before .before .before .before .before .put-digits .ensures))
 
 pub send-digits-spec : {M : Type 1} → statement M
 send-digits-spec =

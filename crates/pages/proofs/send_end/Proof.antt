@@ -10,7 +10,10 @@ returns : tie.Need-returns
 unfolding endPage
 returns c = record {
   sent = c .before .before .send-bytes .ensures;
-  stands = rw (c .before .before .before .before .past-keyword .ensures, c .before .before .before .before .before .past-statement .ensures);
+  stands = rw (
+    c .before .before .before .before .past-keyword .ensures,
+    c .before .before .before .before .before .past-statement .ensures,
+  );
 }
 
 pub send-end-spec : {M : Type 1} → statement M

@@ -8,7 +8,8 @@ use Rattle.pages.proofs.send_framed.Tie as tie
 
 returns : tie.Need-returns
 unfolding framed
-returns c = then (c .before .before .before .before .before .before .before .before .before .before .send-bytes .ensures) (then (c .before .before .before .before .before .before .send-span .ensures) (c .before .before .send-bytes2 .ensures))
+returns c = then (c .before .before .before .before .before .before .before .before .before .before .send-bytes .ensures)
+    (then (c .before .before .before .before .before .before .send-span .ensures) (c .before .before .send-bytes2 .ensures))
 
 pub send-framed-spec : {M : Type 1} → statement M
 send-framed-spec =

@@ -10,7 +10,8 @@ use Rattle.pages.proofs.send_lines.Tie as tie
 
 abbrev Inv-loop : tie.InvT-loop
 Inv-loop classes d start bound out₀ at n₀ p₀ k₀ out n p k =
-    (k ≤ 4096) × Owed bound out₀ at (linesPage 4096 d start .text) out p (linesPage (4096 - k) d n .text) × (linesPage 4096 d start .next ≡ linesPage (4096 - k) d n .next)
+    (k ≤ 4096) × Owed bound out₀ at (linesPage 4096 d start .text) out p (linesPage (4096 - k) d n .text)
+    × (linesPage 4096 d start .next ≡ linesPage (4096 - k) d n .next)
 
 abbrev μ-loop : tie.MeasureT-loop
 μ-loop classes d start bound out₀ at n₀ p₀ k₀ out n p k = 4096 - k
@@ -19,14 +20,19 @@ loop-holds : tie.Need-loop-holds Inv-loop μ-loop
 loop-holds c = (omega arith, all-owed _ _ _ refl, refl)
 
 same-length : tie.Need-same-length Inv-loop μ-loop
-same-length c = c .before .before .before .before .before .send-line .ensures .room ∙ c .before .before .before .before .before .before .before .before .before .loop .inv .1 .same-room
+same-length c = c .before .before .before .before .before .send-line .ensures .room
+    ∙ c .before .before .before .before .before .before .before .before .before .loop .inv .1 .same-room
 
 returns : tie.Need-returns Inv-loop μ-loop
 returns c =
-    let q = lines-done _ _ _ (c .before .before .before .before .before .before .before .before .loop-test .taken) _ (c .before .before .before .before .before .before .before .line-at .ensures) _ (c .before .before .find-end .ensures) (c .before .if1 .taken) in
+    let q = lines-done _ _ _ (c .before .before .before .before .before .before .before .before .loop-test .taken) _
+    (c .before .before .before .before .before .before .before .line-at .ensures) _ (c .before .before .find-end .ensures)
+    (c .before .if1 .taken) in
     record {
-      sent = none-owed (less-owed (c .before .before .before .before .before .before .before .before .before .loop .inv .1) (ap (λ (p : Page). p .text) q) (c .before .before .before .before .before .send-line .ensures)) refl;
-      stands = c .past-values .ensures ∙ sym (c .before .before .before .before .before .before .before .before .before .loop .inv .2 ∙ ap (λ (p : Page). p .next) q);
+      sent = none-owed (less-owed (c .before .before .before .before .before .before .before .before .before .loop .inv .1)
+          (ap (λ (p : Page). p .text) q) (c .before .before .before .before .before .send-line .ensures)) refl;
+      stands = c .past-values .ensures ∙ sym (c .before .before .before .before .before .before .before .before .before .loop .inv .2
+          ∙ ap (λ (p : Page). p .next) q);
     }
 
 add-k : tie.Need-add-k Inv-loop μ-loop
@@ -37,9 +43,11 @@ loop-less c = omega (arith, c .before .before .before .before .before .before .b
 
 loop-again : tie.Need-loop-again Inv-loop μ-loop
 loop-again c =
-    let q = lines-more _ _ _ (c .before .before .before .before .before .before .before .loop-test .taken) _ (c .before .before .before .before .before .before .line-at .ensures) _ (c .before .find-end .ensures) (c .if1 .left) in (
+    let q = lines-more _ _ _ (c .before .before .before .before .before .before .before .loop-test .taken) _
+    (c .before .before .before .before .before .before .line-at .ensures) _ (c .before .find-end .ensures) (c .if1 .left) in (
       omega (arith, c .before .before .before .before .before .before .before .loop-test .taken),
-      less-owed (c .before .before .before .before .before .before .before .before .loop .inv .1) (ap (λ (p : Page). p .text) q) (c .before .before .before .before .send-line .ensures),
+      less-owed (c .before .before .before .before .before .before .before .before .loop .inv .1) (ap (λ (p : Page). p .text) q)
+          (c .before .before .before .before .send-line .ensures),
       c .before .before .before .before .before .before .before .before .loop .inv .2 ∙ ap (λ (p : Page). p .next) q,
     )
 

@@ -8,7 +8,8 @@ use Rattle.pages.proofs.send_position.Tie as tie
 
 returns : tie.Need-returns
 unfolding positionText
-returns c = then (c .before .before .before .before .before .before .before .before .send-framed .ensures) (c .before .before .send-framed2 .ensures)
+returns c = then (c .before .before .before .before .before .before .before .before .send-framed .ensures)
+    (c .before .before .send-framed2 .ensures)
 
 pub send-position-spec : {M : Type 1} → statement M
 send-position-spec =

@@ -14,18 +14,36 @@ returns c = rw (eq-eqb _ _ (c .if1 .taken)) (record { sent = nothing-sent _ _ _;
 
 returns-2 : tie.Need-returns-2
 unfolding restPage
-returns-2 c = rw (ne-eqb _ _ (c .before .before .before .before .before .before .before .if1 .left), eq-eqb _ _ (c .before .before .before .before .before .before .if2 .taken)) (c .before .before .send-number .ensures)
+returns-2 c = rw (
+  ne-eqb _ _ (c .before .before .before .before .before .before .before .if1 .left),
+  eq-eqb _ _ (c .before .before .before .before .before .before .if2 .taken),
+) (c .before .before .send-number .ensures)
 
 send-spread-requires : tie.Need-send-spread-requires
-send-spread-requires c κs = (c .before .before .before .before .before .before .before .pre .0, (c .before .before .before .before .before .before .before .pre .1 .0, even-small _ _ (c .before .before .before .before .before .before .before .pre .1 .1)))
+send-spread-requires c κs = (
+  c .before .before .before .before .before .before .before .pre .0,
+  (
+    c .before .before .before .before .before .before .before .pre .1 .0,
+    even-small _ _ (c .before .before .before .before .before .before .before .pre .1 .1),
+  ),
+)
 
 returns-3 : tie.Need-returns-3
 unfolding restPage
-returns-3 c = rw (ne-eqb _ _ (c .before .before .before .before .before .before .before .before .before .before .before .if1 .left), ne-eqb _ _ (c .before .before .before .before .before .before .before .before .before .before .if2 .left), eq-eqb _ _ (c .before .before .before .before .before .before .before .before .before .if3 .taken), ← c .before .before .before .before .before .before .before .before .spread-at .ensures) (paged-before (c .before .before .before .before .before .before .send-spread .ensures) (c .before .before .send-values .ensures))
+returns-3 c = rw (
+  ne-eqb _ _ (c .before .before .before .before .before .before .before .before .before .before .before .if1 .left),
+  ne-eqb _ _ (c .before .before .before .before .before .before .before .before .before .before .if2 .left),
+  eq-eqb _ _ (c .before .before .before .before .before .before .before .before .before .if3 .taken),
+  ← c .before .before .before .before .before .before .before .before .spread-at .ensures,
+) (paged-before (c .before .before .before .before .before .before .send-spread .ensures) (c .before .before .send-values .ensures))
 
 returns-4 : tie.Need-returns-4
 unfolding restPage
-returns-4 c = rw (ne-eqb _ _ (c .before .before .before .before .before .before .if1 .left), ne-eqb _ _ (c .before .before .before .before .before .if2 .left), ne-eqb _ _ (c .before .before .before .before .if3 .left)) (c .before .before .send-values2 .ensures)
+returns-4 c = rw (
+  ne-eqb _ _ (c .before .before .before .before .before .before .if1 .left),
+  ne-eqb _ _ (c .before .before .before .before .before .if2 .left),
+  ne-eqb _ _ (c .before .before .before .before .if3 .left),
+) (c .before .before .send-values2 .ensures)
 
 pub send-rest-spec : {M : Type 1} → statement M
 send-rest-spec =

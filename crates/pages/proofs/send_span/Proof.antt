@@ -31,19 +31,23 @@ returns c =
 
 loop-less : tie.Need-loop-less Inv-loop μ-loop
 loop-less c =
-    let s = stepped _ _ (c .before .before .before .before .before .before .before .before .next-byte .ensures) (c .before .before .before .before .before .before .byte .given .1) in
+    let s = stepped _ _ (c .before .before .before .before .before .before .before .before .next-byte .ensures)
+    (c .before .before .before .before .before .before .byte .given .1) in
     omega (arith, s .next, s .from, s .within)
 
 loop-again : tie.Need-loop-again Inv-loop μ-loop
 loop-again c =
-    let s = stepped _ _ (c .before .before .before .before .before .before .before .before .next-byte .ensures) (c .before .before .before .before .before .before .byte .given .1) in
-    less-owed (c .before .before .before .before .before .before .before .before .before .loop .inv) (span-more _ _ _ _ _ (s .split) (c .before .before .before .before .if1 .left)) (c .before .before .send-byte .ensures)
+    let s = stepped _ _ (c .before .before .before .before .before .before .before .before .next-byte .ensures)
+    (c .before .before .before .before .before .before .byte .given .1) in
+    less-owed (c .before .before .before .before .before .before .before .before .before .loop .inv)
+    (span-more _ _ _ _ _ (s .split) (c .before .before .before .before .if1 .left)) (c .before .before .send-byte .ensures)
 
 same-length-2 : tie.Need-same-length-2 Inv-loop μ-loop
 same-length-2 c = c .before .before .before .loop .inv .same-room
 
 returns-2 : tie.Need-returns-2 Inv-loop μ-loop
-returns-2 c = none-owed (c .before .before .before .loop .inv) (span-end _ _ _ (ended _ _ (c .before .before .next-byte .ensures) (c .enum-told .given .1)))
+returns-2 c = none-owed (c .before .before .before .loop .inv)
+    (span-end _ _ _ (ended _ _ (c .before .before .next-byte .ensures) (c .enum-told .given .1)))
 
 pub send-span-spec : {M : Type 1} → statement M
 send-span-spec =

@@ -13,14 +13,40 @@ returns c = rw (not-true (c .before .before .before .before .args .p .there) (c 
 
 returns-2 : tie.Need-returns-2
 unfolding spreadText
-returns-2 c = sent-as (then (c .before .before .before .before .before .before .before .before .before .send-framed .ensures) (c .before .before .send-framed2 .ensures)) (rw (not-false (c .before .before .before .before .before .before .before .before .before .before .before .before .before .before .before .before .before .before .before .args .p .there) (c .before .before .before .before .before .before .before .before .before .before .before .before .before .before .before .if1 .left), c .before .before .before .before .before .before .if2 .taken))
+returns-2 c = sent-as (then (c .before .before .before .before .before .before .before .before .before .send-framed .ensures)
+    (c .before .before .send-framed2 .ensures)) (rw (
+      not-false
+          (c .before .before .before .before .before .before .before .before .before .before .before .before .before .before .before .before
+          .before .before .before .args .p .there)
+          (c .before .before .before .before .before .before .before .before .before .before .before .before .before .before .before .if1
+          .left),
+      c .before .before .before .before .before .before .if2 .taken,
+    ))
 
 send-count-requires : tie.Need-send-count-requires
-send-count-requires c κs = (c .before .before .before .before .before .before .before .before .before .before .before .before .before .before .before .pre .1 .0, rw (c .even-of .ensures) (c .before .before .before .before .before .before .before .before .before .before .before .before .before .before .before .pre .1 .1))
+send-count-requires c
+    κs = (
+      c .before .before .before .before .before .before .before .before .before .before .before .before .before .before .before .pre .1
+          .0,
+      rw (c .even-of .ensures)
+          (c .before .before .before .before .before .before .before .before .before .before .before .before .before .before .before .pre .1
+          .1),
+    )
 
 returns-3 : tie.Need-returns-3
 unfolding spreadText
-returns-3 c = sent-as (then (c .before .before .before .before .before .before .before .before .before .before .before .before .before .send-framed .ensures) (then (c .before .before .before .before .before .before .before .send-count .ensures) (c .before .before .send-bytes .ensures))) (rw (not-false (c .before .before .before .before .before .before .before .before .before .before .before .before .before .before .before .before .before .before .before .before .before .before .before .args .p .there) (c .before .before .before .before .before .before .before .before .before .before .before .before .before .before .before .before .before .before .before .if1 .left), c .before .before .before .before .before .before .before .before .before .before .if2 .left, c .before .before .before .before .before .before .before .before .even-of .ensures))
+returns-3 c = sent-as
+    (then (c .before .before .before .before .before .before .before .before .before .before .before .before .before .send-framed .ensures)
+    (then (c .before .before .before .before .before .before .before .send-count .ensures) (c .before .before .send-bytes .ensures)))
+    (rw (
+      not-false
+          (c .before .before .before .before .before .before .before .before .before .before .before .before .before .before .before .before
+          .before .before .before .before .before .before .before .args .p .there)
+          (c .before .before .before .before .before .before .before .before .before .before .before .before .before .before .before .before
+          .before .before .before .if1 .left),
+      c .before .before .before .before .before .before .before .before .before .before .if2 .left,
+      c .before .before .before .before .before .before .before .before .even-of .ensures,
+    ))
 
 pub send-spread-spec : {M : Type 1} → statement M
 send-spread-spec =
@@ -32,7 +58,8 @@ send-spread-spec =
     (λ c κs. c .before .before .before .before .before .before .before .before .before .pre .0)
     (λ c. search needs)
     (λ c. search needs)
-    (λ c κs. c .before .before .before .before .before .before .before .before .before .before .before .before .before .before .before .before .pre .0)
+    (λ c κs. c .before .before .before .before .before .before .before .before .before .before .before .before .before .before .before
+    .before .pre .0)
     (λ c. search needs)
     returns-2
     (λ c κs. search needs)

@@ -11,9 +11,13 @@ use Rattle.pages.proofs.send_titles.Tie as tie
 returns : tie.Need-returns
 unfolding titlesPage
 returns c =
-    let d = c .before .before .before .before .before .before .before .before .before .before .before .before .before .before .before .before .before .before .before .before .args .d .now in
-    paged-then (λ a. then (phrasePage d a NAME (NAME ++ 32 ∷ 34 ∷ [])) λ b. phrasePage d b LABEL (LABEL ++ 32 ∷ 34 ∷ [])) (c .before .before .before .before .before .before .before .before .before .before .before .before .before .before .send-number .ensures)
-    (paged-then (λ b. phrasePage d b LABEL (LABEL ++ 32 ∷ 34 ∷ [])) (c .before .before .before .before .before .before .before .before .send-phrase .ensures) (c .before .before .send-phrase2 .ensures))
+    let d = c .before .before .before .before .before .before .before .before .before .before .before .before .before .before .before
+    .before .before .before .before .before .args .d .now in
+    paged-then (λ a. then (phrasePage d a NAME (NAME ++ 32 ∷ 34 ∷ [])) λ b. phrasePage d b LABEL (LABEL ++ 32 ∷ 34 ∷ []))
+    (c .before .before .before .before .before .before .before .before .before .before .before .before .before .before .send-number
+    .ensures)
+    (paged-then (λ b. phrasePage d b LABEL (LABEL ++ 32 ∷ 34 ∷ []))
+    (c .before .before .before .before .before .before .before .before .send-phrase .ensures) (c .before .before .send-phrase2 .ensures))
 
 pub send-titles-spec : {M : Type 1} → statement M
 send-titles-spec =
@@ -27,6 +31,7 @@ send-titles-spec =
     (λ c κs. c .before .before .before .before .before .before .before .before .before .before .before .pre)
     (λ c. search needs)
     (λ c. search needs)
-    (λ c κs. c .before .before .before .before .before .before .before .before .before .before .before .before .before .before .before .before .before .pre)
+    (λ c κs. c .before .before .before .before .before .before .before .before .before .before .before .before .before .before .before
+    .before .before .pre)
     (λ c. search needs)
     returns)

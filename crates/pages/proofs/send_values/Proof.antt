@@ -9,9 +9,19 @@ use Rattle.pages.proofs.send_values.Tie as tie
 returns : tie.Need-returns
 unfolding valuesPage
 returns c =
-    rw (← c .before .before .before .before .before .before .before .before .before .before .before .before .before .before .before .before .before .before .before .past-statement .ensures, ← c .before .before .before .before .before .before .before .before .before .before .before .before .before .before .before .before .before .before .range-at .ensures)
+    rw (
+      ← c .before .before .before .before .before .before .before .before .before .before .before .before .before .before .before .before
+          .before .before .before .past-statement .ensures,
+      ← c .before .before .before .before .before .before .before .before .before .before .before .before .before .before .before .before
+          .before .before .range-at .ensures,
+    )
     (record {
-      sent = then (c .before .before .before .before .before .before .before .before .before .before .before .before .before .before .before .send-bytes .ensures) (then (c .before .before .before .before .before .before .before .before .before .before .before .send-range .ensures) (then (c .before .before .before .before .before .before .before .send-block .ensures .sent) (c .before .before .send-bytes2 .ensures)));
+      sent = then
+          (c .before .before .before .before .before .before .before .before .before .before .before .before .before .before .before
+          .send-bytes .ensures)
+          (then (c .before .before .before .before .before .before .before .before .before .before .before .send-range .ensures)
+          (then (c .before .before .before .before .before .before .before .send-block .ensures .sent)
+          (c .before .before .send-bytes2 .ensures)));
       stands = c .before .before .before .before .before .before .before .send-block .ensures .stands;
     })
 

@@ -9,19 +9,50 @@ use Rattle.pages.proofs.send_variable.Statement.{statement}
 use Rattle.pages.proofs.send_variable.Tie as tie
 
 send-rest-requires : tie.Need-send-rest-requires
-send-rest-requires c κs = (c .before .before .before .before .before .before .before .before .before .before .before .before .before .before .before .before .before .before .before .before .pre .0, (c .before .before .before .before .before .before .before .before .before .before .before .before .before .before .before .before .before .before .before .before .pre .1, rw (c .before .room-of .ensures) (room-small _ _)))
+send-rest-requires c
+    κs = (
+      c .before .before .before .before .before .before .before .before .before .before .before .before .before .before .before .before
+          .before .before .before .before .pre .0,
+      (
+        c .before .before .before .before .before .before .before .before .before .before .before .before .before .before .before .before
+            .before .before .before .before .pre .1,
+        rw (c .before .room-of .ensures) (room-small _ _),
+      ),
+    )
 
 same-length : tie.Need-same-length
-same-length c = c .before .before .send-end .ensures .sent .room ∙ c .before .before .before .before .before .before .before .before .send-rest .ensures .sent .room ∙ c .before .before .before .before .before .before .before .before .before .before .before .before .before .before .before .send-position .ensures .room ∙ c .before .before .before .before .before .before .before .before .before .before .before .before .before .before .before .before .before .before .before .before .send-type .ensures .room ∙ c .before .before .before .before .before .before .before .before .before .before .before .before .before .before .before .before .before .before .before .before .before .before .before .before .before .send-titles .ensures .sent .room
+same-length c = c .before .before .send-end .ensures .sent .room
+    ∙ c .before .before .before .before .before .before .before .before .send-rest .ensures .sent .room
+    ∙ c .before .before .before .before .before .before .before .before .before .before .before .before .before .before .before
+    .send-position .ensures .room
+    ∙ c .before .before .before .before .before .before .before .before .before .before .before .before .before .before .before .before
+    .before .before .before .before .send-type .ensures .room
+    ∙ c .before .before .before .before .before .before .before .before .before .before .before .before .before .before .before .before
+    .before .before .before .before .before .before .before .before .before .send-titles .ensures .sent .room
 
 returns : tie.Need-returns
 unfolding variablePage bodyPage
 returns c =
-    let d = c .before .before .before .before .before .before .before .before .before .before .before .before .before .before .before .before .before .before .before .before .before .before .before .before .before .before .before .before .before .args .d .now in
-    paged-then (bodyPage d) (c .before .before .before .before .before .before .before .before .before .before .before .before .before .before .before .before .before .before .before .before .before .before .before .before .before .send-titles .ensures)
-    (rw (← c .before .before .before .before .before .before .before .before .before .before .before .before .before .before .before .before .before .before .before .before .before .before .type-at .ensures, ← c .before .before .before .before .before .before .before .before .before .before .before .before .before .before .before .before .before .position-at .ensures, ← c .before .before .before .before .before .before .before .before .before .before .room-of .ensures)
-    (paged-before (c .before .before .before .before .before .before .before .before .before .before .before .before .before .before .before .before .before .before .before .before .send-type .ensures) (paged-before (c .before .before .before .before .before .before .before .before .before .before .before .before .before .before .before .send-position .ensures)
-    (paged-then (λ e. endPage d e VARIABLE (END ++ 32 ∷ VARIABLE ++ 13 ∷ 10 ∷ [])) (c .before .before .before .before .before .before .before .before .send-rest .ensures) (c .before .before .send-end .ensures)))))
+    let d = c .before .before .before .before .before .before .before .before .before .before .before .before .before .before .before
+    .before .before .before .before .before .before .before .before .before .before .before .before .before .before .args .d .now in
+    paged-then (bodyPage d)
+    (c .before .before .before .before .before .before .before .before .before .before .before .before .before .before .before .before
+    .before .before .before .before .before .before .before .before .before .send-titles .ensures)
+    (rw (
+      ← c .before .before .before .before .before .before .before .before .before .before .before .before .before .before .before .before
+          .before .before .before .before .before .before .type-at .ensures,
+      ← c .before .before .before .before .before .before .before .before .before .before .before .before .before .before .before .before
+          .before .position-at .ensures,
+      ← c .before .before .before .before .before .before .before .before .before .before .room-of .ensures,
+    )
+    (paged-before
+    (c .before .before .before .before .before .before .before .before .before .before .before .before .before .before .before .before
+    .before .before .before .before .send-type .ensures)
+    (paged-before
+    (c .before .before .before .before .before .before .before .before .before .before .before .before .before .before .before
+    .send-position .ensures)
+    (paged-then (λ e. endPage d e VARIABLE (END ++ 32 ∷ VARIABLE ++ 13 ∷ 10 ∷ []))
+    (c .before .before .before .before .before .before .before .before .send-rest .ensures) (c .before .before .send-end .ensures)))))
 
 pub send-variable-spec : {M : Type 1} → statement M
 send-variable-spec =
@@ -36,6 +67,7 @@ send-variable-spec =
     send-rest-requires
     (λ c. search needs)
     (λ c. search needs)
-    (λ c κs. c .before .before .before .before .before .before .before .before .before .before .before .before .before .before .before .before .before .before .before .before .before .before .before .before .before .before .pre .0)
+    (λ c κs. c .before .before .before .before .before .before .before .before .before .before .before .before .before .before .before
+    .before .before .before .before .before .before .before .before .before .before .before .pre .0)
     same-length
     returns)

@@ -10,7 +10,8 @@ use Rattle.pages.proofs.send_variables.Tie as tie
 
 abbrev Inv-loop : tie.InvT-loop
 Inv-loop classes powers d start bound out₀ at n₀ p₀ k₀ out n p k =
-    (k ≤ 512) × Owed bound out₀ at (variablesPage 512 d start .text) out p (variablesPage (512 - k) d n .text) × (variablesPage 512 d start .next ≡ variablesPage (512 - k) d n .next)
+    (k ≤ 512) × Owed bound out₀ at (variablesPage 512 d start .text) out p (variablesPage (512 - k) d n .text)
+    × (variablesPage 512 d start .next ≡ variablesPage (512 - k) d n .next)
 
 abbrev μ-loop : tie.MeasureT-loop
 μ-loop classes powers d start bound out₀ at n₀ p₀ k₀ out n p k = 512 - k
@@ -25,13 +26,16 @@ find-end-requires : tie.Need-find-end-requires Inv-loop μ-loop
 find-end-requires c κs = c .before .before .before .before .before .before .before .before .pre .0
 
 same-length : tie.Need-same-length Inv-loop μ-loop
-same-length c = c .before .before .before .before .send-variable .ensures .sent .room ∙ c .before .before .before .before .before .before .before .loop .inv .1 .same-room
+same-length c = c .before .before .before .before .send-variable .ensures .sent .room
+    ∙ c .before .before .before .before .before .before .before .loop .inv .1 .same-room
 
 returns : tie.Need-returns Inv-loop μ-loop
 returns c =
-    let q = variables-done _ _ _ (c .before .before .before .before .before .before .loop-test .taken) _ (c .before .before .before .before .send-variable .ensures .stands) _ (c .before .find-end .ensures) (c .if1 .taken) in
+    let q = variables-done _ _ _ (c .before .before .before .before .before .before .loop-test .taken) _
+    (c .before .before .before .before .send-variable .ensures .stands) _ (c .before .find-end .ensures) (c .if1 .taken) in
     record {
-      sent = none-owed (less-owed (c .before .before .before .before .before .before .before .loop .inv .1) (ap (λ (p : Page). p .text) q) (c .before .before .before .before .send-variable .ensures .sent)) refl;
+      sent = none-owed (less-owed (c .before .before .before .before .before .before .before .loop .inv .1) (ap (λ (p : Page). p .text) q)
+          (c .before .before .before .before .send-variable .ensures .sent)) refl;
       stands = sym (c .before .before .before .before .before .before .before .loop .inv .2 ∙ ap (λ (p : Page). p .next) q);
     }
 
@@ -43,9 +47,11 @@ loop-less c = omega (arith, c .before .before .before .before .before .before .l
 
 loop-again : tie.Need-loop-again Inv-loop μ-loop
 loop-again c =
-    let q = variables-more _ _ _ (c .before .before .before .before .before .before .loop-test .taken) _ (c .before .before .before .before .send-variable .ensures .stands) _ (c .before .find-end .ensures) (c .if1 .left) in (
+    let q = variables-more _ _ _ (c .before .before .before .before .before .before .loop-test .taken) _
+    (c .before .before .before .before .send-variable .ensures .stands) _ (c .before .find-end .ensures) (c .if1 .left) in (
       omega (arith, c .before .before .before .before .before .before .loop-test .taken),
-      less-owed (c .before .before .before .before .before .before .before .loop .inv .1) (ap (λ (p : Page). p .text) q) (c .before .before .before .before .send-variable .ensures .sent),
+      less-owed (c .before .before .before .before .before .before .before .loop .inv .1) (ap (λ (p : Page). p .text) q)
+          (c .before .before .before .before .send-variable .ensures .sent),
       c .before .before .before .before .before .before .before .loop .inv .2 ∙ ap (λ (p : Page). p .next) q,
     )
 

@@ -17,4 +17,5 @@ unfolding standOf
 returns-2 c = rw (sym (c .before .before .before .gap .ensures) ∙ c .before .p .given .1)
 
 pub find-stand-spec : {M : Type 1} → statement M
-find-stand-spec = tie.close (tie.spec (λ c κs. search needs) (λ c. search needs) (λ c κs. search needs) (λ c. search needs) returns returns-2)
+find-stand-spec = tie.close (tie.spec (λ c κs. search needs) (λ c. search needs) (λ c κs. search needs) (λ c. search needs) returns
+    returns-2)

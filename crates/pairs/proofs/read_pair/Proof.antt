@@ -10,10 +10,12 @@ use Rattle.pairs.proofs.read_pair.Statement.{statement}
 use Rattle.pairs.proofs.read_pair.Tie as tie
 
 misplaced-requires : tie.Need-misplaced-requires
-misplaced-requires c κs = let a = c .before .before .before .before .before .before .args in start-long (a .bad) (a .d .now) (a .at) _ _ (sym (c .before .before .before .find-stand .ensures) ∙ c .before .place .given .1)
+misplaced-requires c κs = let a = c .before .before .before .before .before .before .args in
+    start-long (a .bad) (a .d .now) (a .at) _ _ (sym (c .before .before .before .find-stand .ensures) ∙ c .before .place .given .1)
 
 closed-requires : tie.Need-closed-requires
-closed-requires c κs = let a = c .before .before .before .before .before .before .args in close-long (a .bad) (a .d .now) (a .at) _ _ (sym (c .before .before .before .find-stand .ensures) ∙ c .before .place2 .given .1)
+closed-requires c κs = let a = c .before .before .before .before .before .before .args in
+    close-long (a .bad) (a .d .now) (a .at) _ _ (sym (c .before .before .before .find-stand .ensures) ∙ c .before .place2 .given .1)
 
 returns : tie.Need-returns
 unfolding pairOf
@@ -36,4 +38,5 @@ unfolding pairOf
 returns-5 c = rw (sym (c .before .before .before .find-stand .ensures) ∙ c .before .p3 .given .1)
 
 pub read-pair-spec : {M : Type 1} → statement M
-read-pair-spec = tie.close (tie.spec (λ c κs. search needs) (λ c. search needs) misplaced-requires (λ c. search needs) closed-requires (λ c. search needs) (λ c. search needs) (λ c. search needs) returns returns-2 returns-3 returns-4 returns-5)
+read-pair-spec = tie.close (tie.spec (λ c κs. search needs) (λ c. search needs) misplaced-requires (λ c. search needs) closed-requires
+    (λ c. search needs) (λ c. search needs) (λ c. search needs) returns returns-2 returns-3 returns-4 returns-5)

@@ -14,23 +14,48 @@ returns c = rw (le-leb (length (c .before .before .args .d .now)) (c .before .be
 
 returns-2 : tie.Need-returns-2
 unfolding standAt
-returns-2 c = rw (lt-leb (length (c .before .before .before .before .before .before .before .before .args .d .now)) (c .before .before .before .before .before .before .before .before .args .n) (omega arith), eq-eqb _ 60 (c .before .before .before .before .if2 .taken), sym (c .before .before .before .read-angle .ensures) ∙ c .before .e .given .1)
+returns-2 c = rw (
+  lt-leb (length (c .before .before .before .before .before .before .before .before .args .d .now))
+      (c .before .before .before .before .before .before .before .before .args .n) (omega arith),
+  eq-eqb _ 60 (c .before .before .before .before .if2 .taken),
+  sym (c .before .before .before .read-angle .ensures) ∙ c .before .e .given .1,
+)
 
 returns-3 : tie.Need-returns-3
 unfolding standAt
-returns-3 c = rw (lt-leb (length (c .before .before .before .before .before .before .before .before .args .d .now)) (c .before .before .before .before .before .before .before .before .args .n) (omega arith), eq-eqb _ 60 (c .before .before .before .before .if2 .taken), sym (c .before .before .before .read-angle .ensures) ∙ c .before .e2 .given .1)
+returns-3 c = rw (
+  lt-leb (length (c .before .before .before .before .before .before .before .before .args .d .now))
+      (c .before .before .before .before .before .before .before .before .args .n) (omega arith),
+  eq-eqb _ 60 (c .before .before .before .before .if2 .taken),
+  sym (c .before .before .before .read-angle .ensures) ∙ c .before .e2 .given .1,
+)
 
 returns-4 : tie.Need-returns-4
 unfolding standAt
-returns-4 c = rw (lt-leb (length (c .before .before .before .before .before .before .before .args .d .now)) (c .before .before .before .before .before .before .before .args .n) (omega arith), eq-eqb _ 60 (c .before .before .before .if2 .taken), sym (c .before .before .read-angle .ensures) ∙ c .enum-told .given .1)
+returns-4 c = rw (
+  lt-leb (length (c .before .before .before .before .before .before .before .args .d .now))
+      (c .before .before .before .before .before .before .before .args .n) (omega arith),
+  eq-eqb _ 60 (c .before .before .before .if2 .taken),
+  sym (c .before .before .read-angle .ensures) ∙ c .enum-told .given .1,
+)
 
 returns-5 : tie.Need-returns-5
 unfolding standAt
-returns-5 c = rw (lt-leb (length (c .before .before .before .before .before .before .before .before .args .d .now)) (c .before .before .before .before .before .before .before .before .args .n) (omega arith), eq-eqb _ 60 (c .before .before .before .before .if2 .taken), sym (c .before .before .before .read-angle .ensures) ∙ c .before .p .given .1)
+returns-5 c = rw (
+  lt-leb (length (c .before .before .before .before .before .before .before .before .args .d .now))
+      (c .before .before .before .before .before .before .before .before .args .n) (omega arith),
+  eq-eqb _ 60 (c .before .before .before .before .if2 .taken),
+  sym (c .before .before .before .read-angle .ensures) ∙ c .before .p .given .1,
+)
 
 returns-6 : tie.Need-returns-6
 unfolding standAt
-returns-6 c = rw (lt-leb (length (c .before .before .before .before .before .args .d .now)) (c .before .before .before .before .before .args .n) (omega arith), ne-eqb _ 60 (c .before .if2 .left)) (c .stand-text .ensures)
+returns-6 c = rw (
+  lt-leb (length (c .before .before .before .before .before .args .d .now))
+      (c .before .before .before .before .before .args .n) (omega arith),
+  ne-eqb _ 60 (c .before .if2 .left),
+) (c .stand-text .ensures)
 
 pub stand-at-spec : {M : Type 1} → statement M
-stand-at-spec = tie.close (tie.spec returns (λ c. search needs) (λ c κs. search needs) (λ c. search needs) returns-2 (λ c. search needs) returns-3 (λ c. search needs) returns-4 (λ c. search needs) returns-5 (λ c κs. search needs) returns-6)
+stand-at-spec = tie.close (tie.spec returns (λ c. search needs) (λ c κs. search needs) (λ c. search needs) returns-2 (λ c. search needs)
+    returns-3 (λ c. search needs) returns-4 (λ c. search needs) returns-5 (λ c κs. search needs) returns-6)

@@ -14,11 +14,15 @@ returns c = rw (eq-eqb _ 38 (c .before .before .before .if1 .taken), sym (c .bef
 
 returns-2 : tie.Need-returns-2
 unfolding textOf
-returns-2 c = rw (eq-eqb _ 38 (c .before .before .before .if1 .taken), sym (c .before .before .reference .ensures) ∙ c .enum-told2 .given .1)
+returns-2 c = rw (
+  eq-eqb _ 38 (c .before .before .before .if1 .taken),
+  sym (c .before .before .reference .ensures) ∙ c .enum-told2 .given .1,
+)
 
 returns-3 : tie.Need-returns-3
 unfolding textOf
 returns-3 c = rw (ne-eqb _ 38 (c .if1 .left))
 
 pub stand-text-spec : {M : Type 1} → statement M
-stand-text-spec = tie.close (tie.spec (λ c. search needs) (λ c κs. search needs) (λ c. search needs) returns (λ c. search needs) returns-2 returns-3)
+stand-text-spec = tie.close (tie.spec (λ c. search needs) (λ c κs. search needs) (λ c. search needs) returns (λ c. search needs) returns-2
+    returns-3)

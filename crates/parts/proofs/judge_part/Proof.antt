@@ -14,14 +14,30 @@ returns c = record { says = sym (part-bad _ _ _ _ _ (sym (c .before .well-formed
 
 returns-2 : tie.Need-returns-2
 unfolding partSaid
-returns-2 c = record { says = sym (part-none _ _ _ _ _ (sym (c .before .before .before .before .well-formed .ensures .says) ∙ not-false _ (c .before .before .before .if1 .left)) (c .before .before .terminator-of .ensures) (c .if2 .taken)) }
+returns-2 c = record {
+  says = sym (part-none _ _ _ _ _
+      (sym (c .before .before .before .before .well-formed .ensures .says) ∙ not-false _ (c .before .before .before .if1 .left))
+      (c .before .before .terminator-of .ensures) (c .if2 .taken));
+}
 
 judge-behind-requires : tie.Need-judge-behind-requires
-judge-behind-requires c κs = (record { good = sym (c .before .before .before .before .before .well-formed .ensures .says) ∙ not-false _ (c .before .before .before .before .if1 .left); head = c .read .ensures }, rw (c .before .before .before .terminator-of .ensures) (numbered-ending _))
+judge-behind-requires c κs = (
+  record {
+    good = sym (c .before .before .before .before .before .well-formed .ensures .says)
+        ∙ not-false _ (c .before .before .before .before .if1 .left);
+    head = c .read .ensures;
+  },
+  rw (c .before .before .before .terminator-of .ensures) (numbered-ending _),
+)
 
 returns-3 : tie.Need-returns-3
 unfolding partSaid
-returns-3 c = record { says = part-judged _ _ _ _ _ (sym (c .before .before .before .before .before .before .well-formed .ensures .says) ∙ not-false _ (c .before .before .before .before .before .if1 .left)) (c .before .before .before .before .terminator-of .ensures) (c .before .before .if2 .left) (c .judge-behind .ensures) }
+returns-3 c = record {
+  says = part-judged _ _ _ _ _
+      (sym (c .before .before .before .before .before .before .well-formed .ensures .says)
+      ∙ not-false _ (c .before .before .before .before .before .if1 .left)) (c .before .before .before .before .terminator-of .ensures)
+      (c .before .before .if2 .left) (c .judge-behind .ensures);
+}
 
 pub judge-part-spec : {M : Type 1} → statement M
 judge-part-spec =

@@ -21,7 +21,8 @@ unfoldable pub numbered : ℕ → Terminator
 numbered k =
     cond (eqb k 1) (pair 13 10) (cond (eqb k 2) (pair 10 13) (cond (eqb k 3) (single 13 10) (cond (eqb k 4) (single 10 13) none)))
 
--- the records of a part, n of it before them, in a file whose first record has `first` bytes: each 31, 22, 23, its fields; a record without its
+-- the records of a part, n of it before them, in a file whose first record has `first` bytes: each 31, 22, 23, its fields; a record without
+-- its
 -- terminator is 30 in the last part
 unfoldable pub partRecords : List ℤ → ℕ → ℕ → Bool → Records → FileVerdict
 partRecords t n first last over = soundWith n

@@ -9,7 +9,8 @@ returns : tie.Need-returns
 returns c = c .boundary-of .ensures ∙ sym (boundary-cr _ _ (c .before .before .before .before .pre) (c .before .if1 .taken))
 
 returns-2 : tie.Need-returns-2
-returns-2 c = c .boundary-of2 .ensures ∙ sym (boundary-lf _ _ (c .before .before .before .before .before .pre) (c .before .before .if1 .left) (c .before .if2 .taken))
+returns-2 c = c .boundary-of2 .ensures ∙ sym (boundary-lf _ _ (c .before .before .before .before .before .pre)
+    (c .before .before .if1 .left) (c .before .if2 .taken))
 
 returns-3 : tie.Need-returns-3
 returns-3 c = sym (boundary-none _ _ (c .before .before .before .before .pre) (c .before .if1 .left) (c .if2 .left))

@@ -9,7 +9,8 @@ use lib.ListN.{length}
 use Rattle.lows.specs.rule.Lows.{lowAt}
 use Rattle.cuts.specs.Records.{part}
 use Rattle.cuts.specs.declared.Terminator.{Terminator}
-use Rattle.pieces.specs.Pieces.{NoBoundary, lowCount, none-clear, none-more, count-clear, count-more, boundary-sized, span-ended, span-last}
+use Rattle.pieces.specs.Pieces.{NoBoundary, lowCount, none-clear, none-more, count-clear, count-more, boundary-sized, span-ended}
+use Rattle.pieces.specs.Pieces.{span-last}
 use Rattle.pieces.proofs.next_piece.Statement.{statement}
 use Rattle.pieces.proofs.next_piece.Tie as tie
 
@@ -28,14 +29,17 @@ loop-holds c =
 returns : tie.Need-returns Inv-loop μ-loop
 returns c =
     let l = c .before .before .before .before .loop .inv in
-    span-ended _ _ _ _ (c .before .before .before .before .before .before .before .pre) (l .0) (l .1) _ (c .before .before .before .loop-test .taken) (c .before .before .boundary-at .ensures) (c .if1 .taken)
+    span-ended _ _ _ _ (c .before .before .before .before .before .before .before .pre) (l .0) (l .1) _
+    (c .before .before .before .loop-test .taken) (c .before .before .boundary-at .ensures) (c .if1 .taken)
 
 loop-again : tie.Need-loop-again Inv-loop μ-loop
 loop-again c =
     let l = c .before .before .before .before .before .loop .inv in
     let f = c .low-from2 .ensures in (
-      none-more _ _ _ _ (l .0) (boundary-sized _ (ap (λ (w : Terminator). w .size) (sym (c .before .before .before .boundary-at .ensures)) ∙ c .before .if1 .left)) (none-clear _ _ _ (f .clear)),
-      ap (λ x. x + 1) (l .1) ∙ sym (count-more _ _ _ _ (l .0 .on) (c .before .before .before .before .loop-test .taken) (l .2 (c .before .before .before .before .loop-test .taken)) (f .clear)),
+      none-more _ _ _ _ (l .0) (boundary-sized _ (ap (λ (w : Terminator). w .size) (sym (c .before .before .before .boundary-at .ensures))
+          ∙ c .before .if1 .left)) (none-clear _ _ _ (f .clear)),
+      ap (λ x. x + 1) (l .1) ∙ sym (count-more _ _ _ _ (l .0 .on) (c .before .before .before .before .loop-test .taken)
+          (l .2 (c .before .before .before .before .loop-test .taken)) (f .clear)),
       f .low,
       omega (arith, l .3, f .clear .on),
     )

@@ -39,7 +39,8 @@ unfoldable pub cutFrom : ℕ → List ℕ → List Piece
 cutFrom skip [] = []
 cutFrom (suc skip) (b ∷ s) = cutFrom skip s
 cutFrom zero (b ∷ s) =
-    cond (eqb (boundaryAt (b ∷ s) .size) 0) (onto b (cutFrom 0 s)) (piece [] (boundaryAt (b ∷ s)) ∷ cutFrom (boundaryAt (b ∷ s) .size - 1) s)
+    cond (eqb (boundaryAt (b ∷ s) .size) 0) (onto b (cutFrom 0 s))
+    (piece [] (boundaryAt (b ∷ s)) ∷ cutFrom (boundaryAt (b ∷ s) .size - 1) s)
 
 -- THE PIECES of a file
 unfoldable pub piecesOf : List ℕ → List Piece

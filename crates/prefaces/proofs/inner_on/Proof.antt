@@ -9,13 +9,15 @@ use Rattle.prefaces.proofs.inner_on.Tie as tie
 returns : tie.Need-returns
 returns c =
     let a = c .before .before .before .before .before .args in
-    let e = sym (passed-is (innerOf (a .bad) (a .d .now) (ruleOf (a .m)) (a .at)) (c .before .before .before .read-inner .ensures .0)) ∙ ap passed (c .before .n .given .1) in
+    let e = sym (passed-is (innerOf (a .bad) (a .d .now) (ruleOf (a .m)) (a .at)) (c .before .before .before .read-inner .ensures .0))
+    ∙ ap passed (c .before .n .given .1) in
     (rw e, rw (c .before .n .given .1) at (c .before .before .before .read-inner .ensures .1))
 
 returns-2 : tie.Need-returns-2
 returns-2 c =
     let a = c .before .before .before .before .before .args in
-    let e = sym (passed-is (innerOf (a .bad) (a .d .now) (ruleOf (a .m)) (a .at)) (c .before .before .before .read-inner .ensures .0)) ∙ ap passed (c .before .f .given .1) in
+    let e = sym (passed-is (innerOf (a .bad) (a .d .now) (ruleOf (a .m)) (a .at)) (c .before .before .before .read-inner .ensures .0))
+    ∙ ap passed (c .before .f .given .1) in
     (rw e, tt)
 
 pub inner-on-spec : {M : Type 1} → statement M

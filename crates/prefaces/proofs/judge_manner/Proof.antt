@@ -11,23 +11,53 @@ returns c = let h = c .before .before .args .h in rw (c .if1 .taken, version-fir
 
 returns-2 : tie.Need-returns-2
 unfolding manneredOf judged
-returns-2 c = let h = c .before .before .before .before .before .args .h in rw (c .before .before .before .if1 .left, eq-eqb (h .unknown) 0 (c .before .if2 .taken), c .if3 .taken, third-alone (h .a) (h .unknown) (h .third))
+returns-2 c = let h = c .before .before .before .before .before .args .h in
+    rw (
+      c .before .before .before .if1 .left,
+      eq-eqb (h .unknown) 0 (c .before .if2 .taken),
+      c .if3 .taken,
+      third-alone (h .a) (h .unknown) (h .third),
+    )
 
 returns-3 : tie.Need-returns-3
 unfolding manneredOf judged
-returns-3 c = let h = c .before .before .before .before .before .before .args .h in rw (c .before .before .before .before .if1 .left, eq-eqb (h .unknown) 0 (c .before .before .if2 .taken), c .before .if3 .left, none (h .a) (h .unknown) (h .third), c .if4 .taken)
+returns-3 c = let h = c .before .before .before .before .before .before .args .h in
+    rw (
+      c .before .before .before .before .if1 .left,
+      eq-eqb (h .unknown) 0 (c .before .before .if2 .taken),
+      c .before .if3 .left,
+      none (h .a) (h .unknown) (h .third),
+      c .if4 .taken,
+    )
 
 returns-4 : tie.Need-returns-4
 unfolding manneredOf judged
-returns-4 c = let h = c .before .before .before .before .before .before .before .before .args .h in rw (c .before .before .before .before .before .before .if1 .left, eq-eqb (h .unknown) 0 (c .before .before .before .before .if2 .taken), c .before .before .before .if3 .left, none (h .a) (h .unknown) (h .third), c .before .before .if4 .left)
+returns-4 c = let h = c .before .before .before .before .before .before .before .before .args .h in
+    rw (
+      c .before .before .before .before .before .before .if1 .left,
+      eq-eqb (h .unknown) 0 (c .before .before .before .before .if2 .taken),
+      c .before .before .before .if3 .left,
+      none (h .a) (h .unknown) (h .third),
+      c .before .before .if4 .left,
+    )
 
 returns-5 : tie.Need-returns-5
 unfolding manneredOf judged
-returns-5 c = let h = c .before .before .before .before .before .before .args .h in rw (c .before .before .before .before .if1 .left, ne-eqb (h .unknown) 0 (c .before .before .if2 .left), third-first (h .a) (h .unknown) (h .third) _ (c .if5 .taken))
+returns-5 c = let h = c .before .before .before .before .before .before .args .h in
+    rw (
+      c .before .before .before .before .if1 .left,
+      ne-eqb (h .unknown) 0 (c .before .before .if2 .left),
+      third-first (h .a) (h .unknown) (h .third) _ (c .if5 .taken),
+    )
 
 returns-6 : tie.Need-returns-6
 unfolding manneredOf judged
-returns-6 c = let h = c .before .before .before .before .before .before .args .h in rw (c .before .before .before .before .if1 .left, ne-eqb (h .unknown) 0 (c .before .before .if2 .left), unknown-first (h .a) (h .unknown) (h .third) _ (c .if5 .left))
+returns-6 c = let h = c .before .before .before .before .before .before .args .h in
+    rw (
+      c .before .before .before .before .if1 .left,
+      ne-eqb (h .unknown) 0 (c .before .before .if2 .left),
+      unknown-first (h .a) (h .unknown) (h .third) _ (c .if5 .left),
+    )
 
 pub judge-manner-spec : {M : Type 1} → statement M
 judge-manner-spec = tie.close (tie.spec returns returns-2 returns-3 returns-4 returns-5 returns-6)

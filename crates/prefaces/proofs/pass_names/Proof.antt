@@ -20,7 +20,8 @@ returns-2 c =
     let p = perhaps (a .bad) (a .d .now) SURVEY in
     let e = opened-is (bind (readOf (a .o)) (p NAME 0)) (c .before .before .before .perhaps-text .ensures .0) in (
       rw (c .before .before .before .before .before .before .if1 .left)
-          (c .perhaps-text2 .ensures .0 ∙ ap (λ (y : Result Open). openOf (bind y (p VERSION 0))) e ∙ ap openOf (bind-bind (readOf (a .o)) (p NAME 0) (p VERSION 0))),
+          (c .perhaps-text2 .ensures .0 ∙ ap (λ (y : Result Open). openOf (bind y (p VERSION 0))) e
+          ∙ ap openOf (bind-bind (readOf (a .o)) (p NAME 0) (p VERSION 0))),
       c .perhaps-text2 .ensures .1,
     )
 

@@ -14,7 +14,8 @@ unfolding outerOf
 returns c =
     let a = c .before .before .before .before .before .before .args in
     let x = manner (a .bad) (a .d .now) (a .latin) (a .place) (a .end) in
-    let e = sym (prefaced-is x (c .before .before .before .before .read-manner .ensures .0)) ∙ ap prefaceRead (c .before .before .manner .given .1) in
+    let e = sym (prefaced-is x (c .before .before .before .before .read-manner .ensures .0))
+    ∙ ap prefaceRead (c .before .before .manner .given .1) in
     (rw e (c .inner-on .ensures .0), c .inner-on .ensures .1)
 
 returns-2 : tie.Need-returns-2

@@ -10,19 +10,25 @@ use Rattle.prefaces.proofs.read_heading.Statement.{statement}
 use Rattle.prefaces.proofs.read_heading.Tie as tie
 
 perhaps-text-requires : tie.Need-perhaps-text-requires
-perhaps-text-requires c κs = let a = c .before .before .before .before .before .args in within-first (a .d .now) (a .at) (c .before .before .find-open .result) (c .before .before .find-open .ensures .1)
+perhaps-text-requires c κs = let a = c .before .before .before .before .before .args in
+    within-first (a .d .now) (a .at) (c .before .before .find-open .result) (c .before .before .find-open .ensures .1)
 
 returns : tie.Need-returns
 unfolding heading
 returns c =
-    let a = c .before .before .before .before .before .before .before .before .before .before .before .before .before .before .before .args in
+    let a = c .before .before .before .before .before .before .before .before .before .before .before .before .before .before .before
+    .args in
     let b = a .bad in
     let d = a .d .now in
     let x = within b d SSS (a .at) in
-    let e1 = opened-is x (c .before .before .before .before .before .before .before .before .before .before .before .before .find-open .ensures .0) in
-    let e2 = opened-is _ (c .before .before .before .before .before .before .before .before .before .perhaps-text .ensures .0) ∙ ap (λ (y : Result Open). bind y (perhaps b d SSS DATE 0)) e1 in
-    let e3 = opened-is _ (c .before .before .before .before .before .before .perhaps-text2 .ensures .0) ∙ ap (λ (y : Result Open). bind y (perhaps b d SSS TIME 0)) e2 in
-    let e4 = opened-is _ (c .before .before .before .perhaps-text3 .ensures .0) ∙ ap (λ (y : Result Open). bind y (perhaps b d SSS ORIGIN 0)) e3 in (
+    let e1 = opened-is x
+    (c .before .before .before .before .before .before .before .before .before .before .before .before .find-open .ensures .0) in
+    let e2 = opened-is _ (c .before .before .before .before .before .before .before .before .before .perhaps-text .ensures .0)
+    ∙ ap (λ (y : Result Open). bind y (perhaps b d SSS DATE 0)) e1 in
+    let e3 = opened-is _ (c .before .before .before .before .before .before .perhaps-text2 .ensures .0)
+    ∙ ap (λ (y : Result Open). bind y (perhaps b d SSS TIME 0)) e2 in
+    let e4 = opened-is _ (c .before .before .before .perhaps-text3 .ensures .0)
+    ∙ ap (λ (y : Result Open). bind y (perhaps b d SSS ORIGIN 0)) e3 in (
       c .perhaps-text4 .ensures .0
           ∙ ap (λ (y : Result Open). openOf (bind y (perhaps b d SSS USER 0))) e4
           ∙ ap openOf (four x (perhaps b d SSS DATE 0) (perhaps b d SSS TIME 0) (perhaps b d SSS ORIGIN 0) (perhaps b d SSS USER 0)),

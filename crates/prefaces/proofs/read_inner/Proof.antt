@@ -18,7 +18,8 @@ returns c =
     let m = ruleOf (a .m) in
     let x = heading b d (a .at) in
     let e1 = opened-is x (c .before .before .before .read-heading .ensures .0) in
-    let e2 = passed-is _ (c .before .before .survey-on .ensures .0) ∙ ap (λ (y : Result Open). bind y (λ o. due b d SURVEY o (survey b d))) e1 in
+    let e2 = passed-is _ (c .before .before .survey-on .ensures .0)
+    ∙ ap (λ (y : Result Open). bind y (λ o. due b d SURVEY o (survey b d))) e1 in
     let e3 = opened-is _ (c .before .titles-on .ensures .0) ∙ ap (λ (y : Result Unit). bind y (λ u. titles b d m)) e2 in (
       c .record-on .ensures .0
           ∙ ap (λ (y : Result Open). readingOf (bind y (λ o. due b d RECORD o (record-tag b d m)))) e3

@@ -24,4 +24,5 @@ unfolding record-tag
 returns-2 c = (rw (sym (c .before .before .before .record-tag .ensures) ∙ c .before .number .given .1), tt)
 
 pub read-record-spec : {M : Type 1} → statement M
-read-record-spec = tie.close (tie.spec (λ c κs. search needs) (λ c. search needs) (λ c κs. search needs) (λ c. search needs) returns returns-2)
+read-record-spec = tie.close (tie.spec (λ c κs. search needs) (λ c. search needs) (λ c κs. search needs) (λ c. search needs) returns
+    returns-2)

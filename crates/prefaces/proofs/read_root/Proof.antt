@@ -8,14 +8,18 @@ use Rattle.prefaces.proofs.read_root.Tie as tie
 root-at-requires : tie.Need-root-at-requires
 root-at-requires c κs =
     let a = c .before .before .before .before .before .args in
-    head-in (a .bad) (a .latin) (a .d .now) (a .at) _ _ (c .before .before .before .before .before .pre) (sym (c .before .before .before .read-head .ensures) ∙ c .before .next .given .1) .inside
+    head-in (a .bad) (a .latin) (a .d .now) (a .at) _ _ (c .before .before .before .before .before .pre)
+    (sym (c .before .before .before .read-head .ensures) ∙ c .before .next .given .1) .inside
 
 returns : tie.Need-returns
 unfolding root
 returns c =
     let a = c .before .before .before .before .before .before .args in
-    let e = sym (c .before .before .before .before .read-head .ensures) ∙ c .before .before .next .given .1 in
-    (rw (e, head-in (a .bad) (a .latin) (a .d .now) (a .at) _ _ (c .before .before .before .before .before .before .pre) e .same) (c .root-at .ensures .0), c .root-at .ensures .1)
+    let e = sym (c .before .before .before .before .read-head .ensures) ∙ c .before .before .next .given .1 in (
+      rw (e, head-in (a .bad) (a .latin) (a .d .now) (a .at) _ _ (c .before .before .before .before .before .before .pre) e .same)
+          (c .root-at .ensures .0),
+      c .root-at .ensures .1,
+    )
 
 returns-2 : tie.Need-returns-2
 unfolding root

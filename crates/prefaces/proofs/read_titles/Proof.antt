@@ -13,7 +13,8 @@ use Rattle.prefaces.proofs.read_titles.Statement.{statement}
 use Rattle.prefaces.proofs.read_titles.Tie as tie
 
 pass-names-requires : tie.Need-pass-names-requires
-pass-names-requires c κs = let a = c .before .before .before .args in within-first (a .d .now) (a .at) (c .find-open .result) (c .find-open .ensures .1)
+pass-names-requires c κs = let a = c .before .before .before .args in
+    within-first (a .d .now) (a .at) (c .find-open .result) (c .find-open .ensures .1)
 
 returns : tie.Need-returns
 unfolding titles titledOf
@@ -24,9 +25,11 @@ returns c =
     let x = within b d SURVEY (a .at) in
     let p = perhaps b d SURVEY TITLE in
     let e1 = opened-is x (c .before .before .before .before .before .find-open .ensures .0) in
-    let e2 = opened-is _ (c .before .before .before .before .pass-names .ensures .0) ∙ ap (λ (y : Result Open). bind y (titledOf b d (a .m .old))) e1 in (
+    let e2 = opened-is _ (c .before .before .before .before .pass-names .ensures .0)
+    ∙ ap (λ (y : Result Open). bind y (titledOf b d (a .m .old))) e1 in (
       c .perhaps-text .ensures .0
-          ∙ ap (λ (k : ℕ). openOf (bind (readOf (c .before .before .before .before .pass-names .result)) (p k))) (c .before .before .before .title-mode .ensures)
+          ∙ ap (λ (k : ℕ). openOf (bind (readOf (c .before .before .before .before .pass-names .result)) (p k)))
+          (c .before .before .before .title-mode .ensures)
           ∙ ap (λ (y : Result Open). openOf (bind y (p (rich (a .m .languages))))) e2
           ∙ ap openOf (bind-bind x (titledOf b d (a .m .old)) (p (rich (a .m .languages)))),
       c .perhaps-text .ensures .1,

@@ -10,13 +10,16 @@ use Rattle.prefaces.proofs.survey_on.Tie as tie
 read-survey-requires : tie.Need-read-survey-requires
 read-survey-requires c κs =
     let a = c .before .before .before .before .before .before .args in
-    due-in (a .bad) (a .d .now) SURVEY (a .o) _ _ (c .before .before .before .before .before .before .pre) (sym (c .before .before .before .tag-due .ensures) ∙ c .before .place .given .1)
+    due-in (a .bad) (a .d .now) SURVEY (a .o) _ _ (c .before .before .before .before .before .before .pre)
+    (sym (c .before .before .before .tag-due .ensures) ∙ c .before .place .given .1)
 
 returns : tie.Need-returns
 returns c =
     let a = c .before .before .before .before .before .before .before .args in
-    let e = sym (c .before .before .before .before .tag-due .ensures) ∙ c .before .before .place .given .1 in
-    (rw (due-then (a .bad) (a .d .now) SURVEY (a .o) (survey (a .bad) (a .d .now)), e) (c .read-survey .ensures .0), c .read-survey .ensures .1)
+    let e = sym (c .before .before .before .before .tag-due .ensures) ∙ c .before .before .place .given .1 in (
+      rw (due-then (a .bad) (a .d .now) SURVEY (a .o) (survey (a .bad) (a .d .now)), e) (c .read-survey .ensures .0),
+      c .read-survey .ensures .1,
+    )
 
 returns-2 : tie.Need-returns-2
 returns-2 c =
@@ -25,4 +28,5 @@ returns-2 c =
     (rw (due-then (a .bad) (a .d .now) SURVEY (a .o) (survey (a .bad) (a .d .now)), e), tt)
 
 pub survey-on-spec : {M : Type 1} → statement M
-survey-on-spec = tie.close (tie.spec (λ c. search needs) (λ c κs. search needs) (λ c. search needs) read-survey-requires (λ c. search needs) returns returns-2)
+survey-on-spec = tie.close (tie.spec (λ c. search needs) (λ c κs. search needs) (λ c. search needs) read-survey-requires (λ c. search needs)
+    returns returns-2)

@@ -11,25 +11,64 @@ use Rattle.prologs.proofs.declaration_at.Statement.{statement}
 use Rattle.prologs.proofs.declaration_at.Tie as tie
 
 add-at : tie.Need-add-at
-add-at c = let h = stands-in 60 (63 ∷ 120 ∷ 109 ∷ 108 ∷ []) (c .before .args .d .now) (c .before .args .opened) (c .before .pre) in omega arith
+add-at c = let h = stands-in 60 (63 ∷ 120 ∷ 109 ∷ 108 ∷ []) (c .before .args .d .now) (c .before .args .opened) (c .before .pre) in
+    omega arith
 
 run-requires : tie.Need-run-requires
-run-requires c κs = let h = stands-in 60 (63 ∷ 120 ∷ 109 ∷ 108 ∷ []) (c .before .args .d .now) (c .before .args .opened) (c .before .pre) in omega arith
+run-requires c κs = let h = stands-in 60 (63 ∷ 120 ∷ 109 ∷ 108 ∷ []) (c .before .args .d .now) (c .before .args .opened) (c .before .pre) in
+    omega arith
 
 returns : tie.Need-returns
-returns c = c .miss .ensures ∙ sym (tell-word false (c .before .before .before .before .args .d .now) (c .before .before .before .before .args .opened) (white (word version (pair (one-nought ∷ []) (encoded (c .before .before .before .before .args .marked))))) false (c .before .before .before .before .args .opened) XML (c .before .before .before .before .pre) ∙ white-miss false (c .before .before .before .before .args .d .now) (c .before .before .before .before .args .opened) (word version (pair (one-nought ∷ []) (encoded (c .before .before .before .before .args .marked)))) false (c .before .before .before .before .args .opened + 5) (c .before .before .run .ensures .0) (c .before .if1 .taken))
+returns c = c .miss .ensures ∙ sym (tell-word false (c .before .before .before .before .args .d .now)
+    (c .before .before .before .before .args .opened)
+    (white (word version (pair (one-nought ∷ []) (encoded (c .before .before .before .before .args .marked))))) false
+    (c .before .before .before .before .args .opened) XML (c .before .before .before .before .pre)
+    ∙ white-miss false (c .before .before .before .before .args .d .now) (c .before .before .before .before .args .opened)
+    (word version (pair (one-nought ∷ []) (encoded (c .before .before .before .before .args .marked)))) false
+    (c .before .before .before .before .args .opened + 5) (c .before .before .run .ensures .0) (c .before .if1 .taken))
 
 add-version-named : tie.Need-add-version-named
-add-version-named c = let h = stands-in 118 (101 ∷ 114 ∷ 115 ∷ 105 ∷ 111 ∷ 110 ∷ []) (c .before .before .before .before .before .before .args .d .now) (c .before .before .before .before .run .result) (sym (c .before .is-there .ensures) ∙ c .if2 .taken) in omega arith
+add-version-named c = let h = stands-in 118 (101 ∷ 114 ∷ 115 ∷ 105 ∷ 111 ∷ 110 ∷ [])
+    (c .before .before .before .before .before .before .args .d .now) (c .before .before .before .before .run .result)
+    (sym (c .before .is-there .ensures) ∙ c .if2 .taken) in omega arith
 
 version-named-requires : tie.Need-version-named-requires
-version-named-requires c κs = let h = stands-in 118 (101 ∷ 114 ∷ 115 ∷ 105 ∷ 111 ∷ 110 ∷ []) (c .before .before .before .before .before .before .args .d .now) (c .before .before .before .before .run .result) (sym (c .before .is-there .ensures) ∙ c .if2 .taken) in omega arith
+version-named-requires c κs = let h = stands-in 118 (101 ∷ 114 ∷ 115 ∷ 105 ∷ 111 ∷ 110 ∷ [])
+    (c .before .before .before .before .before .before .args .d .now) (c .before .before .before .before .run .result)
+    (sym (c .before .is-there .ensures) ∙ c .if2 .taken) in omega arith
 
 returns-2 : tie.Need-returns-2
-returns-2 c = c .version-named .ensures ∙ sym (tell-word false (c .before .before .before .before .before .before .before .args .d .now) (c .before .before .before .before .before .before .before .args .opened) (white (word version (pair (one-nought ∷ []) (encoded (c .before .before .before .before .before .before .before .args .marked))))) false (c .before .before .before .before .before .before .before .args .opened) XML (c .before .before .before .before .before .before .before .pre) ∙ tell-white false (c .before .before .before .before .before .before .before .args .d .now) (c .before .before .before .before .before .before .before .args .opened) (word version (pair (one-nought ∷ []) (encoded (c .before .before .before .before .before .before .before .args .marked)))) false (c .before .before .before .before .before .before .before .args .opened + 5) (c .before .before .before .before .before .run .ensures .0) (c .before .before .before .before .if1 .left) ∙ tell-word false (c .before .before .before .before .before .before .before .args .d .now) (c .before .before .before .before .before .before .before .args .opened) (pair (one-nought ∷ []) (encoded (c .before .before .before .before .before .before .before .args .marked))) false (c .before .before .before .before .before .run .result) version (sym (c .before .before .is-there .ensures) ∙ c .before .if2 .taken))
+returns-2 c = c .version-named .ensures ∙ sym (tell-word false (c .before .before .before .before .before .before .before .args .d .now)
+    (c .before .before .before .before .before .before .before .args .opened)
+    (white (word version (pair (one-nought ∷ []) (encoded (c .before .before .before .before .before .before .before .args .marked)))))
+    false (c .before .before .before .before .before .before .before .args .opened) XML
+    (c .before .before .before .before .before .before .before .pre)
+    ∙ tell-white false (c .before .before .before .before .before .before .before .args .d .now)
+    (c .before .before .before .before .before .before .before .args .opened)
+    (word version (pair (one-nought ∷ []) (encoded (c .before .before .before .before .before .before .before .args .marked)))) false
+    (c .before .before .before .before .before .before .before .args .opened + 5)
+    (c .before .before .before .before .before .run .ensures .0) (c .before .before .before .before .if1 .left)
+    ∙ tell-word false (c .before .before .before .before .before .before .before .args .d .now)
+    (c .before .before .before .before .before .before .before .args .opened)
+    (pair (one-nought ∷ []) (encoded (c .before .before .before .before .before .before .before .args .marked))) false
+    (c .before .before .before .before .before .run .result) version (sym (c .before .before .is-there .ensures) ∙ c .before .if2 .taken))
 
 returns-3 : tie.Need-returns-3
-returns-3 c = c .miss2 .ensures ∙ sym (tell-word false (c .before .before .before .before .before .before .before .args .d .now) (c .before .before .before .before .before .before .before .args .opened) (white (word version (pair (one-nought ∷ []) (encoded (c .before .before .before .before .before .before .before .args .marked))))) false (c .before .before .before .before .before .before .before .args .opened) XML (c .before .before .before .before .before .before .before .pre) ∙ tell-white false (c .before .before .before .before .before .before .before .args .d .now) (c .before .before .before .before .before .before .before .args .opened) (word version (pair (one-nought ∷ []) (encoded (c .before .before .before .before .before .before .before .args .marked)))) false (c .before .before .before .before .before .before .before .args .opened + 5) (c .before .before .before .before .before .run .ensures .0) (c .before .before .before .before .if1 .left) ∙ word-miss false (c .before .before .before .before .before .before .before .args .d .now) (c .before .before .before .before .before .before .before .args .opened) (pair (one-nought ∷ []) (encoded (c .before .before .before .before .before .before .before .args .marked))) false (c .before .before .before .before .before .run .result) version (sym (c .before .before .is-there .ensures) ∙ c .before .if2 .left))
+returns-3 c = c .miss2 .ensures ∙ sym (tell-word false (c .before .before .before .before .before .before .before .args .d .now)
+    (c .before .before .before .before .before .before .before .args .opened)
+    (white (word version (pair (one-nought ∷ []) (encoded (c .before .before .before .before .before .before .before .args .marked)))))
+    false (c .before .before .before .before .before .before .before .args .opened) XML
+    (c .before .before .before .before .before .before .before .pre)
+    ∙ tell-white false (c .before .before .before .before .before .before .before .args .d .now)
+    (c .before .before .before .before .before .before .before .args .opened)
+    (word version (pair (one-nought ∷ []) (encoded (c .before .before .before .before .before .before .before .args .marked)))) false
+    (c .before .before .before .before .before .before .before .args .opened + 5)
+    (c .before .before .before .before .before .run .ensures .0) (c .before .before .before .before .if1 .left)
+    ∙ word-miss false (c .before .before .before .before .before .before .before .args .d .now)
+    (c .before .before .before .before .before .before .before .args .opened)
+    (pair (one-nought ∷ []) (encoded (c .before .before .before .before .before .before .before .args .marked))) false
+    (c .before .before .before .before .before .run .result) version (sym (c .before .before .is-there .ensures) ∙ c .before .if2 .left))
 
 pub declaration-at-spec : {M : Type 1} → statement M
-declaration-at-spec = tie.close (tie.spec add-at run-requires (λ c κs. search needs) returns (λ c. search needs) (λ c κs. search needs) add-version-named version-named-requires returns-2 (λ c κs. search needs) returns-3)
+declaration-at-spec = tie.close (tie.spec add-at run-requires (λ c κs. search needs) returns (λ c. search needs) (λ c κs. search needs)
+    add-version-named version-named-requires returns-2 (λ c κs. search needs) returns-3)

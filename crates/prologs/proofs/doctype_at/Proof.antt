@@ -11,31 +11,114 @@ use Rattle.prologs.proofs.doctype_at.Statement.{statement}
 use Rattle.prologs.proofs.doctype_at.Tie as tie
 
 add-at : tie.Need-add-at
-add-at c = let h = stands-in 60 (33 ∷ 68 ∷ 79 ∷ 67 ∷ 84 ∷ 89 ∷ 80 ∷ 69 ∷ []) (c .before .args .d .now) (c .before .args .opened) (c .before .pre) in omega arith
+add-at c = let h = stands-in 60 (33 ∷ 68 ∷ 79 ∷ 67 ∷ 84 ∷ 89 ∷ 80 ∷ 69 ∷ []) (c .before .args .d .now) (c .before .args .opened)
+    (c .before .pre) in omega arith
 
 run-requires : tie.Need-run-requires
-run-requires c κs = let h = stands-in 60 (33 ∷ 68 ∷ 79 ∷ 67 ∷ 84 ∷ 89 ∷ 80 ∷ 69 ∷ []) (c .before .args .d .now) (c .before .args .opened) (c .before .pre) in omega arith
+run-requires c κs = let h = stands-in 60 (33 ∷ 68 ∷ 79 ∷ 67 ∷ 84 ∷ 89 ∷ 80 ∷ 69 ∷ []) (c .before .args .d .now) (c .before .args .opened)
+    (c .before .pre) in omega arith
 
 returns : tie.Need-returns
-returns c = c .miss .ensures ∙ sym (tell-word (c .before .before .before .before .args .bad) (c .before .before .before .before .args .d .now) (c .before .before .before .before .args .opened) (white (root behind)) (c .before .before .before .before .args .latin) (c .before .before .before .before .args .opened) DOCTYPE (c .before .before .before .before .pre) ∙ white-miss (c .before .before .before .before .args .bad) (c .before .before .before .before .args .d .now) (c .before .before .before .before .args .opened) (root behind) (c .before .before .before .before .args .latin) (c .before .before .before .before .args .opened + 9) (c .before .before .run .ensures .0) (c .before .if1 .taken))
+returns c = c .miss .ensures ∙ sym (tell-word (c .before .before .before .before .args .bad)
+    (c .before .before .before .before .args .d .now) (c .before .before .before .before .args .opened) (white (root behind))
+    (c .before .before .before .before .args .latin) (c .before .before .before .before .args .opened) DOCTYPE
+    (c .before .before .before .before .pre) ∙ white-miss (c .before .before .before .before .args .bad)
+    (c .before .before .before .before .args .d .now) (c .before .before .before .before .args .opened) (root behind)
+    (c .before .before .before .before .args .latin) (c .before .before .before .before .args .opened + 9)
+    (c .before .before .run .ensures .0) (c .before .if1 .taken))
 
 add-behind-at : tie.Need-add-behind-at
-add-behind-at c = let h = stands-in 115 (115 ∷ 115 ∷ []) (c .before .before .before .before .before .before .args .d .now) (c .before .before .before .before .run .result) (sym (c .before .is-there .ensures) ∙ c .if2 .taken) in omega arith
+add-behind-at c = let h = stands-in 115 (115 ∷ 115 ∷ []) (c .before .before .before .before .before .before .args .d .now)
+    (c .before .before .before .before .run .result) (sym (c .before .is-there .ensures) ∙ c .if2 .taken) in omega arith
 
 behind-at-requires : tie.Need-behind-at-requires
-behind-at-requires c κs = let h = stands-in 115 (115 ∷ 115 ∷ []) (c .before .before .before .before .before .before .args .d .now) (c .before .before .before .before .run .result) (sym (c .before .is-there .ensures) ∙ c .if2 .taken) in omega arith
+behind-at-requires c κs = let h = stands-in 115 (115 ∷ 115 ∷ []) (c .before .before .before .before .before .before .args .d .now)
+    (c .before .before .before .before .run .result) (sym (c .before .is-there .ensures) ∙ c .if2 .taken) in omega arith
 
 returns-2 : tie.Need-returns-2
-returns-2 c = c .behind-at .ensures ∙ sym (tell-word (c .before .before .before .before .before .before .before .args .bad) (c .before .before .before .before .before .before .before .args .d .now) (c .before .before .before .before .before .before .before .args .opened) (white (root behind)) (c .before .before .before .before .before .before .before .args .latin) (c .before .before .before .before .before .before .before .args .opened) DOCTYPE (c .before .before .before .before .before .before .before .pre) ∙ tell-white (c .before .before .before .before .before .before .before .args .bad) (c .before .before .before .before .before .before .before .args .d .now) (c .before .before .before .before .before .before .before .args .opened) (root behind) (c .before .before .before .before .before .before .before .args .latin) (c .before .before .before .before .before .before .before .args .opened + 9) (c .before .before .before .before .before .run .ensures .0) (c .before .before .before .before .if1 .left) ∙ tell-root (c .before .before .before .before .before .before .before .args .bad) (c .before .before .before .before .before .before .before .args .d .now) (c .before .before .before .before .before .before .before .args .opened) behind (c .before .before .before .before .before .before .before .args .latin) (c .before .before .before .before .before .run .result) (sym (c .before .before .is-there .ensures) ∙ c .before .if2 .taken))
+returns-2 c = c .behind-at .ensures ∙ sym (tell-word (c .before .before .before .before .before .before .before .args .bad)
+    (c .before .before .before .before .before .before .before .args .d .now)
+    (c .before .before .before .before .before .before .before .args .opened) (white (root behind))
+    (c .before .before .before .before .before .before .before .args .latin)
+    (c .before .before .before .before .before .before .before .args .opened) DOCTYPE
+    (c .before .before .before .before .before .before .before .pre)
+    ∙ tell-white (c .before .before .before .before .before .before .before .args .bad)
+    (c .before .before .before .before .before .before .before .args .d .now)
+    (c .before .before .before .before .before .before .before .args .opened) (root behind)
+    (c .before .before .before .before .before .before .before .args .latin)
+    (c .before .before .before .before .before .before .before .args .opened + 9)
+    (c .before .before .before .before .before .run .ensures .0) (c .before .before .before .before .if1 .left)
+    ∙ tell-root (c .before .before .before .before .before .before .before .args .bad)
+    (c .before .before .before .before .before .before .before .args .d .now)
+    (c .before .before .before .before .before .before .before .args .opened) behind
+    (c .before .before .before .before .before .before .before .args .latin) (c .before .before .before .before .before .run .result)
+    (sym (c .before .before .is-there .ensures) ∙ c .before .if2 .taken))
 
 returns-3 : tie.Need-returns-3
-returns-3 c = rw (c .end-fault .ensures) (sym (tell-word (c .before .before .before .before .before .before .before .before .args .bad) (c .before .before .before .before .before .before .before .before .args .d .now) (c .before .before .before .before .before .before .before .before .args .opened) (white (root behind)) (c .before .before .before .before .before .before .before .before .args .latin) (c .before .before .before .before .before .before .before .before .args .opened) DOCTYPE (c .before .before .before .before .before .before .before .before .pre) ∙ tell-white (c .before .before .before .before .before .before .before .before .args .bad) (c .before .before .before .before .before .before .before .before .args .d .now) (c .before .before .before .before .before .before .before .before .args .opened) (root behind) (c .before .before .before .before .before .before .before .before .args .latin) (c .before .before .before .before .before .before .before .before .args .opened + 9) (c .before .before .before .before .before .before .run .ensures .0) (c .before .before .before .before .before .if1 .left) ∙ root-gone (c .before .before .before .before .before .before .before .before .args .bad) (c .before .before .before .before .before .before .before .before .args .d .now) (c .before .before .before .before .before .before .before .before .args .opened) behind (c .before .before .before .before .before .before .before .before .args .latin) (c .before .before .before .before .before .before .run .result) (sym (c .before .before .before .is-there .ensures) ∙ c .before .before .if2 .left) (omega arith)))
+returns-3 c = rw (c .end-fault .ensures) (sym (tell-word (c .before .before .before .before .before .before .before .before .args .bad)
+    (c .before .before .before .before .before .before .before .before .args .d .now)
+    (c .before .before .before .before .before .before .before .before .args .opened) (white (root behind))
+    (c .before .before .before .before .before .before .before .before .args .latin)
+    (c .before .before .before .before .before .before .before .before .args .opened) DOCTYPE
+    (c .before .before .before .before .before .before .before .before .pre)
+    ∙ tell-white (c .before .before .before .before .before .before .before .before .args .bad)
+    (c .before .before .before .before .before .before .before .before .args .d .now)
+    (c .before .before .before .before .before .before .before .before .args .opened) (root behind)
+    (c .before .before .before .before .before .before .before .before .args .latin)
+    (c .before .before .before .before .before .before .before .before .args .opened + 9)
+    (c .before .before .before .before .before .before .run .ensures .0) (c .before .before .before .before .before .if1 .left)
+    ∙ root-gone (c .before .before .before .before .before .before .before .before .args .bad)
+    (c .before .before .before .before .before .before .before .before .args .d .now)
+    (c .before .before .before .before .before .before .before .before .args .opened) behind
+    (c .before .before .before .before .before .before .before .before .args .latin)
+    (c .before .before .before .before .before .before .run .result)
+    (sym (c .before .before .before .is-there .ensures) ∙ c .before .before .if2 .left) (omega arith)))
 
 returns-4 : tie.Need-returns-4
-returns-4 c = sym (tell-word (c .before .before .before .before .before .before .before .before .before .before .args .bad) (c .before .before .before .before .before .before .before .before .before .before .args .d .now) (c .before .before .before .before .before .before .before .before .before .before .args .opened) (white (root behind)) (c .before .before .before .before .before .before .before .before .before .before .args .latin) (c .before .before .before .before .before .before .before .before .before .before .args .opened) DOCTYPE (c .before .before .before .before .before .before .before .before .before .before .pre) ∙ tell-white (c .before .before .before .before .before .before .before .before .before .before .args .bad) (c .before .before .before .before .before .before .before .before .before .before .args .d .now) (c .before .before .before .before .before .before .before .before .before .before .args .opened) (root behind) (c .before .before .before .before .before .before .before .before .before .before .args .latin) (c .before .before .before .before .before .before .before .before .before .before .args .opened + 9) (c .before .before .before .before .before .before .before .before .run .ensures .0) (c .before .before .before .before .before .before .before .if1 .left) ∙ root-other (c .before .before .before .before .before .before .before .before .before .before .args .bad) (c .before .before .before .before .before .before .before .before .before .before .args .d .now) (c .before .before .before .before .before .before .before .before .before .before .args .opened) behind (c .before .before .before .before .before .before .before .before .before .before .args .latin) (c .before .before .before .before .before .before .before .before .run .result) (sym (c .before .before .before .before .before .is-there .ensures) ∙ c .before .before .before .before .if2 .left) (omega arith) (sym (c .before .starts-name .ensures) ∙ c .if4 .taken))
+returns-4 c = sym (tell-word (c .before .before .before .before .before .before .before .before .before .before .args .bad)
+    (c .before .before .before .before .before .before .before .before .before .before .args .d .now)
+    (c .before .before .before .before .before .before .before .before .before .before .args .opened) (white (root behind))
+    (c .before .before .before .before .before .before .before .before .before .before .args .latin)
+    (c .before .before .before .before .before .before .before .before .before .before .args .opened) DOCTYPE
+    (c .before .before .before .before .before .before .before .before .before .before .pre)
+    ∙ tell-white (c .before .before .before .before .before .before .before .before .before .before .args .bad)
+    (c .before .before .before .before .before .before .before .before .before .before .args .d .now)
+    (c .before .before .before .before .before .before .before .before .before .before .args .opened) (root behind)
+    (c .before .before .before .before .before .before .before .before .before .before .args .latin)
+    (c .before .before .before .before .before .before .before .before .before .before .args .opened + 9)
+    (c .before .before .before .before .before .before .before .before .run .ensures .0)
+    (c .before .before .before .before .before .before .before .if1 .left)
+    ∙ root-other (c .before .before .before .before .before .before .before .before .before .before .args .bad)
+    (c .before .before .before .before .before .before .before .before .before .before .args .d .now)
+    (c .before .before .before .before .before .before .before .before .before .before .args .opened) behind
+    (c .before .before .before .before .before .before .before .before .before .before .args .latin)
+    (c .before .before .before .before .before .before .before .before .run .result)
+    (sym (c .before .before .before .before .before .is-there .ensures) ∙ c .before .before .before .before .if2 .left) (omega arith)
+    (sym (c .before .starts-name .ensures) ∙ c .if4 .taken))
 
 returns-5 : tie.Need-returns-5
-returns-5 c = sym (tell-word (c .before .before .before .before .before .before .before .before .before .before .args .bad) (c .before .before .before .before .before .before .before .before .before .before .args .d .now) (c .before .before .before .before .before .before .before .before .before .before .args .opened) (white (root behind)) (c .before .before .before .before .before .before .before .before .before .before .args .latin) (c .before .before .before .before .before .before .before .before .before .before .args .opened) DOCTYPE (c .before .before .before .before .before .before .before .before .before .before .pre) ∙ tell-white (c .before .before .before .before .before .before .before .before .before .before .args .bad) (c .before .before .before .before .before .before .before .before .before .before .args .d .now) (c .before .before .before .before .before .before .before .before .before .before .args .opened) (root behind) (c .before .before .before .before .before .before .before .before .before .before .args .latin) (c .before .before .before .before .before .before .before .before .before .before .args .opened + 9) (c .before .before .before .before .before .before .before .before .run .ensures .0) (c .before .before .before .before .before .before .before .if1 .left) ∙ root-none (c .before .before .before .before .before .before .before .before .before .before .args .bad) (c .before .before .before .before .before .before .before .before .before .before .args .d .now) (c .before .before .before .before .before .before .before .before .before .before .args .opened) behind (c .before .before .before .before .before .before .before .before .before .before .args .latin) (c .before .before .before .before .before .before .before .before .run .result) (sym (c .before .before .before .before .before .is-there .ensures) ∙ c .before .before .before .before .if2 .left) (omega arith) (sym (c .before .starts-name .ensures) ∙ c .if4 .left))
+returns-5 c = sym (tell-word (c .before .before .before .before .before .before .before .before .before .before .args .bad)
+    (c .before .before .before .before .before .before .before .before .before .before .args .d .now)
+    (c .before .before .before .before .before .before .before .before .before .before .args .opened) (white (root behind))
+    (c .before .before .before .before .before .before .before .before .before .before .args .latin)
+    (c .before .before .before .before .before .before .before .before .before .before .args .opened) DOCTYPE
+    (c .before .before .before .before .before .before .before .before .before .before .pre)
+    ∙ tell-white (c .before .before .before .before .before .before .before .before .before .before .args .bad)
+    (c .before .before .before .before .before .before .before .before .before .before .args .d .now)
+    (c .before .before .before .before .before .before .before .before .before .before .args .opened) (root behind)
+    (c .before .before .before .before .before .before .before .before .before .before .args .latin)
+    (c .before .before .before .before .before .before .before .before .before .before .args .opened + 9)
+    (c .before .before .before .before .before .before .before .before .run .ensures .0)
+    (c .before .before .before .before .before .before .before .if1 .left)
+    ∙ root-none (c .before .before .before .before .before .before .before .before .before .before .args .bad)
+    (c .before .before .before .before .before .before .before .before .before .before .args .d .now)
+    (c .before .before .before .before .before .before .before .before .before .before .args .opened) behind
+    (c .before .before .before .before .before .before .before .before .before .before .args .latin)
+    (c .before .before .before .before .before .before .before .before .run .result)
+    (sym (c .before .before .before .before .before .is-there .ensures) ∙ c .before .before .before .before .if2 .left) (omega arith)
+    (sym (c .before .starts-name .ensures) ∙ c .if4 .left))
 
 pub doctype-at-spec : {M : Type 1} → statement M
-doctype-at-spec = tie.close (tie.spec add-at run-requires (λ c κs. search needs) returns (λ c. search needs) (λ c κs. search needs) add-behind-at behind-at-requires returns-2 (λ c κs. search needs) returns-3 (λ c. search needs) (λ c κs. search needs) returns-4 returns-5)
+doctype-at-spec = tie.close (tie.spec add-at run-requires (λ c κs. search needs) returns (λ c. search needs) (λ c κs. search needs)
+    add-behind-at behind-at-requires returns-2 (λ c κs. search needs) returns-3 (λ c. search needs) (λ c κs. search needs) returns-4
+    returns-5)

@@ -12,7 +12,12 @@ use Rattle.prologs.proofs.doctype_gap.Statement.{statement}
 use Rattle.prologs.proofs.doctype_gap.Tie as tie
 
 gap-to-requires : tie.Need-gap-to-requires
-gap-to-requires c κs = let h = stands-in 60 (33 ∷ 68 ∷ 79 ∷ 67 ∷ 84 ∷ 89 ∷ 80 ∷ 69 ∷ []) (c .before .before .before .before .before .args .d .now) (c .before .before .before .before .before .args .opened) (c .before .before .before .before .before .pre) in doctype-within (c .before .before .before .before .before .args .bad) (c .before .before .before .before .before .args .d .now) (c .before .before .before .before .before .args .opened) (c .before .before .before .before .before .args .latin) (omega arith) (sym (c .before .before .before .doctype-at .ensures) ∙ c .before .l .given .1)
+gap-to-requires c κs = let h = stands-in 60 (33 ∷ 68 ∷ 79 ∷ 67 ∷ 84 ∷ 89 ∷ 80 ∷ 69 ∷ [])
+    (c .before .before .before .before .before .args .d .now) (c .before .before .before .before .before .args .opened)
+    (c .before .before .before .before .before .pre) in
+    doctype-within (c .before .before .before .before .before .args .bad) (c .before .before .before .before .before .args .d .now)
+    (c .before .before .before .before .before .args .opened) (c .before .before .before .before .before .args .latin) (omega arith)
+    (sym (c .before .before .before .doctype-at .ensures) ∙ c .before .l .given .1)
 
 returns : tie.Need-returns
 returns c = c .gap-to .ensures ∙ sym (rw (sym (c .before .before .before .before .doctype-at .ensures) ∙ c .before .before .l .given .1))

@@ -12,7 +12,10 @@ use Rattle.prologs.proofs.due.Tie as tie
 
 returns : tie.Need-returns
 unfolding dueOf
-returns c = rw (le-leb (length (c .before .before .before .args .d .now)) (c .before .before .before .args .n) (omega arith), c .end-fault .ensures)
+returns c = rw (
+  le-leb (length (c .before .before .before .args .d .now)) (c .before .before .before .args .n) (omega arith),
+  c .end-fault .ensures,
+)
 
 returns-2 : tie.Need-returns-2
 unfolding dueOf

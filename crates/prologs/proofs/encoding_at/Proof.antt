@@ -11,19 +11,34 @@ use Rattle.prologs.proofs.encoding_at.Statement.{statement}
 use Rattle.prologs.proofs.encoding_at.Tie as tie
 
 returns : tie.Need-returns
-returns c = c .standalone-at .ensures ∙ sym (perhaps-none false (c .before .before .before .before .args .d .now) (c .before .before .before .before .args .opened) encoding-is (naming (c .before .before .before .before .args .marked)) standalone false (c .before .before .before .before .args .at) (c .before .before .run .ensures .0) (c .before .if1 .taken))
+returns c = c .standalone-at .ensures ∙ sym (perhaps-none false (c .before .before .before .before .args .d .now)
+    (c .before .before .before .before .args .opened) encoding-is (naming (c .before .before .before .before .args .marked)) standalone
+    false (c .before .before .before .before .args .at) (c .before .before .run .ensures .0) (c .before .if1 .taken))
 
 add-encoding-named : tie.Need-add-encoding-named
-add-encoding-named c = let h = stands-in 101 (110 ∷ 99 ∷ 111 ∷ 100 ∷ 105 ∷ 110 ∷ 103 ∷ []) (c .before .before .before .before .before .before .args .d .now) (c .before .before .before .before .run .result) (sym (c .before .is-there .ensures) ∙ c .if2 .taken) in omega arith
+add-encoding-named c = let h = stands-in 101 (110 ∷ 99 ∷ 111 ∷ 100 ∷ 105 ∷ 110 ∷ 103 ∷ [])
+    (c .before .before .before .before .before .before .args .d .now) (c .before .before .before .before .run .result)
+    (sym (c .before .is-there .ensures) ∙ c .if2 .taken) in omega arith
 
 encoding-named-requires : tie.Need-encoding-named-requires
-encoding-named-requires c κs = let h = stands-in 101 (110 ∷ 99 ∷ 111 ∷ 100 ∷ 105 ∷ 110 ∷ 103 ∷ []) (c .before .before .before .before .before .before .args .d .now) (c .before .before .before .before .run .result) (sym (c .before .is-there .ensures) ∙ c .if2 .taken) in omega arith
+encoding-named-requires c κs = let h = stands-in 101 (110 ∷ 99 ∷ 111 ∷ 100 ∷ 105 ∷ 110 ∷ 103 ∷ [])
+    (c .before .before .before .before .before .before .args .d .now) (c .before .before .before .before .run .result)
+    (sym (c .before .is-there .ensures) ∙ c .if2 .taken) in omega arith
 
 returns-2 : tie.Need-returns-2
-returns-2 c = c .encoding-named .ensures ∙ sym (perhaps-yes false (c .before .before .before .before .before .before .before .args .d .now) (c .before .before .before .before .before .before .before .args .opened) encoding-is (naming (c .before .before .before .before .before .before .before .args .marked)) standalone false (c .before .before .before .before .before .before .before .args .at) (c .before .before .before .before .before .run .ensures .0) (c .before .before .before .before .if1 .left) (sym (c .before .before .is-there .ensures) ∙ c .before .if2 .taken))
+returns-2 c = c .encoding-named .ensures ∙ sym (perhaps-yes false (c .before .before .before .before .before .before .before .args .d .now)
+    (c .before .before .before .before .before .before .before .args .opened) encoding-is
+    (naming (c .before .before .before .before .before .before .before .args .marked)) standalone false
+    (c .before .before .before .before .before .before .before .args .at) (c .before .before .before .before .before .run .ensures .0)
+    (c .before .before .before .before .if1 .left) (sym (c .before .before .is-there .ensures) ∙ c .before .if2 .taken))
 
 returns-3 : tie.Need-returns-3
-returns-3 c = c .standalone-at2 .ensures ∙ sym (perhaps-not false (c .before .before .before .before .before .before .before .args .d .now) (c .before .before .before .before .before .before .before .args .opened) encoding-is (naming (c .before .before .before .before .before .before .before .args .marked)) standalone false (c .before .before .before .before .before .before .before .args .at) (c .before .before .before .before .before .run .ensures .0) (c .before .before .before .before .if1 .left) (sym (c .before .before .is-there .ensures) ∙ c .before .if2 .left))
+returns-3 c = c .standalone-at2 .ensures ∙ sym (perhaps-not false (c .before .before .before .before .before .before .before .args .d .now)
+    (c .before .before .before .before .before .before .before .args .opened) encoding-is
+    (naming (c .before .before .before .before .before .before .before .args .marked)) standalone false
+    (c .before .before .before .before .before .before .before .args .at) (c .before .before .before .before .before .run .ensures .0)
+    (c .before .before .before .before .if1 .left) (sym (c .before .before .is-there .ensures) ∙ c .before .if2 .left))
 
 pub encoding-at-spec : {M : Type 1} → statement M
-encoding-at-spec = tie.close (tie.spec (λ c κs. search needs) (λ c κs. search needs) returns (λ c. search needs) (λ c κs. search needs) add-encoding-named encoding-named-requires returns-2 (λ c κs. search needs) returns-3)
+encoding-at-spec = tie.close (tie.spec (λ c κs. search needs) (λ c κs. search needs) returns (λ c. search needs) (λ c κs. search needs)
+    add-encoding-named encoding-named-requires returns-2 (λ c κs. search needs) returns-3)

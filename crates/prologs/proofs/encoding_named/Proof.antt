@@ -10,28 +10,65 @@ use Rattle.prologs.proofs.encoding_named.Statement.{statement}
 use Rattle.prologs.proofs.encoding_named.Tie as tie
 
 is-encoding-requires : tie.Need-is-encoding-requires
-is-encoding-requires c κs = let b = pair-bounds (c .before .before .before .before .before .before .args .d .now) (c .before .before .before .before .before .before .args .opened) (c .before .before .before .before .before .before .args .at) _ _ (sym (c .before .before .before .before .read-pair .ensures) ∙ c .before .before .value .given .1) in (b .0, omega (arith, b .1))
+is-encoding-requires c κs = let b = pair-bounds (c .before .before .before .before .before .before .args .d .now)
+    (c .before .before .before .before .before .before .args .opened) (c .before .before .before .before .before .before .args .at) _ _
+    (sym (c .before .before .before .before .read-pair .ensures) ∙ c .before .before .value .given .1) in (b .0, omega (arith, b .1))
 
 add-standalone-at : tie.Need-add-standalone-at
-add-standalone-at c = let b = pair-bounds (c .before .before .before .before .before .before .before .before .args .d .now) (c .before .before .before .before .before .before .before .before .args .opened) (c .before .before .before .before .before .before .before .before .args .at) _ _ (sym (c .before .before .before .before .before .before .read-pair .ensures) ∙ c .before .before .before .before .value .given .1) in omega (arith, b .1)
+add-standalone-at c = let b = pair-bounds (c .before .before .before .before .before .before .before .before .args .d .now)
+    (c .before .before .before .before .before .before .before .before .args .opened)
+    (c .before .before .before .before .before .before .before .before .args .at) _ _
+    (sym (c .before .before .before .before .before .before .read-pair .ensures) ∙ c .before .before .before .before .value .given .1) in
+    omega (arith, b .1)
 
 standalone-at-requires : tie.Need-standalone-at-requires
-standalone-at-requires c κs = let b = pair-bounds (c .before .before .before .before .before .before .before .before .args .d .now) (c .before .before .before .before .before .before .before .before .args .opened) (c .before .before .before .before .before .before .before .before .args .at) _ _ (sym (c .before .before .before .before .before .before .read-pair .ensures) ∙ c .before .before .before .before .value .given .1) in omega (arith, b .1)
+standalone-at-requires c κs = let b = pair-bounds (c .before .before .before .before .before .before .before .before .args .d .now)
+    (c .before .before .before .before .before .before .before .before .args .opened)
+    (c .before .before .before .before .before .before .before .before .args .at) _ _
+    (sym (c .before .before .before .before .before .before .read-pair .ensures) ∙ c .before .before .before .before .value .given .1) in
+    omega (arith, b .1)
 
 returns : tie.Need-returns
-returns c = c .standalone-at .ensures ∙ sym (naming-utf (c .before .before .before .before .before .before .before .before .before .args .d .now) (c .before .before .before .before .before .before .before .before .before .args .opened) (c .before .before .before .before .before .before .before .before .before .args .at) (c .before .before .before .before .before .before .before .before .before .args .marked) false (sym (c .before .before .before .before .before .before .before .read-pair .ensures) ∙ c .before .before .before .before .before .value .given .1) (sym (c .before .before .is-encoding .ensures) ∙ c .before .if1 .taken))
+returns c = c .standalone-at .ensures ∙ sym (naming-utf
+    (c .before .before .before .before .before .before .before .before .before .args .d .now)
+    (c .before .before .before .before .before .before .before .before .before .args .opened)
+    (c .before .before .before .before .before .before .before .before .before .args .at)
+    (c .before .before .before .before .before .before .before .before .before .args .marked) false
+    (sym (c .before .before .before .before .before .before .before .read-pair .ensures)
+    ∙ c .before .before .before .before .before .value .given .1) (sym (c .before .before .is-encoding .ensures) ∙ c .before .if1 .taken))
 
 returns-2 : tie.Need-returns-2
-returns-2 c = sym (naming-marked (c .before .before .before .before .before .before .before .before .before .args .d .now) (c .before .before .before .before .before .before .before .before .before .args .opened) (c .before .before .before .before .before .before .before .before .before .args .at) (c .before .before .before .before .before .before .before .before .before .args .marked) false (sym (c .before .before .before .before .before .before .before .read-pair .ensures) ∙ c .before .before .before .before .before .value .given .1) (sym (c .before .before .is-encoding .ensures) ∙ c .before .if1 .left) (c .if2 .taken))
+returns-2 c = sym (naming-marked (c .before .before .before .before .before .before .before .before .before .args .d .now)
+    (c .before .before .before .before .before .before .before .before .before .args .opened)
+    (c .before .before .before .before .before .before .before .before .before .args .at)
+    (c .before .before .before .before .before .before .before .before .before .args .marked) false
+    (sym (c .before .before .before .before .before .before .before .read-pair .ensures)
+    ∙ c .before .before .before .before .before .value .given .1) (sym (c .before .before .is-encoding .ensures) ∙ c .before .if1 .left)
+    (c .if2 .taken))
 
 latin-named-requires : tie.Need-latin-named-requires
-latin-named-requires c κs = pair-bounds (c .before .before .before .before .before .before .before .before .before .args .d .now) (c .before .before .before .before .before .before .before .before .before .args .opened) (c .before .before .before .before .before .before .before .before .before .args .at) _ _ (sym (c .before .before .before .before .before .before .before .read-pair .ensures) ∙ c .before .before .before .before .before .value .given .1)
+latin-named-requires c κs = pair-bounds (c .before .before .before .before .before .before .before .before .before .args .d .now)
+    (c .before .before .before .before .before .before .before .before .before .args .opened)
+    (c .before .before .before .before .before .before .before .before .before .args .at) _ _
+    (sym (c .before .before .before .before .before .before .before .read-pair .ensures)
+    ∙ c .before .before .before .before .before .value .given .1)
 
 returns-3 : tie.Need-returns-3
-returns-3 c = c .latin-named .ensures ∙ sym (naming-latin (c .before .before .before .before .before .before .before .before .before .before .args .d .now) (c .before .before .before .before .before .before .before .before .before .before .args .opened) (c .before .before .before .before .before .before .before .before .before .before .args .at) (c .before .before .before .before .before .before .before .before .before .before .args .marked) false (sym (c .before .before .before .before .before .before .before .before .read-pair .ensures) ∙ c .before .before .before .before .before .before .value .given .1) (sym (c .before .before .before .is-encoding .ensures) ∙ c .before .before .if1 .left) (c .before .if2 .left))
+returns-3 c = c .latin-named .ensures ∙ sym (naming-latin
+    (c .before .before .before .before .before .before .before .before .before .before .args .d .now)
+    (c .before .before .before .before .before .before .before .before .before .before .args .opened)
+    (c .before .before .before .before .before .before .before .before .before .before .args .at)
+    (c .before .before .before .before .before .before .before .before .before .before .args .marked) false
+    (sym (c .before .before .before .before .before .before .before .before .read-pair .ensures)
+    ∙ c .before .before .before .before .before .before .value .given .1)
+    (sym (c .before .before .before .is-encoding .ensures) ∙ c .before .before .if1 .left) (c .before .if2 .left))
 
 returns-4 : tie.Need-returns-4
-returns-4 c = sym (naming-off (c .before .before .before .before .before .args .d .now) (c .before .before .before .before .before .args .opened) (c .before .before .before .before .before .args .at) (c .before .before .before .before .before .args .marked) false (sym (c .before .before .before .read-pair .ensures) ∙ c .before .p .given .1))
+returns-4 c = sym (naming-off (c .before .before .before .before .before .args .d .now)
+    (c .before .before .before .before .before .args .opened) (c .before .before .before .before .before .args .at)
+    (c .before .before .before .before .before .args .marked) false
+    (sym (c .before .before .before .read-pair .ensures) ∙ c .before .p .given .1))
 
 pub encoding-named-spec : {M : Type 1} → statement M
-encoding-named-spec = tie.close (tie.spec (λ c κs. search needs) (λ c. search needs) (λ c. search needs) is-encoding-requires add-standalone-at standalone-at-requires returns returns-2 latin-named-requires (λ c. search needs) returns-3 returns-4)
+encoding-named-spec = tie.close (tie.spec (λ c κs. search needs) (λ c. search needs) (λ c. search needs) is-encoding-requires
+    add-standalone-at standalone-at-requires returns returns-2 latin-named-requires (λ c. search needs) returns-3 returns-4)

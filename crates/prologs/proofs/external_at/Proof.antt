@@ -11,25 +11,59 @@ use Rattle.prologs.proofs.external_at.Statement.{statement}
 use Rattle.prologs.proofs.external_at.Tie as tie
 
 add-public-at : tie.Need-add-public-at
-add-public-at c = let h = stands-in 80 (85 ∷ 66 ∷ 76 ∷ 73 ∷ 67 ∷ []) (c .before .before .before .before .args .d .now) (c .before .before .before .before .args .at) (sym (c .before .is-there .ensures) ∙ c .if1 .taken) in omega arith
+add-public-at c = let h = stands-in 80 (85 ∷ 66 ∷ 76 ∷ 73 ∷ 67 ∷ []) (c .before .before .before .before .args .d .now)
+    (c .before .before .before .before .args .at) (sym (c .before .is-there .ensures) ∙ c .if1 .taken) in omega arith
 
 public-at-requires : tie.Need-public-at-requires
-public-at-requires c κs = let h = stands-in 80 (85 ∷ 66 ∷ 76 ∷ 73 ∷ 67 ∷ []) (c .before .before .before .before .args .d .now) (c .before .before .before .before .args .at) (sym (c .before .is-there .ensures) ∙ c .if1 .taken) in omega arith
+public-at-requires c κs = let h = stands-in 80 (85 ∷ 66 ∷ 76 ∷ 73 ∷ 67 ∷ []) (c .before .before .before .before .args .d .now)
+    (c .before .before .before .before .args .at) (sym (c .before .is-there .ensures) ∙ c .if1 .taken) in omega arith
 
 returns : tie.Need-returns
-returns c = c .public-at .ensures ∙ sym (which-yes (c .before .before .before .before .before .args .bad) (c .before .before .before .before .before .args .d .now) (c .before .before .before .before .before .args .opened) PUBLIC public (word SYSTEM located) (c .before .before .before .before .before .args .latin) (c .before .before .before .before .before .args .at) (sym (c .before .before .is-there .ensures) ∙ c .before .if1 .taken))
+returns c = c .public-at .ensures ∙ sym (which-yes (c .before .before .before .before .before .args .bad)
+    (c .before .before .before .before .before .args .d .now) (c .before .before .before .before .before .args .opened) PUBLIC public
+    (word SYSTEM located) (c .before .before .before .before .before .args .latin) (c .before .before .before .before .before .args .at)
+    (sym (c .before .before .is-there .ensures) ∙ c .before .if1 .taken))
 
 add-located-at : tie.Need-add-located-at
-add-located-at c = let h = stands-in 83 (89 ∷ 83 ∷ 84 ∷ 69 ∷ 77 ∷ []) (c .before .before .before .before .before .before .before .args .d .now) (c .before .before .before .before .before .before .before .args .at) (sym (c .before .is-there2 .ensures) ∙ c .if2 .taken) in omega arith
+add-located-at c = let h = stands-in 83 (89 ∷ 83 ∷ 84 ∷ 69 ∷ 77 ∷ [])
+    (c .before .before .before .before .before .before .before .args .d .now)
+    (c .before .before .before .before .before .before .before .args .at) (sym (c .before .is-there2 .ensures) ∙ c .if2 .taken) in
+    omega arith
 
 located-at-requires : tie.Need-located-at-requires
-located-at-requires c κs = let h = stands-in 83 (89 ∷ 83 ∷ 84 ∷ 69 ∷ 77 ∷ []) (c .before .before .before .before .before .before .before .args .d .now) (c .before .before .before .before .before .before .before .args .at) (sym (c .before .is-there2 .ensures) ∙ c .if2 .taken) in omega arith
+located-at-requires c κs = let h = stands-in 83 (89 ∷ 83 ∷ 84 ∷ 69 ∷ 77 ∷ [])
+    (c .before .before .before .before .before .before .before .args .d .now)
+    (c .before .before .before .before .before .before .before .args .at) (sym (c .before .is-there2 .ensures) ∙ c .if2 .taken) in
+    omega arith
 
 returns-2 : tie.Need-returns-2
-returns-2 c = c .located-at .ensures ∙ sym (which-no (c .before .before .before .before .before .before .before .before .args .bad) (c .before .before .before .before .before .before .before .before .args .d .now) (c .before .before .before .before .before .before .before .before .args .opened) PUBLIC public (word SYSTEM located) (c .before .before .before .before .before .before .before .before .args .latin) (c .before .before .before .before .before .before .before .before .args .at) (sym (c .before .before .before .before .before .is-there .ensures) ∙ c .before .before .before .before .if1 .left) ∙ tell-word (c .before .before .before .before .before .before .before .before .args .bad) (c .before .before .before .before .before .before .before .before .args .d .now) (c .before .before .before .before .before .before .before .before .args .opened) located (c .before .before .before .before .before .before .before .before .args .latin) (c .before .before .before .before .before .before .before .before .args .at) SYSTEM (sym (c .before .before .is-there2 .ensures) ∙ c .before .if2 .taken))
+returns-2 c = c .located-at .ensures ∙ sym (which-no (c .before .before .before .before .before .before .before .before .args .bad)
+    (c .before .before .before .before .before .before .before .before .args .d .now)
+    (c .before .before .before .before .before .before .before .before .args .opened) PUBLIC public (word SYSTEM located)
+    (c .before .before .before .before .before .before .before .before .args .latin)
+    (c .before .before .before .before .before .before .before .before .args .at)
+    (sym (c .before .before .before .before .before .is-there .ensures) ∙ c .before .before .before .before .if1 .left)
+    ∙ tell-word (c .before .before .before .before .before .before .before .before .args .bad)
+    (c .before .before .before .before .before .before .before .before .args .d .now)
+    (c .before .before .before .before .before .before .before .before .args .opened) located
+    (c .before .before .before .before .before .before .before .before .args .latin)
+    (c .before .before .before .before .before .before .before .before .args .at) SYSTEM
+    (sym (c .before .before .is-there2 .ensures) ∙ c .before .if2 .taken))
 
 returns-3 : tie.Need-returns-3
-returns-3 c = c .miss .ensures ∙ sym (which-no (c .before .before .before .before .before .before .before .before .args .bad) (c .before .before .before .before .before .before .before .before .args .d .now) (c .before .before .before .before .before .before .before .before .args .opened) PUBLIC public (word SYSTEM located) (c .before .before .before .before .before .before .before .before .args .latin) (c .before .before .before .before .before .before .before .before .args .at) (sym (c .before .before .before .before .before .is-there .ensures) ∙ c .before .before .before .before .if1 .left) ∙ word-miss (c .before .before .before .before .before .before .before .before .args .bad) (c .before .before .before .before .before .before .before .before .args .d .now) (c .before .before .before .before .before .before .before .before .args .opened) located (c .before .before .before .before .before .before .before .before .args .latin) (c .before .before .before .before .before .before .before .before .args .at) SYSTEM (sym (c .before .before .is-there2 .ensures) ∙ c .before .if2 .left))
+returns-3 c = c .miss .ensures ∙ sym (which-no (c .before .before .before .before .before .before .before .before .args .bad)
+    (c .before .before .before .before .before .before .before .before .args .d .now)
+    (c .before .before .before .before .before .before .before .before .args .opened) PUBLIC public (word SYSTEM located)
+    (c .before .before .before .before .before .before .before .before .args .latin)
+    (c .before .before .before .before .before .before .before .before .args .at)
+    (sym (c .before .before .before .before .before .is-there .ensures) ∙ c .before .before .before .before .if1 .left)
+    ∙ word-miss (c .before .before .before .before .before .before .before .before .args .bad)
+    (c .before .before .before .before .before .before .before .before .args .d .now)
+    (c .before .before .before .before .before .before .before .before .args .opened) located
+    (c .before .before .before .before .before .before .before .before .args .latin)
+    (c .before .before .before .before .before .before .before .before .args .at) SYSTEM
+    (sym (c .before .before .is-there2 .ensures) ∙ c .before .if2 .left))
 
 pub external-at-spec : {M : Type 1} → statement M
-external-at-spec = tie.close (tie.spec (λ c. search needs) (λ c κs. search needs) add-public-at public-at-requires returns (λ c. search needs) (λ c κs. search needs) add-located-at located-at-requires returns-2 (λ c κs. search needs) returns-3)
+external-at-spec = tie.close (tie.spec (λ c. search needs) (λ c κs. search needs) add-public-at public-at-requires returns
+    (λ c. search needs) (λ c κs. search needs) add-located-at located-at-requires returns-2 (λ c κs. search needs) returns-3)

@@ -16,11 +16,17 @@ returns c = rw (le-leb (length (c .before .args .d .now)) (c .before .args .k) (
 
 returns-2 : tie.Need-returns-2
 unfolding closedOf
-returns-2 c = rw (lt-leb (length (c .before .before .before .args .d .now)) (c .before .before .before .args .k) (omega arith), eq-eqb _ _ (c .if2 .taken))
+returns-2 c = rw (
+  lt-leb (length (c .before .before .before .args .d .now)) (c .before .before .before .args .k) (omega arith),
+  eq-eqb _ _ (c .if2 .taken),
+)
 
 returns-3 : tie.Need-returns-3
 unfolding closedOf
-returns-3 c = rw (lt-leb (length (c .before .before .before .args .d .now)) (c .before .before .before .args .k) (omega arith), ne-eqb _ _ (c .if2 .left))
+returns-3 c = rw (
+  lt-leb (length (c .before .before .before .args .d .now)) (c .before .before .before .args .k) (omega arith),
+  ne-eqb _ _ (c .if2 .left),
+)
 
 pub find-close-spec : {M : Type 1} → statement M
 find-close-spec = tie.close (tie.spec returns (λ c. search needs) returns-2 returns-3)

@@ -21,16 +21,33 @@ loop-holds : tie.Need-loop-holds Inv-loop μ-loop
 loop-holds c = (rw (add-zero (c .before .before .args .at)), omega arith)
 
 returns : tie.Need-returns Inv-loop μ-loop
-returns c = sym (c .before .before .loop .inv .0 ∙ alikes-short (c .before .before .before .before .before .args .d .now) (c .before .before .before .before .before .args .at) (c .before .before .before .before .before .args .w .now) (c .before .before .loop .i) (omega arith) (omega arith))
+returns c = sym (c .before .before .loop .inv .0 ∙ alikes-short (c .before .before .before .before .before .args .d .now)
+    (c .before .before .before .before .before .args .at) (c .before .before .before .before .before .args .w .now)
+    (c .before .before .loop .i) (omega arith) (omega arith))
 
 returns-2 : tie.Need-returns-2 Inv-loop μ-loop
-returns-2 c = sym (c .before .before .before .before .before .before .loop .inv .0 ∙ alikes-not (c .before .before .before .before .before .before .before .before .before .args .d .now) (c .before .before .before .before .before .before .before .before .before .args .at) (c .before .before .before .before .before .before .before .before .before .args .w .now) (c .before .before .before .before .before .before .loop .i) (omega arith) (omega arith) (λ q. c .if2 .taken (c .before .before .upper .ensures ∙ q)))
+returns-2 c = sym (c .before .before .before .before .before .before .loop .inv .0
+    ∙ alikes-not (c .before .before .before .before .before .before .before .before .before .args .d .now)
+    (c .before .before .before .before .before .before .before .before .before .args .at)
+    (c .before .before .before .before .before .before .before .before .before .args .w .now)
+    (c .before .before .before .before .before .before .loop .i) (omega arith) (omega arith)
+    (λ q. c .if2 .taken (c .before .before .upper .ensures ∙ q)))
 
 loop-again : tie.Need-loop-again Inv-loop μ-loop
-loop-again c = (c .before .before .before .before .before .before .loop .inv .0 ∙ alikes-next (c .before .before .before .before .before .before .before .before .before .args .d .now) (c .before .before .before .before .before .before .before .before .before .args .at) (c .before .before .before .before .before .before .before .before .before .args .w .now) (c .before .before .before .before .before .before .loop .i) (omega arith) (omega arith) (sym (c .before .before .upper .ensures) ∙ c .if2 .left), omega arith)
+loop-again c = (
+  c .before .before .before .before .before .before .loop .inv .0
+      ∙ alikes-next (c .before .before .before .before .before .before .before .before .before .args .d .now)
+      (c .before .before .before .before .before .before .before .before .before .args .at)
+      (c .before .before .before .before .before .before .before .before .before .args .w .now)
+      (c .before .before .before .before .before .before .loop .i) (omega arith) (omega arith)
+      (sym (c .before .before .upper .ensures) ∙ c .if2 .left),
+  omega arith,
+)
 
 returns-3 : tie.Need-returns-3 Inv-loop μ-loop
-returns-3 c = sym (c .before .loop .inv .0 ∙ alikes-whole (c .before .before .before .before .args .d .now) (c .before .before .before .before .args .at) (c .before .before .before .before .args .w .now) (c .before .loop .i) (omega arith))
+returns-3 c = sym (c .before .loop .inv .0 ∙ alikes-whole (c .before .before .before .before .args .d .now)
+    (c .before .before .before .before .args .at) (c .before .before .before .before .args .w .now) (c .before .loop .i) (omega arith))
 
 pub is-alike-spec : {M : Type 1} → statement M
-is-alike-spec = tie.close (tie.spec Inv-loop μ-loop loop-holds (λ c. omega arith) returns (λ c. omega arith) (λ c. omega arith) (λ c κs. search needs) (λ c. omega arith) returns-2 (λ c. omega arith) (λ c. omega arith) loop-again returns-3)
+is-alike-spec = tie.close (tie.spec Inv-loop μ-loop loop-holds (λ c. omega arith) returns (λ c. omega arith) (λ c. omega arith)
+    (λ c κs. search needs) (λ c. omega arith) returns-2 (λ c. omega arith) (λ c. omega arith) loop-again returns-3)

@@ -15,7 +15,11 @@ returns c = rw (← (c .before .before .before .start .ensures .0), sym (c .befo
 
 returns-2 : tie.Need-returns-2
 unfolding isXml
-returns-2 c = rw (← (c .before .before .before .before .before .start .ensures .0), sym (c .before .before .before .is-there .ensures) ∙ c .before .before .if1 .left) (c .is-there2 .ensures)
+returns-2 c = rw (
+  ← (c .before .before .before .before .before .start .ensures .0),
+  sym (c .before .before .before .is-there .ensures) ∙ c .before .before .if1 .left,
+) (c .is-there2 .ensures)
 
 pub is-xml-spec : {M : Type 1} → statement M
-is-xml-spec = tie.close (tie.spec (λ c κs. search needs) (λ c. search needs) (λ c κs. search needs) returns (λ c. search needs) (λ c κs. search needs) returns-2)
+is-xml-spec = tie.close (tie.spec (λ c κs. search needs) (λ c. search needs) (λ c κs. search needs) returns (λ c. search needs)
+    (λ c κs. search needs) returns-2)

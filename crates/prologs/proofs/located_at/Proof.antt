@@ -11,19 +11,50 @@ use Rattle.prologs.proofs.located_at.Statement.{statement}
 use Rattle.prologs.proofs.located_at.Tie as tie
 
 returns : tie.Need-returns
-returns c = c .miss .ensures ∙ sym (white-miss (c .before .before .before .before .args .bad) (c .before .before .before .before .args .d .now) (c .before .before .before .before .args .opened) (literal false ending) (c .before .before .before .before .args .latin) (c .before .before .before .before .args .at) (c .before .before .run .ensures .0) (c .before .if1 .taken))
+returns c = c .miss .ensures ∙ sym (white-miss (c .before .before .before .before .args .bad)
+    (c .before .before .before .before .args .d .now) (c .before .before .before .before .args .opened) (literal false ending)
+    (c .before .before .before .before .args .latin) (c .before .before .before .before .args .at) (c .before .before .run .ensures .0)
+    (c .before .if1 .taken))
 
 add-ending-at : tie.Need-add-ending-at
-add-ending-at c = let q = quoted-past false false (c .before .before .before .before .before .before .before .args .bad) (c .before .before .before .before .before .before .before .args .d .now) (c .before .before .before .before .before .before .before .args .opened) _ _ (sym (c .before .before .before .quoted .ensures) ∙ c .before .k .given .1) in omega (arith, q .1)
+add-ending-at c = let q = quoted-past false false (c .before .before .before .before .before .before .before .args .bad)
+    (c .before .before .before .before .before .before .before .args .d .now)
+    (c .before .before .before .before .before .before .before .args .opened) _ _
+    (sym (c .before .before .before .quoted .ensures) ∙ c .before .k .given .1) in omega (arith, q .1)
 
 ending-at-requires : tie.Need-ending-at-requires
-ending-at-requires c κs = let q = quoted-past false false (c .before .before .before .before .before .before .before .args .bad) (c .before .before .before .before .before .before .before .args .d .now) (c .before .before .before .before .before .before .before .args .opened) _ _ (sym (c .before .before .before .quoted .ensures) ∙ c .before .k .given .1) in omega (arith, q .1)
+ending-at-requires c κs = let q = quoted-past false false (c .before .before .before .before .before .before .before .args .bad)
+    (c .before .before .before .before .before .before .before .args .d .now)
+    (c .before .before .before .before .before .before .before .args .opened) _ _
+    (sym (c .before .before .before .quoted .ensures) ∙ c .before .k .given .1) in omega (arith, q .1)
 
 returns-2 : tie.Need-returns-2
-returns-2 c = c .ending-at .ensures ∙ sym (tell-white (c .before .before .before .before .before .before .before .before .args .bad) (c .before .before .before .before .before .before .before .before .args .d .now) (c .before .before .before .before .before .before .before .before .args .opened) (literal false ending) (c .before .before .before .before .before .before .before .before .args .latin) (c .before .before .before .before .before .before .before .before .args .at) (c .before .before .before .before .before .before .run .ensures .0) (c .before .before .before .before .before .if1 .left) ∙ tell-literal (c .before .before .before .before .before .before .before .before .args .bad) (c .before .before .before .before .before .before .before .before .args .d .now) (c .before .before .before .before .before .before .before .before .args .opened) ending (c .before .before .before .before .before .before .before .before .args .latin) (c .before .before .before .before .before .before .run .result) false (sym (c .before .before .before .before .quoted .ensures) ∙ c .before .before .k .given .1))
+returns-2 c = c .ending-at .ensures ∙ sym (tell-white (c .before .before .before .before .before .before .before .before .args .bad)
+    (c .before .before .before .before .before .before .before .before .args .d .now)
+    (c .before .before .before .before .before .before .before .before .args .opened) (literal false ending)
+    (c .before .before .before .before .before .before .before .before .args .latin)
+    (c .before .before .before .before .before .before .before .before .args .at)
+    (c .before .before .before .before .before .before .run .ensures .0) (c .before .before .before .before .before .if1 .left)
+    ∙ tell-literal (c .before .before .before .before .before .before .before .before .args .bad)
+    (c .before .before .before .before .before .before .before .before .args .d .now)
+    (c .before .before .before .before .before .before .before .before .args .opened) ending
+    (c .before .before .before .before .before .before .before .before .args .latin)
+    (c .before .before .before .before .before .before .run .result) false
+    (sym (c .before .before .before .before .quoted .ensures) ∙ c .before .before .k .given .1))
 
 returns-3 : tie.Need-returns-3
-returns-3 c = sym (tell-white (c .before .before .before .before .before .before .before .args .bad) (c .before .before .before .before .before .before .before .args .d .now) (c .before .before .before .before .before .before .before .args .opened) (literal false ending) (c .before .before .before .before .before .before .before .args .latin) (c .before .before .before .before .before .before .before .args .at) (c .before .before .before .before .before .run .ensures .0) (c .before .before .before .before .if1 .left) ∙ literal-broken (c .before .before .before .before .before .before .before .args .bad) (c .before .before .before .before .before .before .before .args .d .now) (c .before .before .before .before .before .before .before .args .opened) ending (c .before .before .before .before .before .before .before .args .latin) (c .before .before .before .before .before .run .result) false (sym (c .before .before .before .quoted .ensures) ∙ c .before .p .given .1))
+returns-3 c = sym (tell-white (c .before .before .before .before .before .before .before .args .bad)
+    (c .before .before .before .before .before .before .before .args .d .now)
+    (c .before .before .before .before .before .before .before .args .opened) (literal false ending)
+    (c .before .before .before .before .before .before .before .args .latin)
+    (c .before .before .before .before .before .before .before .args .at) (c .before .before .before .before .before .run .ensures .0)
+    (c .before .before .before .before .if1 .left)
+    ∙ literal-broken (c .before .before .before .before .before .before .before .args .bad)
+    (c .before .before .before .before .before .before .before .args .d .now)
+    (c .before .before .before .before .before .before .before .args .opened) ending
+    (c .before .before .before .before .before .before .before .args .latin) (c .before .before .before .before .before .run .result) false
+    (sym (c .before .before .before .quoted .ensures) ∙ c .before .p .given .1))
 
 pub located-at-spec : {M : Type 1} → statement M
-located-at-spec = tie.close (tie.spec (λ c κs. search needs) (λ c κs. search needs) returns (λ c κs. search needs) (λ c. search needs) add-ending-at ending-at-requires (λ c. search needs) returns-2 returns-3)
+located-at-spec = tie.close (tie.spec (λ c κs. search needs) (λ c κs. search needs) returns (λ c κs. search needs) (λ c. search needs)
+    add-ending-at ending-at-requires (λ c. search needs) returns-2 returns-3)

@@ -12,7 +12,10 @@ use Rattle.prologs.proofs.quoted.Tie as tie
 
 returns : tie.Need-returns
 unfolding quotedOf
-returns c = rw (le-leb (length (c .before .before .before .args .d .now)) (c .before .before .before .args .n) (omega arith), c .end-fault .ensures)
+returns c = rw (
+  le-leb (length (c .before .before .before .args .d .now)) (c .before .before .before .args .n) (omega arith),
+  c .end-fault .ensures,
+)
 
 add-run-inside : tie.Need-add-run-inside
 add-run-inside c = omega arith
@@ -25,11 +28,22 @@ cut-at-requires c κs = omega arith
 
 returns-2 : tie.Need-returns-2
 unfolding quotedOf
-returns-2 c = rw (lt-leb (length (c .before .before .before .before .before .before .before .args .d .now)) (c .before .before .before .before .before .before .before .args .n) (omega arith), c .before .before .before .if2 .taken, ← (c .before .before .run-inside .ensures .0), ← (c .before .cut-at .ensures)) (c .find-close .ensures)
+returns-2 c = rw (
+  lt-leb (length (c .before .before .before .before .before .before .before .args .d .now))
+      (c .before .before .before .before .before .before .before .args .n) (omega arith),
+  c .before .before .before .if2 .taken,
+  ← (c .before .before .run-inside .ensures .0),
+  ← (c .before .cut-at .ensures),
+) (c .find-close .ensures)
 
 returns-3 : tie.Need-returns-3
 unfolding quotedOf
-returns-3 c = rw (lt-leb (length (c .before .before .before .before .args .d .now)) (c .before .before .before .before .args .n) (omega arith), c .if2 .left)
+returns-3 c = rw (
+  lt-leb (length (c .before .before .before .before .args .d .now)) (c .before .before .before .before .args .n)
+      (omega arith),
+  c .if2 .left,
+)
 
 pub quoted-spec : {M : Type 1} → statement M
-quoted-spec = tie.close (tie.spec (λ c κs. search needs) returns (λ c. search needs) add-run-inside run-inside-requires cut-at-requires (λ c κs. search needs) returns-2 returns-3)
+quoted-spec = tie.close (tie.spec (λ c κs. search needs) returns (λ c. search needs) add-run-inside run-inside-requires cut-at-requires
+    (λ c κs. search needs) returns-2 returns-3)

@@ -14,11 +14,15 @@ declaration-at-requires c κs = sym (c .before .is-there .ensures) ∙ c .if1 .t
 
 returns : tie.Need-returns
 unfolding declarationOf
-returns c = rw (← (c .before .before .before .before .start .ensures .0), sym (c .before .before .is-there .ensures) ∙ c .before .if1 .taken) (c .declaration-at .ensures)
+returns c = rw (
+  ← (c .before .before .before .before .start .ensures .0),
+  sym (c .before .before .is-there .ensures) ∙ c .before .if1 .taken,
+) (c .declaration-at .ensures)
 
 returns-2 : tie.Need-returns-2
 unfolding declarationOf
 returns-2 c = rw (← (c .before .before .before .start .ensures .0), sym (c .before .is-there .ensures) ∙ c .if1 .left)
 
 pub read-declaration-spec : {M : Type 1} → statement M
-read-declaration-spec = tie.close (tie.spec (λ c κs. search needs) (λ c. search needs) (λ c κs. search needs) declaration-at-requires returns returns-2)
+read-declaration-spec = tie.close (tie.spec (λ c κs. search needs) (λ c. search needs) (λ c κs. search needs) declaration-at-requires
+    returns returns-2)

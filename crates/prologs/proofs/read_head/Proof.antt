@@ -11,22 +11,33 @@ use Rattle.prologs.proofs.read_head.Statement.{statement}
 use Rattle.prologs.proofs.read_head.Tie as tie
 
 is-there-requires : tie.Need-is-there-requires
-is-there-requires c κs = gap-within (c .before .before .before .before .before .before .args .bad) (c .before .before .before .before .before .before .args .d .now) (c .before .before .before .before .before .before .args .at) _ (c .before .before .before .before .before .before .pre) (sym (c .before .before .before .before .gap .ensures) ∙ c .before .before .n .given .1)
+is-there-requires c κs = gap-within (c .before .before .before .before .before .before .args .bad)
+    (c .before .before .before .before .before .before .args .d .now) (c .before .before .before .before .before .before .args .at) _
+    (c .before .before .before .before .before .before .pre)
+    (sym (c .before .before .before .before .gap .ensures) ∙ c .before .before .n .given .1)
 
 doctype-gap-requires : tie.Need-doctype-gap-requires
 doctype-gap-requires c κs = sym (c .before .is-there .ensures) ∙ c .if1 .taken
 
 returns : tie.Need-returns
 unfolding headOf
-returns c = rw (sym (c .before .before .before .before .before .before .before .gap .ensures) ∙ c .before .before .before .before .before .n .given .1, sym (c .before .before .is-there .ensures) ∙ c .before .if1 .taken) (c .doctype-gap .ensures)
+returns c = rw (
+  sym (c .before .before .before .before .before .before .before .gap .ensures)
+      ∙ c .before .before .before .before .before .n .given .1,
+  sym (c .before .before .is-there .ensures) ∙ c .before .if1 .taken,
+) (c .doctype-gap .ensures)
 
 returns-2 : tie.Need-returns-2
 unfolding headOf
-returns-2 c = rw (sym (c .before .before .before .before .before .before .gap .ensures) ∙ c .before .before .before .before .n .given .1, sym (c .before .is-there .ensures) ∙ c .if1 .left)
+returns-2 c = rw (
+  sym (c .before .before .before .before .before .before .gap .ensures) ∙ c .before .before .before .before .n .given .1,
+  sym (c .before .is-there .ensures) ∙ c .if1 .left,
+)
 
 returns-3 : tie.Need-returns-3
 unfolding headOf
 returns-3 c = rw (sym (c .before .before .before .gap .ensures) ∙ c .before .p .given .1)
 
 pub read-head-spec : {M : Type 1} → statement M
-read-head-spec = tie.close (tie.spec (λ c κs. search needs) (λ c. search needs) (λ c. search needs) is-there-requires doctype-gap-requires returns (λ c. search needs) returns-2 returns-3)
+read-head-spec = tie.close (tie.spec (λ c κs. search needs) (λ c. search needs) (λ c. search needs) is-there-requires doctype-gap-requires
+    returns (λ c. search needs) returns-2 returns-3)

@@ -13,22 +13,48 @@ use Rattle.prologs.proofs.read_pair.Tie as tie
 
 returns : tie.Need-returns
 unfolding pairOf
-returns c = rw (← (c .before .run .ensures .0), le-leb (length (c .before .before .before .args .d .now)) (c .before .run .result) (omega arith))
+returns c = rw (
+  ← (c .before .run .ensures .0),
+  le-leb (length (c .before .before .before .args .d .now)) (c .before .run .result)
+      (omega arith),
+)
 
 add-t14 : tie.Need-add-t14
-add-t14 c = let q = quoted-past true false false (c .before .before .before .before .before .before .before .before .before .before .args .d .now) (c .before .before .before .before .before .before .before .before .before .before .args .opened) _ _ (sym (c .before .before .before .quoted .ensures) ∙ c .before .k .given .1) in let a = q .0 in let b = q .1 in omega arith
+add-t14 c = let q = quoted-past true false false
+    (c .before .before .before .before .before .before .before .before .before .before .args .d .now)
+    (c .before .before .before .before .before .before .before .before .before .before .args .opened) _ _
+    (sym (c .before .before .before .quoted .ensures) ∙ c .before .k .given .1) in let a = q .0 in let b = q .1 in omega arith
 
 returns-2 : tie.Need-returns-2
 unfolding pairOf
-returns-2 c = rw (← (c .before .before .before .before .before .before .before .before .run .ensures .0), lt-leb (length (c .before .before .before .before .before .before .before .before .before .before .args .d .now)) (c .before .before .before .before .before .before .before .before .run .result) (omega arith), eq-eqb _ 61 (c .before .before .before .before .before .if2 .taken), ← (c .before .before .before .before .run2 .ensures .0), sym (c .before .before .before .quoted .ensures) ∙ c .before .k .given .1)
+returns-2 c = rw (
+  ← (c .before .before .before .before .before .before .before .before .run .ensures .0),
+  lt-leb (length (c .before .before .before .before .before .before .before .before .before .before .args .d .now))
+      (c .before .before .before .before .before .before .before .before .run .result) (omega arith),
+  eq-eqb _ 61 (c .before .before .before .before .before .if2 .taken),
+  ← (c .before .before .before .before .run2 .ensures .0),
+  sym (c .before .before .before .quoted .ensures) ∙ c .before .k .given .1,
+)
 
 returns-3 : tie.Need-returns-3
 unfolding pairOf
-returns-3 c = rw (← (c .before .before .before .before .before .before .before .before .run .ensures .0), lt-leb (length (c .before .before .before .before .before .before .before .before .before .before .args .d .now)) (c .before .before .before .before .before .before .before .before .run .result) (omega arith), eq-eqb _ 61 (c .before .before .before .before .before .if2 .taken), ← (c .before .before .before .before .run2 .ensures .0), sym (c .before .before .before .quoted .ensures) ∙ c .before .p .given .1)
+returns-3 c = rw (
+  ← (c .before .before .before .before .before .before .before .before .run .ensures .0),
+  lt-leb (length (c .before .before .before .before .before .before .before .before .before .before .args .d .now))
+      (c .before .before .before .before .before .before .before .before .run .result) (omega arith),
+  eq-eqb _ 61 (c .before .before .before .before .before .if2 .taken),
+  ← (c .before .before .before .before .run2 .ensures .0),
+  sym (c .before .before .before .quoted .ensures) ∙ c .before .p .given .1,
+)
 
 returns-4 : tie.Need-returns-4
 unfolding pairOf
-returns-4 c = rw (← (c .before .before .before .run .ensures .0), lt-leb (length (c .before .before .before .before .before .args .d .now)) (c .before .before .before .run .result) (omega arith), ne-eqb _ 61 (c .if2 .left))
+returns-4 c = rw (
+  ← (c .before .before .before .run .ensures .0),
+  lt-leb (length (c .before .before .before .before .before .args .d .now)) (c .before .before .before .run .result) (omega arith),
+  ne-eqb _ 61 (c .if2 .left),
+)
 
 pub read-pair-spec : {M : Type 1} → statement M
-read-pair-spec = tie.close (tie.spec (λ c κs. search needs) returns (λ c. search needs) (λ c. search needs) (λ c κs. search needs) (λ c κs. search needs) (λ c. search needs) add-t14 returns-2 (λ c. search needs) returns-3 returns-4)
+read-pair-spec = tie.close (tie.spec (λ c κs. search needs) returns (λ c. search needs) (λ c. search needs) (λ c κs. search needs)
+    (λ c κs. search needs) (λ c. search needs) add-t14 returns-2 (λ c. search needs) returns-3 returns-4)

@@ -13,22 +13,39 @@ use Rattle.prologs.proofs.read_tail.Tie as tie
 
 returns : tie.Need-returns
 unfolding tailOf
-returns c = rw (sym (c .before .before .before .before .before .gap .ensures) ∙ c .before .before .before .n .given .1, le-leb _ _ (c .before .if1 .taken)) (c .end-clean .ensures)
+returns c = rw (
+  sym (c .before .before .before .before .before .gap .ensures) ∙ c .before .before .before .n .given .1,
+  le-leb _ _ (c .before .if1 .taken),
+) (c .end-clean .ensures)
 
 is-there-requires : tie.Need-is-there-requires
-is-there-requires c κs = gap-within (c .before .before .before .before .before .before .before .args .bad) (c .before .before .before .before .before .before .before .args .d .now) (c .before .before .before .before .before .before .before .args .at) _ (c .before .before .before .before .before .before .before .pre) (sym (c .before .before .before .before .before .gap .ensures) ∙ c .before .before .before .n .given .1)
+is-there-requires c κs = gap-within (c .before .before .before .before .before .before .before .args .bad)
+    (c .before .before .before .before .before .before .before .args .d .now)
+    (c .before .before .before .before .before .before .before .args .at) _ (c .before .before .before .before .before .before .before .pre)
+    (sym (c .before .before .before .before .before .gap .ensures) ∙ c .before .before .before .n .given .1)
 
 returns-2 : tie.Need-returns-2
 unfolding tailOf
-returns-2 c = rw (sym (c .before .before .before .before .before .before .before .gap .ensures) ∙ c .before .before .before .before .before .n .given .1, lt-leb _ _ (c .before .before .before .if1 .left), sym (c .before .is-there .ensures) ∙ c .if2 .taken)
+returns-2 c = rw (
+  sym (c .before .before .before .before .before .before .before .gap .ensures)
+      ∙ c .before .before .before .before .before .n .given .1,
+  lt-leb _ _ (c .before .before .before .if1 .left),
+  sym (c .before .is-there .ensures) ∙ c .if2 .taken,
+)
 
 returns-3 : tie.Need-returns-3
 unfolding tailOf
-returns-3 c = rw (sym (c .before .before .before .before .before .before .before .gap .ensures) ∙ c .before .before .before .before .before .n .given .1, lt-leb _ _ (c .before .before .before .if1 .left), sym (c .before .is-there .ensures) ∙ c .if2 .left)
+returns-3 c = rw (
+  sym (c .before .before .before .before .before .before .before .gap .ensures)
+      ∙ c .before .before .before .before .before .n .given .1,
+  lt-leb _ _ (c .before .before .before .if1 .left),
+  sym (c .before .is-there .ensures) ∙ c .if2 .left,
+)
 
 returns-4 : tie.Need-returns-4
 unfolding tailOf
 returns-4 c = rw (sym (c .before .before .before .gap .ensures) ∙ c .before .p .given .1)
 
 pub read-tail-spec : {M : Type 1} → statement M
-read-tail-spec = tie.close (tie.spec (λ c κs. search needs) (λ c. search needs) (λ c κs. search needs) returns (λ c. search needs) is-there-requires returns-2 (λ c. search needs) returns-3 returns-4)
+read-tail-spec = tie.close (tie.spec (λ c κs. search needs) (λ c. search needs) (λ c κs. search needs) returns (λ c. search needs)
+    is-there-requires returns-2 (λ c. search needs) returns-3 returns-4)

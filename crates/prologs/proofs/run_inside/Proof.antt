@@ -12,7 +12,8 @@ use Rattle.prologs.proofs.run_inside.Statement.{statement}
 use Rattle.prologs.proofs.run_inside.Tie as tie
 
 abbrev Inv-loop : tie.InvT-loop
-Inv-loop public quote d at i₀ i = (runOf (insideOf public quote) at (drop at d) ≡ runOf (insideOf public quote) i (drop i d)) × (i ≤ length d)
+Inv-loop public quote d at i₀ i = (runOf (insideOf public quote) at (drop at d) ≡ runOf (insideOf public quote) i (drop i d))
+    × (i ≤ length d)
 
 abbrev μ-loop : tie.MeasureT-loop
 μ-loop public quote d at i₀ i = length d - i
@@ -21,13 +22,31 @@ loop-holds : tie.Need-loop-holds Inv-loop μ-loop
 loop-holds c = (refl, omega arith)
 
 loop-again : tie.Need-loop-again Inv-loop μ-loop
-loop-again c = (c .before .before .before .before .loop .inv .0 ∙ run-next (insideOf (c .before .before .before .before .before .before .args .public) (c .before .before .before .before .before .before .args .quote)) (c .before .before .before .before .before .before .args .d .now) (c .before .before .before .before .loop .i) (omega arith) (sym (c .before .is-inside .ensures) ∙ c .if1 .taken), omega arith)
+loop-again c = (
+  c .before .before .before .before .loop .inv .0
+      ∙ run-next (insideOf (c .before .before .before .before .before .before .args .public)
+      (c .before .before .before .before .before .before .args .quote)) (c .before .before .before .before .before .before .args .d .now)
+      (c .before .before .before .before .loop .i) (omega arith) (sym (c .before .is-inside .ensures) ∙ c .if1 .taken),
+  omega arith,
+)
 
 returns : tie.Need-returns Inv-loop μ-loop
-returns c = (sym (c .before .before .before .before .loop .inv .0 ∙ run-over (insideOf (c .before .before .before .before .before .before .args .public) (c .before .before .before .before .before .before .args .quote)) (c .before .before .before .before .before .before .args .d .now) (c .before .before .before .before .loop .i) (omega arith) (sym (c .before .is-inside .ensures) ∙ c .if1 .left)), c .before .before .before .before .loop .inv .1)
+returns c = (
+  sym (c .before .before .before .before .loop .inv .0
+      ∙ run-over (insideOf (c .before .before .before .before .before .before .args .public)
+      (c .before .before .before .before .before .before .args .quote)) (c .before .before .before .before .before .before .args .d .now)
+      (c .before .before .before .before .loop .i) (omega arith) (sym (c .before .is-inside .ensures) ∙ c .if1 .left)),
+  c .before .before .before .before .loop .inv .1,
+)
 
 returns-2 : tie.Need-returns-2 Inv-loop μ-loop
-returns-2 c = (sym (c .before .loop .inv .0 ∙ run-end (insideOf (c .before .before .before .args .public) (c .before .before .before .args .quote)) (c .before .before .before .args .d .now) (c .before .loop .i) (omega arith)), c .before .loop .inv .1)
+returns-2 c = (
+  sym (c .before .loop .inv .0 ∙ run-end
+      (insideOf (c .before .before .before .args .public) (c .before .before .before .args .quote))
+      (c .before .before .before .args .d .now) (c .before .loop .i) (omega arith)),
+  c .before .loop .inv .1,
+)
 
 pub run-inside-spec : {M : Type 1} → statement M
-run-inside-spec = tie.close (tie.spec Inv-loop μ-loop loop-holds (λ c. omega arith) (λ c κs. search needs) (λ c. omega arith) (λ c. omega arith) loop-again returns returns-2)
+run-inside-spec = tie.close (tie.spec Inv-loop μ-loop loop-holds (λ c. omega arith) (λ c κs. search needs) (λ c. omega arith)
+    (λ c. omega arith) loop-again returns returns-2)

@@ -11,19 +11,35 @@ use Rattle.prologs.proofs.standalone_at.Statement.{statement}
 use Rattle.prologs.proofs.standalone_at.Tie as tie
 
 returns : tie.Need-returns
-returns c = c .close-at .ensures ∙ sym (perhaps-none false (c .before .before .before .before .args .d .now) (c .before .before .before .before .args .opened) standalone-is (pair (yes ∷ no ∷ []) close) close (c .before .before .before .before .args .latin) (c .before .before .before .before .args .at) (c .before .before .run .ensures .0) (c .before .if1 .taken))
+returns c = c .close-at .ensures ∙ sym (perhaps-none false (c .before .before .before .before .args .d .now)
+    (c .before .before .before .before .args .opened) standalone-is (pair (yes ∷ no ∷ []) close) close
+    (c .before .before .before .before .args .latin) (c .before .before .before .before .args .at) (c .before .before .run .ensures .0)
+    (c .before .if1 .taken))
 
 add-yes-or-no : tie.Need-add-yes-or-no
-add-yes-or-no c = let h = stands-in 115 (116 ∷ 97 ∷ 110 ∷ 100 ∷ 97 ∷ 108 ∷ 111 ∷ 110 ∷ 101 ∷ []) (c .before .before .before .before .before .before .args .d .now) (c .before .before .before .before .run .result) (sym (c .before .is-there .ensures) ∙ c .if2 .taken) in omega arith
+add-yes-or-no c = let h = stands-in 115 (116 ∷ 97 ∷ 110 ∷ 100 ∷ 97 ∷ 108 ∷ 111 ∷ 110 ∷ 101 ∷ [])
+    (c .before .before .before .before .before .before .args .d .now) (c .before .before .before .before .run .result)
+    (sym (c .before .is-there .ensures) ∙ c .if2 .taken) in omega arith
 
 yes-or-no-requires : tie.Need-yes-or-no-requires
-yes-or-no-requires c κs = let h = stands-in 115 (116 ∷ 97 ∷ 110 ∷ 100 ∷ 97 ∷ 108 ∷ 111 ∷ 110 ∷ 101 ∷ []) (c .before .before .before .before .before .before .args .d .now) (c .before .before .before .before .run .result) (sym (c .before .is-there .ensures) ∙ c .if2 .taken) in omega arith
+yes-or-no-requires c κs = let h = stands-in 115 (116 ∷ 97 ∷ 110 ∷ 100 ∷ 97 ∷ 108 ∷ 111 ∷ 110 ∷ 101 ∷ [])
+    (c .before .before .before .before .before .before .args .d .now) (c .before .before .before .before .run .result)
+    (sym (c .before .is-there .ensures) ∙ c .if2 .taken) in omega arith
 
 returns-2 : tie.Need-returns-2
-returns-2 c = c .yes-or-no .ensures ∙ sym (perhaps-yes false (c .before .before .before .before .before .before .before .args .d .now) (c .before .before .before .before .before .before .before .args .opened) standalone-is (pair (yes ∷ no ∷ []) close) close (c .before .before .before .before .before .before .before .args .latin) (c .before .before .before .before .before .before .before .args .at) (c .before .before .before .before .before .run .ensures .0) (c .before .before .before .before .if1 .left) (sym (c .before .before .is-there .ensures) ∙ c .before .if2 .taken))
+returns-2 c = c .yes-or-no .ensures ∙ sym (perhaps-yes false (c .before .before .before .before .before .before .before .args .d .now)
+    (c .before .before .before .before .before .before .before .args .opened) standalone-is (pair (yes ∷ no ∷ []) close) close
+    (c .before .before .before .before .before .before .before .args .latin)
+    (c .before .before .before .before .before .before .before .args .at) (c .before .before .before .before .before .run .ensures .0)
+    (c .before .before .before .before .if1 .left) (sym (c .before .before .is-there .ensures) ∙ c .before .if2 .taken))
 
 returns-3 : tie.Need-returns-3
-returns-3 c = c .close-at2 .ensures ∙ sym (perhaps-not false (c .before .before .before .before .before .before .before .args .d .now) (c .before .before .before .before .before .before .before .args .opened) standalone-is (pair (yes ∷ no ∷ []) close) close (c .before .before .before .before .before .before .before .args .latin) (c .before .before .before .before .before .before .before .args .at) (c .before .before .before .before .before .run .ensures .0) (c .before .before .before .before .if1 .left) (sym (c .before .before .is-there .ensures) ∙ c .before .if2 .left))
+returns-3 c = c .close-at2 .ensures ∙ sym (perhaps-not false (c .before .before .before .before .before .before .before .args .d .now)
+    (c .before .before .before .before .before .before .before .args .opened) standalone-is (pair (yes ∷ no ∷ []) close) close
+    (c .before .before .before .before .before .before .before .args .latin)
+    (c .before .before .before .before .before .before .before .args .at) (c .before .before .before .before .before .run .ensures .0)
+    (c .before .before .before .before .if1 .left) (sym (c .before .before .is-there .ensures) ∙ c .before .if2 .left))
 
 pub standalone-at-spec : {M : Type 1} → statement M
-standalone-at-spec = tie.close (tie.spec (λ c κs. search needs) (λ c κs. search needs) returns (λ c. search needs) (λ c κs. search needs) add-yes-or-no yes-or-no-requires returns-2 (λ c κs. search needs) returns-3)
+standalone-at-spec = tie.close (tie.spec (λ c κs. search needs) (λ c κs. search needs) returns (λ c. search needs) (λ c κs. search needs)
+    add-yes-or-no yes-or-no-requires returns-2 (λ c κs. search needs) returns-3)

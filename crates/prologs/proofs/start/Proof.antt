@@ -12,7 +12,14 @@ use Rattle.prologs.proofs.start.Tie as tie
 
 returns : tie.Need-returns
 unfolding startOf
-returns c = (rw (sym (c .before .is-there .ensures) ∙ c .if1 .taken), omega (arith, stands-in 239 (187 ∷ 191 ∷ []) (c .before .before .before .before .args .d .now) 0 (sym (c .before .is-there .ensures) ∙ c .if1 .taken)))
+returns c = (
+  rw (sym (c .before .is-there .ensures) ∙ c .if1 .taken),
+  omega (
+    arith,
+    stands-in 239 (187 ∷ 191 ∷ []) (c .before .before .before .before .args .d .now) 0
+        (sym (c .before .is-there .ensures) ∙ c .if1 .taken),
+  ),
+)
 
 returns-2 : tie.Need-returns-2
 unfolding startOf

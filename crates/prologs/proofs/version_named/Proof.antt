@@ -11,22 +11,47 @@ use Rattle.prologs.proofs.version_named.Statement.{statement}
 use Rattle.prologs.proofs.version_named.Tie as tie
 
 is-spelt-requires : tie.Need-is-spelt-requires
-is-spelt-requires c κs = let b = pair-bounds (c .before .before .before .before .before .before .args .d .now) (c .before .before .before .before .before .before .args .opened) (c .before .before .before .before .before .before .args .at) _ _ (sym (c .before .before .before .before .read-pair .ensures) ∙ c .before .before .value .given .1) in (b .0, omega (arith, b .1))
+is-spelt-requires c κs = let b = pair-bounds (c .before .before .before .before .before .before .args .d .now)
+    (c .before .before .before .before .before .before .args .opened) (c .before .before .before .before .before .before .args .at) _ _
+    (sym (c .before .before .before .before .read-pair .ensures) ∙ c .before .before .value .given .1) in (b .0, omega (arith, b .1))
 
 add-encoding-at : tie.Need-add-encoding-at
-add-encoding-at c = let b = pair-bounds (c .before .before .before .before .before .before .before .before .args .d .now) (c .before .before .before .before .before .before .before .before .args .opened) (c .before .before .before .before .before .before .before .before .args .at) _ _ (sym (c .before .before .before .before .before .before .read-pair .ensures) ∙ c .before .before .before .before .value .given .1) in omega (arith, b .1)
+add-encoding-at c = let b = pair-bounds (c .before .before .before .before .before .before .before .before .args .d .now)
+    (c .before .before .before .before .before .before .before .before .args .opened)
+    (c .before .before .before .before .before .before .before .before .args .at) _ _
+    (sym (c .before .before .before .before .before .before .read-pair .ensures) ∙ c .before .before .before .before .value .given .1) in
+    omega (arith, b .1)
 
 encoding-at-requires : tie.Need-encoding-at-requires
-encoding-at-requires c κs = let b = pair-bounds (c .before .before .before .before .before .before .before .before .args .d .now) (c .before .before .before .before .before .before .before .before .args .opened) (c .before .before .before .before .before .before .before .before .args .at) _ _ (sym (c .before .before .before .before .before .before .read-pair .ensures) ∙ c .before .before .before .before .value .given .1) in omega (arith, b .1)
+encoding-at-requires c κs = let b = pair-bounds (c .before .before .before .before .before .before .before .before .args .d .now)
+    (c .before .before .before .before .before .before .before .before .args .opened)
+    (c .before .before .before .before .before .before .before .before .args .at) _ _
+    (sym (c .before .before .before .before .before .before .read-pair .ensures) ∙ c .before .before .before .before .value .given .1) in
+    omega (arith, b .1)
 
 returns : tie.Need-returns
-returns c = c .encoding-at .ensures ∙ sym (pair-first (c .before .before .before .before .before .before .before .before .before .args .d .now) (c .before .before .before .before .before .before .before .before .before .args .opened) (c .before .before .before .before .before .before .before .before .before .args .at) (encoded (c .before .before .before .before .before .before .before .before .before .args .marked)) false one-nought [] (sym (c .before .before .before .before .before .before .before .read-pair .ensures) ∙ c .before .before .before .before .before .value .given .1) (sym (c .before .before .is-spelt .ensures) ∙ c .before .if1 .taken))
+returns c = c .encoding-at .ensures ∙ sym (pair-first
+    (c .before .before .before .before .before .before .before .before .before .args .d .now)
+    (c .before .before .before .before .before .before .before .before .before .args .opened)
+    (c .before .before .before .before .before .before .before .before .before .args .at)
+    (encoded (c .before .before .before .before .before .before .before .before .before .args .marked)) false one-nought []
+    (sym (c .before .before .before .before .before .before .before .read-pair .ensures)
+    ∙ c .before .before .before .before .before .value .given .1) (sym (c .before .before .is-spelt .ensures) ∙ c .before .if1 .taken))
 
 returns-2 : tie.Need-returns-2
-returns-2 c = sym (pair-not (c .before .before .before .before .before .before .before .before .args .d .now) (c .before .before .before .before .before .before .before .before .args .opened) (c .before .before .before .before .before .before .before .before .args .at) (encoded (c .before .before .before .before .before .before .before .before .args .marked)) false one-nought (sym (c .before .before .before .before .before .before .read-pair .ensures) ∙ c .before .before .before .before .value .given .1) (sym (c .before .is-spelt .ensures) ∙ c .if1 .left))
+returns-2 c = sym (pair-not (c .before .before .before .before .before .before .before .before .args .d .now)
+    (c .before .before .before .before .before .before .before .before .args .opened)
+    (c .before .before .before .before .before .before .before .before .args .at)
+    (encoded (c .before .before .before .before .before .before .before .before .args .marked)) false one-nought
+    (sym (c .before .before .before .before .before .before .read-pair .ensures) ∙ c .before .before .before .before .value .given .1)
+    (sym (c .before .is-spelt .ensures) ∙ c .if1 .left))
 
 returns-3 : tie.Need-returns-3
-returns-3 c = sym (pair-off (c .before .before .before .before .before .args .d .now) (c .before .before .before .before .before .args .opened) (c .before .before .before .before .before .args .at) (encoded (c .before .before .before .before .before .args .marked)) false (one-nought ∷ []) (sym (c .before .before .before .read-pair .ensures) ∙ c .before .p .given .1))
+returns-3 c = sym (pair-off (c .before .before .before .before .before .args .d .now)
+    (c .before .before .before .before .before .args .opened) (c .before .before .before .before .before .args .at)
+    (encoded (c .before .before .before .before .before .args .marked)) false (one-nought ∷ [])
+    (sym (c .before .before .before .read-pair .ensures) ∙ c .before .p .given .1))
 
 pub version-named-spec : {M : Type 1} → statement M
-version-named-spec = tie.close (tie.spec (λ c κs. search needs) (λ c. search needs) (λ c. search needs) is-spelt-requires add-encoding-at encoding-at-requires returns (λ c. search needs) returns-2 returns-3)
+version-named-spec = tie.close (tie.spec (λ c κs. search needs) (λ c. search needs) (λ c. search needs) is-spelt-requires add-encoding-at
+    encoding-at-requires returns (λ c. search needs) returns-2 returns-3)

@@ -21,11 +21,14 @@ returns : tie.Need-returns Inv-loop μ-loop
 returns c = c .before .before .before .loop .inv
 
 loop-again : tie.Need-loop-again Inv-loop μ-loop
-loop-again c = unmarked-next (isMark _ _ _) _ _ _ (c .before .before .before .loop .inv) (neither (getD (c .before .before .before .before .before .before .args .s .now) (c .before .before .before .loop .i) 0) _ _ (c .if1 .left)) (omega arith)
+loop-again c = unmarked-next (isMark _ _ _) _ _ _ (c .before .before .before .loop .inv)
+    (neither (getD (c .before .before .before .before .before .before .args .s .now) (c .before .before .before .loop .i) 0) _ _
+    (c .if1 .left)) (omega arith)
 
 returns-2 : tie.Need-returns-2 Inv-loop μ-loop
 returns-2 c = c .before .loop .inv
 
 pub skip-pair-spec : {M : Type 1} → statement M
 skip-pair-spec =
-    tie.close (tie.spec Inv-loop μ-loop (λ c κs. search needs) loop-holds (λ c. omega arith) returns (λ c. omega arith) (λ c. omega arith) loop-again returns-2)
+    tie.close (tie.spec Inv-loop μ-loop (λ c κs. search needs) loop-holds (λ c. omega arith) returns (λ c. omega arith) (λ c. omega arith)
+    loop-again returns-2)

@@ -26,11 +26,16 @@ returns-2 : tie.Need-returns-2 Inv-loop μ-loop
 returns-2 c = c .before .before .before .loop .inv .1
 
 loop-again : tie.Need-loop-again Inv-loop μ-loop
-loop-again c = (omega arith, unmarked-more _ _ _ _ 16 (c .before .before .before .loop .inv .1) (sym (c .before .mark-among .ensures) ∙ c .if2 .left) (omega arith))
+loop-again c = (
+  omega arith,
+  unmarked-more _ _ _ _ 16 (c .before .before .before .loop .inv .1)
+      (sym (c .before .mark-among .ensures) ∙ c .if2 .left) (omega arith),
+)
 
 returns-3 : tie.Need-returns-3 Inv-loop μ-loop
 returns-3 c = c .before .loop .inv .1
 
 pub skip-wide-spec : {M : Type 1} → statement M
 skip-wide-spec =
-    tie.close (tie.spec Inv-loop μ-loop returns loop-holds mark-among-requires returns-2 (λ c. omega arith) (λ c. omega arith) loop-again returns-3)
+    tie.close (tie.spec Inv-loop μ-loop returns loop-holds mark-among-requires returns-2 (λ c. omega arith) (λ c. omega arith) loop-again
+    returns-3)

@@ -14,15 +14,28 @@ returns c = rw (eq-eqb (c .before .before .args .a .number) 0 (c .if1 .taken))
 
 returns-2 : tie.Need-returns-2
 unfolding lowerOf
-returns-2 c = rw (ne-eqb (c .before .before .before .before .args .a .number) 0 (c .before .before .if1 .left), eq-eqb (c .before .before .before .before .args .b .number) 0 (c .if2 .taken))
+returns-2 c = rw (
+  ne-eqb (c .before .before .before .before .args .a .number) 0 (c .before .before .if1 .left),
+  eq-eqb (c .before .before .before .before .args .b .number) 0 (c .if2 .taken),
+)
 
 returns-3 : tie.Need-returns-3
 unfolding lowerOf
-returns-3 c = rw (ne-eqb (c .before .before .before .before .before .before .args .a .number) 0 (c .before .before .before .before .if1 .left), ne-eqb (c .before .before .before .before .before .before .args .b .number) 0 (c .before .before .if2 .left), sym (c .before .comes-first .ensures) ∙ c .if3 .taken)
+returns-3 c = rw (
+  ne-eqb (c .before .before .before .before .before .before .args .a .number) 0
+      (c .before .before .before .before .if1 .left),
+  ne-eqb (c .before .before .before .before .before .before .args .b .number) 0 (c .before .before .if2 .left),
+  sym (c .before .comes-first .ensures) ∙ c .if3 .taken,
+)
 
 returns-4 : tie.Need-returns-4
 unfolding lowerOf
-returns-4 c = rw (ne-eqb (c .before .before .before .before .before .before .args .a .number) 0 (c .before .before .before .before .if1 .left), ne-eqb (c .before .before .before .before .before .before .args .b .number) 0 (c .before .before .if2 .left), sym (c .before .comes-first .ensures) ∙ c .if3 .left)
+returns-4 c = rw (
+  ne-eqb (c .before .before .before .before .before .before .args .a .number) 0
+      (c .before .before .before .before .if1 .left),
+  ne-eqb (c .before .before .before .before .before .before .args .b .number) 0 (c .before .before .if2 .left),
+  sym (c .before .comes-first .ensures) ∙ c .if3 .left,
+)
 
 pub lower-spec : {M : Type 1} → statement M
 lower-spec = tie.close (tie.spec returns returns-2 (λ c κs. search needs) returns-3 returns-4)

@@ -12,4 +12,5 @@ returns-2 : tie.Need-returns-2
 returns-2 c = bits-answered _ _ _ _ _ _ (c .set-answer2 .ensures) (c .before .before .before .read-bits2 .ensures)
 
 pub bits-spec : {M : Type 1} → statement M
-bits-spec = tie.close (tie.spec (λ c. search needs) (λ c κs. search needs) (λ c κs. tt) (λ c. search needs) returns (λ c. search needs) (λ c κs. search needs) (λ c κs. tt) (λ c. search needs) returns-2)
+bits-spec = tie.close (tie.spec (λ c. search needs) (λ c κs. search needs) (λ c κs. tt) (λ c. search needs) returns (λ c. search needs)
+    (λ c κs. search needs) (λ c κs. tt) (λ c. search needs) returns-2)

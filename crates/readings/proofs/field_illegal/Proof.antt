@@ -56,15 +56,21 @@ field-illegal-spec =
     (λ c κs. tt)
     (λ c. search needs)
     (λ c. search needs)
-    (λ c κs. bits-ready (c .before .before .before .before .before .before .before .pre .0) (c .before .before .before .kind .given .1 ∙ ap Multiple (c .enum-told2 .given .1)))
+    (λ c κs. bits-ready (c .before .before .before .before .before .before .before .pre .0)
+    (c .before .before .before .kind .given .1 ∙ ap Multiple (c .enum-told2 .given .1)))
     (λ c. search needs)
-    (λ c κs. let p = c .before .before .before .before .before .before .before .before .before .pre in (spread-ready (p .0) (c .before .before .before .before .before .kind .given .1 ∙ ap Multiple (c .before .before .s .given .1)), p .1 .1))
+    (λ c κs. let p = c .before .before .before .before .before .before .before .before .before .pre in (
+      spread-ready (p .0)
+          (c .before .before .before .before .before .kind .given .1 ∙ ap Multiple (c .before .before .s .given .1)),
+      p .1 .1,
+    ))
     (λ c. search needs)
     (λ c κs. let q = quantity-ready (c .before .before .before .before .before .pre .0) (c .before .kind2 .given .1) in (q .0, q .1))
     (λ c. search needs)
     (λ c. search needs)
     (λ c. let p = c .before .before .before .before .before .pre .0 in let h = p .from-one in let g = p .ordered in omega arith)
-    (λ c. let p = c .before .before .before .before .before .before .pre .0 in let h = p .from-one in let g = p .ordered in let i = p .inside in omega arith)
+    (λ c. let p = c .before .before .before .before .before .before .pre .0 in let h = p .from-one in let g = p .ordered in
+    let i = p .inside in omega arith)
     (λ c κs. tt)
     (λ c κs. tt)
     returns

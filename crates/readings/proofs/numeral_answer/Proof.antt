@@ -34,7 +34,8 @@ unfolding saidOf
 returns-3 c p n =
     let a = c .before .before .before .before .before .before .args in
     rw (c .before .before .before .before .said .given .1)
-    (c .number-answer .ensures p n ∙ ap (λ (z : ℤ). answerOf p n (numberField (legal (a .t .now) (a .rows) (a .row)) z)) (back (c .before .before .before))
+    (c .number-answer .ensures p n ∙ ap (λ (z : ℤ). answerOf p n (numberField (legal (a .t .now) (a .rows) (a .row)) z))
+    (back (c .before .before .before))
     ∙ numeral-number _ _ p n _ (rw (zero-test (c .before .before)) at (c .before .if1 .left)))
 
 returns-4 : tie.Need-returns-4

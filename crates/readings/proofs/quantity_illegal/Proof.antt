@@ -12,14 +12,22 @@ use Rattle.readings.proofs.quantity_illegal.Statement.{statement}
 use Rattle.readings.proofs.quantity_illegal.Tie as tie
 
 quantity-requires : tie.Need-quantity-requires
-quantity-requires c κs = let f = c .before .before .before .pre .0 .few in let g = c .before .before .before .pre .0 .reach in (c .before .before .before .pre .1, simp length-take (omega arith))
+quantity-requires c κs = let f = c .before .before .before .pre .0 .few in
+    let g = c .before .before .before .pre .0 .reach in (c .before .before .before .pre .1, simp length-take (omega arith))
 
 -- what the value places say
-said : (c : tie.After-quantity) → saidOf (c .quantity .result) ≡ quantityOf (c .before .before .before .before .args .f) (pick (c .before .before .before .before .args .bytes .now) (run (c .before .before .before .before .args .row .finish - c .before .before .before .before .args .row .width) (c .before .before .before .before .args .row .width)))
-said c = c .quantity .ensures ∙ ap (quantityOf (c .before .before .before .before .args .f)) (last-bytes (c .before .before .before .before .args .bytes .now) _ _ (c .before .before .before .before .pre .0 .reach) (c .before .before .before .before .pre .0 .inside))
+said : (c : tie.After-quantity) → saidOf (c .quantity .result)
+    ≡ quantityOf (c .before .before .before .before .args .f)
+    (pick (c .before .before .before .before .args .bytes .now)
+    (run (c .before .before .before .before .args .row .finish - c .before .before .before .before .args .row .width)
+    (c .before .before .before .before .args .row .width)))
+said c = c .quantity .ensures ∙ ap (quantityOf (c .before .before .before .before .args .f))
+    (last-bytes (c .before .before .before .before .args .bytes .now) _ _ (c .before .before .before .before .pre .0 .reach)
+    (c .before .before .before .before .pre .0 .inside))
 
 returns : tie.Need-returns
-returns c = c .is-illegal .ensures ∙ ap illegalAnswer (c .before .numeral-answer .ensures 0 0 ∙ as-quantity-says _ _ _ _ 0 0 (said (c .before .before))) ∙ illegal-back 0 0 _
+returns c = c .is-illegal .ensures ∙ ap illegalAnswer
+    (c .before .numeral-answer .ensures 0 0 ∙ as-quantity-says _ _ _ _ 0 0 (said (c .before .before))) ∙ illegal-back 0 0 _
 
 pub quantity-illegal-spec : {M : Type 1} → statement M
 quantity-illegal-spec =

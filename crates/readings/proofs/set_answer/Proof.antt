@@ -22,4 +22,5 @@ unfolding setSaid
 returns-4 c = rw (c .enum-told3 .given .1)
 
 pub set-answer-spec : {M : Type 1} → statement M
-set-answer-spec = tie.close (tie.spec (λ c. search needs) (λ c. search needs) (λ c. search needs) (λ c. search needs) returns returns-2 returns-3 returns-4)
+set-answer-spec = tie.close (tie.spec (λ c. search needs) (λ c. search needs) (λ c. search needs) (λ c. search needs) returns returns-2
+    returns-3 returns-4)

@@ -11,11 +11,16 @@ use Rattle.readings.proofs.single.Statement.{statement}
 use Rattle.readings.proofs.single.Tie as tie
 
 code-requires : tie.Need-code-requires
-code-requires c κs = let f = c .before .before .before .pre .few in let g = c .before .before .before .pre .reach in simp length-take (omega arith)
+code-requires c κs = let f = c .before .before .before .pre .few in let g = c .before .before .before .pre .reach in
+    simp length-take (omega arith)
 
 -- what the value places say
-said : (c : tie.After-code) → saidOf (c .code .result) ≡ codeOf (pick (c .before .before .before .before .args .bytes .now) (run (c .before .before .before .before .args .row .finish - c .before .before .before .before .args .row .width) (c .before .before .before .before .args .row .width)))
-said c = c .code .ensures ∙ ap codeOf (last-bytes (c .before .before .before .before .args .bytes .now) _ _ (c .before .before .before .before .pre .reach) (c .before .before .before .before .pre .inside))
+said : (c : tie.After-code) → saidOf (c .code .result)
+    ≡ codeOf (pick (c .before .before .before .before .args .bytes .now)
+    (run (c .before .before .before .before .args .row .finish - c .before .before .before .before .args .row .width)
+    (c .before .before .before .before .args .row .width)))
+said c = c .code .ensures ∙ ap codeOf (last-bytes (c .before .before .before .before .args .bytes .now) _ _
+    (c .before .before .before .before .pre .reach) (c .before .before .before .before .pre .inside))
 
 returns : tie.Need-returns
 returns c p n = c .numeral-answer .ensures p n ∙ as-single-says _ _ _ p n (said (c .before))

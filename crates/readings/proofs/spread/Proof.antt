@@ -24,7 +24,10 @@ room-requires : tie.Need-read-few-requires
 room-requires c κs = (c .before .before .before .before .before .pre, at-most _ _ (c .before .before .if1 .taken))
 
 many-requires : tie.Need-read-spread-requires
-many-requires c κs = let p = c .before .before .before .before .before .before .pre in (p, (omega arith, pow-le-pow-right {n = 10} (omega arith) (p .few)))
+many-requires c κs = let p = c .before .before .before .before .before .before .pre in (
+  p,
+  (omega arith, pow-le-pow-right {n = 10} (omega arith) (p .few)),
+)
 
 returns : tie.Need-returns
 returns c = spread-answered _ _ _ _ _ _ _ _ (c .set-answer .ensures) (c .before .before .before .read-few .ensures)

@@ -11,11 +11,14 @@ use Rattle.readings.proofs.Laws.{text-missing, text-length, text-wrong,
 use Rattle.readings.proofs.text.Statement.{statement}
 use Rattle.readings.proofs.text.Tie as tie
 
-said : (c : tie.After-read-text) → textSaid (textField (pick (c .before .before .before .args .bytes .now) (run (c .before .before .before .args .at) (c .before .before .before .args .w)))) ≡ c .read-text .result
+said : (c : tie.After-read-text) → textSaid (textField
+    (pick (c .before .before .before .args .bytes .now) (run (c .before .before .before .args .at) (c .before .before .before .args .w))))
+    ≡ c .read-text .result
 said c =
     let a = c .before .before .before .args in
     let h = c .before .before .before .pre .1 .1 in let g = c .before .before .before .pre .1 .0 in
-    ap (λ (s : List ℕ). textSaid (textField s)) (sym (first-bytes (a .bytes .now) (a .at) (a .w) (omega arith))) ∙ sym (c .read-text .ensures)
+    ap (λ (s : List ℕ). textSaid (textField s)) (sym (first-bytes (a .bytes .now) (a .at) (a .w) (omega arith)))
+    ∙ sym (c .read-text .ensures)
 
 returns : tie.Need-returns
 returns c n = text-missing _ n _ (said (c .before .before) ∙ c .enum-told .given .1)

@@ -26,8 +26,14 @@ loop-holds c = (omega arith, refl, all-owed _ _ _ (line-whole (c .before .before
 
 send-row-requires : tie.Need-send-row-requires Inv-loop μ-loop
 send-row-requires c κs =
-    let p = c .before .before .before .before .before .before .before .before .before .before .before .pre in
-    (record { tens = p .0 .tens; tested = p .0 .tested; list = c .before .before .before .before .before .before .before .before .loop .inv .1 ∙ p .0 .list }, (c .before .before .before .before .before .before .if1 .taken, p .1))
+    let p = c .before .before .before .before .before .before .before .before .before .before .before .pre in (
+      record {
+        tens = p .0 .tens;
+        tested = p .0 .tested;
+        list = c .before .before .before .before .before .before .before .before .loop .inv .1 ∙ p .0 .list;
+      },
+      (c .before .before .before .before .before .before .if1 .taken, p .1),
+    )
 
 add-i : tie.Need-add-i Inv-loop μ-loop
 add-i c = omega (arith, c .before .before .before .before .before .before .before .before .before .before .if1 .taken)
@@ -40,7 +46,10 @@ loop-again c =
     let l = c .before .before .before .before .before .before .before .before .before .before .before .before .loop .inv in (
       omega (arith, c .before .before .before .before .before .before .before .before .before .before .if1 .taken),
       c .before .before .before .send-row .kept .1 .1 .1 .1 .1 .0 ∙ l .1,
-      less-owed (less-owed (l .2) (left-next _ _ _ (c .before .before .before .before .before .before .before .before .before .before .if1 .taken)) (c .before .before .before .before .before .before .before .before .send-comma .ensures)) refl (c .before .before .before .send-row .ensures),
+      less-owed (less-owed (l .2) (left-next _ _ _
+          (c .before .before .before .before .before .before .before .before .before .before .if1 .taken))
+          (c .before .before .before .before .before .before .before .before .send-comma .ensures)) refl
+          (c .before .before .before .send-row .ensures),
     )
 
 same-length : tie.Need-same-length Inv-loop μ-loop
@@ -50,7 +59,8 @@ same-length-2 : tie.Need-same-length-2 Inv-loop μ-loop
 same-length-2 c = c .before .before .send-end .ensures .room ∙ c .before .before .before .before .before .before .loop .inv .2 .same-room
 
 returns : tie.Need-returns Inv-loop μ-loop
-returns c = c .before .before .before .before .before .before .loop .inv .2 .pays (sent-as (c .before .before .send-end .ensures) (sym (left-end _ _ _ (c .before .before .before .before .if1 .left))))
+returns c = c .before .before .before .before .before .before .loop .inv .2 .pays
+    (sent-as (c .before .before .send-end .ensures) (sym (left-end _ _ _ (c .before .before .before .before .if1 .left))))
 
 pub send-line-spec : {M : Type 1} → statement M
 send-line-spec =

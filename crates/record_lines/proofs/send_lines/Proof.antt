@@ -29,25 +29,40 @@ next-from-requires c κs = c .before .before .before .before .pre .1 .0
 
 sub-send-line : tie.Need-sub-send-line Inv-loop μ-loop
 sub-send-line c =
-    let e = next-ended (c .before .before .before .before .before .before .before .before .args .d .now) (c .before .before .before .before .before .before .before .before .args .w) (c .before .before .before .before .before .loop .from) (sym (c .before .before .before .next-from .ensures) ∙ c .before .start .given .1) in
+    let e = next-ended (c .before .before .before .before .before .before .before .before .args .d .now)
+    (c .before .before .before .before .before .before .before .before .args .w) (c .before .before .before .before .before .loop .from)
+    (sym (c .before .before .before .next-from .ensures) ∙ c .before .start .given .1) in
     omega (arith, e .starts, e .after, e .inside)
 
 part-send-line-start : tie.Need-part-send-line-start Inv-loop μ-loop
 part-send-line-start c =
-    let e = next-ended (c .before .before .before .before .before .before .before .before .args .d .now) (c .before .before .before .before .before .before .before .before .args .w) (c .before .before .before .before .before .loop .from) (sym (c .before .before .before .next-from .ensures) ∙ c .before .start .given .1) in
+    let e = next-ended (c .before .before .before .before .before .before .before .before .args .d .now)
+    (c .before .before .before .before .before .before .before .before .args .w) (c .before .before .before .before .before .loop .from)
+    (sym (c .before .before .before .next-from .ensures) ∙ c .before .start .given .1) in
     omega (arith, e .starts, e .after, e .inside)
 
 part-send-line-end : tie.Need-part-send-line-end Inv-loop μ-loop
 part-send-line-end c =
-    let e = next-ended (c .before .before .before .before .before .before .before .before .args .d .now) (c .before .before .before .before .before .before .before .before .args .w) (c .before .before .before .before .before .loop .from) (sym (c .before .before .before .next-from .ensures) ∙ c .before .start .given .1) in
+    let e = next-ended (c .before .before .before .before .before .before .before .before .args .d .now)
+    (c .before .before .before .before .before .before .before .before .args .w) (c .before .before .before .before .before .loop .from)
+    (sym (c .before .before .before .next-from .ensures) ∙ c .before .start .given .1) in
     omega (arith, e .starts, e .after, e .inside)
 
 send-line-requires : tie.Need-send-line-requires Inv-loop μ-loop
 send-line-requires c κs =
     let p = c .before .before .before .before .before .before .before .before .before .before .before .pre in
-    let e = next-ended (c .before .before .before .before .before .before .before .before .before .before .before .args .d .now) (c .before .before .before .before .before .before .before .before .before .before .before .args .w) (c .before .before .before .before .before .before .before .before .loop .from) (sym (c .before .before .before .before .before .before .next-from .ensures) ∙ c .before .before .before .before .start .given .1) in (
-      record { tens = p .0 .tens; tested = p .0 .tested; list = c .before .before .before .before .before .before .before .before .loop .inv .0 ∙ p .0 .list },
-      rw (e .starts) (long-next (c .before .before .before .before .before .before .before .before .loop .k) (c .before .before .before .before .before .before .before .loop-test .taken) (e .records) (c .before .before .before .before .before .before .before .before .loop .inv .1) .0),
+    let e = next-ended (c .before .before .before .before .before .before .before .before .before .before .before .args .d .now)
+    (c .before .before .before .before .before .before .before .before .before .before .before .args .w)
+    (c .before .before .before .before .before .before .before .before .loop .from)
+    (sym (c .before .before .before .before .before .before .next-from .ensures) ∙ c .before .before .before .before .start .given .1) in (
+      record {
+        tens = p .0 .tens;
+        tested = p .0 .tested;
+        list = c .before .before .before .before .before .before .before .before .loop .inv .0 ∙ p .0 .list;
+      },
+      rw (e .starts) (long-next (c .before .before .before .before .before .before .before .before .loop .k)
+          (c .before .before .before .before .before .before .before .loop-test .taken) (e .records)
+          (c .before .before .before .before .before .before .before .before .loop .inv .1) .0),
     )
 
 sub-k : tie.Need-sub-k Inv-loop μ-loop
@@ -59,12 +74,23 @@ loop-less c = omega (arith, c .before .before .before .before .before .before .b
 loop-again : tie.Need-loop-again Inv-loop μ-loop
 loop-again c =
     let l = c .before .before .before .before .before .before .before .before .before .before .before .before .loop .inv in
-    let a = c .before .before .before .before .before .before .before .before .before .before .before .before .before .before .before .args in
-    let e = next-ended (a .d .now) (a .w) (c .before .before .before .before .before .before .before .before .before .before .before .before .loop .from) (sym (c .before .before .before .before .before .before .before .before .before .before .next-from .ensures) ∙ c .before .before .before .before .before .before .before .before .start .given .1) in (
+    let a = c .before .before .before .before .before .before .before .before .before .before .before .before .before .before .before
+    .args in
+    let e = next-ended (a .d .now) (a .w)
+    (c .before .before .before .before .before .before .before .before .before .before .before .before .loop .from)
+    (sym (c .before .before .before .before .before .before .before .before .before .before .next-from .ensures)
+    ∙ c .before .before .before .before .before .before .before .before .start .given .1) in (
       c .before .before .before .send-line .kept .1 .1 .1 .1 .0 ∙ l .0,
-      long-next (c .before .before .before .before .before .before .before .before .before .before .before .before .loop .k) (c .before .before .before .before .before .before .before .before .before .before .before .loop-test .taken) (e .records) (l .1) .1,
-      less-owed (l .2) (lines-next (c .before .before .before .before .before .before .before .before .before .before .before .before .loop .k) (c .before .before .before .before .before .before .before .before .before .before .before .loop-test .taken) (a .t .now) (e .records))
-          (sent-as (c .before .before .before .send-line .ensures) (ap (λ (x : ℕ). lineBytes (recordLine (a .t .now) (part (a .d .now) x (c .before .before .before .before .before .before .before .before .start .given .0 .1 .0)))) (e .starts))),
+      long-next (c .before .before .before .before .before .before .before .before .before .before .before .before .loop .k)
+          (c .before .before .before .before .before .before .before .before .before .before .before .loop-test .taken) (e .records)
+          (l .1) .1,
+      less-owed (l .2)
+          (lines-next (c .before .before .before .before .before .before .before .before .before .before .before .before .loop .k)
+          (c .before .before .before .before .before .before .before .before .before .before .before .loop-test .taken) (a .t .now)
+          (e .records))
+          (sent-as (c .before .before .before .send-line .ensures)
+          (ap (λ (x : ℕ). lineBytes (recordLine (a .t .now)
+          (part (a .d .now) x (c .before .before .before .before .before .before .before .before .start .given .0 .1 .0)))) (e .starts))),
     )
 
 same-length : tie.Need-same-length Inv-loop μ-loop
@@ -75,8 +101,12 @@ same-length-2 c = c .before .before .before .before .loop .inv .2 .same-room
 
 returns : tie.Need-returns Inv-loop μ-loop
 returns c =
-    let u = next-unended (c .before .before .before .before .before .before .before .args .d .now) (c .before .before .before .before .before .before .before .args .w) (c .before .before .before .before .loop .from) (sym (c .before .before .next-from .ensures) ∙ c .enum-told .given .1) in
-    none-owed (c .before .before .before .before .loop .inv .2) (lines-unended (c .before .before .before .before .loop .k) (c .before .before .before .loop-test .taken) (c .before .before .before .before .before .before .before .args .t .now) (u .records))
+    let u = next-unended (c .before .before .before .before .before .before .before .args .d .now)
+    (c .before .before .before .before .before .before .before .args .w) (c .before .before .before .before .loop .from)
+    (sym (c .before .before .next-from .ensures) ∙ c .enum-told .given .1) in
+    none-owed (c .before .before .before .before .loop .inv .2)
+    (lines-unended (c .before .before .before .before .loop .k) (c .before .before .before .loop-test .taken)
+    (c .before .before .before .before .before .before .before .args .t .now) (u .records))
 
 same-length-3 : tie.Need-same-length-3 Inv-loop μ-loop
 same-length-3 c = c .before .before .before .before .loop .inv .0
@@ -88,8 +118,12 @@ returns-2 : tie.Need-returns-2 Inv-loop μ-loop
 returns-2 c =
     let d = c .before .before .before .before .before .before .before .args .d .now in
     let w = c .before .before .before .before .before .before .before .args .w in
-    let o = over-past d w (c .before .before .before .before .loop .from) (next-nothing d w (c .before .before .before .before .loop .from) (sym (c .before .before .next-from .ensures) ∙ c .enum-told2 .given .1)) in
-    none-owed (c .before .before .before .before .loop .inv .2) (lines-over (c .before .before .before .before .loop .k) (c .before .before .before .loop-test .taken) (c .before .before .before .before .before .before .before .args .t .now) o)
+    let o = over-past d w (c .before .before .before .before .loop .from)
+    (next-nothing d w (c .before .before .before .before .loop .from)
+    (sym (c .before .before .next-from .ensures) ∙ c .enum-told2 .given .1)) in
+    none-owed (c .before .before .before .before .loop .inv .2)
+    (lines-over (c .before .before .before .before .loop .k) (c .before .before .before .loop-test .taken)
+    (c .before .before .before .before .before .before .before .args .t .now) o)
 
 same-length-5 : tie.Need-same-length-5 Inv-loop μ-loop
 same-length-5 c = c .before .loop .inv .0

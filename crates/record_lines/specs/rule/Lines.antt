@@ -1,4 +1,5 @@
--- The lines of an export (document 02, C-16): "one line a record"; "the first faulty record ends the export: the lines before it stay, nothing
+-- The lines of an export (document 02, C-16): "one line a record"; "the first faulty record ends the export: the lines before it stay,
+-- nothing
 -- of it is written".
 use mathlib.Core.List.{List, [], _∷_}
 use Prim.Native.Nat.{ℕ, zero, suc, _-_}

@@ -28,7 +28,8 @@ counted : (c : tie.After-count-row Inv-loop μ-loop) →
     c .count-row .result ≡ length (membersOf (rowReading (a .t .now) (a .rows) (a .bytes .now) (c .before .before .before .loop .i)))
 counted c =
     let a = c .before .before .before .before .before .args in
-    c .count-row .ensures ∙ ap (λ (r : Row). length (membersOf (readingOf (a .t .now) (a .rows) r (a .bytes .now)))) (c .before .read .ensures)
+    c .count-row .ensures ∙ ap (λ (r : Row). length (membersOf (readingOf (a .t .now) (a .rows) r (a .bytes .now))))
+    (c .before .read .ensures)
 
 returns : tie.Need-returns Inv-loop μ-loop
 returns c =
@@ -67,8 +68,10 @@ counted-fits-spec =
     Inv-loop
     μ-loop
     loop-holds
-    (λ c κs. let p = c .before .before .before .pre in let f = p .few in let s = p .stand in let l = c .loop-test .taken in (omega arith, omega arith))
-    (λ c κs. let p = c .before .before .before .before .pre in rw (c .read .ensures) (p .row (c .before .before .loop .i) (c .before .loop-test .taken)))
+    (λ c κs. let p = c .before .before .before .pre in let f = p .few in let s = p .stand in
+    let l = c .loop-test .taken in (omega arith, omega arith))
+    (λ c κs. let p = c .before .before .before .before .pre in
+    rw (c .read .ensures) (p .row (c .before .before .loop .i) (c .before .loop-test .taken)))
     returns
     (λ c. omega arith)
     (λ c. omega arith)

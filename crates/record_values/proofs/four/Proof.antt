@@ -51,8 +51,20 @@ four-spec =
     (λ c κs. search needs)
     (λ c. rw (c .enum-told .given .1))
     (λ c. rw (c .before .a .given .1, back c))
-    (λ c. rw (c .before .before .before .a2 .given .1, toZ-ofZ (sfits-of (c .before .cell .ok)), toZ-ofZ (sfits-of (c .cell2 .ok)), c .before .cell .ensures, c .cell2 .ensures))
-    (λ c. rw (c .before .before .before .a3 .given .1, toZ-ofZ (sfits-of (c .before .cell3 .ok)), toZ-ofZ (sfits-of (c .cell4 .ok)), c .before .cell3 .ensures, c .cell4 .ensures))
+    (λ c. rw (
+      c .before .before .before .a2 .given .1,
+      toZ-ofZ (sfits-of (c .before .cell .ok)),
+      toZ-ofZ (sfits-of (c .cell2 .ok)),
+      c .before .cell .ensures,
+      c .cell2 .ensures,
+    ))
+    (λ c. rw (
+      c .before .before .before .a3 .given .1,
+      toZ-ofZ (sfits-of (c .before .cell3 .ok)),
+      toZ-ofZ (sfits-of (c .cell4 .ok)),
+      c .before .cell3 .ensures,
+      c .cell4 .ensures,
+    ))
     (λ c. rw (c .before .before .a4 .given .1, toZ-ofZ (sfits-of (c .flag .ok)), c .flag .ensures))
     (λ c. rw (c .enum-told2 .given .1))
     (λ c. rw (c .enum-told3 .given .1))

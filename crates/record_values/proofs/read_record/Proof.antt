@@ -10,41 +10,70 @@ use Rattle.record_values.proofs.read_record.Tie as tie
 returns : tie.Need-returns
 returns c =
     let a = c .before .before .before .before .before .before .args in
-    whole-short (a .t .now) (a .bytes .now) (a .out .now) (a .list .now) (sym (c .before .before .before .before .well-formed .ensures .says) ∙ c .before .before .before .if1 .taken) _ (c .before .before .read .ensures) (c .if2 .taken)
+    whole-short (a .t .now) (a .bytes .now) (a .out .now) (a .list .now)
+    (sym (c .before .before .before .before .well-formed .ensures .says) ∙ c .before .before .before .if1 .taken) _
+    (c .before .before .read .ensures) (c .if2 .taken)
 
 mul-if3 : tie.Need-mul-if3
 mul-if3 c =
     let a = c .before .before .before .before .before .before .before .args in
-    let r = rows-ready (a .t .now) (a .bytes .now) (a .out .now) (a .list .now) (sym (c .before .before .before .before .before .well-formed .ensures .says) ∙ c .before .before .before .before .if1 .taken) _ (c .before .before .before .read .ensures) (c .before .if2 .left) in
+    let r = rows-ready (a .t .now) (a .bytes .now) (a .out .now) (a .list .now)
+    (sym (c .before .before .before .before .before .well-formed .ensures .says) ∙ c .before .before .before .before .if1 .taken) _
+    (c .before .before .before .read .ensures) (c .before .if2 .left) in
     let f = r .few in
     omega arith
 
 returns-2 : tie.Need-returns-2
 returns-2 c =
     let a = c .before .before .before .before .before .before .before .before .args in
-    whole-out (a .t .now) (a .bytes .now) (a .out .now) (a .list .now) (sym (c .before .before .before .before .before .before .well-formed .ensures .says) ∙ c .before .before .before .before .before .if1 .taken) _ (c .before .before .before .before .read .ensures) (c .before .before .if2 .left) (c .if3 .taken)
+    whole-out (a .t .now) (a .bytes .now) (a .out .now) (a .list .now)
+    (sym (c .before .before .before .before .before .before .well-formed .ensures .says)
+    ∙ c .before .before .before .before .before .if1 .taken) _ (c .before .before .before .before .read .ensures)
+    (c .before .before .if2 .left) (c .if3 .taken)
 
 sets-fit-requires : tie.Need-sets-fit-requires
 sets-fit-requires c κs =
     let a = c .before .before .before .before .before .before .before .before .args in
-    rows-ready (a .t .now) (a .bytes .now) (a .out .now) (a .list .now) (sym (c .before .before .before .before .before .before .well-formed .ensures .says) ∙ c .before .before .before .before .before .if1 .taken) _ (c .before .before .before .before .read .ensures) (c .before .before .if2 .left)
+    rows-ready (a .t .now) (a .bytes .now) (a .out .now) (a .list .now)
+    (sym (c .before .before .before .before .before .before .well-formed .ensures .says)
+    ∙ c .before .before .before .before .before .if1 .taken) _ (c .before .before .before .before .read .ensures)
+    (c .before .before .if2 .left)
 
 read-rows-requires : tie.Need-read-rows-requires
 read-rows-requires c κs =
     let a = c .before .before .before .before .before .before .before .before .before .before .before .before .args in (
-      rows-ready (a .t .now) (a .bytes .now) (a .out .now) (a .list .now) (sym (c .before .before .before .before .before .before .before .before .before .before .well-formed .ensures .says) ∙ c .before .before .before .before .before .before .before .before .before .if1 .taken) _ (c .before .before .before .before .before .before .before .before .read .ensures) (c .before .before .before .before .before .before .if2 .left),
-      (c .before .before .before .before .if3 .left, leb-true _ _ (sym (c .before .before .before .sets-fit .ensures) ∙ c .before .before .if4 .taken)),
+      rows-ready (a .t .now) (a .bytes .now) (a .out .now) (a .list .now)
+          (sym (c .before .before .before .before .before .before .before .before .before .before .well-formed .ensures .says)
+          ∙ c .before .before .before .before .before .before .before .before .before .if1 .taken) _
+          (c .before .before .before .before .before .before .before .before .read .ensures)
+          (c .before .before .before .before .before .before .if2 .left),
+      (
+        c .before .before .before .before .if3 .left,
+        leb-true _ _ (sym (c .before .before .before .sets-fit .ensures) ∙ c .before .before .if4 .taken),
+      ),
     )
 
 returns-3 : tie.Need-returns-3
 returns-3 c =
-    let a = c .before .before .before .before .before .before .before .before .before .before .before .before .before .before .before .args in
-    whole-read (a .t .now) (a .bytes .now) (a .out .now) (a .list .now) (sym (c .before .before .before .before .before .before .before .before .before .before .before .before .before .well-formed .ensures .says) ∙ c .before .before .before .before .before .before .before .before .before .before .before .before .if1 .taken) _ (c .before .before .before .before .before .before .before .before .before .before .before .read .ensures) (c .before .before .before .before .before .before .before .before .before .if2 .left) (c .before .before .before .before .before .before .before .if3 .left) (sym (c .before .before .before .before .before .if4 .taken) ∙ c .before .before .before .before .before .before .sets-fit .ensures) _ _ _ (c .before .before .read-rows .ensures)
+    let a = c .before .before .before .before .before .before .before .before .before .before .before .before .before .before .before
+    .args in
+    whole-read (a .t .now) (a .bytes .now) (a .out .now) (a .list .now)
+    (sym (c .before .before .before .before .before .before .before .before .before .before .before .before .before .well-formed .ensures
+    .says) ∙ c .before .before .before .before .before .before .before .before .before .before .before .before .if1 .taken) _
+    (c .before .before .before .before .before .before .before .before .before .before .before .read .ensures)
+    (c .before .before .before .before .before .before .before .before .before .if2 .left)
+    (c .before .before .before .before .before .before .before .if3 .left)
+    (sym (c .before .before .before .before .before .if4 .taken) ∙ c .before .before .before .before .before .before .sets-fit .ensures) _ _
+    _ (c .before .before .read-rows .ensures)
 
 returns-4 : tie.Need-returns-4
 returns-4 c =
     let a = c .before .before .before .before .before .before .before .before .before .before .args in
-    whole-list (a .t .now) (a .bytes .now) (a .out .now) (a .list .now) (sym (c .before .before .before .before .before .before .before .before .well-formed .ensures .says) ∙ c .before .before .before .before .before .before .before .if1 .taken) _ (c .before .before .before .before .before .before .read .ensures) (c .before .before .before .before .if2 .left) (c .before .before .if3 .left) (sym (c .if4 .left) ∙ c .before .sets-fit .ensures)
+    whole-list (a .t .now) (a .bytes .now) (a .out .now) (a .list .now)
+    (sym (c .before .before .before .before .before .before .before .before .well-formed .ensures .says)
+    ∙ c .before .before .before .before .before .before .before .if1 .taken) _
+    (c .before .before .before .before .before .before .read .ensures) (c .before .before .before .before .if2 .left)
+    (c .before .before .if3 .left) (sym (c .if4 .left) ∙ c .before .sets-fit .ensures)
 
 returns-5 : tie.Need-returns-5
 returns-5 c =

@@ -26,35 +26,56 @@ abbrev μ-loop : tie.MeasureT-loop
 
 loop-holds : tie.Need-loop-holds Inv-loop μ-loop
 unfolding membersBelow refusedBelow cellsBelow
-loop-holds c = (omega arith, refl, refl, omega arith, refl, refl, paste-none (c .before .args .out .now) 0, paste-none (c .before .args .list .now) 0)
+loop-holds c = (
+  omega arith,
+  refl,
+  refl,
+  omega arith,
+  refl,
+  refl,
+  paste-none (c .before .args .out .now) 0,
+  paste-none (c .before .args .list .now) 0,
+)
 
 -- row i's set has room behind those before it
 behind : (c : tie.In-loop Inv-loop μ-loop) → c .before .loop .at ≤ length (c .before .loop .list)
 behind c =
     let a = c .before .before .before .args in
     let l = c .before .loop in
-    let s = set-room (a .t .now) (a .rows) (a .bytes .now) (l .i) (c .loop-test .taken) (a .list .now) (l .list) (l .at) (l .inv .1) (l .inv .5) (c .before .before .before .pre .1 .1) in
+    let s = set-room (a .t .now) (a .rows) (a .bytes .now) (l .i) (c .loop-test .taken) (a .list .now) (l .list) (l .at) (l .inv .1)
+    (l .inv .5) (c .before .before .before .pre .1 .1) in
     omega arith
 
 -- what was read of row i
 module _ (c : tie.After-read-row Inv-loop μ-loop) where
-  at-next : let a = c .before .before .before .before .before .before .args in c .before .before .before .before .loop .at + membersIn (c .read-row .result) ≡ length (membersBelow (rowReading (a .t .now) (a .rows) (a .bytes .now)) (c .before .before .before .before .loop .i + 1))
+  at-next : let a = c .before .before .before .before .before .before .args in
+      c .before .before .before .before .loop .at + membersIn (c .read-row .result)
+      ≡ length (membersBelow (rowReading (a .t .now) (a .rows) (a .bytes .now)) (c .before .before .before .before .loop .i + 1))
   at-next =
       let a = c .before .before .before .before .before .before .args in
       let l = c .before .before .before .before .loop in
-      step-at (a .t .now) (a .rows) (a .bytes .now) (l .i) (c .before .before .before .loop-test .taken) (a .list .now) (l .list) (l .at) (l .inv .1) (l .inv .5) (c .before .before .before .before .before .before .pre .1 .1) _ (c .before .before .read .ensures) _ _ (c .read-row .ensures)
+      step-at (a .t .now) (a .rows) (a .bytes .now) (l .i) (c .before .before .before .loop-test .taken) (a .list .now) (l .list) (l .at)
+      (l .inv .1) (l .inv .5) (c .before .before .before .before .before .before .pre .1 .1) _ (c .before .before .read .ensures) _ _
+      (c .read-row .ensures)
 
-  refused-next : let a = c .before .before .before .before .before .before .args in c .before .before .before .before .loop .refused + refusalsIn (c .read-row .result) ≡ refusedBelow (rowReading (a .t .now) (a .rows) (a .bytes .now)) (c .before .before .before .before .loop .i + 1)
+  refused-next : let a = c .before .before .before .before .before .before .args in
+      c .before .before .before .before .loop .refused + refusalsIn (c .read-row .result)
+      ≡ refusedBelow (rowReading (a .t .now) (a .rows) (a .bytes .now)) (c .before .before .before .before .loop .i + 1)
   refused-next =
       let a = c .before .before .before .before .before .before .args in
       let l = c .before .before .before .before .loop in
-      step-refused (a .t .now) (a .rows) (a .bytes .now) (l .i) (c .before .before .before .loop-test .taken) (a .list .now) (l .list) (l .at) (l .inv .1) (l .inv .5) (c .before .before .before .before .before .before .pre .1 .1) _ (c .before .before .read .ensures) _ _ (c .read-row .ensures) (l .refused) (l .inv .2)
+      step-refused (a .t .now) (a .rows) (a .bytes .now) (l .i) (c .before .before .before .loop-test .taken) (a .list .now) (l .list)
+      (l .at) (l .inv .1) (l .inv .5) (c .before .before .before .before .before .before .pre .1 .1) _ (c .before .before .read .ensures) _
+      _ (c .read-row .ensures) (l .refused) (l .inv .2)
 
-  at-fits : c .before .before .before .before .loop .at + membersIn (c .read-row .result) ≤ length (c .before .before .before .before .loop .list)
+  at-fits : c .before .before .before .before .loop .at + membersIn (c .read-row .result)
+      ≤ length (c .before .before .before .before .loop .list)
   at-fits =
       let a = c .before .before .before .before .before .before .args in
       let l = c .before .before .before .before .loop in
-      step-fits (a .t .now) (a .rows) (a .bytes .now) (l .i) (c .before .before .before .loop-test .taken) (a .list .now) (l .list) (l .at) (l .inv .1) (l .inv .5) (c .before .before .before .before .before .before .pre .1 .1) _ (c .before .before .read .ensures) _ _ (c .read-row .ensures)
+      step-fits (a .t .now) (a .rows) (a .bytes .now) (l .i) (c .before .before .before .loop-test .taken) (a .list .now) (l .list) (l .at)
+      (l .inv .1) (l .inv .5) (c .before .before .before .before .before .before .pre .1 .1) _ (c .before .before .read .ensures) _ _
+      (c .read-row .ensures)
 
 slice-aggregate-paste : tie.Need-slice-aggregate-paste Inv-loop μ-loop
 slice-aggregate-paste c = sym (ap length (c .before .before .row-numbers .ensures) ∙ length-four _ _)
@@ -72,7 +93,8 @@ add-at c =
     let f = at-fits (c .before .before .before .before .before .before .before) in
     let e = c .members-in .ensures in
     let q = c .before .before .before .before .before .before .before .before .before .before .before .loop .inv .5 in
-    let g = c .before .before .before .before .before .before .before .before .before .before .before .before .before .good .1 .1 .1 .1 .0 in
+    let g = c .before .before .before .before .before .before .before .before .before .before .before .before .before .good .1 .1 .1 .1
+    .0 in
     omega arith
 
 add-refused : tie.Need-add-refused Inv-loop μ-loop
@@ -80,7 +102,8 @@ add-refused c =
     let r = refusals-one (c .before .before .before .before .before .before .before .before .read-row .result) in
     let e = c .refusals-in .ensures in
     let l = c .before .before .before .before .before .before .before .before .before .before .before .before .loop .inv .3 in
-    let f = c .before .before .before .before .before .before .before .before .before .before .before .before .before .before .pre .0 .few in
+    let f = c .before .before .before .before .before .before .before .before .before .before .before .before .before .before .pre .0
+    .few in
     let i = c .before .before .before .before .before .before .before .before .before .before .before .loop-test .taken in
     omega arith
 
@@ -91,18 +114,34 @@ loop-again c =
       omega arith,
       rw (c .before .members-in .ensures) (at-next (c .before .before .before .before .before .before .before .before)),
       rw (c .refusals-in .ensures) (refused-next (c .before .before .before .before .before .before .before .before)),
-      (let r = refusals-one (c .before .before .before .before .before .before .before .before .read-row .result) in let e = c .refusals-in .ensures in let q = l .inv .3 in omega arith),
+      (let r = refusals-one (c .before .before .before .before .before .before .before .before .read-row .result) in
+          let e = c .refusals-in .ensures in let q = l .inv .3 in omega arith),
       c .before .before .before .paste .kept .0 ∙ l .inv .4,
-      same-len-mid (l .at) (length (l .list) - l .at) (l .list) (c .before .before .before .before .before .before .before .before .read-row .last .1 .1 .1 .1 .0) (c .before .before .before .before .before .before .before .before .read-row .kept .1 .1 .1 .1 .0) ∙ l .inv .5,
-      step-out (a .t .now) (a .rows) (a .bytes .now) (l .i) (c .before .before .before .before .before .before .before .before .before .before .before .loop-test .taken) (a .list .now) (l .list) (l .at) (l .inv .1) (l .inv .5) (c .before .before .before .before .before .before .before .before .before .before .before .before .before .before .pre .1 .1) _ (c .before .before .before .before .before .before .before .before .before .before .read .ensures) _ _ (c .before .before .before .before .before .before .before .before .read-row .ensures) (a .out .now) (l .out) _ _ (c .before .before .before .before .before .before .before .before .before .before .before .before .before .before .pre .1 .0) (l .inv .6) (c .before .before .before .before .before .before .row-numbers .ensures) (c .before .before .before .paste .ensures),
-      step-list (a .t .now) (a .rows) (a .bytes .now) (l .i) (c .before .before .before .before .before .before .before .before .before .before .before .loop-test .taken) (a .list .now) (l .list) (l .at) (l .inv .1) (l .inv .5) (c .before .before .before .before .before .before .before .before .before .before .before .before .before .before .pre .1 .1) _ (c .before .before .before .before .before .before .before .before .before .before .read .ensures) _ _ (c .before .before .before .before .before .before .before .before .read-row .ensures) (l .inv .7),
+      same-len-mid (l .at) (length (l .list) - l .at) (l .list)
+          (c .before .before .before .before .before .before .before .before .read-row .last .1 .1 .1 .1 .0)
+          (c .before .before .before .before .before .before .before .before .read-row .kept .1 .1 .1 .1 .0) ∙ l .inv .5,
+      step-out (a .t .now) (a .rows) (a .bytes .now) (l .i)
+          (c .before .before .before .before .before .before .before .before .before .before .before .loop-test .taken) (a .list .now)
+          (l .list) (l .at) (l .inv .1) (l .inv .5)
+          (c .before .before .before .before .before .before .before .before .before .before .before .before .before .before .pre .1 .1) _
+          (c .before .before .before .before .before .before .before .before .before .before .read .ensures) _ _
+          (c .before .before .before .before .before .before .before .before .read-row .ensures) (a .out .now) (l .out) _ _
+          (c .before .before .before .before .before .before .before .before .before .before .before .before .before .before .pre .1 .0)
+          (l .inv .6) (c .before .before .before .before .before .before .row-numbers .ensures) (c .before .before .before .paste .ensures),
+      step-list (a .t .now) (a .rows) (a .bytes .now) (l .i)
+          (c .before .before .before .before .before .before .before .before .before .before .before .loop-test .taken) (a .list .now)
+          (l .list) (l .at) (l .inv .1) (l .inv .5)
+          (c .before .before .before .before .before .before .before .before .before .before .before .before .before .before .pre .1 .1) _
+          (c .before .before .before .before .before .before .before .before .before .before .read .ensures) _ _
+          (c .before .before .before .before .before .before .before .before .read-row .ensures) (l .inv .7),
     )
 
 returns : tie.Need-returns Inv-loop μ-loop
 returns c =
     let a = c .before .before .before .args in
     let l = c .before .loop in
-    rows-read (a .t .now) (a .rows) (a .bytes .now) (a .out .now) (a .list .now) (l .out) (l .list) (l .at) (l .refused) (l .i) (omega arith) (l .inv .1) (l .inv .2) (l .inv .6) (l .inv .7)
+    rows-read (a .t .now) (a .rows) (a .bytes .now) (a .out .now) (a .list .now) (l .out) (l .list) (l .at) (l .refused) (l .i)
+    (omega arith) (l .inv .1) (l .inv .2) (l .inv .6) (l .inv .7)
 
 pub read-rows-spec : {M : Type 1} → statement M
 read-rows-spec =
@@ -111,14 +150,19 @@ read-rows-spec =
     Inv-loop
     μ-loop
     loop-holds
-    (λ c κs. let p = c .before .before .before .pre .0 in let f = p .few in let s = p .stand in let l = c .loop-test .taken in (omega arith, omega arith))
+    (λ c κs. let p = c .before .before .before .pre .0 in let f = p .few in let s = p .stand in
+    let l = c .loop-test .taken in (omega arith, omega arith))
     (λ c. let h = behind (c .before) in omega arith)
     (λ c. behind (c .before))
     (λ c. behind (c .before))
     (λ c. omega arith)
-    (λ c κs. let p = c .before .before .before .before .before .pre .0 in rw (c .before .read .ensures) (p .row (c .before .before .before .loop .i) (c .before .before .loop-test .taken)))
-    (λ c κs. let p = c .before .before .before .before .before .before .before .pre .0 in rw (c .before .before .before .read .ensures) (p .row (c .before .before .before .before .before .loop .i) (c .before .before .before .before .loop-test .taken)))
-    (λ c. let p = c .before .before .before .before .before .before .before .before .before .pre .0 .few in let l = c .before .before .before .before .before .before .loop-test .taken in omega arith)
+    (λ c κs. let p = c .before .before .before .before .before .pre .0 in
+    rw (c .before .read .ensures) (p .row (c .before .before .before .loop .i) (c .before .before .loop-test .taken)))
+    (λ c κs. let p = c .before .before .before .before .before .before .before .pre .0 in
+    rw (c .before .before .before .read .ensures)
+    (p .row (c .before .before .before .before .before .loop .i) (c .before .before .before .before .loop-test .taken)))
+    (λ c. let p = c .before .before .before .before .before .before .before .before .before .pre .0 .few in
+    let l = c .before .before .before .before .before .before .loop-test .taken in omega arith)
     slice-aggregate-paste
     paste-requires
     (λ c κs. search needs)

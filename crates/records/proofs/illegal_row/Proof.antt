@@ -11,7 +11,8 @@ use Rattle.records.proofs.illegal_row.Tie as tie
 
 abbrev Inv-loop : tie.InvT-loop
 Inv-loop t rows bytes scratch₀ i₀ scratch i =
-    (i ≤ rows) × (length scratch ≡ length scratch₀) × (firstFrom (badRow t rows bytes) i (rows - i) ≡ firstFrom (badRow t rows bytes) 0 rows)
+    (i ≤ rows) × (length scratch ≡ length scratch₀)
+    × (firstFrom (badRow t rows bytes) i (rows - i) ≡ firstFrom (badRow t rows bytes) 0 rows)
 
 abbrev μ-loop : tie.MeasureT-loop
 μ-loop t rows bytes scratch₀ i₀ scratch i = rows - i
@@ -19,22 +20,37 @@ abbrev μ-loop : tie.MeasureT-loop
 -- row i stands in the table
 row-illegal-requires : tie.Need-row-illegal-requires Inv-loop μ-loop
 row-illegal-requires c κs =
-    let p = c .before .before .before .before .before .pre .0 in let f = p .few in let s = p .stand in let l = c .before .loop-test .taken in
-    ((omega arith, omega arith), (p .row (c .before .before .loop .i) l, (c .before .before .before .before .before .pre .1 .0, rw (c .before .before .loop .inv .1) (c .before .before .before .before .before .pre .1 .1))))
+    let p = c .before .before .before .before .before .pre .0 in let f = p .few in let s = p .stand in
+    let l = c .before .loop-test .taken in (
+      (omega arith, omega arith),
+      (
+        p .row (c .before .before .loop .i) l,
+        (
+          c .before .before .before .before .before .pre .1 .0,
+          rw (c .before .before .loop .inv .1) (c .before .before .before .before .before .pre .1 .1),
+        ),
+      ),
+    )
 
 returns : tie.Need-returns Inv-loop μ-loop
-returns c = let a = c .before .before .before .before .before .before .before .before .before .args in sym (first-here (badRow (a .t .now) (a .rows) (a .bytes .now)) _ _ (c .before .before .before .before .before .loop-test .taken) (sym (c .before .before .before .row-illegal .ensures) ∙ c .if1 .taken)) ∙ c .before .before .before .before .before .before .loop .inv .2
+returns c = let a = c .before .before .before .before .before .before .before .before .before .args in
+    sym (first-here (badRow (a .t .now) (a .rows) (a .bytes .now)) _ _ (c .before .before .before .before .before .loop-test .taken)
+    (sym (c .before .before .before .row-illegal .ensures) ∙ c .if1 .taken))
+    ∙ c .before .before .before .before .before .before .loop .inv .2
 
 loop-again : tie.Need-loop-again Inv-loop μ-loop
 loop-again c =
     let a = c .before .before .before .before .before .before .before .before .before .args in (
       omega arith,
       c .before .before .before .row-illegal .kept .1 .1 .1 .1 .0 ∙ c .before .before .before .before .before .before .loop .inv .1,
-      sym (first-on (badRow (a .t .now) (a .rows) (a .bytes .now)) _ _ (c .before .before .before .before .before .loop-test .taken) (sym (c .before .before .before .row-illegal .ensures) ∙ c .if1 .left)) ∙ c .before .before .before .before .before .before .loop .inv .2,
+      sym (first-on (badRow (a .t .now) (a .rows) (a .bytes .now)) _ _ (c .before .before .before .before .before .loop-test .taken)
+          (sym (c .before .before .before .row-illegal .ensures) ∙ c .if1 .left))
+          ∙ c .before .before .before .before .before .before .loop .inv .2,
     )
 
 returns-2 : tie.Need-returns-2 Inv-loop μ-loop
-returns-2 c = let a = c .before .before .before .before .args in sym (first-none (badRow (a .t .now) (a .rows) (a .bytes .now)) _ _ (c .loop-test .left)) ∙ c .before .loop .inv .2
+returns-2 c = let a = c .before .before .before .before .args in
+    sym (first-none (badRow (a .t .now) (a .rows) (a .bytes .now)) _ _ (c .loop-test .left)) ∙ c .before .loop .inv .2
 
 pub illegal-row-spec : {M : Type 1} → statement M
 illegal-row-spec =

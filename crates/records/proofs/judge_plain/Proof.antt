@@ -10,25 +10,46 @@ use Rattle.records.proofs.Laws.{first-of-plain, first-inside}
 use Rattle.records.proofs.judge_plain.Statement.{statement}
 use Rattle.records.proofs.judge_plain.Tie as tie
 
-inside : (c : tie.After-known-told) → c .before .i .given .0 .0 < c .before .before .before .before .before .before .before .before .before .args .rows
+inside : (c : tie.After-known-told) → c .before .i .given .0 .0
+    < c .before .before .before .before .before .before .before .before .before .args .rows
 inside c =
-    let h = first-inside (badRow (c .before .before .before .before .before .before .before .before .before .args .t .now) (c .before .before .before .before .before .before .before .before .before .args .rows) (c .before .before .before .before .before .before .before .before .before .args .bytes .now)) (c .before .before .before .before .before .before .before .before .before .args .rows) 0 (c .before .i .given .0 .0) (sym (c .before .before .before .before .before .illegal-row .ensures) ∙ c .before .i .given .1) in
+    let h = first-inside (badRow (c .before .before .before .before .before .before .before .before .before .args .t .now)
+    (c .before .before .before .before .before .before .before .before .before .args .rows)
+    (c .before .before .before .before .before .before .before .before .before .args .bytes .now))
+    (c .before .before .before .before .before .before .before .before .before .args .rows) 0 (c .before .i .given .0 .0)
+    (sym (c .before .before .before .before .before .illegal-row .ensures) ∙ c .before .i .given .1) in
     omega arith
 
 -- row i stands in the table
 read-requires : tie.Need-read-requires
-read-requires c κs = let f = c .before .before .before .before .before .before .before .before .before .pre .0 .few in let s = c .before .before .before .before .before .before .before .before .before .pre .0 .stand in let l = inside c in (omega arith, omega arith)
+read-requires c κs = let f = c .before .before .before .before .before .before .before .before .before .pre .0 .few in
+    let s = c .before .before .before .before .before .before .before .before .before .pre .0 .stand in
+    let l = inside c in (omega arith, omega arith)
 
 row-fault-requires : tie.Need-row-fault-requires
-row-fault-requires c κs = rw (c .read .ensures) (c .before .before .before .before .before .before .before .before .before .before .pre .0 .row (c .before .before .i .given .0 .0) (inside (c .before)))
+row-fault-requires c κs = rw (c .read .ensures)
+    (c .before .before .before .before .before .before .before .before .before .before .pre .0 .row (c .before .before .i .given .0 .0)
+    (inside (c .before)))
 
 returns : tie.Need-returns
 unfolding judgedAs rowsVerdict byteVerdict rowVerdict
-returns c = rw (first-of-plain (c .before .before .before .before .before .before .before .before .before .before .before .args .bytes .now) (c .before .before .before .before .before .before .before .before .before .before .before .pre .1 .0), ← c .before .before .before .before .before .before .before .illegal-row .ensures, c .before .before .before .i .given .1, c .row-fault .ensures, c .before .read .ensures)
+returns c = rw (
+  first-of-plain (c .before .before .before .before .before .before .before .before .before .before .before .args .bytes .now)
+      (c .before .before .before .before .before .before .before .before .before .before .before .pre .1 .0),
+  ← c .before .before .before .before .before .before .before .illegal-row .ensures,
+  c .before .before .before .i .given .1,
+  c .row-fault .ensures,
+  c .before .read .ensures,
+)
 
 returns-2 : tie.Need-returns-2
 unfolding judgedAs rowsVerdict byteVerdict rowVerdict
-returns-2 c = rw (first-of-plain (c .before .before .before .before .before .before .before .before .args .bytes .now) (c .before .before .before .before .before .before .before .before .pre .1 .0), ← c .before .before .before .before .illegal-row .ensures, c .enum-told .given .1)
+returns-2 c = rw (
+  first-of-plain (c .before .before .before .before .before .before .before .before .args .bytes .now)
+      (c .before .before .before .before .before .before .before .before .pre .1 .0),
+  ← c .before .before .before .before .illegal-row .ensures,
+  c .enum-told .given .1,
+)
 
 pub judge-plain-spec : {M : Type 1} → statement M
 judge-plain-spec =

@@ -9,23 +9,43 @@ use Rattle.records.proofs.judge_record.Tie as tie
 
 returns : tie.Need-returns
 unfolding judgedAs
-returns c = verdict-short _ _ (sym (c .before .before .before .before .well-formed .ensures .says) ∙ c .before .before .before .if1 .taken) _ (c .before .before .read .ensures) (c .if2 .taken)
+returns c = verdict-short _ _ (sym (c .before .before .before .before .well-formed .ensures .says) ∙ c .before .before .before .if1 .taken)
+    _ (c .before .before .read .ensures) (c .if2 .taken)
 
 judge-rows-requires : tie.Need-judge-rows-requires
-judge-rows-requires c κs = (rows-ready _ (c .before .before .before .before .before .before .before .before .before .args .bytes .now) (sym (c .before .before .before .before .before .before .before .well-formed .ensures .says) ∙ c .before .before .before .before .before .before .if1 .taken) _ (c .before .before .before .before .before .read .ensures) (c .before .before .before .if2 .left), search needs)
+judge-rows-requires c κs = (
+  rows-ready _ (c .before .before .before .before .before .before .before .before .before .args .bytes .now)
+      (sym (c .before .before .before .before .before .before .before .well-formed .ensures .says)
+      ∙ c .before .before .before .before .before .before .if1 .taken) _ (c .before .before .before .before .before .read .ensures)
+      (c .before .before .before .if2 .left),
+  search needs,
+)
 
 returns-2 : tie.Need-returns-2
-returns-2 c = verdict-rows _ _ (sym (c .before .before .before .before .before .before .before .before .before .well-formed .ensures .says) ∙ c .before .before .before .before .before .before .before .before .if1 .taken) _ (c .before .before .before .before .before .before .before .read .ensures) (c .before .before .before .before .before .if2 .left) (c .before .judge-rows .ensures)
+returns-2 c = verdict-rows _ _ (sym (c .before .before .before .before .before .before .before .before .before .well-formed .ensures .says)
+    ∙ c .before .before .before .before .before .before .before .before .if1 .taken) _
+    (c .before .before .before .before .before .before .before .read .ensures) (c .before .before .before .before .before .if2 .left)
+    (c .before .judge-rows .ensures)
 
 judge-rows-requires-2 : tie.Need-judge-rows-requires-2
-judge-rows-requires-2 c κs = (rows-ready _ (c .before .before .before .before .before .before .before .before .before .args .bytes .now) (sym (c .before .before .before .before .before .before .before .well-formed .ensures .says) ∙ c .before .before .before .before .before .before .if1 .taken) _ (c .before .before .before .before .before .read .ensures) (c .before .before .before .if2 .left), search needs)
+judge-rows-requires-2 c κs = (
+  rows-ready _ (c .before .before .before .before .before .before .before .before .before .args .bytes .now)
+      (sym (c .before .before .before .before .before .before .before .well-formed .ensures .says)
+      ∙ c .before .before .before .before .before .before .if1 .taken) _ (c .before .before .before .before .before .read .ensures)
+      (c .before .before .before .if2 .left),
+  search needs,
+)
 
 returns-3 : tie.Need-returns-3
-returns-3 c = verdict-rows _ _ (sym (c .before .before .before .before .before .before .before .before .before .well-formed .ensures .says) ∙ c .before .before .before .before .before .before .before .before .if1 .taken) _ (c .before .before .before .before .before .before .before .read .ensures) (c .before .before .before .before .before .if2 .left) (c .before .judge-rows2 .ensures)
+returns-3 c = verdict-rows _ _ (sym (c .before .before .before .before .before .before .before .before .before .well-formed .ensures .says)
+    ∙ c .before .before .before .before .before .before .before .before .if1 .taken) _
+    (c .before .before .before .before .before .before .before .read .ensures) (c .before .before .before .before .before .if2 .left)
+    (c .before .judge-rows2 .ensures)
 
 returns-4 : tie.Need-returns-4
 unfolding judgedAs
 returns-4 c = verdict-table _ _ (sym (c .before .well-formed .ensures .says) ∙ c .if1 .left)
 
 pub judge-record-spec : {M : Type 1} → statement M
-judge-record-spec = tie.close (tie.spec (λ c κs. tt) (λ c κs. tt) returns (λ c. search needs) judge-rows-requires returns-2 (λ c. search needs) judge-rows-requires-2 returns-3 returns-4)
+judge-record-spec = tie.close (tie.spec (λ c κs. tt) (λ c κs. tt) returns (λ c. search needs) judge-rows-requires returns-2
+    (λ c. search needs) judge-rows-requires-2 returns-3 returns-4)

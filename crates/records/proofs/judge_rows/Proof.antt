@@ -8,7 +8,14 @@ use Rattle.records.proofs.judge_rows.Statement.{statement}
 use Rattle.records.proofs.judge_rows.Tie as tie
 
 judge-plain-requires : tie.Need-judge-plain-requires
-judge-plain-requires c κs = (c .before .before .before .before .before .before .pre .0, (plain-found (c .before .before .before .before .before .before .args .bytes .now) (sym (c .before .before .before .low-byte .ensures) ∙ c .before .enum-told .given .1), c .before .before .before .before .before .before .pre .1))
+judge-plain-requires c κs = (
+  c .before .before .before .before .before .before .pre .0,
+  (
+    plain-found (c .before .before .before .before .before .before .args .bytes .now)
+        (sym (c .before .before .before .low-byte .ensures) ∙ c .before .enum-told .given .1),
+    c .before .before .before .before .before .before .pre .1,
+  ),
+)
 
 returns : tie.Need-returns
 unfolding judgedAs rowsVerdict byteVerdict

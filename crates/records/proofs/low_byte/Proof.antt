@@ -17,17 +17,28 @@ abbrev μ-loop : tie.MeasureT-loop
 μ-loop bytes i₀ i = length bytes - i
 
 loop-holds : tie.Need-loop-holds Inv-loop μ-loop
-loop-holds c = (c .plain-to .ensures .within, first-clear (lowAt (c .before .before .args .bytes .now)) _ _ (c .plain-to .ensures .within) (c .plain-to .ensures .plain))
+loop-holds c = (
+  c .plain-to .ensures .within,
+  first-clear (lowAt (c .before .before .args .bytes .now)) _ _ (c .plain-to .ensures .within)
+      (c .plain-to .ensures .plain),
+)
 
 returns : tie.Need-returns Inv-loop μ-loop
-returns c = sym (first-here (lowAt (c .before .before .before .before .before .before .args .bytes .now)) _ _ (c .before .before .loop-test .taken) (lt-ltb _ _ (c .if1 .taken))) ∙ c .before .before .before .loop .inv .1
+returns c = sym (first-here (lowAt (c .before .before .before .before .before .before .args .bytes .now)) _ _
+    (c .before .before .loop-test .taken) (lt-ltb _ _ (c .if1 .taken))) ∙ c .before .before .before .loop .inv .1
 
 loop-again : tie.Need-loop-again Inv-loop μ-loop
-loop-again c = (omega arith, sym (first-on (lowAt (c .before .before .before .before .before .before .args .bytes .now)) _ _ (c .before .before .loop-test .taken) (le-ltb _ _ (c .if1 .left))) ∙ c .before .before .before .loop .inv .1)
+loop-again c = (
+  omega arith,
+  sym (first-on (lowAt (c .before .before .before .before .before .before .args .bytes .now)) _ _
+      (c .before .before .loop-test .taken) (le-ltb _ _ (c .if1 .left))) ∙ c .before .before .before .loop .inv .1,
+)
 
 returns-2 : tie.Need-returns-2 Inv-loop μ-loop
-returns-2 c = sym (first-none (lowAt (c .before .before .before .before .args .bytes .now)) _ _ (c .loop-test .left)) ∙ c .before .loop .inv .1
+returns-2 c = sym (first-none (lowAt (c .before .before .before .before .args .bytes .now)) _ _ (c .loop-test .left))
+    ∙ c .before .loop .inv .1
 
 pub low-byte-spec : {M : Type 1} → statement M
 low-byte-spec =
-    tie.close (tie.spec Inv-loop μ-loop (λ c κs. omega arith) loop-holds (λ c. omega arith) returns (λ c. omega arith) (λ c. omega arith) loop-again returns-2)
+    tie.close (tie.spec Inv-loop μ-loop (λ c κs. omega arith) loop-holds (λ c. omega arith) returns (λ c. omega arith) (λ c. omega arith)
+    loop-again returns-2)

@@ -10,32 +10,56 @@ use Rattle.records.proofs.read_value.Statement.{statement}
 use Rattle.records.proofs.read_value.Tie as tie
 
 returns : tie.Need-returns
-returns c = value-row _ _ _ _ (sym (c .before .before .before .before .well-formed .ensures .says) ∙ c .before .before .before .if1 .taken) _ (c .before .before .read .ensures) (c .if2 .taken)
+returns c = value-row _ _ _ _ (sym (c .before .before .before .before .well-formed .ensures .says) ∙ c .before .before .before .if1 .taken)
+    _ (c .before .before .read .ensures) (c .if2 .taken)
 
 returns-2 : tie.Need-returns-2
-returns-2 c = value-short _ _ _ _ (sym (c .before .before .before .before .before .before .well-formed .ensures .says) ∙ c .before .before .before .before .before .if1 .taken) _ (c .before .before .before .before .read .ensures) (c .before .before .if2 .left) (c .if3 .taken)
+returns-2 c = value-short _ _ _ _ (sym (c .before .before .before .before .before .before .well-formed .ensures .says)
+    ∙ c .before .before .before .before .before .if1 .taken) _ (c .before .before .before .before .read .ensures)
+    (c .before .before .if2 .left) (c .if3 .taken)
 
 read-requires-2 : tie.Need-read-requires-2
 read-requires-2 c κs =
     let l = c .before .before .if2 .left in
     let e = c .before .before .before .before .read .ensures in
     let long = rw e at (c .if3 .left) in
-    let r = table-ready (c .before .before .before .before .before .before .before .before .args .t .now) (sym (c .before .before .before .before .before .before .well-formed .ensures .says) ∙ c .before .before .before .before .before .if1 .taken) (length (c .before .before .before .before .before .before .before .before .args .bytes .now)) long in
+    let r = table-ready (c .before .before .before .before .before .before .before .before .args .t .now)
+    (sym (c .before .before .before .before .before .before .well-formed .ensures .says)
+    ∙ c .before .before .before .before .before .if1 .taken)
+    (length (c .before .before .before .before .before .before .before .before .args .bytes .now)) long in
     let f = r .few in let s = r .stand in
     let k = rw e at l in
     (omega arith, omega arith)
 
 read-row-requires : tie.Need-read-row-requires
-read-row-requires c κs = row-ready _ _ (c .before .before .before .before .before .before .before .before .before .before .args .bytes .now) (c .before .before .before .before .before .before .before .before .before .before .args .list .now) (sym (c .before .before .before .before .before .before .before .before .well-formed .ensures .says) ∙ c .before .before .before .before .before .before .before .if1 .taken) _ (c .before .before .before .before .before .before .read .ensures) (c .before .before .before .before .if2 .left) (c .before .before .if3 .left) _ (c .before .read2 .ensures)
+read-row-requires c κs = row-ready _ _ (c .before .before .before .before .before .before .before .before .before .before .args .bytes .now)
+    (c .before .before .before .before .before .before .before .before .before .before .args .list .now)
+    (sym (c .before .before .before .before .before .before .before .before .well-formed .ensures .says)
+    ∙ c .before .before .before .before .before .before .before .if1 .taken) _
+    (c .before .before .before .before .before .before .read .ensures) (c .before .before .before .before .if2 .left)
+    (c .before .before .if3 .left) _ (c .before .read2 .ensures)
 
 with-fault-requires : tie.Need-with-fault-requires
-with-fault-requires c κs = row-ready _ _ (c .before .before .before .before .before .before .before .before .before .before .before .before .args .bytes .now) (c .before .before .before .before .before .before .before .before .before .before .before .before .args .list .now) (sym (c .before .before .before .before .before .before .before .before .before .before .well-formed .ensures .says) ∙ c .before .before .before .before .before .before .before .before .before .if1 .taken) _ (c .before .before .before .before .before .before .before .before .read .ensures) (c .before .before .before .before .before .before .if2 .left) (c .before .before .before .before .if3 .left) _ (c .before .before .before .read2 .ensures)
+with-fault-requires c κs = row-ready _ _
+    (c .before .before .before .before .before .before .before .before .before .before .before .before .args .bytes .now)
+    (c .before .before .before .before .before .before .before .before .before .before .before .before .args .list .now)
+    (sym (c .before .before .before .before .before .before .before .before .before .before .well-formed .ensures .says)
+    ∙ c .before .before .before .before .before .before .before .before .before .if1 .taken) _
+    (c .before .before .before .before .before .before .before .before .read .ensures)
+    (c .before .before .before .before .before .before .if2 .left) (c .before .before .before .before .if3 .left) _
+    (c .before .before .before .read2 .ensures)
 
 returns-3 : tie.Need-returns-3
-returns-3 c = value-read _ _ _ _ (sym (c .before .before .before .before .before .before .before .before .before .before .before .well-formed .ensures .says) ∙ c .before .before .before .before .before .before .before .before .before .before .if1 .taken) _ (c .before .before .before .before .before .before .before .before .before .read .ensures) (c .before .before .before .before .before .before .before .if2 .left) (c .before .before .before .before .before .if3 .left) _ (c .before .before .before .before .read2 .ensures) _ _ _ (c .before .before .read-row .ensures) (c .with-fault .ensures)
+returns-3 c = value-read _ _ _ _
+    (sym (c .before .before .before .before .before .before .before .before .before .before .before .well-formed .ensures .says)
+    ∙ c .before .before .before .before .before .before .before .before .before .before .if1 .taken) _
+    (c .before .before .before .before .before .before .before .before .before .read .ensures)
+    (c .before .before .before .before .before .before .before .if2 .left) (c .before .before .before .before .before .if3 .left) _
+    (c .before .before .before .before .read2 .ensures) _ _ _ (c .before .before .read-row .ensures) (c .with-fault .ensures)
 
 returns-4 : tie.Need-returns-4
 returns-4 c = value-table _ _ _ _ (sym (c .before .well-formed .ensures .says) ∙ c .if1 .left)
 
 pub read-value-spec : {M : Type 1} → statement M
-read-value-spec = tie.close (tie.spec (λ c κs. tt) (λ c κs. tt) returns returns-2 read-requires-2 read-row-requires with-fault-requires (λ c. search needs) returns-3 returns-4)
+read-value-spec = tie.close (tie.spec (λ c κs. tt) (λ c κs. tt) returns returns-2 read-requires-2 read-row-requires with-fault-requires
+    (λ c. search needs) returns-3 returns-4)

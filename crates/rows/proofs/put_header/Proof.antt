@@ -10,10 +10,14 @@ unfolding headerCells
 returns c =
     c .before .paste .ensures
     ∙ rw (
-      back (c .before .before .before .before .before .before .before .before .before .cell-of .ok) (c .before .before .before .before .before .before .before .before .before .cell-of .ensures),
-      back (c .before .before .before .before .before .before .before .before .cell-of2 .ok) (c .before .before .before .before .before .before .before .before .cell-of2 .ensures),
-      back (c .before .before .before .before .before .before .before .cell-of3 .ok) (c .before .before .before .before .before .before .before .cell-of3 .ensures),
-      back (c .before .before .before .before .before .before .cell-of4 .ok) (c .before .before .before .before .before .before .cell-of4 .ensures),
+      back (c .before .before .before .before .before .before .before .before .before .cell-of .ok)
+          (c .before .before .before .before .before .before .before .before .before .cell-of .ensures),
+      back (c .before .before .before .before .before .before .before .before .cell-of2 .ok)
+          (c .before .before .before .before .before .before .before .before .cell-of2 .ensures),
+      back (c .before .before .before .before .before .before .before .cell-of3 .ok)
+          (c .before .before .before .before .before .before .before .cell-of3 .ensures),
+      back (c .before .before .before .before .before .before .cell-of4 .ok)
+          (c .before .before .before .before .before .before .cell-of4 .ensures),
       back (c .before .before .before .before .before .cell-of5 .ok) (c .before .before .before .before .before .cell-of5 .ensures),
       back (c .before .before .before .before .cell-of6 .ok) (c .before .before .before .before .cell-of6 .ensures),
     )

@@ -18,26 +18,48 @@ returns : tie.Need-returns
 unfolding rowCells
 returns c =
     rw (
-      back (c .before .before .before .before .before .before .before .before .before .before .before .before .before .before .before .before .before .cell-of .ok) (c .before .before .before .before .before .before .before .before .before .before .before .before .before .before .before .before .before .cell-of .ensures),
-      back (c .before .before .before .before .before .before .before .before .before .before .before .before .before .before .before .before .cell-of2 .ok) (c .before .before .before .before .before .before .before .before .before .before .before .before .before .before .before .before .cell-of2 .ensures),
-      back (c .before .before .before .before .before .before .before .before .before .before .before .before .before .before .before .cell-of3 .ok) (c .before .before .before .before .before .before .before .before .before .before .before .before .before .before .before .cell-of3 .ensures),
-      back (c .before .before .before .before .before .before .before .before .before .before .before .before .before .before .cell-of4 .ok) (c .before .before .before .before .before .before .before .before .before .before .before .before .before .before .cell-of4 .ensures),
-      back (c .before .before .before .before .before .before .before .before .before .before .before .before .before .cell-of5 .ok) (c .before .before .before .before .before .before .before .before .before .before .before .before .before .cell-of5 .ensures),
-      back (c .before .before .before .before .before .before .before .before .before .before .before .before .cell-of6 .ok) (c .before .before .before .before .before .before .before .before .before .before .before .before .cell-of6 .ensures),
-      back (c .before .before .before .before .before .before .before .before .before .before .before .cell-of7 .ok) (c .before .before .before .before .before .before .before .before .before .before .before .cell-of7 .ensures),
-      back (c .before .before .before .before .before .before .before .before .before .before .cell-of8 .ok) (c .before .before .before .before .before .before .before .before .before .before .cell-of8 .ensures),
-      back (c .before .before .before .before .before .before .before .before .before .cell-of9 .ok) (c .before .before .before .before .before .before .before .before .before .cell-of9 .ensures),
-      back (c .before .before .before .before .before .before .before .before .cell-of10 .ok) (c .before .before .before .before .before .before .before .before .cell-of10 .ensures),
-      back (c .before .before .before .before .before .before .before .cell-of11 .ok) (c .before .before .before .before .before .before .before .cell-of11 .ensures),
-      back (c .before .before .before .before .before .before .cell-of12 .ok) (c .before .before .before .before .before .before .cell-of12 .ensures),
+      back (c .before .before .before .before .before .before .before .before .before .before .before .before .before .before .before
+          .before .before .cell-of .ok)
+          (c .before .before .before .before .before .before .before .before .before .before .before .before .before .before .before .before
+          .before .cell-of .ensures),
+      back (c .before .before .before .before .before .before .before .before .before .before .before .before .before .before .before
+          .before .cell-of2 .ok)
+          (c .before .before .before .before .before .before .before .before .before .before .before .before .before .before .before .before
+          .cell-of2 .ensures),
+      back (c .before .before .before .before .before .before .before .before .before .before .before .before .before .before .before
+          .cell-of3 .ok)
+          (c .before .before .before .before .before .before .before .before .before .before .before .before .before .before .before
+          .cell-of3 .ensures),
+      back (c .before .before .before .before .before .before .before .before .before .before .before .before .before .before .cell-of4 .ok)
+          (c .before .before .before .before .before .before .before .before .before .before .before .before .before .before .cell-of4
+          .ensures),
+      back (c .before .before .before .before .before .before .before .before .before .before .before .before .before .cell-of5 .ok)
+          (c .before .before .before .before .before .before .before .before .before .before .before .before .before .cell-of5 .ensures),
+      back (c .before .before .before .before .before .before .before .before .before .before .before .before .cell-of6 .ok)
+          (c .before .before .before .before .before .before .before .before .before .before .before .before .cell-of6 .ensures),
+      back (c .before .before .before .before .before .before .before .before .before .before .before .cell-of7 .ok)
+          (c .before .before .before .before .before .before .before .before .before .before .before .cell-of7 .ensures),
+      back (c .before .before .before .before .before .before .before .before .before .before .cell-of8 .ok)
+          (c .before .before .before .before .before .before .before .before .before .before .cell-of8 .ensures),
+      back (c .before .before .before .before .before .before .before .before .before .cell-of9 .ok)
+          (c .before .before .before .before .before .before .before .before .before .cell-of9 .ensures),
+      back (c .before .before .before .before .before .before .before .before .cell-of10 .ok)
+          (c .before .before .before .before .before .before .before .before .cell-of10 .ensures),
+      back (c .before .before .before .before .before .before .before .cell-of11 .ok)
+          (c .before .before .before .before .before .before .before .cell-of11 .ensures),
+      back (c .before .before .before .before .before .before .cell-of12 .ok)
+          (c .before .before .before .before .before .before .cell-of12 .ensures),
       back (c .before .before .before .before .before .cell-of13 .ok) (c .before .before .before .before .before .cell-of13 .ensures),
       back (c .before .before .before .before .cell-of14 .ok) (c .before .before .before .before .cell-of14 .ensures),
       back (c .before .before .before .cell-of15 .ok) (c .before .before .before .cell-of15 .ensures),
       back (c .before .before .cell-of16 .ok) (c .before .before .cell-of16 .ensures),
       back (c .before .cell-of17 .ok) (c .before .cell-of17 .ensures),
       back (c .cell-of18 .ok) (c .cell-of18 .ensures),
-      from-back (c .before .before .before .before .before .before .before .before .before .before .before .before .before .before .before .before .before .before),
-      to-back (c .before .before .before .before .before .before .before .before .before .before .before .before .before .before .before .before .before .before),
+      from-back
+          (c .before .before .before .before .before .before .before .before .before .before .before .before .before .before .before .before
+          .before .before),
+      to-back (c .before .before .before .before .before .before .before .before .before .before .before .before .before .before .before
+          .before .before .before),
     )
 
 pub row-cells-spec : {M : Type 1} → statement M

@@ -11,4 +11,5 @@ returns-2 c = sym (c .before .spelled .ensures (c .if4 .taken))
 
 pub keyword-spec : {M : Type 1} → statement M
 keyword-spec =
-    tie.close (tie.spec (λ c κs. search needs) returns (λ c. search needs) (λ c κs. search needs) (λ c. search needs) returns-2 (λ c κs. search needs) (λ c. search needs))
+    tie.close (tie.spec (λ c κs. search needs) returns (λ c. search needs) (λ c κs. search needs) (λ c. search needs) returns-2
+    (λ c κs. search needs) (λ c. search needs))

@@ -23,20 +23,29 @@ loop-holds c = refl
 
 returns : tie.Need-returns Inv-loop μ-loop
 returns c =
-    let s = stepped _ _ (c .before .before .before .before .before .before .next-byte .ensures) (c .before .before .before .before .byte .given .1) in
-    sym (c .before .before .before .before .before .before .before .before .loop .inv ∙ word-not _ _ _ (s .split) (c .before .before .before .before .before .before .before .loop-test .taken) (λ e. c .if1 .taken (c .before .before .upper .ensures ∙ e)))
+    let s = stepped _ _ (c .before .before .before .before .before .before .next-byte .ensures)
+    (c .before .before .before .before .byte .given .1) in
+    sym (c .before .before .before .before .before .before .before .before .loop .inv
+    ∙ word-not _ _ _ (s .split) (c .before .before .before .before .before .before .before .loop-test .taken)
+    (λ e. c .if1 .taken (c .before .before .upper .ensures ∙ e)))
 
 returns-2 : tie.Need-returns-2 Inv-loop μ-loop
-returns-2 c = sym (c .before .before .before .before .loop .inv ∙ word-short _ _ _ (ended _ _ (c .before .before .next-byte .ensures) (c .enum-told .given .1)) (c .before .before .before .loop-test .taken))
+returns-2 c = sym (c .before .before .before .before .loop .inv
+    ∙ word-short _ _ _ (ended _ _ (c .before .before .next-byte .ensures) (c .enum-told .given .1))
+    (c .before .before .before .loop-test .taken))
 
 loop-again : tie.Need-loop-again Inv-loop μ-loop
 loop-again c =
-    let s = stepped _ _ (c .before .before .before .before .before .before .next-byte .ensures) (c .before .before .before .before .byte .given .1) in
-    c .before .before .before .before .before .before .before .before .loop .inv ∙ word-next _ _ _ (s .split) (c .before .before .before .before .before .before .before .loop-test .taken) (sym (c .before .before .upper .ensures) ∙ c .if1 .left) ∙ rw (s .next)
+    let s = stepped _ _ (c .before .before .before .before .before .before .next-byte .ensures)
+    (c .before .before .before .before .byte .given .1) in
+    c .before .before .before .before .before .before .before .before .loop .inv
+    ∙ word-next _ _ _ (s .split) (c .before .before .before .before .before .before .before .loop-test .taken)
+    (sym (c .before .before .upper .ensures) ∙ c .if1 .left) ∙ rw (s .next)
 
 returns-3 : tie.Need-returns-3 Inv-loop μ-loop
 returns-3 c = sym (c .before .loop .inv ∙ word-whole _ _ _ _ (c .loop-test .left))
 
 pub letters-spec : {M : Type 1} → statement M
 letters-spec =
-    tie.close (tie.spec Inv-loop μ-loop loop-holds (λ c κs. search needs) (λ c. search needs) (λ c κs. search needs) (λ c. omega arith) returns (λ c. search needs) returns-2 (λ c. omega arith) (λ c. omega arith) loop-again returns-3)
+    tie.close (tie.spec Inv-loop μ-loop loop-holds (λ c κs. search needs) (λ c. search needs) (λ c κs. search needs) (λ c. omega arith)
+    returns (λ c. search needs) returns-2 (λ c. omega arith) (λ c. omega arith) loop-again returns-3)

@@ -27,22 +27,27 @@ returns : tie.Need-returns Inv-loop μ-loop
 unfolding isDigit
 returns c =
     let s = stepped _ _ (c .before .before .before .before .before .next-byte .ensures) (c .before .before .before .byte .given .1) in
-    sym (c .before .before .before .before .before .before .loop .inv .0 ∙ digits-over _ _ _ (s .split) (ne-eqb _ _ (λ e. c .if1 .taken (c .before .class-of .ensures ∙ e))) (c .before .before .before .before .before .before .loop .inv .1))
+    sym (c .before .before .before .before .before .before .loop .inv .0
+    ∙ digits-over _ _ _ (s .split) (ne-eqb _ _ (λ e. c .if1 .taken (c .before .class-of .ensures ∙ e)))
+    (c .before .before .before .before .before .before .loop .inv .1))
 
 add-count : tie.Need-add-count Inv-loop μ-loop
 add-count c =
-    let s = stepped _ _ (c .before .before .before .before .before .before .next-byte .ensures) (c .before .before .before .before .byte .given .1) in
+    let s = stepped _ _ (c .before .before .before .before .before .before .next-byte .ensures)
+    (c .before .before .before .before .byte .given .1) in
     omega arith
 
 loop-less : tie.Need-loop-less Inv-loop μ-loop
 loop-less c =
-    let s = stepped _ _ (c .before .before .before .before .before .before .next-byte .ensures) (c .before .before .before .before .byte .given .1) in
+    let s = stepped _ _ (c .before .before .before .before .before .before .next-byte .ensures)
+    (c .before .before .before .before .byte .given .1) in
     omega arith
 
 loop-again : tie.Need-loop-again Inv-loop μ-loop
 unfolding isDigit
 loop-again c =
-    let s = stepped _ _ (c .before .before .before .before .before .before .next-byte .ensures) (c .before .before .before .before .byte .given .1) in (
+    let s = stepped _ _ (c .before .before .before .before .before .before .next-byte .ensures)
+    (c .before .before .before .before .byte .given .1) in (
       c .before .before .before .before .before .before .before .loop .inv .0
           ∙ digits-next _ _ _ (s .split) (eq-eqb _ _ (sym (c .before .before .class-of .ensures) ∙ c .before .if1 .left))
           ∙ rw (s .next, c .pushed .ensures .0),
@@ -51,7 +56,9 @@ loop-again c =
     )
 
 returns-2 : tie.Need-returns-2 Inv-loop μ-loop
-returns-2 c = sym (c .before .before .before .loop .inv .0 ∙ digits-end _ _ _ (ended _ _ (c .before .before .next-byte .ensures) (c .enum-told .given .1)) (c .before .before .before .loop .inv .1))
+returns-2 c = sym (c .before .before .before .loop .inv .0
+    ∙ digits-end _ _ _ (ended _ _ (c .before .before .next-byte .ensures) (c .enum-told .given .1))
+    (c .before .before .before .loop .inv .1))
 
 pub read-digits-spec : {M : Type 1} → statement M
 read-digits-spec =

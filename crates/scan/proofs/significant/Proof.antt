@@ -33,7 +33,8 @@ loop-again c =
     c .before .before .before .before .before .loop .inv ∙ strip-zero (s .split) (c .if1 .left)
 
 returns-2 : tie.Need-returns-2 Inv-loop μ-loop
-returns-2 c = sym (c .before .before .before .loop .inv ∙ strip-none (figure-none _ _ _ (c .before .before .next-digit .ensures) (c .enum-told .given .1)))
+returns-2 c = sym (c .before .before .before .loop .inv
+    ∙ strip-none (figure-none _ _ _ (c .before .before .next-digit .ensures) (c .enum-told .given .1)))
 
 pub significant-spec : {M : Type 1} → statement M
 significant-spec =

@@ -25,7 +25,12 @@ loop-holds c =
     (omega arith, λ e. rw z)
 
 loop-again : tie.Need-loop-again Inv-loop μ-loop
-loop-again c = (omega arith, λ e. c .before .before .before .loop .inv .1 (and-left _ _ e) ∙ word-letter _ _ _ _ (c .before .before .before .before .pre) (c .before .before .loop-test .taken) (and-right (c .before .before .before .loop .same) _ e))
+loop-again c = (
+  omega arith,
+  λ e. c .before .before .before .loop .inv .1 (and-left _ _ e)
+      ∙ word-letter _ _ _ _ (c .before .before .before .before .pre) (c .before .before .loop-test .taken)
+      (and-right (c .before .before .before .loop .same) _ e),
+)
 
 returns : tie.Need-returns Inv-loop μ-loop
 returns c e = c .before .loop .inv .1 e ∙ word-whole _ _ _ _ (c .loop-test .left) ∙ ap Matched (omega arith)
@@ -33,4 +38,5 @@ returns c e = c .before .loop .inv .1 e ∙ word-whole _ _ _ _ (c .loop-test .le
 pub spelled-spec : {M : Type 1} → statement M
 spelled-spec =
     tie.close
-    (tie.spec Inv-loop μ-loop loop-holds (λ c. omega arith) (λ c. omega arith) (λ c. omega arith) (λ c. omega arith) (λ c. omega arith) loop-again returns)
+    (tie.spec Inv-loop μ-loop loop-holds (λ c. omega arith) (λ c. omega arith) (λ c. omega arith) (λ c. omega arith) (λ c. omega arith)
+    loop-again returns)

@@ -1,4 +1,5 @@
--- "The encoding is the declaration's where that is not refused, else UTF-8": of an XML definition. "A file is XML when it begins with `<?xml` or
+-- "The encoding is the declaration's where that is not refused, else UTF-8": of an XML definition. "A file is XML when it begins with
+-- `<?xml` or
 -- `<sss`, alone or behind EF BB BF."
 use mathlib.Core.Bool.{Bool, false}
 use mathlib.Core.List.{List}

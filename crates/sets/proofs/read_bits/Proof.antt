@@ -24,11 +24,16 @@ room c = record { few = c .pre .0 .few; inside = let h = c .pre .0 .inside in le
 -- the range has every category, or the lines do
 read-each-requires : tie.Need-read-each-requires
 read-each-requires c κs =
-    let a = c .before .before .before .before .before .before .args in
-    (each-legal (a .t .now) (a .rows) (a .row) (a .row .width) (sym (c .before .before .range-has .ensures) ∙ c .before .if1 .taken), room (c .before .before .before .before .before .before))
+    let a = c .before .before .before .before .before .before .args in (
+      each-legal (a .t .now) (a .rows) (a .row) (a .row .width) (sym (c .before .before .range-has .ensures) ∙ c .before .if1 .taken),
+      room (c .before .before .before .before .before .before),
+    )
 
 read-each-requires-2 : tie.Need-read-each-requires-2
-read-each-requires-2 c κs = (c .before .before .lines-count .ensures (c .before .if2 .taken), room (c .before .before .before .before .before .before .before .before))
+read-each-requires-2 c κs = (
+  c .before .before .lines-count .ensures (c .before .if2 .taken),
+  room (c .before .before .before .before .before .before .before .before),
+)
 
 returns-3 : tie.Need-returns-3
 returns-3 c = read-missing _ _ (bits-missing _ _ (spaces-alike _ ∙ sym (c .before .all-are .ensures) ∙ c .if3 .taken))
@@ -36,23 +41,45 @@ returns-3 c = read-missing _ _ (bits-missing _ _ (spaces-alike _ ∙ sym (c .bef
 returns-4 : tie.Need-returns-4
 returns-4 c =
     read-illegal _ _
-    (bits-wrong _ _ (spaces-alike _ ∙ sym (c .before .before .before .all-are .ensures) ∙ c .before .before .if3 .left) (bits-alike _ ∙ sym (c .before .all-are2 .ensures) ∙ not-true _ (c .if4 .taken)))
+    (bits-wrong _ _ (spaces-alike _ ∙ sym (c .before .before .before .all-are .ensures) ∙ c .before .before .if3 .left)
+    (bits-alike _ ∙ sym (c .before .all-are2 .ensures) ∙ not-true _ (c .if4 .taken)))
 
 -- all bytes are `0` and `1`
-set : (c : tie.Else4) → let a = c .before .before .before .before .before .before .before .before .before .before .before .args in let cs = categories (a .t .now) (a .rows) (a .row) in let s = pick (a .bytes .now) (bitPlaces (a .row .start - 1) cs) in
+set : (c : tie.Else4) → let a = c .before .before .before .before .before .before .before .before .before .before .before .args in
+    let cs = categories (a .t .now) (a .rows) (a .row) in let s = pick (a .bytes .now) (bitPlaces (a .row .start - 1) cs) in
     bitsField cs s ≡ holds (members (setBits cs s))
-set c = bits-members _ _ (spaces-alike _ ∙ sym (c .before .before .before .all-are .ensures) ∙ c .before .before .if3 .left) (bits-alike _ ∙ sym (c .before .all-are2 .ensures) ∙ not-false _ (c .if4 .left))
+set c = bits-members _ _ (spaces-alike _ ∙ sym (c .before .before .before .all-are .ensures) ∙ c .before .before .if3 .left)
+    (bits-alike _ ∙ sym (c .before .all-are2 .ensures) ∙ not-false _ (c .if4 .left))
 
 marks-worth-requires : tie.Need-marks-worth-requires
-marks-worth-requires c κs = let l = c .before .before .before .before .before .before .before .before .before .before .before .pre .0 .lines .few-lines in let w = c .before .before .before .before .before .before .before .before .before .before .before .pre .0 .few in (omega arith, omega arith)
+marks-worth-requires c
+    κs = let l = c .before .before .before .before .before .before .before .before .before .before .before .pre .0 .lines .few-lines in
+    let w = c .before .before .before .before .before .before .before .before .before .before .before .pre .0 .few in (
+      omega arith,
+      omega arith,
+    )
 
-few : (c : tie.After-marks-worth) → c .marks-worth .result ≤ length (c .before .before .before .before .before .before .before .before .before .before .before .before .args .scratch .now)
-few c = let w = c .before .before .before .before .before .before .before .before .before .before .before .before .pre .0 .few in let s = c .before .before .before .before .before .before .before .before .before .before .before .before .pre .1 in omega (arith, c .marks-worth .ensures)
+few : (c : tie.After-marks-worth) → c .marks-worth .result
+    ≤ length (c .before .before .before .before .before .before .before .before .before .before .before .before .args .scratch .now)
+few c = let w = c .before .before .before .before .before .before .before .before .before .before .before .before .pre .0 .few in
+    let s = c .before .before .before .before .before .before .before .before .before .before .before .before .pre .1 in
+    omega (arith, c .marks-worth .ensures)
 
 mark-and-list-requires : tie.Need-mark-and-list-requires
 mark-and-list-requires c κs =
-    let f = few (c .before .before) in let s = c .before .before .before .before .before .before .before .before .before .before .before .before .before .before .pre .1 in
-    (c .before .before .before .before .before .before .before .before .before .before .before .before .before .before .pre .0 .lines, (rw (length-take-le (c .before .before .marks-worth .result) (c .before .before .before .before .before .before .before .before .before .before .before .before .before .before .args .scratch .now) f) (omega arith), (room (c .before .before .before .before .before .before .before .before .before .before .before .before .before .before), set (c .before .before .before))))
+    let f = few (c .before .before) in
+    let s = c .before .before .before .before .before .before .before .before .before .before .before .before .before .before .pre .1 in (
+      c .before .before .before .before .before .before .before .before .before .before .before .before .before .before .pre .0 .lines,
+      (
+        rw (length-take-le (c .before .before .marks-worth .result)
+            (c .before .before .before .before .before .before .before .before .before .before .before .before .before .before .args
+            .scratch .now) f) (omega arith),
+        (
+          room (c .before .before .before .before .before .before .before .before .before .before .before .before .before .before),
+          set (c .before .before .before),
+        ),
+      ),
+    )
 
 pub read-bits-spec : {M : Type 1} → statement M
 read-bits-spec =
@@ -67,9 +94,15 @@ read-bits-spec =
     read-each-requires-2
     (λ c. search needs)
     (λ c. c .before .read-each2 .ensures)
-    (λ c κs. (c .before .before .before .before .before .before .before .pre .0 .lines, room (c .before .before .before .before .before .before .before)))
+    (λ c κs. (
+      c .before .before .before .before .before .before .before .pre .0 .lines,
+      room (c .before .before .before .before .before .before .before),
+    ))
     returns-3
-    (λ c κs. (c .before .before .before .before .before .before .before .before .before .pre .0 .lines, room (c .before .before .before .before .before .before .before .before .before)))
+    (λ c κs. (
+      c .before .before .before .before .before .before .before .before .before .pre .0 .lines,
+      room (c .before .before .before .before .before .before .before .before .before),
+    ))
     returns-4
     (λ c. let h = c .before .before .before .before .before .before .before .before .before .before .before .pre .0 .few in omega arith)
     marks-worth-requires

@@ -13,21 +13,36 @@ use Rattle.sets.proofs.read_few.Tie as tie
 
 -- the subfields lie in the record
 room : (c : tie.Start) → SpreadRoom (c .args .row .start - 1) (c .args .b) (c .args .row .width) (c .args .n) (length (c .args .bytes .now))
-room c = record { few = c .pre .0 .few; holds = c .pre .0 .holds; inside = let h = c .pre .0 .inside in let g = c .pre .0 .from-one in omega arith }
+room c = record {
+  few = c .pre .0 .few;
+  holds = c .pre .0 .holds;
+  inside = let h = c .pre .0 .inside in let g = c .pre .0 .from-one in
+      omega arith;
+}
 
 returns : tie.Need-returns
 returns c = read-missing _ _ (spread-missing _ _ _ _ (sym (c .before .spread-blank .ensures) ∙ c .if1 .taken))
 
 list-kept-requires : tie.Need-list-kept-requires
 list-kept-requires c κs =
-    let g = rw (c .before .before .before .count .given .1) at (c .before .before .before .before .before .before .before .gather .ensures) in
-    (g .few, gathered-small _ _ _ _ _ _ g (c .before .before .before .before .before .before .before .before .before .before .before .before .before .before .pre .0 .few))
+    let g = rw (c .before .before .before .count .given .1) at
+    (c .before .before .before .before .before .before .before .gather .ensures) in (
+      g .few,
+      gathered-small _ _ _ _ _ _ g
+          (c .before .before .before .before .before .before .before .before .before .before .before .before .before .before .pre .0 .few),
+    )
 
 returns-2 : tie.Need-returns-2
-returns-2 c = as-read (gathered-set _ _ _ _ _ _ (rw (c .before .before .before .before .before .count .given .1) at (c .before .before .before .before .before .before .before .before .before .gather .ensures)) (sym (c .before .before .before .before .before .before .before .before .before .before .before .before .spread-blank .ensures) ∙ c .before .before .before .before .before .before .before .before .before .before .before .if1 .left)) (c .before .list-kept .ensures)
+returns-2 c = as-read (gathered-set _ _ _ _ _ _ (rw (c .before .before .before .before .before .count .given .1) at
+    (c .before .before .before .before .before .before .before .before .before .gather .ensures))
+    (sym (c .before .before .before .before .before .before .before .before .before .before .before .before .spread-blank .ensures)
+    ∙ c .before .before .before .before .before .before .before .before .before .before .before .if1 .left)) (c .before .list-kept .ensures)
 
 returns-3 : tie.Need-returns-3
-returns-3 c = read-illegal _ _ (spread-wrong _ _ _ _ (sym (c .before .before .before .before .before .before .before .spread-blank .ensures) ∙ c .before .before .before .before .before .before .if1 .left) (rw (c .enum-told .given .1) at (c .before .before .before .before .gather .ensures)))
+returns-3 c = read-illegal _ _ (spread-wrong _ _ _ _
+    (sym (c .before .before .before .before .before .before .before .spread-blank .ensures)
+    ∙ c .before .before .before .before .before .before .if1 .left)
+    (rw (c .enum-told .given .1) at (c .before .before .before .before .gather .ensures)))
 
 pub read-few-spec : {M : Type 1} → statement M
 read-few-spec =
@@ -36,7 +51,10 @@ read-few-spec =
     (λ c. let h = c .before .before .before .pre .0 .from-one in omega arith)
     (λ c κs. room (c .before .before .before))
     returns
-    (λ c κs. (c .before .before .before .before .before .before .pre .0 .lines, (room (c .before .before .before .before .before .before), c .before .before .before .before .before .before .pre .1)))
+    (λ c κs. (
+      c .before .before .before .before .before .before .pre .0 .lines,
+      (room (c .before .before .before .before .before .before), c .before .before .before .before .before .before .pre .1),
+    ))
     (λ c. search needs)
     list-kept-requires
     (λ c. search needs)

@@ -13,26 +13,52 @@ use Rattle.sets.proofs.read_spread.Tie as tie
 
 -- the subfields lie in the record
 room : (c : tie.Start) → SpreadRoom (c .args .row .start - 1) (c .args .b) (c .args .row .width) (c .args .n) (length (c .args .bytes .now))
-room c = record { few = c .pre .0 .few; holds = c .pre .0 .holds; inside = let h = c .pre .0 .inside in let g = c .pre .0 .from-one in omega arith }
+room c = record {
+  few = c .pre .0 .few;
+  holds = c .pre .0 .holds;
+  inside = let h = c .pre .0 .inside in let g = c .pre .0 .from-one in
+      omega arith;
+}
 
 returns : tie.Need-returns
 returns c = read-missing _ _ (spread-missing _ _ _ _ (sym (c .before .spread-blank .ensures) ∙ c .if1 .taken))
 
 marks-worth-requires : tie.Need-marks-worth-requires
-marks-worth-requires c κs = let l = c .before .before .before .before .before .before .before .pre .0 .lines .few-lines in let f = c .before .before .before .before .before .before .before .pre .0 .fields in (omega arith, omega arith)
+marks-worth-requires c κs = let l = c .before .before .before .before .before .before .before .pre .0 .lines .few-lines in
+    let f = c .before .before .before .before .before .before .before .pre .0 .fields in (omega arith, omega arith)
 
 -- the marks of all numbers of w digits have room
 reaches : (c : tie.After-reach) → c .reach .result ≤ length (c .before .before .before .before .before .before .before .args .present .now)
 reaches c = rw (c .reach .ensures) (c .before .before .before .before .before .before .before .pre .1 .1)
 
-worth : (c : tie.After-marks-worth) → c .marks-worth .result ≤ length (c .before .before .before .before .before .before .before .before .args .scratch .now)
+worth : (c : tie.After-marks-worth) → c .marks-worth .result
+    ≤ length (c .before .before .before .before .before .before .before .before .args .scratch .now)
 worth c = omega (arith, c .marks-worth .ensures)
 
 gather-and-list-requires : tie.Need-gather-and-list-requires
 gather-and-list-requires c κs =
     let p = c .before .before .before .before .before .before .before .before .before .before .before .pre in
-    let few = worth (c .before .before .before) in
-    (p .0 .lines, (rw (length-take-le (c .before .before .before .marks-worth .result) (c .before .before .before .before .before .before .before .before .before .before .before .args .scratch .now) few) (omega (arith, p .1 .0)), (room (c .before .before .before .before .before .before .before .before .before .before .before), ((length-take-le (c .before .before .before .before .reach .result) (c .before .before .before .before .before .before .before .before .before .before .before .args .present .now) (reaches (c .before .before .before .before)) ∙ c .before .before .before .before .reach .ensures, p .0 .fields), sym (c .before .before .before .before .before .before .spread-blank .ensures) ∙ c .before .before .before .before .before .if1 .left))))
+    let few = worth (c .before .before .before) in (
+      p .0 .lines,
+      (
+        rw (length-take-le (c .before .before .before .marks-worth .result)
+            (c .before .before .before .before .before .before .before .before .before .before .before .args .scratch .now) few)
+            (omega (arith, p .1 .0)),
+        (
+          room (c .before .before .before .before .before .before .before .before .before .before .before),
+          (
+            (
+              length-take-le (c .before .before .before .before .reach .result)
+                  (c .before .before .before .before .before .before .before .before .before .before .before .args .present .now)
+                  (reaches (c .before .before .before .before)) ∙ c .before .before .before .before .reach .ensures,
+              p .0 .fields,
+            ),
+            sym (c .before .before .before .before .before .before .spread-blank .ensures)
+                ∙ c .before .before .before .before .before .if1 .left,
+          ),
+        ),
+      ),
+    )
 
 pub read-spread-spec : {M : Type 1} → statement M
 read-spread-spec =

@@ -13,14 +13,21 @@ use Rattle.sets.proofs.spread_illegal.Tie as tie
 
 -- the subfields lie in the record
 room : (c : tie.Start) → SpreadRoom (c .args .row .start - 1) (c .args .b) (c .args .row .width) (c .args .n) (length (c .args .bytes .now))
-room c = record { few = c .pre .0 .few; holds = c .pre .0 .holds; inside = let h = c .pre .0 .inside in let g = c .pre .0 .from-one in omega arith }
+room c = record {
+  few = c .pre .0 .few;
+  holds = c .pre .0 .holds;
+  inside = let h = c .pre .0 .inside in let g = c .pre .0 .from-one in
+      omega arith;
+}
 
 marks-worth-requires : tie.Need-marks-worth-requires
-marks-worth-requires c κs = let l = c .before .before .before .before .pre .0 .lines .few-lines in let w = c .before .before .before .before .pre .0 .fields in (omega arith, omega arith)
+marks-worth-requires c κs = let l = c .before .before .before .before .pre .0 .lines .few-lines in
+    let w = c .before .before .before .before .pre .0 .fields in (omega arith, omega arith)
 
 few : (c : tie.After-marks-worth) → c .marks-worth .result ≤ length (c .before .before .before .before .before .args .scratch .now)
 few c =
-    let r : c .before .reach .result ≤ 10 ^ 4 = rw (c .before .reach .ensures) (pow-le-pow-right {n = 10} (omega arith) (c .before .before .before .before .before .pre .0 .few)) in
+    let r : c .before .reach .result ≤ 10 ^ 4 = rw (c .before .reach .ensures)
+    (pow-le-pow-right {n = 10} (omega arith) (c .before .before .before .before .before .pre .0 .few)) in
     let s = c .before .before .before .before .before .pre .1 in omega (arith, c .marks-worth .ensures)
 
 slice-aggregate-judge : tie.Need-slice-aggregate-judge
@@ -28,8 +35,14 @@ slice-aggregate-judge c = sym (length-take-le _ _ (few (c .before)))
 
 judge-requires : tie.Need-judge-requires
 judge-requires c κs =
-    let f = few (c .before) in let s = c .before .before .before .before .before .before .pre .1 in
-    (c .before .before .before .before .before .before .pre .0 .lines, (rw (length-take-le (c .before .marks-worth .result) (c .before .before .before .before .before .before .args .scratch .now) f) (omega arith), room (c .before .before .before .before .before .before)))
+    let f = few (c .before) in let s = c .before .before .before .before .before .before .pre .1 in (
+      c .before .before .before .before .before .before .pre .0 .lines,
+      (
+        rw (length-take-le (c .before .marks-worth .result) (c .before .before .before .before .before .before .args .scratch .now) f)
+            (omega arith),
+        room (c .before .before .before .before .before .before),
+      ),
+    )
 
 pub spread-illegal-spec : {M : Type 1} → statement M
 spread-illegal-spec =

@@ -9,11 +9,14 @@ use Rattle.sharing.proofs.claim_bits.Statement.{statement}
 use Rattle.sharing.proofs.claim_bits.Tie as tie
 
 returns : tie.Need-returns
-returns c = claim-same (bits-same (c .before .before .before .before .before .before .pre)) (refused _ (c .before .before .before .claim-range .ensures) (not-true _ (c .if1 .taken)))
+returns c = claim-same (bits-same (c .before .before .before .before .before .before .pre))
+    (refused _ (c .before .before .before .claim-range .ensures) (not-true _ (c .if1 .taken)))
 
 returns-2 : tie.Need-returns-2
 returns-2 c =
-    claim-same (bits-same (c .before .before .before .before .before .before .before .before .before .before .pre)) (after (c .before .before .before .before .before .before .before .claim-range .ensures) (not-false _ (c .before .before .before .before .if1 .left)) (c .before .before .claim-lines .ensures))
+    claim-same (bits-same (c .before .before .before .before .before .before .before .before .before .before .pre))
+    (after (c .before .before .before .before .before .before .before .claim-range .ensures)
+    (not-false _ (c .before .before .before .before .if1 .left)) (c .before .before .claim-lines .ensures))
 
 pub claim-bits-spec : {M : Type 1} → statement M
 claim-bits-spec =
@@ -22,6 +25,8 @@ claim-bits-spec =
     (λ c κs. c .before .before .pre)
     (λ c. c .before .before .before .claim-range .kept .1 .1 .1 .0)
     returns
-    (λ c κs. rw (c .before .before .before .before .claim-range .kept .1 .1 .1 .0) (c .before .before .before .before .before .before .before .pre))
-    (λ c. c .before .before .claim-lines .kept .1 .1 .1 .0 ∙ c .before .before .before .before .before .before .before .claim-range .kept .1 .1 .1 .0)
+    (λ c κs. rw (c .before .before .before .before .claim-range .kept .1 .1 .1 .0)
+    (c .before .before .before .before .before .before .before .pre))
+    (λ c. c .before .before .claim-lines .kept .1 .1 .1 .0
+    ∙ c .before .before .before .before .before .before .before .claim-range .kept .1 .1 .1 .0)
     returns-2)

@@ -24,14 +24,22 @@ abbrev μ-loop : tie.MeasureT-loop
 
 -- the line's category, which the row allows
 module _ (c : tie.After-count-at Inv-loop μ-loop) where
-  counted : c .count-at .result ≡ countOf (lineValue (c .before .before .before .before .before .before .args .t .now) (c .before .before .before .before .before .before .args .rows) (c .before .before .before .before .before .before .args .row) (c .before .before .before .loop .k))
+  counted : c .count-at .result ≡ countOf (lineValue (c .before .before .before .before .before .before .args .t .now)
+      (c .before .before .before .before .before .before .args .rows) (c .before .before .before .before .before .before .args .row)
+      (c .before .before .before .loop .k))
   counted = c .count-at .ensures ∙ rw (c .before .base .ensures)
 
   low : 1 ≤ c .count-at .result
-  low = rw counted (c .before .before .before .before .before .before .pre .low _ (line-legal (c .before .before .before .before .before .before .args .t .now) (c .before .before .before .before .before .before .args .rows) (c .before .before .before .before .before .before .args .row) (c .before .before .before .loop .k) (c .before .before .loop-test .taken)))
+  low = rw counted (c .before .before .before .before .before .before .pre .low _
+      (line-legal (c .before .before .before .before .before .before .args .t .now)
+      (c .before .before .before .before .before .before .args .rows) (c .before .before .before .before .before .before .args .row)
+      (c .before .before .before .loop .k) (c .before .before .loop-test .taken)))
 
   high : c .count-at .result ≤ c .before .before .before .before .before .before .args .row .width
-  high = rw counted (c .before .before .before .before .before .before .pre .high _ (line-legal (c .before .before .before .before .before .before .args .t .now) (c .before .before .before .before .before .before .args .rows) (c .before .before .before .before .before .before .args .row) (c .before .before .before .loop .k) (c .before .before .loop-test .taken)))
+  high = rw counted (c .before .before .before .before .before .before .pre .high _
+      (line-legal (c .before .before .before .before .before .before .args .t .now)
+      (c .before .before .before .before .before .before .args .rows) (c .before .before .before .before .before .before .args .row)
+      (c .before .before .before .loop .k) (c .before .before .loop-test .taken)))
 
 loop-holds : tie.Need-loop-holds Inv-loop μ-loop
 loop-holds c = (omega arith, refl, λ s′ r d. rw sub-zero at d)
@@ -40,35 +48,45 @@ sub-claim-one : tie.Need-sub-claim-one Inv-loop μ-loop
 sub-claim-one c = low (c .before)
 
 add-claim-one : tie.Need-add-claim-one Inv-loop μ-loop
-add-claim-one c = let l = low (c .before) in let h = high (c .before) in let i = c .before .before .before .before .before .before .before .pre .inside in omega arith
+add-claim-one c = let l = low (c .before) in let h = high (c .before) in
+    let i = c .before .before .before .before .before .before .before .pre .inside in omega arith
 
 claim-one-requires : tie.Need-claim-one-requires Inv-loop μ-loop
 claim-one-requires c κs =
-    let l = low (c .before) in let h = high (c .before) in let i = c .before .before .before .before .before .before .before .pre .inside in let o = c .before .before .before .before .before .before .before .pre .from-one in
+    let l = low (c .before) in let h = high (c .before) in let i = c .before .before .before .before .before .before .before .pre .inside in
+    let o = c .before .before .before .before .before .before .before .pre .from-one in
     let n = c .before .before .before .before .loop .inv .1 in omega arith
 
 same-length : tie.Need-same-length Inv-loop μ-loop
-same-length c = c .before .before .before .claim-one .kept .0 ∙ c .before .before .before .before .before .before .before .before .loop .inv .1
+same-length c = c .before .before .before .claim-one .kept .0
+    ∙ c .before .before .before .before .before .before .before .before .loop .inv .1
 
 returns : tie.Need-returns Inv-loop μ-loop
 returns c =
-    let l = c .before .before .before .before .before .before .before .before .loop in let a = c .before .before .before .before .before .before .before .before .before .before .before .args in
-    on-stop (l .inv .2) _ _ (lines-next (a .row .start - 1) (a .t .now) (a .rows) (a .row .before) (a .row .lines) (l .k) (c .before .before .before .before .before .before .before .loop-test .taken))
-    (rw (counted (c .before .before .before .before .before)) at (c .before .before .before .claim-one .ensures)) (not-true _ (c .if1 .taken))
+    let l = c .before .before .before .before .before .before .before .before .loop in
+    let a = c .before .before .before .before .before .before .before .before .before .before .before .args in
+    on-stop (l .inv .2) _ _ (lines-next (a .row .start - 1) (a .t .now) (a .rows) (a .row .before) (a .row .lines) (l .k)
+    (c .before .before .before .before .before .before .before .loop-test .taken))
+    (rw (counted (c .before .before .before .before .before)) at (c .before .before .before .claim-one .ensures))
+    (not-true _ (c .if1 .taken))
 
 loop-again : tie.Need-loop-again Inv-loop μ-loop
 loop-again c =
-    let l = c .before .before .before .before .before .before .before .before .loop in let a = c .before .before .before .before .before .before .before .before .before .before .before .args in (
+    let l = c .before .before .before .before .before .before .before .before .loop in
+    let a = c .before .before .before .before .before .before .before .before .before .before .before .args in (
       omega arith,
       c .before .before .before .claim-one .kept .0 ∙ l .inv .1,
-      on-step (l .inv .2) _ _ (lines-next (a .row .start - 1) (a .t .now) (a .rows) (a .row .before) (a .row .lines) (l .k) (c .before .before .before .before .before .before .before .loop-test .taken))
-          (rw (counted (c .before .before .before .before .before)) at (c .before .before .before .claim-one .ensures)) (not-false _ (c .if1 .left)),
+      on-step (l .inv .2) _ _ (lines-next (a .row .start - 1) (a .t .now) (a .rows) (a .row .before) (a .row .lines) (l .k)
+          (c .before .before .before .before .before .before .before .loop-test .taken))
+          (rw (counted (c .before .before .before .before .before)) at (c .before .before .before .claim-one .ensures))
+          (not-false _ (c .if1 .left)),
     )
 
 returns-2 : tie.Need-returns-2 Inv-loop μ-loop
 returns-2 c =
     let a = c .before .before .before .before .args in
-    on-end (c .before .loop .inv .2) (lines-end (a .row .start - 1) (a .t .now) (a .rows) (a .row .before) (a .row .lines) (c .before .loop .k) (c .loop-test .left))
+    on-end (c .before .loop .inv .2) (lines-end (a .row .start - 1) (a .t .now) (a .rows) (a .row .before) (a .row .lines)
+    (c .before .loop .k) (c .loop-test .left))
 
 pub claim-lines-spec : {M : Type 1} → statement M
 claim-lines-spec =
@@ -79,7 +97,10 @@ claim-lines-spec =
     (λ c. c .before .before .pre .from-one)
     loop-holds
     (λ c. let f = c .before .before .before .before .pre .lines .few-lines in omega arith)
-    (λ c κs. let f = c .before .before .before .before .pre .lines .few-lines in (c .before .before .before .before .pre .lines .few-rows, omega arith))
+    (λ c κs. let f = c .before .before .before .before .pre .lines .few-lines in (
+      c .before .before .before .before .pre .lines .few-rows,
+      omega arith,
+    ))
     (λ c κs. let f = c .before .before .before .before .before .pre .lines .stand in rw (c .base .ensures) (omega arith))
     sub-claim-one
     add-claim-one

@@ -16,4 +16,5 @@ returns-3 c = claim-taken _ _ _ (c .before .if1 .left) (c .if2 .left)
 pub claim-one-spec : {M : Type 1} → statement M
 claim-one-spec =
     tie.close
-    (tie.spec (λ c. search needs) (λ c. search needs) (λ c. search needs) (λ c. search needs) (λ c. search needs) returns returns-2 returns-3)
+    (tie.spec (λ c. search needs) (λ c. search needs) (λ c. search needs) (λ c. search needs) (λ c. search needs) returns returns-2
+    returns-3)

@@ -15,18 +15,22 @@ use Rattle.sharing.proofs.claim_range.Statement.{statement}
 use Rattle.sharing.proofs.claim_range.Tie as tie
 
 -- the row's numbers are read back from their bits as they are
-from-back : (c : tie.After-struct-told2) → toZ w64 (ofZ w64 (c .before .before .before .args .row .from)) ≡ c .before .before .before .args .row .from
+from-back : (c : tie.After-struct-told2) → toZ w64 (ofZ w64 (c .before .before .before .args .row .from))
+    ≡ c .before .before .before .args .row .from
 from-back c = search needs
 
-to-back : (c : tie.After-struct-told2) → toZ w64 (ofZ w64 (c .before .before .before .args .row .to)) ≡ c .before .before .before .args .row .to
+to-back : (c : tie.After-struct-told2) → toZ w64 (ofZ w64 (c .before .before .before .args .row .to))
+    ≡ c .before .before .before .args .row .to
 to-back c = search needs
 
-ranged : (c : tie.After-in-range) → c .in-range .result ≡ inRange (c .before .before .before .before .args .row) (c .before .before .before .before .args .row .from)
+ranged : (c : tie.After-in-range) → c .in-range .result
+    ≡ inRange (c .before .before .before .before .args .row) (c .before .before .before .before .args .row .from)
 ranged c = c .in-range .ensures ∙ rw (from-back (c .before))
 
 -- the ends, as counts
 module _ (c : tie.After-count-of2) where
-  here : inRange (c .before .before .before .before .before .before .before .args .row) (c .before .before .before .before .before .before .before .args .row .from) ≡ true
+  here : inRange (c .before .before .before .before .before .before .before .args .row)
+      (c .before .before .before .before .before .before .before .args .row .from) ≡ true
   here = sym (ranged (c .before .before .before)) ∙ not-false _ (c .before .before .if1 .left)
 
   from-is : c .before .count-of .result ≡ countOf (c .before .before .before .before .before .before .before .args .row .from)
@@ -50,7 +54,11 @@ returns c = rw (sym (ranged (c .before)) ∙ not-true _ (c .if1 .taken)) (claim-
 
 returns-2 : tie.Need-returns-2
 unfolding rangePlaces
-returns-2 c = rw (here (c .before .before .before .before .before), ← from-is (c .before .before .before .before .before), ← to-is (c .before .before .before .before .before)) (c .before .before .claim-run .ensures)
+returns-2 c = rw (
+  here (c .before .before .before .before .before),
+  ← from-is (c .before .before .before .before .before),
+  ← to-is (c .before .before .before .before .before),
+) (c .before .before .claim-run .ensures)
 
 pub claim-range-spec : {M : Type 1} → statement M
 claim-range-spec =
@@ -64,7 +72,12 @@ claim-range-spec =
     (λ c. let h = high c in let i = c .before .before .before .before .before .before .before .pre .inside in let e = ends c in omega arith)
     (λ c. c .before .before .before .before .before .before .before .before .before .pre .from-one)
     (λ c. low (c .before .before))
-    (λ c. let h = high (c .before .before) in let i = c .before .before .before .before .before .before .before .before .before .pre .inside in let e = ends (c .before .before) in omega arith)
-    (λ c κs. let l = low (c .before .before) in let h = high (c .before .before) in let i = c .before .before .before .before .before .before .before .before .before .pre .inside in let o = c .before .before .before .before .before .before .before .before .before .pre .from-one in let e = ends (c .before .before) in omega arith)
+    (λ c. let h = high (c .before .before) in
+    let i = c .before .before .before .before .before .before .before .before .before .pre .inside in let e = ends (c .before .before) in
+    omega arith)
+    (λ c κs. let l = low (c .before .before) in let h = high (c .before .before) in
+    let i = c .before .before .before .before .before .before .before .before .before .pre .inside in
+    let o = c .before .before .before .before .before .before .before .before .before .pre .from-one in let e = ends (c .before .before) in
+    omega arith)
     (λ c. c .before .before .claim-run .kept .0)
     returns-2)

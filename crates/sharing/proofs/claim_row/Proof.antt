@@ -5,7 +5,8 @@ use native.Mathlib.Omega.{arith}
 use borrow.Author.Needs.{needs}
 use Rattle.layout.specs.declared.Kind.the-variants.{Multiple}
 use Rattle.sharing.specs.Known.{bits-known}
-use Rattle.sharing.proofs.RowSteps.{single-room, quantity-room, text-room, truth-room, spread-room, as-single, as-quantity, as-text, as-truth, as-bits, as-spread}
+use Rattle.sharing.proofs.RowSteps.{single-room, quantity-room, text-room, truth-room, spread-room, as-single, as-quantity, as-text}
+use Rattle.sharing.proofs.RowSteps.{as-truth, as-bits, as-spread}
 use Rattle.sharing.proofs.claim_row.Statement.{statement}
 use Rattle.sharing.proofs.claim_row.Tie as tie
 
@@ -13,10 +14,12 @@ returns : tie.Need-returns
 returns c = as-single _ _ _ (c .before .before .before .before .before .enum-told .given .1) (c .before .before .claim-run .ensures)
 
 returns-2 : tie.Need-returns-2
-returns-2 c = as-bits _ _ _ (c .before .before .before .before .before .before .before .kind .given .1 ∙ ap Multiple (c .before .before .before .before .enum-told2 .given .1)) (c .before .before .claim-bits .ensures)
+returns-2 c = as-bits _ _ _ (c .before .before .before .before .before .before .before .kind .given .1
+    ∙ ap Multiple (c .before .before .before .before .enum-told2 .given .1)) (c .before .before .claim-bits .ensures)
 
 returns-3 : tie.Need-returns-3
-returns-3 c = as-spread _ _ _ (c .before .before .before .before .before .before .before .before .before .kind .given .1 ∙ ap Multiple (c .before .before .before .before .before .before .s .given .1)) (c .before .before .claim-spread .ensures)
+returns-3 c = as-spread _ _ _ (c .before .before .before .before .before .before .before .before .before .kind .given .1
+    ∙ ap Multiple (c .before .before .before .before .before .before .s .given .1)) (c .before .before .claim-spread .ensures)
 
 returns-4 : tie.Need-returns-4
 returns-4 c = as-quantity _ _ _ (c .before .before .before .before .before .enum-told3 .given .1) (c .before .before .claim-run2 .ensures)
@@ -32,20 +35,29 @@ claim-row-spec =
     tie.close
     (tie.spec
     (λ c. search needs)
-    (λ c. single-room _ (c .before .before .before .before .before .pre .0) (c .before .before .before .before .before .pre .1) (c .before .before .enum-told .given .1) .reach)
-    (λ c κs. single-room _ (c .before .before .before .before .before .pre .0) (c .before .before .before .before .before .pre .1) (c .before .before .enum-told .given .1) .right)
+    (λ c. single-room _ (c .before .before .before .before .before .pre .0) (c .before .before .before .before .before .pre .1)
+    (c .before .before .enum-told .given .1) .reach)
+    (λ c κs. single-room _ (c .before .before .before .before .before .pre .0) (c .before .before .before .before .before .pre .1)
+    (c .before .before .enum-told .given .1) .right)
     (λ c. search needs)
     (λ c. search needs)
-    (λ c κs. bits-known _ (c .before .before .before .before .before .before .before .pre .0) (c .before .before .before .before .before .before .before .pre .1) (c .before .before .before .before .kind .given .1 ∙ ap Multiple (c .before .enum-told2 .given .1)))
+    (λ c κs. bits-known _ (c .before .before .before .before .before .before .before .pre .0)
+    (c .before .before .before .before .before .before .before .pre .1)
+    (c .before .before .before .before .kind .given .1 ∙ ap Multiple (c .before .enum-told2 .given .1)))
     (λ c. search needs)
     (λ c. c .before .before .before .before .before .before .before .before .before .pre .0 .position .from-one)
-    (λ c κs. spread-room _ (c .before .before .before .before .before .before .before .before .before .pre .0) (c .before .before .before .before .before .before .before .before .before .pre .1) (c .before .before .before .before .before .before .kind .given .1 ∙ ap Multiple (c .before .before .before .s .given .1)))
+    (λ c κs. spread-room _ (c .before .before .before .before .before .before .before .before .before .pre .0)
+    (c .before .before .before .before .before .before .before .before .before .pre .1)
+    (c .before .before .before .before .before .before .kind .given .1 ∙ ap Multiple (c .before .before .before .s .given .1)))
     (λ c. search needs)
-    (λ c. quantity-room _ (c .before .before .before .before .before .pre .0) (c .before .before .before .before .before .pre .1) (c .before .before .enum-told3 .given .1) .reach)
-    (λ c κs. quantity-room _ (c .before .before .before .before .before .pre .0) (c .before .before .before .before .before .pre .1) (c .before .before .enum-told3 .given .1) .right)
+    (λ c. quantity-room _ (c .before .before .before .before .before .pre .0) (c .before .before .before .before .before .pre .1)
+    (c .before .before .enum-told3 .given .1) .reach)
+    (λ c κs. quantity-room _ (c .before .before .before .before .before .pre .0) (c .before .before .before .before .before .pre .1)
+    (c .before .before .enum-told3 .given .1) .right)
     (λ c. search needs)
     (λ c. c .before .before .before .before .before .pre .0 .position .from-one)
-    (λ c κs. text-room _ (c .before .before .before .before .before .pre .0) (c .before .before .before .before .before .pre .1) (c .before .before .enum-told4 .given .1) .left)
+    (λ c κs. text-room _ (c .before .before .before .before .before .pre .0) (c .before .before .before .before .before .pre .1)
+    (c .before .before .enum-told4 .given .1) .left)
     (λ c. search needs)
     (λ c. truth-room _ (c .before .before .before .before .before .pre .0) (c .before .before .before .before .before .pre .1) .0)
     (λ c κs. truth-room _ (c .before .before .before .before .before .pre .0) (c .before .before .before .before .before .pre .1) .1)

@@ -13,14 +13,17 @@ use Rattle.sharing.proofs.claim_spread.Tie as tie
 
 abbrev Inv-loop : tie.InvT-loop
 Inv-loop stamps₀ at b w n own gap q₀ left₀ stamps q left =
-    (q + left * b ≤ length stamps₀) × (length stamps ≡ length stamps₀) × Onward own (spreadPlaces at b w n) stamps₀ (spreadPlaces q b w left) stamps
+    (q + left * b ≤ length stamps₀) × (length stamps ≡ length stamps₀)
+    × Onward own (spreadPlaces at b w n) stamps₀ (spreadPlaces q b w left) stamps
 
 abbrev μ-loop : tie.MeasureT-loop
 μ-loop stamps₀ at b w n own gap q₀ left₀ stamps q left = left
 
 -- the first of the subfields that are left, and the others
-more : (c : tie.In-loop Inv-loop μ-loop) → c .before .loop .q + c .before .before .before .args .b + (c .before .loop .left - 1) * c .before .before .before .args .b ≤ length (c .before .before .before .args .stamps .now)
-more c = spread-left (c .before .loop .q) (c .before .before .before .args .b) (c .before .loop .left) (length (c .before .before .before .args .stamps .now)) (c .loop-test .taken) (c .before .loop .inv .0)
+more : (c : tie.In-loop Inv-loop μ-loop) → c .before .loop .q + c .before .before .before .args .b
+    + (c .before .loop .left - 1) * c .before .before .before .args .b ≤ length (c .before .before .before .args .stamps .now)
+more c = spread-left (c .before .loop .q) (c .before .before .before .args .b) (c .before .loop .left)
+    (length (c .before .before .before .args .stamps .now)) (c .loop-test .taken) (c .before .loop .inv .0)
 
 loop-holds : tie.Need-loop-holds Inv-loop μ-loop
 loop-holds c = (c .before .pre .1, refl, λ s′ r d. d)
@@ -34,13 +37,15 @@ same-length c = c .before .before .before .claim-run .kept .0 ∙ c .before .bef
 
 returns : tie.Need-returns Inv-loop μ-loop
 returns c =
-    let l = c .before .before .before .before .before .before .loop in let a = c .before .before .before .before .before .before .before .before .args in
+    let l = c .before .before .before .before .before .before .loop in
+    let a = c .before .before .before .before .before .before .before .before .args in
     on-stop (l .inv .2) _ _ (spread-next (l .q) (a .b) (a .w) (l .left) (c .before .before .before .before .before .loop-test .taken))
     (c .before .before .before .claim-run .ensures) (not-true _ (c .if1 .taken))
 
 loop-again : tie.Need-loop-again Inv-loop μ-loop
 loop-again c =
-    let l = c .before .before .before .before .before .before .loop in let a = c .before .before .before .before .before .before .before .before .args in (
+    let l = c .before .before .before .before .before .before .loop in
+    let a = c .before .before .before .before .before .before .before .before .args in (
       more (c .before .before .before .before .before),
       c .before .before .before .claim-run .kept .0 ∙ l .inv .1,
       on-step (l .inv .2) _ _ (spread-next (l .q) (a .b) (a .w) (l .left) (c .before .before .before .before .before .loop-test .taken))
@@ -48,7 +53,8 @@ loop-again c =
     )
 
 returns-2 : tie.Need-returns-2 Inv-loop μ-loop
-returns-2 c = let a = c .before .before .before .args in on-end (c .before .loop .inv .2) (spread-end (c .before .loop .q) (a .b) (a .w) (c .before .loop .left) (c .loop-test .left))
+returns-2 c = let a = c .before .before .before .args in
+    on-end (c .before .loop .inv .2) (spread-end (c .before .loop .q) (a .b) (a .w) (c .before .loop .left) (c .loop-test .left))
 
 pub claim-spread-spec : {M : Type 1} → statement M
 claim-spread-spec =

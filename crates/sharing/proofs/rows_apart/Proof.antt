@@ -24,23 +24,34 @@ abbrev μ-loop : tie.MeasureT-loop
 
 loop-holds : tie.Need-loop-holds Inv-loop μ-loop
 loop-holds c =
-    let a = c .before .args in
-    (omega arith, refl, stamps-none (placesAt (a .t .now) (a .rows)) _ (c .before .pre .1 .1), all-none (apartBefore (placesAt (a .t .now) (a .rows))))
+    let a = c .before .args in (
+      omega arith,
+      refl,
+      stamps-none (placesAt (a .t .now) (a .rows)) _ (c .before .pre .1 .1),
+      all-none (apartBefore (placesAt (a .t .now) (a .rows))),
+    )
 
 returns : tie.Need-returns Inv-loop μ-loop
 returns c =
-    let l = c .before .before .before .before .before .before .before .loop in let a = c .before .before .before .before .before .before .before .before .before .args in
+    let l = c .before .before .before .before .before .before .before .loop in
+    let a = c .before .before .before .before .before .before .before .before .before .args in
     shares-some (a .t .now) (a .rows) (l .i) (c .before .before .before .before .before .before .loop-test .taken)
-    (turn-stop (placesAt (a .t .now) (a .rows)) (l .inv .2) (rw (c .before .before .before .before .before .read .ensures) at (c .before .before .before .claim-row .ensures)) (not-true _ (c .if1 .taken)))
+    (turn-stop (placesAt (a .t .now) (a .rows)) (l .inv .2)
+    (rw (c .before .before .before .before .before .read .ensures) at (c .before .before .before .claim-row .ensures))
+    (not-true _ (c .if1 .taken)))
 
 loop-again : tie.Need-loop-again Inv-loop μ-loop
 loop-again c =
-    let l = c .before .before .before .before .before .before .before .loop in let a = c .before .before .before .before .before .before .before .before .before .args in
+    let l = c .before .before .before .before .before .before .before .loop in
+    let a = c .before .before .before .before .before .before .before .before .before .args in
     let y = not-false _ (c .if1 .left) in (
       omega arith,
       c .before .before .before .claim-row .kept .1 .1 .1 .1 .0 ∙ l .inv .1,
-      stamps-more (placesAt (a .t .now) (a .rows)) (l .inv .2) (is-true y (rw (c .before .before .before .before .before .read .ensures) at (c .before .before .before .claim-row .ensures))),
-      all-more (apartBefore (placesAt (a .t .now) (a .rows))) (l .i) (l .inv .3) (turn-done (placesAt (a .t .now) (a .rows)) (l .inv .2) (rw (c .before .before .before .before .before .read .ensures) at (c .before .before .before .claim-row .ensures)) y),
+      stamps-more (placesAt (a .t .now) (a .rows)) (l .inv .2)
+          (is-true y (rw (c .before .before .before .before .before .read .ensures) at (c .before .before .before .claim-row .ensures))),
+      all-more (apartBefore (placesAt (a .t .now) (a .rows))) (l .i) (l .inv .3)
+          (turn-done (placesAt (a .t .now) (a .rows)) (l .inv .2)
+          (rw (c .before .before .before .before .before .read .ensures) at (c .before .before .before .claim-row .ensures)) y),
     )
 
 returns-2 : tie.Need-returns-2 Inv-loop μ-loop
@@ -57,9 +68,15 @@ rows-apart-spec =
     loop-holds
     (λ c. omega arith)
     (λ c. let f = c .before .before .before .pre .0 .few in omega arith)
-    (λ c κs. let f = c .before .before .before .pre .0 .few in let s = c .before .before .before .pre .0 .stand in (omega arith, omega arith))
-    (λ c κs. (rw (c .before .read .ensures) (c .before .before .before .before .before .pre .0 .row (c .before .before .before .loop .i) (c .before .before .loop-test .taken)), rw (c .before .before .before .loop .inv .1) (c .before .before .before .before .before .pre .1 .0)))
-    (λ c. c .before .before .before .claim-row .kept .1 .1 .1 .1 .0 ∙ c .before .before .before .before .before .before .before .loop .inv .1)
+    (λ c κs. let f = c .before .before .before .pre .0 .few in
+    let s = c .before .before .before .pre .0 .stand in (omega arith, omega arith))
+    (λ c κs. (
+      rw (c .before .read .ensures) (c .before .before .before .before .before .pre .0 .row (c .before .before .before .loop .i)
+          (c .before .before .loop-test .taken)),
+      rw (c .before .before .before .loop .inv .1) (c .before .before .before .before .before .pre .1 .0),
+    ))
+    (λ c. c .before .before .before .claim-row .kept .1 .1 .1 .1 .0
+    ∙ c .before .before .before .before .before .before .before .loop .inv .1)
     returns
     (λ c. omega arith)
     (λ c. omega arith)

@@ -12,43 +12,92 @@ sub-room : tie.Need-sub-room
 sub-room c = let p = c .before .before .before .before .before .before .before .before .pre in omega (arith, p .1 .1 .1 .0 .3)
 
 add-stamp : tie.Need-add-stamp
-add-stamp c = let p = c .before .before .before .before .before .before .before .before .pre in omega (arith, rows-left _ _ (p .1 .0 .0) _ _ (c .before .before .before .before .before .before .before .before .args .y) _ _ _ _ (p .1 .0 .1) (p .1 .1 .1 .1))
+add-stamp c = let p = c .before .before .before .before .before .before .before .before .pre in
+    omega (
+      arith,
+      rows-left _ _ (p .1 .0 .0) _ _ (c .before .before .before .before .before .before .before .before .args .y) _ _ _ _
+          (p .1 .0 .1) (p .1 .1 .1 .1),
+    )
 
 cast-stamp : tie.Need-cast-stamp
-cast-stamp c = let p = c .before .before .before .before .before .before .before .before .pre in omega (arith, rows-left _ _ (p .1 .0 .0) _ _ (c .before .before .before .before .before .before .before .before .args .y) _ _ _ _ (p .1 .0 .1) (p .1 .1 .1 .1))
+cast-stamp c = let p = c .before .before .before .before .before .before .before .before .pre in
+    omega (
+      arith,
+      rows-left _ _ (p .1 .0 .0) _ _ (c .before .before .before .before .before .before .before .before .args .y) _ _ _ _
+          (p .1 .0 .1) (p .1 .1 .1 .1),
+    )
 
 rest-in-requires : tie.Need-rest-in-requires
 rest-in-requires c κs =
     let p = c .before .before .before .before .before .before .before .before .before .before .pre in
-    let f = p .1 .1 .1 .0 in
-    ((c .before .before .before .before .sift-in .ensures .ends, p .1 .0 .0, omega (arith, f .3), omega (arith, f .2, f .4)), (p .1 .1 .0 .0, lines-few (p .1 .0 .1), p .1 .1 .0 .1))
+    let f = p .1 .1 .1 .0 in (
+      (c .before .before .before .before .sift-in .ensures .ends, p .1 .0 .0, omega (arith, f .3), omega (arith, f .2, f .4)),
+      (p .1 .1 .0 .0, lines-few (p .1 .0 .1), p .1 .1 .0 .1),
+    )
 
 settle-requires : tie.Need-settle-requires
 settle-requires c κs =
-    let p = c .before .before .before .before .before .before .before .before .before .before .before .before .before .before .before .before .before .before .before .pre in
-    (p .0, measured-all _ _ (p .1 .0 .0) _ _ _ _ _ _ _ _ (c .before .before .before .before .before .before .before .before .before .before .before .before .before .sift-in .ensures) _ _ (p .1 .1 .0 .0) _ (rw (c .before .before .before .r .given .1) at (c .before .before .before .before .before .before .before .before .rest-in .ensures)) _ (c .before .placeless .ensures) (p .1 .0 .1) (p .1 .1 .1 .1))
+    let p = c .before .before .before .before .before .before .before .before .before .before .before .before .before .before .before
+    .before .before .before .before .pre in (
+      p .0,
+      measured-all _ _ (p .1 .0 .0) _ _ _ _ _ _ _ _
+          (c .before .before .before .before .before .before .before .before .before .before .before .before .before .sift-in .ensures) _ _
+          (p .1 .1 .0 .0) _ (rw (c .before .before .before .r .given .1) at
+          (c .before .before .before .before .before .before .before .before .rest-in .ensures)) _ (c .before .placeless .ensures)
+          (p .1 .0 .1) (p .1 .1 .1 .1),
+    )
 
 enter-requires : tie.Need-enter-requires
 enter-requires c κs =
-    let p = c .before .before .before .before .before .before .before .before .before .before .before .before .before .before .before .before .before .before .before .before .before .before .before .before .pre in (
-      (rows-left _ _ (p .1 .0 .0) _ _ (c .before .before .before .before .before .before .before .before .before .before .before .before .before .before .before .before .before .before .before .before .before .before .before .before .args .y) _ _ _ _ (p .1 .0 .1) (p .1 .1 .1 .1), p .1 .0 .1 .rows-long),
-      small-all _ _ (p .1 .0 .0) _ _ _ _ _ _ _ _ (c .before .before .before .before .before .before .before .before .before .before .before .before .before .before .before .before .before .before .sift-in .ensures) _ _ (p .1 .1 .0 .0) _ (rw (c .before .before .before .before .before .before .before .before .r .given .1) at (c .before .before .before .before .before .before .before .before .before .before .before .before .before .rest-in .ensures)) _ (c .before .before .before .before .before .before .placeless .ensures) _ _ _ (sym (c .before .before .columns .given .1) ∙ c .before .before .before .before .settle .ensures) (p .1 .0 .1) (p .1 .1 .1 .1),
+    let p = c .before .before .before .before .before .before .before .before .before .before .before .before .before .before .before
+    .before .before .before .before .before .before .before .before .before .pre in (
+      (
+        rows-left _ _ (p .1 .0 .0) _ _
+            (c .before .before .before .before .before .before .before .before .before .before .before .before .before .before .before
+            .before .before .before .before .before .before .before .before .before .args .y) _ _ _ _ (p .1 .0 .1) (p .1 .1 .1 .1),
+        p .1 .0 .1 .rows-long,
+      ),
+      small-all _ _ (p .1 .0 .0) _ _ _ _ _ _ _ _
+          (c .before .before .before .before .before .before .before .before .before .before .before .before .before .before .before .before
+          .before .before .sift-in .ensures) _ _ (p .1 .1 .0 .0) _
+          (rw (c .before .before .before .before .before .before .before .before .r .given .1) at
+          (c .before .before .before .before .before .before .before .before .before .before .before .before .before .rest-in .ensures)) _
+          (c .before .before .before .before .before .before .placeless .ensures) _ _ _
+          (sym (c .before .before .columns .given .1) ∙ c .before .before .before .before .settle .ensures) (p .1 .0 .1) (p .1 .1 .1 .1),
     )
 
 returns : tie.Need-returns
 returns c =
-    let p = c .before .before .before .before .before .before .before .before .before .before .before .before .before .before .before .before .before .before .before .before .before .before .before .before .before .before .pre in
-    body-held _ _ (p .1 .0 .0) _ _ _ _ _ _ _ _ (c .before .before .before .before .before .before .before .before .before .before .before .before .before .before .before .before .before .before .before .before .sift-in .ensures) _ _ (p .1 .1 .0 .0) _ (rw (c .before .before .before .before .before .before .before .before .before .before .r .given .1) at (c .before .before .before .before .before .before .before .before .before .before .before .before .before .before .before .rest-in .ensures)) _ (c .before .before .before .before .before .before .before .before .placeless .ensures) _ _ _ (sym (c .before .before .before .before .columns .given .1) ∙ c .before .before .before .before .before .before .settle .ensures) _ _ (c .before .enter .ensures .0) (c .before .enter .ensures .1)
+    let p = c .before .before .before .before .before .before .before .before .before .before .before .before .before .before .before
+    .before .before .before .before .before .before .before .before .before .before .before .pre in
+    body-held _ _ (p .1 .0 .0) _ _ _ _ _ _ _ _
+    (c .before .before .before .before .before .before .before .before .before .before .before .before .before .before .before .before
+    .before .before .before .before .sift-in .ensures) _ _ (p .1 .1 .0 .0) _
+    (rw (c .before .before .before .before .before .before .before .before .before .before .r .given .1) at
+    (c .before .before .before .before .before .before .before .before .before .before .before .before .before .before .before .rest-in
+    .ensures)) _ (c .before .before .before .before .before .before .before .before .placeless .ensures) _ _ _
+    (sym (c .before .before .before .before .columns .given .1) ∙ c .before .before .before .before .before .before .settle .ensures) _ _
+    (c .before .enter .ensures .0) (c .before .enter .ensures .1)
 
 returns-2 : tie.Need-returns-2
 returns-2 c =
-    let p = c .before .before .before .before .before .before .before .before .before .before .before .before .before .before .before .before .before .before .before .before .before .before .before .pre in
-    body-unheld _ _ (p .1 .0 .0) _ _ _ _ _ _ _ _ (c .before .before .before .before .before .before .before .before .before .before .before .before .before .before .before .before .before .sift-in .ensures) _ _ (p .1 .1 .0 .0) _ (rw (c .before .before .before .before .before .before .before .r .given .1) at (c .before .before .before .before .before .before .before .before .before .before .before .before .rest-in .ensures)) _ (c .before .before .before .before .before .placeless .ensures) _ _ (sym (c .before .f .given .1) ∙ c .before .before .before .settle .ensures)
+    let p = c .before .before .before .before .before .before .before .before .before .before .before .before .before .before .before
+    .before .before .before .before .before .before .before .before .pre in
+    body-unheld _ _ (p .1 .0 .0) _ _ _ _ _ _ _ _
+    (c .before .before .before .before .before .before .before .before .before .before .before .before .before .before .before .before
+    .before .sift-in .ensures) _ _ (p .1 .1 .0 .0) _
+    (rw (c .before .before .before .before .before .before .before .r .given .1) at
+    (c .before .before .before .before .before .before .before .before .before .before .before .before .rest-in .ensures)) _
+    (c .before .before .before .before .before .placeless .ensures) _ _
+    (sym (c .before .f .given .1) ∙ c .before .before .before .settle .ensures)
 
 returns-3 : tie.Need-returns-3
 returns-3 c =
-    let p = c .before .before .before .before .before .before .before .before .before .before .before .before .before .before .before .before .before .pre in
-    body-not _ _ (p .1 .0 .0) _ _ _ _ _ _ _ _ (c .before .before .before .before .before .before .before .before .before .before .before .sift-in .ensures) _ _ (p .1 .1 .0 .0) _ _ (rw (c .before .f2 .given .1) at (c .before .before .before .before .before .before .rest-in .ensures))
+    let p = c .before .before .before .before .before .before .before .before .before .before .before .before .before .before .before
+    .before .before .pre in
+    body-not _ _ (p .1 .0 .0) _ _ _ _ _ _ _ _
+    (c .before .before .before .before .before .before .before .before .before .before .before .sift-in .ensures) _ _ (p .1 .1 .0 .0) _ _
+    (rw (c .before .f2 .given .1) at (c .before .before .before .before .before .before .rest-in .ensures))
 
 pub body-at-spec : {M : Type 1} → statement M
 body-at-spec =

@@ -11,14 +11,16 @@ use Rattle.sheets.proofs.end_in.Statement.{statement}
 use Rattle.sheets.proofs.end_in.Tie as tie
 
 close-in-requires : tie.Need-close-in-requires
-close-in-requires c κs = let a = c .before .before .before .args in within-first (a .d .now) (a .at) (c .find-open .result) (c .find-open .ensures .1)
+close-in-requires c κs = let a = c .before .before .before .args in
+    within-first (a .d .now) (a .at) (c .find-open .result) (c .find-open .ensures .1)
 
 returns : tie.Need-returns
 returns c =
     let a = c .before .before .before .before .args in
     let x = within (a .bad) (a .d .now) VARIABLE (a .at) in (
       c .close-in .ensures .0
-          ∙ ap (λ (r : Result Open). readingOf (bind r (over (a .bad) (a .d .now)))) (ap readOf (c .before .find-open .ensures .0) ∙ read-open x),
+          ∙ ap (λ (r : Result Open). readingOf (bind r (over (a .bad) (a .d .now))))
+          (ap readOf (c .before .find-open .ensures .0) ∙ read-open x),
       c .close-in .ensures .1,
     )
 

@@ -8,7 +8,8 @@ use Rattle.sheets.proofs.name_in.Statement.{statement}
 use Rattle.sheets.proofs.name_in.Tie as tie
 
 naming-at-requires : tie.Need-naming-at-requires
-naming-at-requires c κs = let v = rw (c .before .place .given .1) at (c .before .before .before .next-due .ensures .1) in (c .before .before .before .before .before .before .pre .0, v .1)
+naming-at-requires c κs = let v = rw (c .before .place .given .1) at
+    (c .before .before .before .next-due .ensures .1) in (c .before .before .before .before .before .before .pre .0, v .1)
 
 returns : tie.Need-returns
 returns c =
@@ -30,4 +31,5 @@ returns-2 c =
     }
 
 pub name-in-spec : {M : Type 1} → statement M
-name-in-spec = tie.close (tie.spec (λ c. search needs) (λ c κs. search needs) (λ c. search needs) naming-at-requires (λ c. search needs) returns returns-2)
+name-in-spec = tie.close (tie.spec (λ c. search needs) (λ c κs. search needs) (λ c. search needs) naming-at-requires (λ c. search needs)
+    returns returns-2)

@@ -11,7 +11,8 @@ use Rattle.sheets.proofs.next_due.Statement.{statement}
 use Rattle.sheets.proofs.next_due.Tie as tie
 
 tag-due-requires : tie.Need-tag-due-requires
-tag-due-requires c κs = let a = c .before .before .before .before .args in within-first (a .d .now) (a .at) (c .find-open .result) (c .find-open .ensures .1)
+tag-due-requires c κs = let a = c .before .before .before .before .args in
+    within-first (a .d .now) (a .at) (c .find-open .result) (c .find-open .ensures .1)
 
 returns : tie.Need-returns
 returns c =
@@ -19,7 +20,8 @@ returns c =
     let x = within (a .bad) (a .d .now) VARIABLE (a .at) in
     let e : c .tag-due .result ≡ dueOf (dueIn (a .bad) (a .d .now) (a .w .now) (a .at)) =
     c .tag-due .ensures
-    ∙ ap (λ (r : Result Open). dueOf (bind r (λ o. due (a .bad) (a .d .now) (a .w .now) o give))) (ap readOf (c .before .find-open .ensures .0) ∙ read-open x) in
+    ∙ ap (λ (r : Result Open). dueOf (bind r (λ o. due (a .bad) (a .d .now) (a .w .now) o give)))
+    (ap readOf (c .before .find-open .ensures .0) ∙ read-open x) in
     (e, rw e (due-ends (a .bad) (a .d .now) (a .w .now) (a .at)))
 
 pub next-due-spec : {M : Type 1} → statement M

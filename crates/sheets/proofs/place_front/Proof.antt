@@ -10,8 +10,11 @@ returns c =
     let a = c .before .before .before .before .before .before .before .args in
     let e = sym (c .before .before .before .before .before .position-in .ensures .0) ∙ c .before .before .before .q .given .1 in
     let v = rw (c .before .before .before .q .given .1) at (c .before .before .before .before .before .position-in .ensures .1) in
-    rw (c .text-of2 .ensures, c .before .text-of .ensures)
-    (placed-by (a .ident) (a .kind) (a .usage) (a .a) (a .b) (positionIn (a .bad) (a .d .now) (a .b .next)) (c .before .before .before .q .given .0 .0) e, (v .0, c .before .before .before .before .before .before .before .pre .0, v .1, v .2, v .3))
+    rw (c .text-of2 .ensures, c .before .text-of .ensures) (
+      placed-by (a .ident) (a .kind) (a .usage) (a .a) (a .b) (positionIn (a .bad) (a .d .now) (a .b .next))
+          (c .before .before .before .q .given .0 .0) e,
+      (v .0, c .before .before .before .before .before .before .before .pre .0, v .1, v .2, v .3),
+    )
 
 returns-2 : tie.Need-returns-2
 returns-2 c =
@@ -20,4 +23,5 @@ returns-2 c =
     (placed-not (a .ident) (a .kind) (a .usage) (a .a) (a .b) (positionIn (a .bad) (a .d .now) (a .b .next)) e, tt)
 
 pub place-front-spec : {M : Type 1} → statement M
-place-front-spec = tie.close (tie.spec (λ c κs. search needs) (λ c. search needs) (λ c κs. search needs) (λ c κs. search needs) (λ c. search needs) returns returns-2)
+place-front-spec = tie.close (tie.spec (λ c κs. search needs) (λ c. search needs) (λ c κs. search needs) (λ c κs. search needs)
+    (λ c. search needs) returns returns-2)

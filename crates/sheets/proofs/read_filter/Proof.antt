@@ -26,8 +26,10 @@ returns c =
     let R = ap readOf (c .before .find-open .ensures .0) ∙ read-open (within (a .bad) (a .d .now) VARIABLE n) in
     record {
       is = λ l h. c .sift-by .ensures ∙ ap (λ (x : Result Open). siftedOf (bind x λ y k. Is (with f y) k)) R
-          ∙ rw (filter-is (filter (a .bad) (a .d .now) (a .m .latin) (a .m .standard) l (record { place = a .name .place; length = a .name .length }) (a .usage) (a .place) (a .end))
-          (sym (c .before .before .before .before .before .before .filter-at .ensures .is l h) ∙ c .before .before .before .before .filter .given .1));
+          ∙ rw (filter-is (filter (a .bad) (a .d .now) (a .m .latin) (a .m .standard) l
+          (record { place = a .name .place; length = a .name .length }) (a .usage) (a .place) (a .end))
+          (sym (c .before .before .before .before .before .before .filter-at .ensures .is l h)
+          ∙ c .before .before .before .before .filter .given .1));
       ends = rw (c .sift-by .ensures) (sifted-tag (a .d .now) f o (within-first (a .d .now) n o (c .before .find-open .ensures .1)));
     }
 
@@ -35,10 +37,12 @@ returns-2 : tie.Need-returns-2
 returns-2 c =
     let a = c .before .before .before .before .before .args in
     record {
-      is = λ l h. rw (filter-not (filter (a .bad) (a .d .now) (a .m .latin) (a .m .standard) l (record { place = a .name .place; length = a .name .length }) (a .usage) (a .place) (a .end))
+      is = λ l h. rw (filter-not (filter (a .bad) (a .d .now) (a .m .latin) (a .m .standard) l
+          (record { place = a .name .place; length = a .name .length }) (a .usage) (a .place) (a .end))
           (sym (c .before .before .before .filter-at .ensures .is l h) ∙ c .before .f .given .1));
       ends = tt;
     }
 
 pub read-filter-spec : {M : Type 1} → statement M
-read-filter-spec = tie.close (tie.spec (λ c κs. search needs) (λ c. search needs) (λ c. search needs) find-open-requires (λ c κs. search needs) (λ c. search needs) returns returns-2)
+read-filter-spec = tie.close (tie.spec (λ c κs. search needs) (λ c. search needs) (λ c. search needs) find-open-requires
+    (λ c κs. search needs) (λ c. search needs) returns returns-2)

@@ -12,19 +12,24 @@ use Rattle.sheets.proofs.rest_in.Tie as tie
 returns : tie.Need-returns
 returns c =
     let a = c .before .before .before .before .before .before .before .before .before .args in
-    kinded (a .bad) (a .d .now) (ruleOf (a .m)) (a .before) {room = a .room} (readOf (a .o)) (c .before .before .before .before .before .before .if1 .taken)
-    (rests-of single (λ b n. refl) (λ b. refl) (content-single (a .bad) (a .d .now) (ruleOf (a .m)) (a .before) (a .room) (readOf (a .o))) (c .before .before .before .values-rest .ensures))
+    kinded (a .bad) (a .d .now) (ruleOf (a .m)) (a .before) {room = a .room} (readOf (a .o))
+    (c .before .before .before .before .before .before .if1 .taken)
+    (rests-of single (λ b n. refl) (λ b. refl) (content-single (a .bad) (a .d .now) (ruleOf (a .m)) (a .before) (a .room) (readOf (a .o)))
+    (c .before .before .before .values-rest .ensures))
 
 returns-2 : tie.Need-returns-2
 returns-2 c =
     let a = c .before .before .before .before .before .before .before .before .before .before .args in
-    kinded (a .bad) (a .d .now) (ruleOf (a .m)) (a .before) {room = a .room} (readOf (a .o)) (c .before .before .before .before .before .before .if2 .taken) (c .before .before .before .spread-rest .ensures)
+    kinded (a .bad) (a .d .now) (ruleOf (a .m)) (a .before) {room = a .room} (readOf (a .o))
+    (c .before .before .before .before .before .before .if2 .taken) (c .before .before .before .spread-rest .ensures)
 
 returns-3 : tie.Need-returns-3
 returns-3 c =
     let a = c .before .before .before .before .before .before .before .before .before .before .before .args in
-    kinded (a .bad) (a .d .now) (ruleOf (a .m)) (a .before) {room = a .room} (readOf (a .o)) (c .before .before .before .before .before .before .if3 .taken)
-    (rests-of quantity (λ b n. refl) (λ b. refl) (content-quantity (a .bad) (a .d .now) (ruleOf (a .m)) (a .before) (a .room) (readOf (a .o))) (c .before .before .before .values-rest2 .ensures))
+    kinded (a .bad) (a .d .now) (ruleOf (a .m)) (a .before) {room = a .room} (readOf (a .o))
+    (c .before .before .before .before .before .before .if3 .taken)
+    (rests-of quantity (λ b n. refl) (λ b. refl) (content-quantity (a .bad) (a .d .now) (ruleOf (a .m)) (a .before) (a .room)
+    (readOf (a .o))) (c .before .before .before .values-rest2 .ensures))
 
 returns-4 : tie.Need-returns-4
 returns-4 c =
@@ -35,11 +40,16 @@ returns-4 c =
 returns-5 : tie.Need-returns-5
 returns-5 c =
     let a = c .before .before .before .before .before .before .before .before .args in
-    rests-logical (a .bad) (a .d .now) (ruleOf (a .m)) (a .before) (a .room) (a .kind) (readOf (a .o)) (ne-eqb (a .kind) 1 (c .before .before .before .before .before .if1 .left)) (ne-eqb (a .kind) 2 (c .before .before .before .before .if2 .left))
-    (ne-eqb (a .kind) 3 (c .before .before .before .if3 .left)) (ne-eqb (a .kind) 4 (c .before .before .if4 .left)) (c .plain-rest .ensures ∙ ap (plainOf 0 (a .before)) (c .before .close-in .ensures .0))
+    rests-logical (a .bad) (a .d .now) (ruleOf (a .m)) (a .before) (a .room) (a .kind) (readOf (a .o))
+    (ne-eqb (a .kind) 1 (c .before .before .before .before .before .if1 .left))
+    (ne-eqb (a .kind) 2 (c .before .before .before .before .if2 .left))
+    (ne-eqb (a .kind) 3 (c .before .before .before .if3 .left)) (ne-eqb (a .kind) 4 (c .before .before .if4 .left))
+    (c .plain-rest .ensures ∙ ap (plainOf 0 (a .before)) (c .before .close-in .ensures .0))
 
 pub rest-in-spec : {M : Type 1} → statement M
 rest-in-spec =
     tie.close
-    (tie.spec (λ c κs. search needs) (λ c. search needs) (λ c. search needs) returns (λ c κs. search needs) (λ c. search needs) (λ c. search needs) returns-2
-    (λ c κs. search needs) (λ c. search needs) (λ c. search needs) returns-3 (λ c κs. search needs) returns-4 (λ c κs. search needs) (λ c κs. search needs) returns-5)
+    (tie.spec (λ c κs. search needs) (λ c. search needs) (λ c. search needs) returns (λ c κs. search needs) (λ c. search needs)
+    (λ c. search needs) returns-2
+    (λ c κs. search needs) (λ c. search needs) (λ c. search needs) returns-3 (λ c κs. search needs) returns-4 (λ c κs. search needs)
+    (λ c κs. search needs) returns-5)

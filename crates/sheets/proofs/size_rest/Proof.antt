@@ -10,29 +10,45 @@ use Rattle.sheets.proofs.size_rest.Tie as tie
 size-at-requires : tie.Need-size-at-requires
 size-at-requires c κs =
     let a = c .before .before .before .before .before .before .args in
-    due-within (a .bad) (a .d .now) SIZE (a .o) (c .before .before .before .before .before .before .pre) (sym (c .before .before .before .tag-due .ensures) ∙ c .before .place .given .1) .1
+    due-within (a .bad) (a .d .now) SIZE (a .o) (c .before .before .before .before .before .before .pre)
+    (sym (c .before .before .before .tag-due .ensures) ∙ c .before .place .given .1) .1
 
 end-in-requires : tie.Need-end-in-requires
 end-in-requires c κs =
     let a = c .before .before .before .before .before .before .before .before .before .before .args in
-    let b = due-within (a .bad) (a .d .now) SIZE (a .o) (c .before .before .before .before .before .before .before .before .before .before .pre) (sym (c .before .before .before .before .before .before .before .tag-due .ensures) ∙ c .before .before .before .before .before .place .given .1) in
+    let b = due-within (a .bad) (a .d .now) SIZE (a .o)
+    (c .before .before .before .before .before .before .before .before .before .before .pre)
+    (sym (c .before .before .before .before .before .before .before .tag-due .ensures)
+    ∙ c .before .before .before .before .before .place .given .1) in
     size-next (a .bad) (a .d .now) _ _ _ (b .0) (sym (c .before .before .before .size-at .ensures) ∙ c .before .x .given .1)
 
 returns : tie.Need-returns
 returns c =
     let a = c .before .before .before .before .before .before .before .before .before .before .before .before .args in
-    let e = size-ended (a .bad) (a .d .now) (a .o) (sym (c .before .before .before .before .before .before .before .before .before .tag-due .ensures) ∙ c .before .before .before .before .before .before .before .place .given .1) in
+    let e = size-ended (a .bad) (a .d .now) (a .o)
+    (sym (c .before .before .before .before .before .before .before .before .before .tag-due .ensures)
+    ∙ c .before .before .before .before .before .before .before .place .given .1) in
     c .plain-rest .ensures
-    ∙ rw (c .before .end-in .ensures .0) (sized-by (a .bad) (a .d .now) (a .before) (size (a .bad) (a .d .now) (c .before .before .before .before .before .before .before .place .given .0 .0) (c .before .before .before .before .before .before .before .place .given .0 .1 .0)) (c .before .before .before .x .given .0 .0) (sym (c .before .before .before .before .before .size-at .ensures) ∙ c .before .before .before .x .given .1) ∙ ap (sizedOf (a .before)) (sym e))
+    ∙ rw (c .before .end-in .ensures .0) (sized-by (a .bad) (a .d .now) (a .before)
+    (size (a .bad) (a .d .now) (c .before .before .before .before .before .before .before .place .given .0 .0)
+    (c .before .before .before .before .before .before .before .place .given .0 .1 .0)) (c .before .before .before .x .given .0 .0)
+    (sym (c .before .before .before .before .before .size-at .ensures) ∙ c .before .before .before .x .given .1)
+    ∙ ap (sizedOf (a .before)) (sym e))
 
 returns-2 : tie.Need-returns-2
 returns-2 c =
     let a = c .before .before .before .before .before .before .before .before .before .before .args in
-    let e = size-ended (a .bad) (a .d .now) (a .o) (sym (c .before .before .before .before .before .before .before .tag-due .ensures) ∙ c .before .before .before .before .before .place .given .1) in
-    sized-not (a .bad) (a .d .now) (a .before) (size (a .bad) (a .d .now) (c .before .before .before .before .before .place .given .0 .0) (c .before .before .before .before .before .place .given .0 .1 .0)) (sym (c .before .before .before .size-at .ensures) ∙ c .before .f .given .1) ∙ ap (sizedOf (a .before)) (sym e)
+    let e = size-ended (a .bad) (a .d .now) (a .o)
+    (sym (c .before .before .before .before .before .before .before .tag-due .ensures)
+    ∙ c .before .before .before .before .before .place .given .1) in
+    sized-not (a .bad) (a .d .now) (a .before) (size (a .bad) (a .d .now) (c .before .before .before .before .before .place .given .0 .0)
+    (c .before .before .before .before .before .place .given .0 .1 .0))
+    (sym (c .before .before .before .size-at .ensures) ∙ c .before .f .given .1) ∙ ap (sizedOf (a .before)) (sym e)
 
 returns-3 : tie.Need-returns-3
-returns-3 c = let a = c .before .before .before .before .before .before .args in rw (size-never (a .bad) (a .d .now) (a .o) (sym (c .before .before .before .tag-due .ensures) ∙ c .before .f2 .given .1))
+returns-3 c = let a = c .before .before .before .before .before .before .args in
+    rw (size-never (a .bad) (a .d .now) (a .o) (sym (c .before .before .before .tag-due .ensures) ∙ c .before .f2 .given .1))
 
 pub size-rest-spec : {M : Type 1} → statement M
-size-rest-spec = tie.close (tie.spec (λ c. search needs) (λ c κs. search needs) (λ c. search needs) size-at-requires (λ c. search needs) end-in-requires (λ c κs. search needs) (λ c. search needs) (λ c. search needs) returns returns-2 returns-3)
+size-rest-spec = tie.close (tie.spec (λ c. search needs) (λ c κs. search needs) (λ c. search needs) size-at-requires (λ c. search needs)
+    end-in-requires (λ c κs. search needs) (λ c. search needs) (λ c. search needs) returns returns-2 returns-3)

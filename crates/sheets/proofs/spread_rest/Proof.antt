@@ -16,7 +16,8 @@ use Rattle.xml_laws.specs.Reads.{spread-fine}
 use Rattle.sheets.specs.Code.{valuesEnded}
 use Rattle.sheets.proofs.Parts.{within-first}
 use Rattle.sheets.proofs.Rests.{due-within}
-use Rattle.sheets.proofs.TypedRest.{spread-read, spread-refused, rests-of, rests-spread, rests-not, content-unspread, spread-stands, content-spread, spread-not}
+use Rattle.sheets.proofs.TypedRest.{spread-read, spread-refused, rests-of, rests-spread, rests-not, content-unspread, spread-stands}
+use Rattle.sheets.proofs.TypedRest.{content-spread, spread-not}
 use Rattle.sheets.proofs.spread_rest.Statement.{statement}
 use Rattle.sheets.proofs.spread_rest.Tie as tie
 
@@ -24,55 +25,92 @@ returns : tie.Need-returns
 returns c =
     let a = c .before .before .before .before .before .before .before .before .before .before .before .args in
     rests-of (multiple none) (λ b n. refl) (λ b. refl)
-    (content-unspread (a .bad) (a .d .now) (ruleOf (a .m)) (a .before) (a .room) (a .o) (sym (c .before .before .before .before .before .before .before .is-start .ensures) ∙ not-true _ (c .before .before .before .before .before .before .if1 .taken)))
+    (content-unspread (a .bad) (a .d .now) (ruleOf (a .m)) (a .before) (a .room) (a .o)
+    (sym (c .before .before .before .before .before .before .before .is-start .ensures)
+    ∙ not-true _ (c .before .before .before .before .before .before .if1 .taken)))
     (c .before .before .before .values-rest .ensures)
 
 spread-at-requires : tie.Need-spread-at-requires
 spread-at-requires c κs =
     let a = c .before .before .before .before .before .before .before .before .before .before .args in
-    let p = c .before .before .before .before .before .before .before .before .before .before .pre in
-    (due-within (a .bad) (a .d .now) SPREAD (a .o) (p .0 .0) (sym (c .before .before .before .tag-due .ensures) ∙ c .before .place .given .1) .1, omega (arith, p .0 .3))
+    let p = c .before .before .before .before .before .before .before .before .before .before .pre in (
+      due-within (a .bad) (a .d .now) SPREAD (a .o) (p .0 .0)
+          (sym (c .before .before .before .tag-due .ensures) ∙ c .before .place .given .1) .1,
+      omega (arith, p .0 .3),
+    )
 
 find-open-requires : tie.Need-find-open-requires
 find-open-requires c κs =
-    let a = c .before .before .before .before .before .before .before .before .before .before .before .before .before .before .before .args in
-    let p = c .before .before .before .before .before .before .before .before .before .before .before .before .before .before .before .pre in
-    let y = spread-read (a .room) (spread (a .bad) (a .d .now) (a .room) _ _) (sym (c .before .before .before .before .spread-at .ensures) ∙ c .before .before .s .given .1) in
+    let a = c .before .before .before .before .before .before .before .before .before .before .before .before .before .before .before
+    .args in
+    let p = c .before .before .before .before .before .before .before .before .before .before .before .before .before .before .before
+    .pre in
+    let y = spread-read (a .room) (spread (a .bad) (a .d .now) (a .room) _ _)
+    (sym (c .before .before .before .before .spread-at .ensures) ∙ c .before .before .s .given .1) in
     spread-fine (a .bad) (a .d .now) (a .room) _ _ (p .0 .2) (p .0 .3) (y .is) .next
 
 values-rest-requires-2 : tie.Need-values-rest-requires-2
 values-rest-requires-2 c κs =
-    let a = c .before .before .before .before .before .before .before .before .before .before .before .before .before .before .before .before .before .before .args in
-    let p = c .before .before .before .before .before .before .before .before .before .before .before .before .before .before .before .before .before .before .pre in
-    ((within-first (a .d .now) (c .before .before .before .before .before .s .given .0 .0 .next) (c .before .before .find-open .result) (c .before .before .find-open .ensures .1), p .0 .1), p .1)
+    let a = c .before .before .before .before .before .before .before .before .before .before .before .before .before .before .before
+    .before .before .before .args in
+    let p = c .before .before .before .before .before .before .before .before .before .before .before .before .before .before .before
+    .before .before .before .pre in (
+      (
+        within-first (a .d .now) (c .before .before .before .before .before .s .given .0 .0 .next) (c .before .before .find-open .result)
+            (c .before .before .find-open .ensures .1),
+        p .0 .1,
+      ),
+      p .1,
+    )
 
 returns-2 : tie.Need-returns-2
 returns-2 c =
-    let a = c .before .before .before .before .before .before .before .before .before .before .before .before .before .before .before .before .before .before .before .before .before .before .args in
+    let a = c .before .before .before .before .before .before .before .before .before .before .before .before .before .before .before
+    .before .before .before .before .before .before .before .args in
     let n = c .before .before .before .before .before .before .before .before .before .s .given .0 .0 .next in
-    let y = spread-read (a .room) (spread (a .bad) (a .d .now) (a .room) _ _) (sym (c .before .before .before .before .before .before .before .before .before .before .before .spread-at .ensures) ∙ c .before .before .before .before .before .before .before .before .before .s .given .1) in
-    let e = content-spread (a .bad) (a .d .now) (ruleOf (a .m)) (a .before) (a .room) (a .o) (sym (c .before .before .before .before .before .before .before .before .before .before .before .before .before .before .before .before .before .before .is-start .ensures) ∙ not-false _ (c .before .before .before .before .before .before .before .before .before .before .before .before .before .before .before .before .before .if1 .left))
-    (sym (c .before .before .before .before .before .before .before .before .before .before .before .before .before .before .before .tag-due .ensures) ∙ c .before .before .before .before .before .before .before .before .before .before .before .before .before .place .given .1) (y .spread) n (y .is) in
+    let y = spread-read (a .room) (spread (a .bad) (a .d .now) (a .room) _ _)
+    (sym (c .before .before .before .before .before .before .before .before .before .before .before .spread-at .ensures)
+    ∙ c .before .before .before .before .before .before .before .before .before .s .given .1) in
+    let e = content-spread (a .bad) (a .d .now) (ruleOf (a .m)) (a .before) (a .room) (a .o)
+    (sym (c .before .before .before .before .before .before .before .before .before .before .before .before .before .before .before .before
+    .before .before .is-start .ensures) ∙ not-false _
+    (c .before .before .before .before .before .before .before .before .before .before .before .before .before .before .before .before
+    .before .if1 .left))
+    (sym (c .before .before .before .before .before .before .before .before .before .before .before .before .before .before .before .tag-due
+    .ensures) ∙ c .before .before .before .before .before .before .before .before .before .before .before .before .before .place .given .1)
+    (y .spread) n (y .is) in
     let o : readOf (c .before .before .before .before .before .before .find-open .result) ≡ within (a .bad) (a .d .now) VARIABLE n =
-    ap readOf (c .before .before .before .before .before .before .find-open .ensures .0) ∙ read-open (within (a .bad) (a .d .now) VARIABLE n) in
+    ap readOf (c .before .before .before .before .before .before .find-open .ensures .0)
+    ∙ read-open (within (a .bad) (a .d .now) VARIABLE n) in
     rests-spread (y .spread) (y .count-is) (y .width-is)
-    (e ∙ ap (λ (r : Result Open). bind (bind r (valuesEnded (a .bad) (a .d .now) (a .m .languages) false (a .before))) (λ b n. Is (multiple (some (y .spread)) b) n)) (sym o))
+    (e ∙ ap (λ (r : Result Open). bind (bind r (valuesEnded (a .bad) (a .d .now) (a .m .languages) false (a .before)))
+    (λ b n. Is (multiple (some (y .spread)) b) n)) (sym o))
     (c .before .before .before .values-rest2 .ensures)
 
 returns-3 : tie.Need-returns-3
 returns-3 c =
     let a = c .before .before .before .before .before .before .before .before .before .before .before .before .before .before .args in
-    rests-not (spread-not (a .bad) (a .d .now) (ruleOf (a .m)) (a .before) (a .room) (a .o) (sym (c .before .before .before .before .before .before .before .before .before .before .is-start .ensures) ∙ not-false _ (c .before .before .before .before .before .before .before .before .before .if1 .left))
-    (sym (c .before .before .before .before .before .before .before .tag-due .ensures) ∙ c .before .before .before .before .before .place .given .1) (spread-refused (a .room) (spread (a .bad) (a .d .now) (a .room) _ _) (sym (c .before .before .before .spread-at .ensures) ∙ c .before .f .given .1)))
+    rests-not (spread-not (a .bad) (a .d .now) (ruleOf (a .m)) (a .before) (a .room) (a .o)
+    (sym (c .before .before .before .before .before .before .before .before .before .before .is-start .ensures)
+    ∙ not-false _ (c .before .before .before .before .before .before .before .before .before .if1 .left))
+    (sym (c .before .before .before .before .before .before .before .tag-due .ensures)
+    ∙ c .before .before .before .before .before .place .given .1)
+    (spread-refused (a .room) (spread (a .bad) (a .d .now) (a .room) _ _)
+    (sym (c .before .before .before .spread-at .ensures) ∙ c .before .f .given .1)))
 
 returns-4 : tie.Need-returns-4
 returns-4 c =
     let a = c .before .before .before .before .before .before .before .before .before .before .args in
-    spread-stands (a .bad) (a .d .now) (ruleOf (a .m)) (a .before) (a .o) (sym (c .before .before .before .before .before .before .is-start .ensures) ∙ not-false _ (c .before .before .before .before .before .if1 .left)) (sym (c .before .before .before .tag-due .ensures) ∙ c .before .f2 .given .1)
+    spread-stands (a .bad) (a .d .now) (ruleOf (a .m)) (a .before) (a .o)
+    (sym (c .before .before .before .before .before .before .is-start .ensures)
+    ∙ not-false _ (c .before .before .before .before .before .if1 .left))
+    (sym (c .before .before .before .tag-due .ensures) ∙ c .before .f2 .given .1)
 
 pub spread-rest-spec : {M : Type 1} → statement M
 spread-rest-spec =
     tie.close
-    (tie.spec (λ c. search needs) (λ c κs. search needs) (λ c κs. search needs) (λ c. search needs) (λ c. search needs) returns (λ c. search needs) (λ c κs. search needs)
-    (λ c. search needs) spread-at-requires (λ c. search needs) (λ c. search needs) find-open-requires values-rest-requires-2 (λ c. search needs) (λ c. search needs)
+    (tie.spec (λ c. search needs) (λ c κs. search needs) (λ c κs. search needs) (λ c. search needs) (λ c. search needs) returns
+    (λ c. search needs) (λ c κs. search needs)
+    (λ c. search needs) spread-at-requires (λ c. search needs) (λ c. search needs) find-open-requires values-rest-requires-2
+    (λ c. search needs) (λ c. search needs)
     (λ c. search needs) (λ c. search needs) returns-2 returns-3 returns-4)

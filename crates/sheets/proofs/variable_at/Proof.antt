@@ -16,8 +16,10 @@ body-at-requires c κs =
         (
           p .1 .1,
           (
-            rw (c .before .before .before .before .head .given .1) at (c .before .before .before .before .before .before .front-at .ensures .ends),
-            λ l b. front-given _ _ _ _ (a .y) _ _ _ _ _ _ _ (c .before .before .before .before .before .before .front-at .ensures) (c .before .before .before .before .head .given .1) l b .read,
+            rw (c .before .before .before .before .head .given .1) at
+                (c .before .before .before .before .before .before .front-at .ensures .ends),
+            λ l b. front-given _ _ _ _ (a .y) _ _ _ _ _ _ _ (c .before .before .before .before .before .before .front-at .ensures)
+                (c .before .before .before .before .head .given .1) l b .read,
           ),
         ),
       ),
@@ -25,8 +27,12 @@ body-at-requires c κs =
 
 returns : tie.Need-returns
 returns c =
-    let a = c .before .before .before .before .before .before .before .before .before .before .before .before .before .before .before .before .args in
-    joined _ _ _ _ (a .y) _ _ _ _ _ _ _ _ _ _ (λ l b. front-given _ _ _ _ (a .y) _ _ _ _ _ _ _ (c .before .before .before .before .before .before .before .before .before .before .before .front-at .ensures) (c .before .before .before .before .before .before .before .before .before .head .given .1) l b) (c .before .before .before .before .body-at .ensures)
+    let a = c .before .before .before .before .before .before .before .before .before .before .before .before .before .before .before
+    .before .args in
+    joined _ _ _ _ (a .y) _ _ _ _ _ _ _ _ _ _ (λ l b. front-given _ _ _ _ (a .y) _ _ _ _ _ _ _
+    (c .before .before .before .before .before .before .before .before .before .before .before .front-at .ensures)
+    (c .before .before .before .before .before .before .before .before .before .head .given .1) l b)
+    (c .before .before .before .before .body-at .ensures)
 
 returns-2 : tie.Need-returns-2
 returns-2 c =

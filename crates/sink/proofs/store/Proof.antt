@@ -10,7 +10,8 @@ use lib.Seq.{sets, drop-cons}
 use Rattle.sink.proofs.store.Statement.{statement}
 use Rattle.sink.proofs.store.Tie as tie
 
-on : (out s : List ℕ) (at i : ℕ) → i < length s → sets (set out (at + i) (getD s i 0)) (at + (i + 1)) (drop (i + 1) s) ≡ sets out (at + i) (drop i s)
+on : (out s : List ℕ) (at i : ℕ) → i < length s → sets (set out (at + i) (getD s i 0)) (at + (i + 1)) (drop (i + 1) s)
+    ≡ sets out (at + i) (drop i s)
 on out s at i h = rw (add-one i, add-suc, drop-cons s i 0 h)
 
 done : (out s : List ℕ) (at i : ℕ) → length s ≤ i → sets out (at + i) (drop i s) ≡ out

@@ -1,4 +1,5 @@
--- Bytes sent one behind the other, to be measured or stored. Nothing is stored past the buffer's end, and no place from `bound` on is told from
+-- Bytes sent one behind the other, to be measured or stored. Nothing is stored past the buffer's end, and no place from `bound` on is told
+-- from
 -- another: so one walk measures a text in a buffer that has no room for it, and stores it in one that has.
 use mathlib.Core.Path.{_≡_}
 use mathlib.Core.List.{List}

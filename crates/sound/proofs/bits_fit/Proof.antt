@@ -10,7 +10,12 @@ use Rattle.sound.proofs.bits_fit.Tie as tie
 
 returns : tie.Need-returns
 unfolding widthGood roomGood endsWidth need rowOf _and_
-returns c = rw (c .width-held .ensures, c .before .before .signed-of .ensures, toZ-ofZ (sfits-of (c .before .before .before .top-of .ok)), c .before .before .before .top-of .ensures)
+returns c = rw (
+  c .width-held .ensures,
+  c .before .before .signed-of .ensures,
+  toZ-ofZ (sfits-of (c .before .before .before .top-of .ok)),
+  c .before .before .before .top-of .ensures,
+)
 
 pub bits-fit-spec : {M : Type 1} → statement M
 bits-fit-spec =

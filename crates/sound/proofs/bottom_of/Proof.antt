@@ -17,7 +17,8 @@ least-back c = search needs
 
 returns : tie.Need-returns
 unfolding bottomOf rowOf
-returns c = toZ-ofZ (sfits-of (c .lesser .ok)) ∙ c .lesser .ensures ∙ rw (from-back (c .before .before .before), least-back (c .before .before .before), c .before .if1 .taken)
+returns c = toZ-ofZ (sfits-of (c .lesser .ok)) ∙ c .lesser .ensures
+    ∙ rw (from-back (c .before .before .before), least-back (c .before .before .before), c .before .if1 .taken)
 
 returns-2 : tie.Need-returns-2
 unfolding bottomOf rowOf

@@ -15,11 +15,19 @@ unfolding widthGood roomGood endsWidth need rowOf _and_
 returns c = rw (← c .before .before .top-digits .ensures, ne-eqb _ _ (c .if1 .taken))
 
 subfields-fit-requires : tie.Need-subfields-fit-requires
-subfields-fit-requires c κs = let p = c .before .before .before .before .pre .1 .0 in (c .before .before .before .before .pre .1 .1, (p .from-one, omega arith, p .low))
+subfields-fit-requires c κs = let p = c .before .before .before .before .pre .1 .0 in (
+  c .before .before .before .before .pre .1 .1,
+  (p .from-one, omega arith, p .low),
+)
 
 returns-2 : tie.Need-returns-2
 unfolding widthGood roomGood endsWidth need rowOf _and_
-returns-2 c = rw (c .subfields-fit .ensures, ← c .before .before .before .before .top-digits .ensures, c .before .before .if1 .left, eq-eqb (c .before .before .before .before .top-digits .result) _ refl)
+returns-2 c = rw (
+  c .subfields-fit .ensures,
+  ← c .before .before .before .before .top-digits .ensures,
+  c .before .before .if1 .left,
+  eq-eqb (c .before .before .before .before .top-digits .result) _ refl,
+)
 
 pub fields-fit-spec : {M : Type 1} → statement M
 fields-fit-spec =

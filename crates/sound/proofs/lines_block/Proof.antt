@@ -10,7 +10,8 @@ returns : tie.Need-returns
 returns c = rw (c .range-block .ensures) (told-none _ _ _ (c .before .if1 .taken))
 
 returns-2 : tie.Need-returns-2
-returns-2 c = rw (c .range-block2 .ensures) (told-odd _ _ _ (sym (c .before .before .lines-plain .ensures) ∙ not-true _ (c .before .if2 .taken)))
+returns-2 c = rw (c .range-block2 .ensures) (told-odd _ _ _
+    (sym (c .before .before .lines-plain .ensures) ∙ not-true _ (c .before .if2 .taken)))
 
 block-of-requires : tie.Need-block-of-requires
 block-of-requires c κs = (c .before .before .before .before .pre, omega (arith, c .before .before .if1 .left))

@@ -35,7 +35,9 @@ both true b e = (refl, e)
 both false b e = let q : _≡_ {A = ℕ} 0 1 = cc in absurd (omega arith)
 
 -- the line that was read is line k
-line-here : (c : tie.After-read Inv-loop μ-loop) → linePlain (c .read .result) ≡ plainAt (c .before .before .before .before .args .t .now) (c .before .before .before .before .args .v) (c .before .before .before .before .args .b) (c .before .before .before .loop .k)
+line-here : (c : tie.After-read Inv-loop μ-loop) → linePlain (c .read .result)
+    ≡ plainAt (c .before .before .before .before .args .t .now) (c .before .before .before .before .args .v)
+    (c .before .before .before .before .args .b) (c .before .before .before .loop .k)
 line-here c = rw (c .read .ensures, c .before .base .ensures)
 
 loop-again : tie.Need-loop-again Inv-loop μ-loop
@@ -46,7 +48,9 @@ loop-again c =
       omega arith,
       λ h g. all-more _ _
           (l .inv .1 (omega (arith, h, or-left (l .flags) (r .special))) (omega (arith, g, or-left (l .texts) o)))
-          (sym (line-here c) ∙ plain r (omega (arith, h, or-right (l .flags) (r .special))) (omega (arith, g, or-right (l .texts) o, or-left (r .text) (r .«text_len»))) (omega (arith, g, or-right (l .texts) o, or-right (r .text) (r .«text_len»)))),
+          (sym (line-here c) ∙ plain r (omega (arith, h, or-right (l .flags) (r .special)))
+          (omega (arith, g, or-right (l .texts) o, or-left (r .text) (r .«text_len»)))
+          (omega (arith, g, or-right (l .texts) o, or-right (r .text) (r .«text_len»)))),
     )
 
 returns : tie.Need-returns Inv-loop μ-loop
@@ -54,8 +58,10 @@ unfolding linesPlain
 returns c = λ e.
     let b = both (ltb (c .before .loop .flags) 2) (ltb (c .before .loop .texts) 1048576) e in
     let q : c .before .loop .k ≡ c .before .before .args .n = omega (arith, c .loop-test .left, c .before .loop .inv .0) in
-    rw q at (c .before .loop .inv .1 (omega (arith, ltb-true (c .before .loop .flags) 2 (b .0))) (omega (arith, ltb-true (c .before .loop .texts) 1048576 (b .1))))
+    rw q at (c .before .loop .inv .1 (omega (arith, ltb-true (c .before .loop .flags) 2 (b .0)))
+    (omega (arith, ltb-true (c .before .loop .texts) 1048576 (b .1))))
 
 pub lines-low-spec : {M : Type 1} → statement M
 lines-low-spec =
-    tie.close (tie.spec Inv-loop μ-loop (λ c. (omega arith, λ h g. all-none _)) (λ c. omega arith) (λ c κs. search needs) (λ c κs. search needs) (λ c. omega arith) (λ c. omega arith) loop-again returns)
+    tie.close (tie.spec Inv-loop μ-loop (λ c. (omega arith, λ h g. all-none _)) (λ c. omega arith) (λ c κs. search needs)
+    (λ c κs. search needs) (λ c. omega arith) (λ c. omega arith) loop-again returns)

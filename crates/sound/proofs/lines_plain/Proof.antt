@@ -17,7 +17,10 @@ abbrev μ-loop : tie.MeasureT-loop
 μ-loop t v b n k₀ k = n - k
 
 -- what is answered of line k
-plain-here : (c : tie.After-line-plain Inv-loop μ-loop) → c .line-plain .result ≡ plainAt (c .before .before .before .before .before .before .before .args .t .now) (c .before .before .before .before .before .before .before .args .v) (c .before .before .before .before .before .before .before .args .b) (c .before .before .before .before .loop .k)
+plain-here : (c : tie.After-line-plain Inv-loop μ-loop) → c .line-plain .result
+    ≡ plainAt (c .before .before .before .before .before .before .before .args .t .now)
+    (c .before .before .before .before .before .before .before .args .v)
+    (c .before .before .before .before .before .before .before .args .b) (c .before .before .before .before .loop .k)
 plain-here c = c .line-plain .ensures ∙ rw (c .before .read .ensures, c .before .before .base .ensures)
 
 loop-holds : tie.Need-loop-holds Inv-loop μ-loop
@@ -28,10 +31,15 @@ returns c = sym (c .before .lines-low .ensures (c .if1 .taken))
 
 returns-2 : tie.Need-returns-2 Inv-loop μ-loop
 unfolding linesPlain
-returns-2 c = sym (all-fails _ _ (c .before .before .before .before .before .loop .k) (omega arith) (sym (plain-here (c .before)) ∙ not-true _ (c .if2 .taken)))
+returns-2 c = sym (all-fails _ _ (c .before .before .before .before .before .loop .k) (omega arith)
+    (sym (plain-here (c .before)) ∙ not-true _ (c .if2 .taken)))
 
 loop-again : tie.Need-loop-again Inv-loop μ-loop
-loop-again c = (omega arith, all-more _ _ (c .before .before .before .before .before .loop .inv .1) (sym (plain-here (c .before)) ∙ not-false _ (c .if2 .left)))
+loop-again c = (
+  omega arith,
+  all-more _ _ (c .before .before .before .before .before .loop .inv .1)
+      (sym (plain-here (c .before)) ∙ not-false _ (c .if2 .left)),
+)
 
 returns-3 : tie.Need-returns-3 Inv-loop μ-loop
 unfolding linesPlain
@@ -41,4 +49,5 @@ returns-3 c =
 
 pub lines-plain-spec : {M : Type 1} → statement M
 lines-plain-spec =
-    tie.close (tie.spec Inv-loop μ-loop (λ c κs. search needs) returns loop-holds (λ c. omega arith) (λ c κs. search needs) (λ c κs. search needs) (λ c κs. search needs) returns-2 (λ c. omega arith) (λ c. omega arith) loop-again returns-3)
+    tie.close (tie.spec Inv-loop μ-loop (λ c κs. search needs) returns loop-holds (λ c. omega arith) (λ c κs. search needs)
+    (λ c κs. search needs) (λ c κs. search needs) returns-2 (λ c. omega arith) (λ c. omega arith) loop-again returns-3)

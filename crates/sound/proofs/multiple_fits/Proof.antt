@@ -15,14 +15,23 @@ returns c = sym (and-no _ _ (sym (c .before .numbers-fit .ensures) ∙ not-true 
 
 returns-2 : tie.Need-returns-2
 unfolding valuedBy lowest highest spreadOf
-returns-2 c = c .bits-fit .ensures ∙ sym (rw (eq-eqb _ 0 (c .before .if2 .taken)) (and-yes _ _ (sym (c .before .before .before .before .numbers-fit .ensures) ∙ not-false _ (c .before .before .before .if1 .left))))
+returns-2 c = c .bits-fit .ensures ∙ sym (rw (eq-eqb _ 0 (c .before .if2 .taken))
+    (and-yes _ _ (sym (c .before .before .before .before .numbers-fit .ensures) ∙ not-false _ (c .before .before .before .if1 .left))))
 
 fields-fit-requires : tie.Need-fields-fit-requires
-fields-fit-requires c κs = (c .before .before .before .before .pre .0, (c .before .before .before .before .pre .1 .0, paired-some (c .before .before .before .before .args .c) (c .before .before .before .before .pre .1 .1) (c .if2 .left)))
+fields-fit-requires c κs = (
+  c .before .before .before .before .pre .0,
+  (
+    c .before .before .before .before .pre .1 .0,
+    paired-some (c .before .before .before .before .args .c)
+        (c .before .before .before .before .pre .1 .1) (c .if2 .left),
+  ),
+)
 
 returns-3 : tie.Need-returns-3
 unfolding valuedBy lowest highest spreadOf
-returns-3 c = c .fields-fit .ensures ∙ sym (rw (ne-eqb _ 0 (c .before .if2 .left)) (and-yes _ _ (sym (c .before .before .before .before .numbers-fit .ensures) ∙ not-false _ (c .before .before .before .if1 .left))))
+returns-3 c = c .fields-fit .ensures ∙ sym (rw (ne-eqb _ 0 (c .before .if2 .left))
+    (and-yes _ _ (sym (c .before .before .before .before .numbers-fit .ensures) ∙ not-false _ (c .before .before .before .if1 .left))))
 
 pub multiple-fits-spec : {M : Type 1} → statement M
 multiple-fits-spec =

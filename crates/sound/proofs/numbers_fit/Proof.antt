@@ -18,13 +18,20 @@ most-back c = search needs
 returns : tie.Need-returns
 unfolding numbersWithin
 returns c =
-    sym (and-no _ _ (rw (toZ-ofZ (c .before .before .before .before .fits .low), toZ-ofZ (c .before .before .before .before .fits .high)) at (sym (c .before .range-fits .ensures) ∙ not-true _ (c .if1 .taken))))
+    sym (and-no _ _ (rw (toZ-ofZ (c .before .before .before .before .fits .low), toZ-ofZ (c .before .before .before .before .fits .high)) at
+    (sym (c .before .range-fits .ensures) ∙ not-true _ (c .if1 .taken))))
 
 returns-2 : tie.Need-returns-2
 unfolding numbersWithin
 returns-2 c =
-    rw (toZ-ofZ (c .before .before .before .before .fits .low), toZ-ofZ (c .before .before .before .before .fits .high), least-back (c .before .before), most-back (c .before .before))
-    (sym (and-yes _ _ (rw (toZ-ofZ (c .before .before .before .before .fits .low), toZ-ofZ (c .before .before .before .before .fits .high)) at (sym (c .before .range-fits .ensures) ∙ not-false _ (c .if1 .left)))))
+    rw (
+      toZ-ofZ (c .before .before .before .before .fits .low),
+      toZ-ofZ (c .before .before .before .before .fits .high),
+      least-back (c .before .before),
+      most-back (c .before .before),
+    )
+    (sym (and-yes _ _ (rw (toZ-ofZ (c .before .before .before .before .fits .low), toZ-ofZ (c .before .before .before .before .fits .high))
+    at (sym (c .before .range-fits .ensures) ∙ not-false _ (c .if1 .left)))))
 
 pub numbers-fit-spec : {M : Type 1} → statement M
 numbers-fit-spec =

@@ -16,7 +16,13 @@ to-back c = search needs
 
 returns : tie.Need-returns
 unfolding rowOf
-returns c = rw (c .if1 .taken, toZ-ofZ (c .before .before .before .before .fits .low), toZ-ofZ (c .before .before .before .before .fits .high), from-back (c .before .before), to-back (c .before .before))
+returns c = rw (
+  c .if1 .taken,
+  toZ-ofZ (c .before .before .before .before .fits .low),
+  toZ-ofZ (c .before .before .before .before .fits .high),
+  from-back (c .before .before),
+  to-back (c .before .before),
+)
 
 returns-2 : tie.Need-returns-2
 unfolding rowOf

@@ -5,11 +5,19 @@ use Rattle.sound.proofs.room_good.Statement.{statement}
 use Rattle.sound.proofs.room_good.Tie as tie
 
 subfields-fit-requires : tie.Need-subfields-fit-requires
-subfields-fit-requires c κs = (rw (c .before .before .before .before .before .kind .given .1, c .before .before .s .given .1) at (c .before .before .before .before .before .before .before .before .before .pre .0 .subfields), (omega arith, omega arith, omega arith))
+subfields-fit-requires c κs = (
+  rw (c .before .before .before .before .before .kind .given .1, c .before .before .s .given .1) at
+      (c .before .before .before .before .before .before .before .before .before .pre .0 .subfields),
+  (omega arith, omega arith, omega arith),
+)
 
 returns : tie.Need-returns
 unfolding roomGood
-returns c = rw (c .subfields-fit .ensures, c .before .before .before .before .before .before .kind .given .1, c .before .before .before .s .given .1)
+returns c = rw (
+  c .subfields-fit .ensures,
+  c .before .before .before .before .before .before .kind .given .1,
+  c .before .before .before .s .given .1,
+)
 
 returns-2 : tie.Need-returns-2
 unfolding roomGood
@@ -33,4 +41,6 @@ returns-6 c = rw (c .enum-told5 .given .1)
 
 pub room-good-spec : {M : Type 1} → statement M
 room-good-spec =
-    tie.close (tie.spec (λ c. search needs) (λ c. search needs) (λ c. search needs) (λ c. search needs) subfields-fit-requires (λ c. search needs) (λ c. search needs) (λ c. search needs) (λ c. search needs) (λ c. search needs) returns returns-2 returns-3 returns-4 returns-5 returns-6)
+    tie.close (tie.spec (λ c. search needs) (λ c. search needs) (λ c. search needs) (λ c. search needs) subfields-fit-requires
+    (λ c. search needs) (λ c. search needs) (λ c. search needs) (λ c. search needs) (λ c. search needs) returns returns-2 returns-3
+    returns-4 returns-5 returns-6)

@@ -22,27 +22,43 @@ abbrev μ-loop : tie.MeasureT-loop
 μ-loop t powers h v e i₀ sum₀ high₀ i sum high = v - i
 
 loop-holds : tie.Need-loop-holds Inv-loop μ-loop
-loop-holds c = (omega arith, omega arith, sym (sum-none (linesAt (c .args .t .now))), sym (max-none (finishAt (c .args .t .now))), all-none _)
+loop-holds c = (
+  omega arith,
+  omega arith,
+  sym (sum-none (linesAt (c .args .t .now))),
+  sym (max-none (finishAt (c .args .t .now))),
+  all-none _,
+)
 
 -- the columns read are those of row i, and what is answered is whether it is good
-columns-here : (c : tie.After-read Inv-loop μ-loop) → c .read .result ≡ columnsOf (c .before .before .before .before .args .t .now) (c .before .before .before .loop .i)
+columns-here : (c : tie.After-read Inv-loop μ-loop) → c .read .result
+    ≡ columnsOf (c .before .before .before .before .args .t .now) (c .before .before .before .loop .i)
 columns-here c = c .read .ensures ∙ ap (columnsAt (c .before .before .before .before .args .t .now)) (c .before .base .ensures)
 
-good-here : (c : tie.After-whole-row-good Inv-loop μ-loop) → c .whole-row-good .result ≡ goodAt (c .before .before .before .before .before .args .t .now) (c .before .before .before .before .before .args .h .rows) (c .before .before .before .before .before .args .h .lines) (c .before .before .before .before .loop .i)
+good-here : (c : tie.After-whole-row-good Inv-loop μ-loop) → c .whole-row-good .result
+    ≡ goodAt (c .before .before .before .before .before .args .t .now) (c .before .before .before .before .before .args .h .rows)
+    (c .before .before .before .before .before .args .h .lines) (c .before .before .before .before .loop .i)
 good-here c = c .whole-row-good .ensures ∙ rw (columns-here (c .before), c .before .before .before .before .loop .inv .2)
 
 whole-row-good-requires : tie.Need-whole-row-good-requires Inv-loop μ-loop
-whole-row-good-requires c κs = (c .before .before .before .before .pre .0, (c .before .before .before .before .pre .1, c .before .before .before .loop .inv .1))
+whole-row-good-requires c κs = (
+  c .before .before .before .before .pre .0,
+  (c .before .before .before .before .pre .1, c .before .before .before .loop .inv .1),
+)
 
 returns : tie.Need-returns Inv-loop μ-loop
 unfolding rowsGood
 returns c =
-    sym (and-no _ _ (and-no _ _ (all-fails _ _ (c .before .before .before .before .before .loop .i) (omega arith) (sym (good-here (c .before)) ∙ not-true _ (c .if1 .taken)))))
+    sym (and-no _ _ (and-no _ _ (all-fails _ _ (c .before .before .before .before .before .loop .i) (omega arith)
+    (sym (good-here (c .before)) ∙ not-true _ (c .if1 .taken)))))
 
 -- the lines of a good row keep within the table's
-within-here : (c : tie.Else1 Inv-loop μ-loop) → c .before .before .before .before .before .loop .sum + c .before .before .read .result .lines ≤ c .before .before .before .before .before .before .args .h .lines
+within-here : (c : tie.Else1 Inv-loop μ-loop) → c .before .before .before .before .before .loop .sum
+    + c .before .before .read .result .lines ≤ c .before .before .before .before .before .before .args .h .lines
 within-here c =
-    row-within (c .before .before .before .before .before .before .args .t .now) (c .before .before .before .before .before .before .args .h .rows) (c .before .before .before .before .before .before .args .h .lines) (c .before .before .before .before .before .loop .sum) (c .before .before .read .result)
+    row-within (c .before .before .before .before .before .before .args .t .now)
+    (c .before .before .before .before .before .before .args .h .rows) (c .before .before .before .before .before .before .args .h .lines)
+    (c .before .before .before .before .before .loop .sum) (c .before .before .read .result)
     (sym (c .before .whole-row-good .ensures) ∙ not-false _ (c .if1 .left))
 
 add-sum : tie.Need-add-sum Inv-loop μ-loop
@@ -54,9 +70,14 @@ loop-again c =
     let i = c .before .before .before .before .before .before .before .loop .i in (
       omega arith,
       within-here (c .before .before),
-      rw (c .before .before .before .before .before .before .before .loop .inv .2, columns-here (c .before .before .before .before)) (sym (sum-more (linesAt t) i)),
-      c .larger .ensures ∙ rw (c .before .before .before .before .before .before .before .loop .inv .3, columns-here (c .before .before .before .before)) (sym (max-more (finishAt t) i)),
-      all-more _ _ (c .before .before .before .before .before .before .before .loop .inv .4) (sym (good-here (c .before .before .before)) ∙ not-false _ (c .before .before .if1 .left)),
+      rw (c .before .before .before .before .before .before .before .loop .inv .2, columns-here (c .before .before .before .before))
+          (sym (sum-more (linesAt t) i)),
+      c .larger .ensures ∙ rw (
+        c .before .before .before .before .before .before .before .loop .inv .3,
+        columns-here (c .before .before .before .before),
+      ) (sym (max-more (finishAt t) i)),
+      all-more _ _ (c .before .before .before .before .before .before .before .loop .inv .4)
+          (sym (good-here (c .before .before .before)) ∙ not-false _ (c .before .before .if1 .left)),
     )
 
 returns-2 : tie.Need-returns-2 Inv-loop μ-loop
@@ -69,4 +90,5 @@ returns-2 c =
 
 pub rows-good-spec : {M : Type 1} → statement M
 rows-good-spec =
-    tie.close (tie.spec Inv-loop μ-loop loop-holds (λ c κs. search needs) (λ c κs. search needs) whole-row-good-requires returns add-sum (λ c κs. search needs) (λ c. omega arith) (λ c. omega arith) loop-again returns-2)
+    tie.close (tie.spec Inv-loop μ-loop loop-holds (λ c κs. search needs) (λ c κs. search needs) whole-row-good-requires returns add-sum
+    (λ c κs. search needs) (λ c. omega arith) (λ c. omega arith) loop-again returns-2)

@@ -16,7 +16,8 @@ returns c = sym (and-no _ _ (sym (c .before .numbers-fit .ensures) ∙ not-true 
 
 returns-2 : tie.Need-returns-2
 unfolding valuedBy lowest highest widthGood roomGood endsWidth need rowOf _and_
-returns-2 c = rw (c .width-held .ensures, c .before .before .top-digits .ensures) (sym (and-yes _ _ (sym (c .before .before .before .before .numbers-fit .ensures) ∙ not-false _ (c .before .before .before .if1 .left))))
+returns-2 c = rw (c .width-held .ensures, c .before .before .top-digits .ensures)
+    (sym (and-yes _ _ (sym (c .before .before .before .before .numbers-fit .ensures) ∙ not-false _ (c .before .before .before .if1 .left))))
 
 pub single-fits-spec : {M : Type 1} → statement M
 single-fits-spec =

@@ -17,7 +17,8 @@ too-many start n b finish h g l = sym (lt-leb (start + n * b) (finish + 1) (omeg
 returns : tie.Need-returns
 returns c =
     let a = c .before .args in
-    too-many (a .start) (a .n) (a .b) (a .finish) (omega arith) (omega arith) (lt-of-lt-of-le (c .if1 .taken) (le-mul-of-pos-right (a .n) (omega arith)))
+    too-many (a .start) (a .n) (a .b) (a .finish) (omega arith) (omega arith)
+    (lt-of-lt-of-le (c .if1 .taken) (le-mul-of-pos-right (a .n) (omega arith)))
 
 returns-2 : tie.Need-returns-2
 returns-2 c =

@@ -5,7 +5,11 @@ use Rattle.sound.proofs.top_digits.Statement.{statement}
 use Rattle.sound.proofs.top_digits.Tie as tie
 
 returns : tie.Need-returns
-returns c = c .digit-count .ensures ∙ rw (c .before .signed-of .ensures, toZ-ofZ (sfits-of (c .before .before .top-of .ok)), c .before .before .top-of .ensures)
+returns c = c .digit-count .ensures ∙ rw (
+  c .before .signed-of .ensures,
+  toZ-ofZ (sfits-of (c .before .before .top-of .ok)),
+  c .before .before .top-of .ensures,
+)
 
 pub top-digits-spec : {M : Type 1} → statement M
 top-digits-spec =

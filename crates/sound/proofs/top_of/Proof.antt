@@ -17,7 +17,8 @@ most-back c = search needs
 
 returns : tie.Need-returns
 unfolding topOf rowOf
-returns c = toZ-ofZ (sfits-of (c .greater .ok)) ∙ c .greater .ensures ∙ rw (to-back (c .before .before .before), most-back (c .before .before .before), c .before .if1 .taken)
+returns c = toZ-ofZ (sfits-of (c .greater .ok)) ∙ c .greater .ensures
+    ∙ rw (to-back (c .before .before .before), most-back (c .before .before .before), c .before .if1 .taken)
 
 returns-2 : tie.Need-returns-2
 unfolding topOf rowOf

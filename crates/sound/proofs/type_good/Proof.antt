@@ -6,23 +6,28 @@ use Rattle.sound.proofs.type_good.Statement.{statement}
 use Rattle.sound.proofs.type_good.Tie as tie
 
 returns : tie.Need-returns
-returns c = rw (c .valued .ensures, c .before .undivided .ensures, c .before .before .whole .ensures) (sym (single-good _ (c .before .before .before .match .keys1)))
+returns c = rw (c .valued .ensures, c .before .undivided .ensures, c .before .before .whole .ensures)
+    (sym (single-good _ (c .before .before .before .match .keys1)))
 
 returns-2 : tie.Need-returns-2
-returns-2 c = rw (c .valued2 .ensures, c .before .before .before .whole2 .ensures) (sym (multiple-good _ (c .before .before .before .before .match .keys2)))
+returns-2 c = rw (c .valued2 .ensures, c .before .before .before .whole2 .ensures)
+    (sym (multiple-good _ (c .before .before .before .before .match .keys2)))
 
 returns-3 : tie.Need-returns-3
-returns-3 c = rw (c .valued3 .ensures, c .before .format-good .ensures, c .before .before .undivided2 .ensures) (sym (quantity-good _ (c .before .before .before .match .keys3)))
+returns-3 c = rw (c .valued3 .ensures, c .before .format-good .ensures, c .before .before .undivided2 .ensures)
+    (sym (quantity-good _ (c .before .before .before .match .keys3)))
 
 returns-4 : tie.Need-returns-4
 returns-4 c =
     let q = c .before .before .before .match .keys4 in
-    rw (c .valueless .ensures, c .before .undivided3 .ensures, c .before .before .whole3 .ensures) (sym (bare-good (c .before .before .before .before .args .c) (omega arith) (omega arith)))
+    rw (c .valueless .ensures, c .before .undivided3 .ensures, c .before .before .whole3 .ensures)
+    (sym (bare-good (c .before .before .before .before .args .c) (omega arith) (omega arith)))
 
 returns-5 : tie.Need-returns-5
 returns-5 c =
     let q = c .before .before .before .match .keys5 in
-    rw (c .valueless2 .ensures, c .before .undivided4 .ensures, c .before .before .whole4 .ensures) (sym (bare-good (c .before .before .before .before .args .c) (omega arith) (omega arith)))
+    rw (c .valueless2 .ensures, c .before .undivided4 .ensures, c .before .before .whole4 .ensures)
+    (sym (bare-good (c .before .before .before .before .args .c) (omega arith) (omega arith)))
 
 returns-6 : tie.Need-returns-6
 returns-6 c =
@@ -31,4 +36,7 @@ returns-6 c =
 
 pub type-good-spec : {M : Type 1} → statement M
 type-good-spec =
-    tie.close (tie.spec (λ c κs. search needs) (λ c κs. search needs) (λ c κs. search needs) (λ c κs. search needs) (λ c κs. search needs) (λ c κs. search needs) (λ c κs. search needs) (λ c κs. search needs) (λ c κs. search needs) (λ c κs. search needs) (λ c κs. search needs) (λ c κs. search needs) (λ c κs. search needs) (λ c κs. search needs) returns returns-2 returns-3 returns-4 returns-5 returns-6)
+    tie.close (tie.spec (λ c κs. search needs) (λ c κs. search needs) (λ c κs. search needs) (λ c κs. search needs) (λ c κs. search needs)
+    (λ c κs. search needs) (λ c κs. search needs) (λ c κs. search needs) (λ c κs. search needs) (λ c κs. search needs)
+    (λ c κs. search needs) (λ c κs. search needs) (λ c κs. search needs) (λ c κs. search needs) returns returns-2 returns-3 returns-4
+    returns-5 returns-6)

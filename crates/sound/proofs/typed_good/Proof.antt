@@ -9,7 +9,10 @@ returns : tie.Need-returns
 returns c = sym (and-no _ _ (sym (c .before .type-good .ensures) ∙ not-true _ (c .if1 .taken)))
 
 values-good-requires : tie.Need-values-good-requires
-values-good-requires c κs = (c .before .before .pre .0, (c .before .before .pre .1, sym (c .before .type-good .ensures) ∙ not-false _ (c .if1 .left)))
+values-good-requires c κs = (
+  c .before .before .pre .0,
+  (c .before .before .pre .1, sym (c .before .type-good .ensures) ∙ not-false _ (c .if1 .left)),
+)
 
 returns-2 : tie.Need-returns-2
 returns-2 c = c .values-good .ensures ∙ sym (and-yes _ _ (sym (c .before .before .type-good .ensures) ∙ not-false _ (c .before .if1 .left)))

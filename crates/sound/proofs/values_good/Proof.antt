@@ -34,8 +34,15 @@ returns-4 c = rw (c .width-held .ensures, c .before .before .before .match .keys
 returns-5 : tie.Need-returns-5
 unfolding valuesBy kindOf widthGood roomGood rowOf _and_
 returns-5 c =
-    rw (c .width-held2 .ensures, ne-eqb _ 1 (c .before .before .match .rest .0 .0 .0 .1), ne-eqb _ 2 (c .before .before .match .rest .0 .0 .1), ne-eqb _ 3 (c .before .before .match .rest .0 .1), ne-eqb _ 4 (c .before .before .match .rest .1))
+    rw (
+      c .width-held2 .ensures,
+      ne-eqb _ 1 (c .before .before .match .rest .0 .0 .0 .1),
+      ne-eqb _ 2 (c .before .before .match .rest .0 .0 .1),
+      ne-eqb _ 3 (c .before .before .match .rest .0 .1),
+      ne-eqb _ 4 (c .before .before .match .rest .1),
+    )
 
 pub values-good-spec : {M : Type 1} → statement M
 values-good-spec =
-    tie.close (tie.spec (λ c κs. search needs) multiple-fits-requires quantity-fits-requires (λ c κs. search needs) (λ c κs. search needs) returns returns-2 returns-3 returns-4 returns-5)
+    tie.close (tie.spec (λ c κs. search needs) multiple-fits-requires quantity-fits-requires (λ c κs. search needs) (λ c κs. search needs)
+    returns returns-2 returns-3 returns-4 returns-5)

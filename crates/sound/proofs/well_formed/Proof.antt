@@ -13,35 +13,51 @@ use Rattle.sound.proofs.well_formed.Statement.{statement}
 use Rattle.sound.proofs.well_formed.Tie as tie
 
 returns : tie.Need-returns
-returns c = record { says = sym (form-counts _ (rw (← c .before .before .read .ensures) (sym (c .before .head-counts .ensures) ∙ not-true _ (c .if1 .taken)))) }
+returns c = record {
+  says = sym (form-counts _ (rw (← c .before .before .read .ensures)
+      (sym (c .before .head-counts .ensures) ∙ not-true _ (c .if1 .taken))));
+}
 
 -- what the tests passed so far showed of the header read
 counts : (c : tie.Else1) → headCounts (c .before .before .read .result) ≡ true
 counts c = sym (c .before .head-counts .ensures) ∙ not-false _ (c .if1 .left)
 
-sums : (c : tie.Else2) → headSums (c .before .before .before .before .read .result) (length (c .before .before .before .before .before .args .t .now)) ≡ true
+sums : (c : tie.Else2) → headSums (c .before .before .before .before .read .result)
+    (length (c .before .before .before .before .before .args .t .now)) ≡ true
 sums c = sym (c .before .head-sums .ensures) ∙ not-false _ (c .if2 .left)
 
-standing : (c : tie.Else2) → Standing (c .before .before .before .before .before .args .t .now) (c .before .before .before .before .read .result .rows) 0 (c .before .before .before .before .read .result .lines)
-standing c = head-standing (c .before .before .before .before .before .args .t .now) (c .before .before .before .before .read .result) (counts (c .before .before)) (sums c)
+standing : (c : tie.Else2) → Standing (c .before .before .before .before .before .args .t .now)
+    (c .before .before .before .before .read .result .rows) 0 (c .before .before .before .before .read .result .lines)
+standing c = head-standing (c .before .before .before .before .before .args .t .now) (c .before .before .before .before .read .result)
+    (counts (c .before .before)) (sums c)
 
 head-sums-requires : tie.Need-head-sums-requires
 head-sums-requires c κs = head-few (c .before .before .read .result) (counts c)
 
 returns-2 : tie.Need-returns-2
-returns-2 c = record { says = sym (form-sums _ (rw (← c .before .before .before .before .read .ensures) (sym (c .before .head-sums .ensures) ∙ not-true _ (c .if2 .taken)))) }
+returns-2 c = record {
+  says = sym (form-sums _ (rw (← c .before .before .before .before .read .ensures)
+      (sym (c .before .head-sums .ensures) ∙ not-true _ (c .if2 .taken))));
+}
 
 rows-good-requires : tie.Need-rows-good-requires
 rows-good-requires c κs = (search needs, standing (c .before .before))
 
 returns-3 : tie.Need-returns-3
-returns-3 c = record { says = sym (form-rows _ (rw (← c .before .before .before .before .before .before .before .before .read .ensures) (sym (c .before .rows-good .ensures) ∙ not-true _ (c .if3 .taken)))) }
+returns-3 c = record {
+  says = sym (form-rows _ (rw (← c .before .before .before .before .before .before .before .before .read .ensures)
+      (sym (c .before .rows-good .ensures) ∙ not-true _ (c .if3 .taken))));
+}
 
 idents-differ-requires : tie.Need-idents-differ-requires
 idents-differ-requires c κs = standing-rows (standing (c .before .before .before .before))
 
 returns-4 : tie.Need-returns-4
-returns-4 c = record { says = sym (form-idents _ (rw (← c .before .before .before .before .before .before .before .before .before .before .read .ensures) (sym (c .before .idents-differ .ensures) ∙ not-true _ (c .if4 .taken)))) }
+returns-4 c = record {
+  says = sym (form-idents _ (rw
+      (← c .before .before .before .before .before .before .before .before .before .before .read .ensures)
+      (sym (c .before .idents-differ .ensures) ∙ not-true _ (c .if4 .taken))));
+}
 
 kind-good-requires : tie.Need-kind-good-requires
 kind-good-requires c κs =
@@ -64,4 +80,5 @@ returns-5 c =
 
 pub well-formed-spec : {M : Type 1} → statement M
 well-formed-spec =
-    tie.close (tie.spec (λ c κs. search needs) (λ c κs. search needs) returns head-sums-requires returns-2 (λ c κs. search needs) rows-good-requires returns-3 idents-differ-requires returns-4 kind-good-requires returns-5)
+    tie.close (tie.spec (λ c κs. search needs) (λ c κs. search needs) returns head-sums-requires returns-2 (λ c κs. search needs)
+    rows-good-requires returns-3 idents-differ-requires returns-4 kind-good-requires returns-5)

@@ -24,29 +24,37 @@ loop-holds c = (refl, omega arith, omega arith, omega arith)
 returns : tie.Need-returns Inv-loop μ-loop
 returns c =
     let l = c .before .before .before .before .before .before .loop in
-    sym (l .inv .0 ∙ figures-off _ _ _ (l .n) (sym (c .before .before .before .before .before .next-char .ensures) ∙ c .before .before .before .code .given .1) (sym (c .before .is-digit .ensures) ∙ not-true _ (c .if1 .taken)))
+    sym (l .inv .0 ∙ figures-off _ _ _ (l .n) (sym (c .before .before .before .before .before .next-char .ensures)
+    ∙ c .before .before .before .code .given .1) (sym (c .before .is-digit .ensures) ∙ not-true _ (c .if1 .taken)))
 
 push-requires : tie.Need-push-requires Inv-loop μ-loop
-push-requires c κs = (c .before .before .before .before .before .before .loop .inv .3, sym (c .before .is-digit .ensures) ∙ not-false _ (c .if1 .left))
+push-requires c κs = (
+  c .before .before .before .before .before .before .loop .inv .3,
+  sym (c .before .is-digit .ensures) ∙ not-false _ (c .if1 .left),
+)
 
 add-count : tie.Need-add-count Inv-loop μ-loop
 add-count c =
     let l = c .before .before .before .before .before .before .before .loop in
-    let o = first-on (c .before .before .before .before .before .before .before .before .before .args .s .now) (l .n) _ _ (sym (c .before .before .before .before .before .before .next-char .ensures) ∙ c .before .before .before .before .code .given .1) in
+    let o = first-on (c .before .before .before .before .before .before .before .before .before .args .s .now) (l .n) _ _
+    (sym (c .before .before .before .before .before .before .next-char .ensures) ∙ c .before .before .before .before .code .given .1) in
     omega (arith, o .0, o .1)
 
 loop-less : tie.Need-loop-less Inv-loop μ-loop
 loop-less c =
     let l = c .before .before .before .before .before .before .before .loop in
-    let o = first-on (c .before .before .before .before .before .before .before .before .before .args .s .now) (l .n) _ _ (sym (c .before .before .before .before .before .before .next-char .ensures) ∙ c .before .before .before .before .code .given .1) in
+    let o = first-on (c .before .before .before .before .before .before .before .before .before .args .s .now) (l .n) _ _
+    (sym (c .before .before .before .before .before .before .next-char .ensures) ∙ c .before .before .before .before .code .given .1) in
     omega (arith, o .0, o .1)
 
 loop-again : tie.Need-loop-again Inv-loop μ-loop
 loop-again c =
     let l = c .before .before .before .before .before .before .before .loop in
-    let e = sym (c .before .before .before .before .before .before .next-char .ensures) ∙ c .before .before .before .before .code .given .1 in
+    let e = sym (c .before .before .before .before .before .before .next-char .ensures)
+    ∙ c .before .before .before .before .code .given .1 in
     let o = first-on (c .before .before .before .before .before .before .before .before .before .args .s .now) (l .n) _ _ e in (
-      l .inv .0 ∙ figures-on _ _ _ (l .n) e (sym (c .before .before .is-digit .ensures) ∙ not-false _ (c .before .if1 .left)) ∙ rw (← (c .push .ensures .0)),
+      l .inv .0 ∙ figures-on _ _ _ (l .n) e (sym (c .before .before .is-digit .ensures) ∙ not-false _ (c .before .if1 .left))
+          ∙ rw (← (c .push .ensures .0)),
       o .1,
       omega (arith, o .0),
       c .push .ensures .1,
@@ -55,10 +63,13 @@ loop-again c =
 returns-2 : tie.Need-returns-2 Inv-loop μ-loop
 returns-2 c =
     let l = c .before .before .before .before .loop in
-    c .figures-end .ensures ∙ sym (l .inv .0 ∙ figures-over _ _ _ (l .n) (sym (c .before .before .before .next-char .ensures) ∙ c .before .enum-told .given .1))
+    c .figures-end .ensures ∙ sym (l .inv .0 ∙ figures-over _ _ _ (l .n)
+    (sym (c .before .before .before .next-char .ensures) ∙ c .before .enum-told .given .1))
 
 returns-3 : tie.Need-returns-3 Inv-loop μ-loop
-returns-3 c = let l = c .before .before .before .loop in sym (l .inv .0 ∙ figures-bad _ _ _ (l .n) (sym (c .before .before .next-char .ensures) ∙ c .enum-told2 .given .1))
+returns-3 c = let l = c .before .before .before .loop in
+    sym (l .inv .0 ∙ figures-bad _ _ _ (l .n) (sym (c .before .before .next-char .ensures) ∙ c .enum-told2 .given .1))
 
 pub figures-in-spec : {M : Type 1} → statement M
-figures-in-spec = tie.close (tie.spec Inv-loop μ-loop loop-holds (λ c κs. search needs) (λ c. search needs) (λ c κs. search needs) returns push-requires add-count loop-less loop-again (λ c. search needs) (λ c κs. search needs) returns-2 (λ c. search needs) returns-3)
+figures-in-spec = tie.close (tie.spec Inv-loop μ-loop loop-holds (λ c κs. search needs) (λ c. search needs) (λ c κs. search needs) returns
+    push-requires add-count loop-less loop-again (λ c. search needs) (λ c κs. search needs) returns-2 (λ c. search needs) returns-3)

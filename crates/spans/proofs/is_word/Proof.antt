@@ -23,30 +23,45 @@ loop-holds c = (refl, omega arith, omega arith)
 returns : tie.Need-returns Inv-loop μ-loop
 returns c =
     let l = c .before .before .before .before .before .loop in
-    sym (l .inv .0 ∙ word-past (c .before .before .before .before .before .before .before .before .args .w .now) (l .i) _ (l .n) (sym (c .before .before .before .before .next-char .ensures) ∙ c .before .before .code .given .1) (omega arith))
+    sym (l .inv .0 ∙ word-past (c .before .before .before .before .before .before .before .before .args .w .now) (l .i) _ (l .n)
+    (sym (c .before .before .before .before .next-char .ensures) ∙ c .before .before .code .given .1) (omega arith))
 
 returns-2 : tie.Need-returns-2 Inv-loop μ-loop
 returns-2 c =
     let l = c .before .before .before .before .before .before .before .before .loop in
-    sym (l .inv .0 ∙ word-off (c .before .before .before .before .before .before .before .before .before .before .before .args .w .now) (l .i) _ (l .n) (sym (c .before .before .before .before .before .before .before .next-char .ensures) ∙ c .before .before .before .before .before .code .given .1) (omega arith) (λ q. c .if2 .taken (c .before .wide .ensures .0 ∙ q)))
+    sym (l .inv .0 ∙ word-off (c .before .before .before .before .before .before .before .before .before .before .before .args .w .now)
+    (l .i) _ (l .n) (sym (c .before .before .before .before .before .before .before .next-char .ensures)
+    ∙ c .before .before .before .before .before .code .given .1) (omega arith) (λ q. c .if2 .taken (c .before .wide .ensures .0 ∙ q)))
 
 loop-less : tie.Need-loop-less Inv-loop μ-loop
 loop-less c =
     let l = c .before .before .before .before .before .before .before .before .loop in
-    let o = first-on (c .before .before .before .before .before .before .before .before .before .before .before .args .s .now) (l .n) _ _ (sym (c .before .before .before .before .before .before .before .next-char .ensures) ∙ c .before .before .before .before .before .code .given .1) in
+    let o = first-on (c .before .before .before .before .before .before .before .before .before .before .before .args .s .now) (l .n) _ _
+    (sym (c .before .before .before .before .before .before .before .next-char .ensures)
+    ∙ c .before .before .before .before .before .code .given .1) in
     omega (arith, o .0, o .1)
 
 loop-again : tie.Need-loop-again Inv-loop μ-loop
 loop-again c =
     let l = c .before .before .before .before .before .before .before .before .loop in
-    let e = sym (c .before .before .before .before .before .before .before .next-char .ensures) ∙ c .before .before .before .before .before .code .given .1 in
-    (l .inv .0 ∙ word-on (c .before .before .before .before .before .before .before .before .before .before .before .args .w .now) (l .i) _ (l .n) e (omega arith) (sym (c .before .wide .ensures .0) ∙ c .if2 .left), first-on (c .before .before .before .before .before .before .before .before .before .before .before .args .s .now) (l .n) _ _ e .1, omega arith)
+    let e = sym (c .before .before .before .before .before .before .before .next-char .ensures)
+    ∙ c .before .before .before .before .before .code .given .1 in (
+      l .inv .0 ∙ word-on (c .before .before .before .before .before .before .before .before .before .before .before .args .w .now) (l .i) _
+          (l .n) e (omega arith) (sym (c .before .wide .ensures .0) ∙ c .if2 .left),
+      first-on (c .before .before .before .before .before .before .before .before .before .before .before .args .s .now) (l .n) _ _ e .1,
+      omega arith,
+    )
 
 returns-3 : tie.Need-returns-3 Inv-loop μ-loop
-returns-3 c = let l = c .before .before .before .loop in sym (l .inv .0 ∙ word-over (c .before .before .before .before .before .before .args .w .now) (l .i) _ (l .n) (sym (c .before .before .next-char .ensures) ∙ c .enum-told .given .1))
+returns-3 c = let l = c .before .before .before .loop in
+    sym (l .inv .0 ∙ word-over (c .before .before .before .before .before .before .args .w .now) (l .i) _ (l .n)
+    (sym (c .before .before .next-char .ensures) ∙ c .enum-told .given .1))
 
 returns-4 : tie.Need-returns-4 Inv-loop μ-loop
-returns-4 c = let l = c .before .before .before .loop in sym (l .inv .0 ∙ word-bad (c .before .before .before .before .before .before .args .w .now) (l .i) _ (l .n) (sym (c .before .before .next-char .ensures) ∙ c .enum-told2 .given .1))
+returns-4 c = let l = c .before .before .before .loop in
+    sym (l .inv .0 ∙ word-bad (c .before .before .before .before .before .before .args .w .now) (l .i) _ (l .n)
+    (sym (c .before .before .next-char .ensures) ∙ c .enum-told2 .given .1))
 
 pub is-word-spec : {M : Type 1} → statement M
-is-word-spec = tie.close (tie.spec Inv-loop μ-loop loop-holds (λ c κs. search needs) (λ c. search needs) returns (λ c. omega arith) (λ c κs. search needs) returns-2 (λ c. omega arith) loop-less loop-again (λ c. search needs) returns-3 (λ c. search needs) returns-4)
+is-word-spec = tie.close (tie.spec Inv-loop μ-loop loop-holds (λ c κs. search needs) (λ c. search needs) returns (λ c. omega arith)
+    (λ c κs. search needs) returns-2 (λ c. omega arith) loop-less loop-again (λ c. search needs) returns-3 (λ c. search needs) returns-4)

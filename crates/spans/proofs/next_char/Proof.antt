@@ -11,7 +11,8 @@ use Rattle.spans.proofs.next_char.Tie as tie
 
 returns : tie.Need-returns
 unfolding partOf
-returns c = let a = c .before .before .args in sym (first-stop (a .s .now) (a .at) _ (rw (le-leb (length (a .s .now)) (a .at) (omega arith))))
+returns c = let a = c .before .before .args in sym
+    (first-stop (a .s .now) (a .at) _ (rw (le-leb (length (a .s .now)) (a .at) (omega arith))))
 
 returns-2 : tie.Need-returns-2
 returns-2 c = c .marked-char .ensures
@@ -23,7 +24,13 @@ returns-4 : tie.Need-returns-4
 unfolding partOf
 returns-4 c =
     let a = c .before .before .before .before .before .before .args in
-    sym (first-stop (a .s .now) (a .at) _ (rw (lt-leb (length (a .s .now)) (a .at) (omega arith), ne-eqb _ 38 (c .before .before .if2 .left), ne-eqb _ 60 (c .before .if3 .left), c .wide .ensures .0)))
+    sym (first-stop (a .s .now) (a .at) _ (rw (
+      lt-leb (length (a .s .now)) (a .at) (omega arith),
+      ne-eqb _ 38 (c .before .before .if2 .left),
+      ne-eqb _ 60 (c .before .if3 .left),
+      c .wide .ensures .0,
+    )))
 
 pub next-char-spec : {M : Type 1} → statement M
-next-char-spec = tie.close (tie.spec returns (λ c. search needs) (λ c κs. search needs) returns-2 (λ c κs. search needs) returns-3 (λ c κs. search needs) (λ c. search needs) returns-4)
+next-char-spec = tie.close (tie.spec returns (λ c. search needs) (λ c κs. search needs) returns-2 (λ c κs. search needs) returns-3
+    (λ c κs. search needs) (λ c. search needs) returns-4)

@@ -16,17 +16,21 @@ abbrev μ-loop : tie.MeasureT-loop
 
 loop-less : tie.Need-loop-less Inv-loop μ-loop
 unfolding pastNote
-loop-less c = rw (c .gap-on2 .ensures, c .before .past-string .ensures, c .before .before .string-on .ensures) (note-left _ _ (c .before .before .before .before .before .before .note-word .ensures) (c .before .before .before .before .m .given .1))
+loop-less c = rw (c .gap-on2 .ensures, c .before .past-string .ensures, c .before .before .string-on .ensures)
+    (note-left _ _ (c .before .before .before .before .before .before .note-word .ensures) (c .before .before .before .before .m .given .1))
 
 loop-again : tie.Need-loop-again Inv-loop μ-loop
 unfolding pastNote
 loop-again c =
-    c .before .before .before .before .before .before .before .loop .inv ∙ notes-again _ _ (c .before .before .before .before .before .before .note-word .ensures) (c .before .before .before .before .m .given .1)
+    c .before .before .before .before .before .before .before .loop .inv
+    ∙ notes-again _ _ (c .before .before .before .before .before .before .note-word .ensures)
+    (c .before .before .before .before .m .given .1)
     ∙ rw (sym (c .before .before .string-on .ensures), sym (c .before .past-string .ensures), sym (c .gap-on2 .ensures))
 
 returns : tie.Need-returns Inv-loop μ-loop
 unfolding notesOn
-returns c = sym (ap (notesHere _) (sym (c .before .before .before .before .gap-on .ensures)) ∙ c .before .before .before .loop .inv ∙ notes-done _ _ (c .before .before .note-word .ensures) (c .enum-told .given .1))
+returns c = sym (ap (notesHere _) (sym (c .before .before .before .before .gap-on .ensures)) ∙ c .before .before .before .loop .inv
+    ∙ notes-done _ _ (c .before .before .note-word .ensures) (c .enum-told .given .1))
 
 pub notes-on-spec : {M : Type 1} → statement M
 notes-on-spec =

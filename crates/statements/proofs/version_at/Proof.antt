@@ -44,4 +44,5 @@ returns-4 c =
 
 pub version-at-spec : {M : Type 1} → statement M
 version-at-spec =
-    tie.close (tie.spec (λ c κs. search needs) returns (λ c. search needs) (λ c κs. search needs) (λ c. search needs) returns-2 (λ c. search needs) returns-3 returns-4)
+    tie.close (tie.spec (λ c κs. search needs) returns (λ c. search needs) (λ c κs. search needs) (λ c. search needs) returns-2
+    (λ c. search needs) returns-3 returns-4)

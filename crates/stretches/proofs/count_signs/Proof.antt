@@ -34,7 +34,8 @@ add-n : tie.Need-add-n Inv-loop μ-loop
 add-n c = let i = c .before .before .before .before .before .loop .inv .1 in omega arith
 
 loop-less : tie.Need-loop-less Inv-loop μ-loop
-loop-less c = let o = told-one _ _ (c .before .before .before .before .next-sign .ensures) (c .before .before .cursor .given .1) in omega (arith, ap length (o .split))
+loop-less c = let o = told-one _ _ (c .before .before .before .before .next-sign .ensures) (c .before .before .cursor .given .1) in
+    omega (arith, ap length (o .split))
 
 loop-again : tie.Need-loop-again Inv-loop μ-loop
 loop-again c =
@@ -51,4 +52,5 @@ returns-2 c =
     room-fits _ _ _ (omega (arith, ap length e, i)) (omega (arith, ap length e, i))
 
 pub count-signs-spec : {M : Type 1} → statement M
-count-signs-spec = tie.close (tie.spec Inv-loop μ-loop (λ c κs. search needs) loop-holds next-sign-requires (λ c. search needs) returns add-n loop-less loop-again (λ c. search needs) returns-2)
+count-signs-spec = tie.close (tie.spec Inv-loop μ-loop (λ c κs. search needs) loop-holds next-sign-requires (λ c. search needs) returns
+    add-n loop-less loop-again (λ c. search needs) returns-2)

@@ -37,22 +37,32 @@ write-signs-requires c κs =
     let a = c .before .before .before .before .before .before .before .before .before .before .before .before .before .args in
     let h : a .place + a .long ≤ length (a .d .now) = omega arith in
     let n = length-take-le (a .place + a .long) (a .d .now) h in
-    let k = counted (a .latin) (a .d .now) (a .place) (a .long) (a .list .now) h _ _ (c .before .before .before .before .before .count-signs .ensures) (c .before .before .before .n .given .1) in
+    let k = counted (a .latin) (a .d .now) (a .place) (a .long) (a .list .now) h _ _
+    (c .before .before .before .before .before .count-signs .ensures) (c .before .before .before .n .given .1) in
     (omega arith, (k .0, k .1))
 
 returns-4 : tie.Need-returns-4
 returns-4 c =
-    let a = c .before .before .before .before .before .before .before .before .before .before .before .before .before .before .before .args in
+    let a = c .before .before .before .before .before .before .before .before .before .before .before .before .before .before .before
+    .args in
     let h : a .place + a .long ≤ length (a .d .now) = omega arith in
-    decodes (a .latin) (a .d .now) (a .place) (a .long) (a .list .now) h (sym (c .before .before .before .before .before .before .before .before .before .before .is-text .ensures) ∙ not-false _ (c .before .before .before .before .before .before .before .before .before .if3 .left)) _ _ _ (c .before .before .before .before .before .before .before .count-signs .ensures) (c .before .before .before .before .before .n .given .1) (c .before .write-signs .ensures)
+    decodes (a .latin) (a .d .now) (a .place) (a .long) (a .list .now) h
+    (sym (c .before .before .before .before .before .before .before .before .before .before .is-text .ensures)
+    ∙ not-false _ (c .before .before .before .before .before .before .before .before .before .if3 .left)) _ _ _
+    (c .before .before .before .before .before .before .before .count-signs .ensures)
+    (c .before .before .before .before .before .n .given .1) (c .before .write-signs .ensures)
 
 returns-5 : tie.Need-returns-5
 returns-5 c =
     let a = c .before .before .before .before .before .before .before .before .before .before .args in
     let h : a .place + a .long ≤ length (a .d .now) = omega arith in
-    no-room (a .latin) (a .d .now) (a .place) (a .long) (a .list .now) h (sym (c .before .before .before .before .before .is-text .ensures) ∙ not-false _ (c .before .before .before .before .if3 .left)) _ (c .before .before .count-signs .ensures) (c .enum-told .given .1)
+    no-room (a .latin) (a .d .now) (a .place) (a .long) (a .list .now) h
+    (sym (c .before .before .before .before .before .is-text .ensures) ∙ not-false _ (c .before .before .before .before .if3 .left)) _
+    (c .before .before .count-signs .ensures) (c .enum-told .given .1)
 
 pub decode-stretch-spec : {M : Type 1} → statement M
 decode-stretch-spec =
     tie.close
-    (tie.spec returns (λ c. omega arith) returns-2 (λ c. omega arith) (λ c. sym (length-take-le _ _ (omega arith))) is-text-requires returns-3 (λ c. sym (length-take-le _ _ (omega arith))) count-signs-requires (λ c. search needs) (λ c. sym (length-take-le _ _ (omega arith))) write-signs-requires (λ c. search needs) (λ c. search needs) returns-4 returns-5)
+    (tie.spec returns (λ c. omega arith) returns-2 (λ c. omega arith) (λ c. sym (length-take-le _ _ (omega arith))) is-text-requires
+    returns-3 (λ c. sym (length-take-le _ _ (omega arith))) count-signs-requires (λ c. search needs)
+    (λ c. sym (length-take-le _ _ (omega arith))) write-signs-requires (λ c. search needs) (λ c. search needs) returns-4 returns-5)

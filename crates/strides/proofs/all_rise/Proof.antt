@@ -20,7 +20,8 @@ last-rise f n k true h e inv a = rw e (sym (all-more (risesAt f) k inv (rises-he
 last-rise f n k false h e inv a = rw e (sym (all-fails (risesAt f) (k + 1) k (omega arith) (rises-not f k h a)))
 
 -- two more that rise
-two-more : (f : ℕ → ℤ) (k : ℕ) → allBelow k (risesAt f) ≡ true → above f k ≡ true → above f (k + 1) ≡ true → allBelow (k + 2) (risesAt f) ≡ true
+two-more : (f : ℕ → ℤ) (k : ℕ) → allBelow k (risesAt f) ≡ true → above f k ≡ true → above f (k + 1) ≡ true → allBelow (k + 2) (risesAt f)
+    ≡ true
 two-more f k inv a b =
     let e : k + 2 ≡ k + 1 + 1 = omega arith in
     rw e (all-more (risesAt f) (k + 1) (all-more (risesAt f) k inv (rises-here f k a)) (rises-here f (k + 1) b))
@@ -36,18 +37,28 @@ loop-holds c = (omega arith, omega arith, rises-first _)
 
 returns : tie.Need-returns Inv-loop μ-loop
 unfolding allRise
-returns c = sym (all-fails _ _ (c .before .before .before .loop .k) (omega arith) (let h : 1 ≤ c .before .before .before .loop .k = omega arith in rises-not _ _ h (sym (c .before .above-last .ensures) ∙ not-true _ (c .if1 .taken))))
+returns c = sym (all-fails _ _ (c .before .before .before .loop .k) (omega arith)
+    (let h : 1 ≤ c .before .before .before .loop .k = omega arith in
+    rises-not _ _ h (sym (c .before .above-last .ensures) ∙ not-true _ (c .if1 .taken))))
 
 returns-2 : tie.Need-returns-2 Inv-loop μ-loop
 unfolding allRise
-returns-2 c = sym (all-fails _ _ (c .before .before .before .before .before .loop .k + 1) (omega arith) (let h : 1 ≤ c .before .before .before .before .before .loop .k + 1 = omega arith in rises-not _ _ h (sym (c .before .above-last2 .ensures) ∙ not-true _ (c .if2 .taken))))
+returns-2 c = sym (all-fails _ _ (c .before .before .before .before .before .loop .k + 1) (omega arith)
+    (let h : 1 ≤ c .before .before .before .before .before .loop .k + 1 = omega arith in
+    rises-not _ _ h (sym (c .before .above-last2 .ensures) ∙ not-true _ (c .if2 .taken))))
 
 loop-again : tie.Need-loop-again Inv-loop μ-loop
-loop-again c =
-    (omega arith, omega arith, two-more _ _ (c .before .before .before .before .before .loop .inv .2) (sym (c .before .before .before .above-last .ensures) ∙ not-false _ (c .before .before .if1 .left)) (sym (c .before .above-last2 .ensures) ∙ not-false _ (c .if2 .left)))
+loop-again c = (
+  omega arith,
+  omega arith,
+  two-more _ _ (c .before .before .before .before .before .loop .inv .2)
+      (sym (c .before .before .before .above-last .ensures) ∙ not-false _ (c .before .before .if1 .left))
+      (sym (c .before .above-last2 .ensures) ∙ not-false _ (c .if2 .left)),
+)
 
 returns-3 : tie.Need-returns-3 Inv-loop μ-loop
-returns-3 c = last-rise _ _ (c .before .before .before .loop .k) _ (omega arith) (omega arith) (c .before .before .before .loop .inv .2) (sym (c .above-last3 .ensures))
+returns-3 c = last-rise _ _ (c .before .before .before .loop .k) _ (omega arith) (omega arith) (c .before .before .before .loop .inv .2)
+    (sym (c .above-last3 .ensures))
 
 returns-4 : tie.Need-returns-4 Inv-loop μ-loop
 unfolding allRise

@@ -10,12 +10,18 @@ use Rattle.strides.proofs.block_of.Tie as tie
 
 returns : tie.Need-returns
 returns c =
-    let f = strideAt (c .before .before .before .before .args .t .now) (c .before .before .before .before .args .at) (c .before .before .before .before .args .step) in
+    let f = strideAt (c .before .before .before .before .args .t .now) (c .before .before .before .before .args .at)
+    (c .before .before .before .before .args .step) in
     let n = c .before .before .before .before .args .n in
     let r = sym (c .before .before .before .all-rise .ensures) ∙ c .before .before .if1 .taken in
     record {
       differ = sym (rise-differ f n r);
-      hull = rw (toZ-ofZ (sfits-of (c .before .number-at .ok)), toZ-ofZ (sfits-of (c .number-at2 .ok)), c .before .number-at .ensures, c .number-at2 .ensures) (rise-hulled f n r (c .before .before .before .before .pre .1));
+      hull = rw (
+        toZ-ofZ (sfits-of (c .before .number-at .ok)),
+        toZ-ofZ (sfits-of (c .number-at2 .ok)),
+        c .before .number-at .ensures,
+        c .number-at2 .ensures,
+      ) (rise-hulled f n r (c .before .before .before .before .pre .1));
     }
 
 pub block-of-spec : {M : Type 1} → statement M

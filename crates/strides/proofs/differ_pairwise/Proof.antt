@@ -22,10 +22,15 @@ loop-holds c = (omega arith, all-none _)
 
 returns : tie.Need-returns Inv-loop μ-loop
 unfolding allDiffer
-returns c = sym (all-fails _ _ (c .before .before .before .loop .k) (omega arith) (sym (c .before .number-new .ensures) ∙ not-true _ (c .if1 .taken)))
+returns c = sym (all-fails _ _ (c .before .before .before .loop .k) (omega arith)
+    (sym (c .before .number-new .ensures) ∙ not-true _ (c .if1 .taken)))
 
 loop-again : tie.Need-loop-again Inv-loop μ-loop
-loop-again c = (omega arith, all-more _ _ (c .before .before .before .loop .inv .1) (sym (c .before .number-new .ensures) ∙ not-false _ (c .if1 .left)))
+loop-again c = (
+  omega arith,
+  all-more _ _ (c .before .before .before .loop .inv .1)
+      (sym (c .before .number-new .ensures) ∙ not-false _ (c .if1 .left)),
+)
 
 returns-2 : tie.Need-returns-2 Inv-loop μ-loop
 unfolding allDiffer
@@ -35,4 +40,5 @@ returns-2 c =
 
 pub differ-pairwise-spec : {M : Type 1} → statement M
 differ-pairwise-spec =
-    tie.close (tie.spec Inv-loop μ-loop loop-holds (λ c κs. search needs) returns (λ c. omega arith) (λ c. omega arith) loop-again returns-2)
+    tie.close (tie.spec Inv-loop μ-loop loop-holds (λ c κs. search needs) returns (λ c. omega arith) (λ c. omega arith) loop-again
+    returns-2)

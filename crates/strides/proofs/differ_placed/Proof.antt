@@ -16,7 +16,8 @@ use Rattle.strides.proofs.differ_placed.Statement.{statement}
 use Rattle.strides.proofs.differ_placed.Tie as tie
 
 abbrev Inv-loop : tie.InvT-loop
-Inv-loop t at step n marks₀ k₀ marks k = (k ≤ n) × (length marks ≡ length marks₀) × Left countOf (strideAt t at step) k marks × (allBelow k (numberNew (strideAt t at step)) ≡ true)
+Inv-loop t at step n marks₀ k₀ marks k = (k ≤ n) × (length marks ≡ length marks₀) × Left countOf (strideAt t at step) k marks
+    × (allBelow k (numberNew (strideAt t at step)) ≡ true)
 
 abbrev μ-loop : tie.MeasureT-loop
 μ-loop t at step n marks₀ k₀ marks k = n - k
@@ -25,28 +26,43 @@ loop-holds : tie.Need-loop-holds Inv-loop μ-loop
 loop-holds c = (omega arith, refl, record { left = λ j h. absurd (omega arith) }, all-none _)
 
 -- the place of number k's mark, which the marks have
-place-here : (c : tie.After-count-of Inv-loop μ-loop) → c .count-of .result ≡ countOf ((strideAt (c .before .before .before .before .before .args .t .now) (c .before .before .before .before .before .args .at) (c .before .before .before .before .before .args .step)) (c .before .before .before .loop .k))
+place-here : (c : tie.After-count-of Inv-loop μ-loop) → c .count-of .result
+    ≡ countOf ((strideAt (c .before .before .before .before .before .args .t .now) (c .before .before .before .before .before .args .at)
+    (c .before .before .before .before .before .args .step)) (c .before .before .before .loop .k))
 place-here c = c .count-of .ensures ∙ ap countOf (toZ-ofZ (sfits-of (c .before .number-at .ok)) ∙ c .before .number-at .ensures)
 
 inside-here : (c : tie.After-count-of Inv-loop μ-loop) → c .count-of .result < length (c .before .before .before .loop .marks)
-inside-here c = rw (c .before .before .before .loop .inv .1, place-here c) (c .before .before .before .before .before .pre .1 (c .before .before .before .loop .k) (c .before .before .loop-test .taken))
+inside-here c = rw (c .before .before .before .loop .inv .1, place-here c)
+    (c .before .before .before .before .before .pre .1 (c .before .before .before .loop .k) (c .before .before .loop-test .taken))
 
 new-by-mark-requires : tie.Need-new-by-mark-requires Inv-loop μ-loop
-new-by-mark-requires c κs = ((c .before .before .before .before .before .before .pre .0, c .before .before .before .loop-test .taken), λ e. new-unmarked countOf (strideAt (c .before .before .before .before .before .before .args .t .now) (c .before .before .before .before .before .before .args .at) (c .before .before .before .before .before .before .args .step)) _ _ _ (c .before .before .before .before .loop .inv .2) (place-here (c .before)) e)
+new-by-mark-requires c κs = (
+  (c .before .before .before .before .before .before .pre .0, c .before .before .before .loop-test .taken),
+  λ e. new-unmarked countOf (strideAt (c .before .before .before .before .before .before .args .t .now)
+      (c .before .before .before .before .before .before .args .at) (c .before .before .before .before .before .before .args .step)) _ _ _
+      (c .before .before .before .before .loop .inv .2) (place-here (c .before)) e,
+)
 
 same-length : tie.Need-same-length Inv-loop μ-loop
 same-length c = c .before .before .before .before .before .before .loop .inv .1
 
 returns : tie.Need-returns Inv-loop μ-loop
 unfolding allDiffer
-returns c = sym (all-fails _ _ (c .before .before .before .before .before .before .loop .k) (omega arith) (sym (c .before .new-by-mark .ensures) ∙ not-true _ (c .if1 .taken)))
+returns c = sym (all-fails _ _ (c .before .before .before .before .before .before .loop .k) (omega arith)
+    (sym (c .before .new-by-mark .ensures) ∙ not-true _ (c .if1 .taken)))
 
 loop-again : tie.Need-loop-again Inv-loop μ-loop
 loop-again c = (
   omega arith,
   simp length-set (c .before .before .before .before .before .before .loop .inv .1),
-  left-more countOf (strideAt (c .before .before .before .before .before .before .before .before .args .t .now) (c .before .before .before .before .before .before .before .before .args .at) (c .before .before .before .before .before .before .before .before .args .step)) (c .before .before .before .before .before .before .loop .k) (c .before .before .before .count-of .result) (c .before .before .before .before .before .before .loop .marks) (inside-here (c .before .before .before)) (place-here (c .before .before .before)) (c .before .before .before .before .before .before .loop .inv .2),
-  all-more _ _ (c .before .before .before .before .before .before .loop .inv .3) (sym (c .before .new-by-mark .ensures) ∙ not-false _ (c .if1 .left)),
+  left-more countOf (strideAt (c .before .before .before .before .before .before .before .before .args .t .now)
+      (c .before .before .before .before .before .before .before .before .args .at)
+      (c .before .before .before .before .before .before .before .before .args .step))
+      (c .before .before .before .before .before .before .loop .k) (c .before .before .before .count-of .result)
+      (c .before .before .before .before .before .before .loop .marks) (inside-here (c .before .before .before))
+      (place-here (c .before .before .before)) (c .before .before .before .before .before .before .loop .inv .2),
+  all-more _ _ (c .before .before .before .before .before .before .loop .inv .3)
+      (sym (c .before .new-by-mark .ensures) ∙ not-false _ (c .if1 .left)),
 )
 
 same-length-2 : tie.Need-same-length-2 Inv-loop μ-loop
@@ -60,4 +76,6 @@ returns-2 c =
 
 pub differ-placed-spec : {M : Type 1} → statement M
 differ-placed-spec =
-    tie.close (tie.spec Inv-loop μ-loop loop-holds (λ c κs. search needs) (λ c κs. search needs) (λ c. inside-here (c .before)) new-by-mark-requires same-length returns (λ c. inside-here (c .before .before .before)) (λ c. omega arith) (λ c. omega arith) loop-again same-length-2 returns-2)
+    tie.close (tie.spec Inv-loop μ-loop loop-holds (λ c κs. search needs) (λ c κs. search needs) (λ c. inside-here (c .before))
+    new-by-mark-requires same-length returns (λ c. inside-here (c .before .before .before)) (λ c. omega arith) (λ c. omega arith) loop-again
+    same-length-2 returns-2)

@@ -16,14 +16,21 @@ abbrev μ-loop : tie.MeasureT-loop
 μ-loop t at step n first h₀ k₀ h k = n - k
 
 loop-holds : tie.Need-loop-holds Inv-loop μ-loop
-loop-holds c = (omega arith, omega arith, rw (toZ-ofZ (sfits-of (c .number-at .ok)), c .number-at .ensures) (hulled-one (strideAt (c .before .args .t .now) (c .before .args .at) (c .before .args .step))))
+loop-holds c = (
+  omega arith,
+  omega arith,
+  rw (toZ-ofZ (sfits-of (c .number-at .ok)), c .number-at .ensures)
+      (hulled-one (strideAt (c .before .args .t .now) (c .before .args .at) (c .before .args .step))),
+)
 
 loop-again : tie.Need-loop-again Inv-loop μ-loop
 loop-again c = (
   omega arith,
   omega arith,
   rw (c .hull-with .ensures, toZ-ofZ (sfits-of (c .before .number-at2 .ok)), c .before .number-at2 .ensures)
-      (hulled-more (strideAt (c .before .before .before .before .before .args .t .now) (c .before .before .before .before .before .args .at) (c .before .before .before .before .before .args .step)) (c .before .before .before .loop .k) (c .before .before .before .loop .h) (c .before .before .before .loop .inv .2)),
+      (hulled-more (strideAt (c .before .before .before .before .before .args .t .now) (c .before .before .before .before .before .args .at)
+      (c .before .before .before .before .before .args .step)) (c .before .before .before .loop .k) (c .before .before .before .loop .h)
+      (c .before .before .before .loop .inv .2)),
 )
 
 returns : tie.Need-returns Inv-loop μ-loop
@@ -33,4 +40,5 @@ returns c =
 
 pub hull-of-spec : {M : Type 1} → statement M
 hull-of-spec =
-    tie.close (tie.spec Inv-loop μ-loop (λ c κs. search needs) loop-holds (λ c κs. search needs) (λ c κs. search needs) (λ c. omega arith) (λ c. omega arith) loop-again returns)
+    tie.close (tie.spec Inv-loop μ-loop (λ c κs. search needs) loop-holds (λ c κs. search needs) (λ c κs. search needs) (λ c. omega arith)
+    (λ c. omega arith) loop-again returns)

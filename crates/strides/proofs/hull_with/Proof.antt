@@ -17,11 +17,17 @@ least-back c = search needs
 most-back : (c : tie.After-struct-told2) → toZ w64 (ofZ w64 (c .before .before .args .h .most)) ≡ c .before .before .args .h .most
 most-back c = search needs
 
-lesser-is : (c : tie.After-lesser) → c .lesser .result ≡ cond (leZ (c .before .before .before .args .h .least) (c .before .before .before .args .z)) (c .before .before .before .args .h .least) (c .before .before .before .args .z)
-lesser-is c = c .lesser .ensures ∙ ap₂ (λ (a b : ℤ). cond (leZ a b) a b) (least-back (c .before)) (toZ-ofZ (c .before .before .before .fits .z))
+lesser-is : (c : tie.After-lesser) → c .lesser .result
+    ≡ cond (leZ (c .before .before .before .args .h .least) (c .before .before .before .args .z))
+    (c .before .before .before .args .h .least) (c .before .before .before .args .z)
+lesser-is c = c .lesser .ensures ∙ ap₂ (λ (a b : ℤ). cond (leZ a b) a b) (least-back (c .before))
+    (toZ-ofZ (c .before .before .before .fits .z))
 
-greater-is : (c : tie.After-greater) → c .greater .result ≡ cond (leZ (c .before .before .before .before .args .z) (c .before .before .before .before .args .h .most)) (c .before .before .before .before .args .h .most) (c .before .before .before .before .args .z)
-greater-is c = c .greater .ensures ∙ ap₂ (λ (a b : ℤ). cond (leZ a b) b a) (toZ-ofZ (c .before .before .before .before .fits .z)) (most-back (c .before .before))
+greater-is : (c : tie.After-greater) → c .greater .result
+    ≡ cond (leZ (c .before .before .before .before .args .z) (c .before .before .before .before .args .h .most))
+    (c .before .before .before .before .args .h .most) (c .before .before .before .before .args .z)
+greater-is c = c .greater .ensures ∙ ap₂ (λ (a b : ℤ). cond (leZ a b) b a) (toZ-ofZ (c .before .before .before .before .fits .z))
+    (most-back (c .before .before))
 
 returns : tie.Need-returns
 unfolding hullWith

@@ -22,17 +22,33 @@ loop-holds : tie.Need-loop-holds Inv-loop μ-loop
 loop-holds c = (omega arith, all-none _)
 
 -- what `same` answers of the values k and j
-here : (c : tie.After-same Inv-loop μ-loop) → c .same .result ≡ eqZ (strideAt (c .before .before .before .before .before .args .t .now) (c .before .before .before .before .before .args .at) (c .before .before .before .before .before .args .step) (c .before .before .before .before .before .args .k)) (strideAt (c .before .before .before .before .before .args .t .now) (c .before .before .before .before .before .args .at) (c .before .before .before .before .before .args .step) (c .before .before .before .loop .j))
+here : (c : tie.After-same Inv-loop μ-loop) → c .same .result
+    ≡ eqZ (strideAt (c .before .before .before .before .before .args .t .now) (c .before .before .before .before .before .args .at)
+    (c .before .before .before .before .before .args .step) (c .before .before .before .before .before .args .k))
+    (strideAt (c .before .before .before .before .before .args .t .now) (c .before .before .before .before .before .args .at)
+    (c .before .before .before .before .before .args .step) (c .before .before .before .loop .j))
 here c =
     c .same .ensures
-    ∙ rw (toZ-ofZ (sfits-of (c .before .before .before .before .number-at .ok)), c .before .before .before .before .number-at .ensures, toZ-ofZ (sfits-of (c .before .number-at2 .ok)), c .before .number-at2 .ensures)
+    ∙ rw (
+      toZ-ofZ (sfits-of (c .before .before .before .before .number-at .ok)),
+      c .before .before .before .before .number-at .ensures,
+      toZ-ofZ (sfits-of (c .before .number-at2 .ok)),
+      c .before .number-at2 .ensures,
+    )
 
 returns : tie.Need-returns Inv-loop μ-loop
 unfolding numberNew
-returns c = sym (all-fails (unlike (strideAt (c .before .before .before .before .before .before .args .t .now) (c .before .before .before .before .before .before .args .at) (c .before .before .before .before .before .before .args .step)) (c .before .before .before .before .before .before .args .k)) _ (c .before .before .before .before .loop .j) (omega arith) (ap not (sym (here (c .before)) ∙ c .if1 .taken)))
+returns c = sym (all-fails (unlike (strideAt (c .before .before .before .before .before .before .args .t .now)
+    (c .before .before .before .before .before .before .args .at) (c .before .before .before .before .before .before .args .step))
+    (c .before .before .before .before .before .before .args .k)) _ (c .before .before .before .before .loop .j) (omega arith)
+    (ap not (sym (here (c .before)) ∙ c .if1 .taken)))
 
 loop-again : tie.Need-loop-again Inv-loop μ-loop
-loop-again c = (omega arith, all-more _ _ (c .before .before .before .before .loop .inv .1) (ap not (sym (here (c .before)) ∙ c .if1 .left)))
+loop-again c = (
+  omega arith,
+  all-more _ _ (c .before .before .before .before .loop .inv .1)
+      (ap not (sym (here (c .before)) ∙ c .if1 .left)),
+)
 
 returns-2 : tie.Need-returns-2 Inv-loop μ-loop
 unfolding numberNew
@@ -42,4 +58,5 @@ returns-2 c =
 
 pub number-new-spec : {M : Type 1} → statement M
 number-new-spec =
-    tie.close (tie.spec Inv-loop μ-loop (λ c κs. search needs) loop-holds (λ c κs. search needs) (λ c κs. search needs) returns (λ c. omega arith) (λ c. omega arith) loop-again returns-2)
+    tie.close (tie.spec Inv-loop μ-loop (λ c κs. search needs) loop-holds (λ c κs. search needs) (λ c κs. search needs) returns
+    (λ c. omega arith) (λ c. omega arith) loop-again returns-2)

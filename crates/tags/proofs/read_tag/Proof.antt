@@ -21,21 +21,28 @@ loop-holds c = (refl, c .before .before .before .before .pre)
 loop-less : tie.Need-loop-less Inv-loop μ-loop
 loop-less c =
     let a = c .before .before .before .before .before .before .before .before .before .args in
-    let l = turn-on (a .bad) (a .d .now) (a .opened) (a .x .now) (a .y .now) (a .z .now) (a .f) (a .g) (a .k) (a .required) (c .before .before .before .before .loop .h) _ (sym (c .before .before .before .take-turn .ensures) ∙ c .before .g .given .1) in
+    let l = turn-on (a .bad) (a .d .now) (a .opened) (a .x .now) (a .y .now) (a .z .now) (a .f) (a .g) (a .k) (a .required)
+    (c .before .before .before .before .loop .h) _ (sym (c .before .before .before .take-turn .ensures) ∙ c .before .g .given .1) in
     omega arith
 
 loop-again : tie.Need-loop-again Inv-loop μ-loop
 loop-again c =
     let a = c .before .before .before .before .before .before .before .before .before .args in
     let e = sym (c .before .before .before .take-turn .ensures) ∙ c .before .g .given .1 in (
-      c .before .before .before .before .loop .inv .0 ∙ turns-next (a .bad) (a .d .now) (a .opened) (a .x .now) (a .y .now) (a .z .now) (a .f) (a .g) (a .k) (a .required) (c .before .before .before .before .loop .h) _ e,
-      turn-on (a .bad) (a .d .now) (a .opened) (a .x .now) (a .y .now) (a .z .now) (a .f) (a .g) (a .k) (a .required) (c .before .before .before .before .loop .h) _ e .1,
+      c .before .before .before .before .loop .inv .0
+          ∙ turns-next (a .bad) (a .d .now) (a .opened) (a .x .now) (a .y .now) (a .z .now) (a .f) (a .g) (a .k) (a .required)
+          (c .before .before .before .before .loop .h) _ e,
+      turn-on (a .bad) (a .d .now) (a .opened) (a .x .now) (a .y .now) (a .z .now) (a .f) (a .g) (a .k) (a .required)
+          (c .before .before .before .before .loop .h) _ e .1,
     )
 
 returns : tie.Need-returns Inv-loop μ-loop
 returns c =
     let a = c .before .before .before .before .before .before .before .before .before .args in
-    sym (c .before .before .before .before .loop .inv .0 ∙ turns-over (a .bad) (a .d .now) (a .opened) (a .x .now) (a .y .now) (a .z .now) (a .f) (a .g) (a .k) (a .required) (c .before .before .before .before .loop .h) _ (sym (c .before .before .before .take-turn .ensures) ∙ c .before .t .given .1))
+    sym (c .before .before .before .before .loop .inv .0
+    ∙ turns-over (a .bad) (a .d .now) (a .opened) (a .x .now) (a .y .now) (a .z .now) (a .f) (a .g) (a .k) (a .required)
+    (c .before .before .before .before .loop .h) _ (sym (c .before .before .before .take-turn .ensures) ∙ c .before .t .given .1))
 
 pub read-tag-spec : {M : Type 1} → statement M
-read-tag-spec = tie.close (tie.spec Inv-loop μ-loop loop-holds (λ c κs. search needs) (λ c. search needs) loop-less loop-again (λ c. search needs) returns)
+read-tag-spec = tie.close (tie.spec Inv-loop μ-loop loop-holds (λ c κs. search needs) (λ c. search needs) loop-less loop-again
+    (λ c. search needs) returns)

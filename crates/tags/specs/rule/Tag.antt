@@ -42,10 +42,24 @@ placedOf before good name v h = cond (eqb before 0) (cond good (More h) (Over (F
 
 unfoldable pub putOf : Held → ℕ → ℕ → ℕ → Bool → ℕ → ℕ → Turn
 putOf h slot name next good v k =
-    cond (eqb slot 1) (placedOf (h .a) good name v (record { a = v; ae = k; b = h .b; be = h .be; c = h .c; ce = h .ce; third = h .third; unknown = h .unknown; next = next }))
-    (cond (eqb slot 2) (placedOf (h .b) good name v (record { a = h .a; ae = h .ae; b = v; be = k; c = h .c; ce = h .ce; third = h .third; unknown = h .unknown; next = next }))
-    (cond (eqb slot 3) (placedOf (h .c) good name v (record { a = h .a; ae = h .ae; b = h .b; be = h .be; c = v; ce = k; third = name; unknown = h .unknown; next = next }))
-    (More (record { a = h .a; ae = h .ae; b = h .b; be = h .be; c = h .c; ce = h .ce; third = h .third; unknown = cond (eqb (h .unknown) 0) name (h .unknown); next = next }))))
+    cond (eqb slot 1) (placedOf (h .a) good name v
+    (record { a = v; ae = k; b = h .b; be = h .be; c = h .c; ce = h .ce; third = h .third; unknown = h .unknown; next = next }))
+    (cond (eqb slot 2) (placedOf (h .b) good name v
+    (record { a = h .a; ae = h .ae; b = v; be = k; c = h .c; ce = h .ce; third = h .third; unknown = h .unknown; next = next }))
+    (cond (eqb slot 3) (placedOf (h .c) good name v
+    (record { a = h .a; ae = h .ae; b = h .b; be = h .be; c = v; ce = k; third = name; unknown = h .unknown; next = next }))
+    (More (record {
+      a = h .a;
+      ae = h .ae;
+      b = h .b;
+      be = h .be;
+      c = h .c;
+      ce = h .ce;
+      third = h .third;
+      unknown = cond (eqb (h .unknown) 0)
+          name (h .unknown);
+      next = next;
+    }))))
 
 -- the first `required` of the three are given
 unfoldable pub missesOf : ℕ → Held → Bool

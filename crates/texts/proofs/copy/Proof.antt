@@ -15,10 +15,16 @@ stays : (d : List ℕ) (s : Inside) (n k : ℕ) (list : List ℤ) → Copied d s
 stays d s n k list = record { same-left = refl; same-count = refl; same-room = refl; ahead = omega arith }
 
 copy-plain-requires : tie.Need-copy-plain-requires
-copy-plain-requires c κs = (c .before .before .before .before .pre .0, rw (c .before .enum-told .given .1) at (c .before .before .before .before .pre .1))
+copy-plain-requires c κs = (
+  c .before .before .before .before .pre .0,
+  rw (c .before .enum-told .given .1) at (c .before .before .before .before .pre .1),
+)
 
 copy-pairs-requires : tie.Need-copy-pairs-requires
-copy-pairs-requires c κs = (c .before .before .before .before .before .pre .0, rw (c .before .before .inside .given .1) at (c .before .before .before .before .before .pre .1))
+copy-pairs-requires c κs = (
+  c .before .before .before .before .before .pre .0,
+  rw (c .before .before .inside .given .1) at (c .before .before .before .before .before .pre .1),
+)
 
 returns : tie.Need-returns
 returns c = rw (c .before .before .before .enum-told .given .1) (c .before .copy-plain .ensures)

@@ -32,22 +32,31 @@ abbrev μ-loop : tie.MeasureT-loop
 μ-loop classes s n o list₀ k i₀ m₀ list i m = length s - i
 
 -- the pair is the next to store
-here : (c : tie.Else3 Inv-loop μ-loop) → let d = c .before .before .before .before .before .before .before .before .before .before .args .s .now in let i = c .before .before .before .before .before .before .before .before .loop .i in
-    Says d (Pair (c .before .before .before .before .before .before .before .before .before .before .args .o)) i (Byte (pairOf (getD d i 0) (getD d (i + 1) 0))) (i + 2) (Pair (c .before .before .before .before .before .before .before .before .before .before .args .o))
+here : (c : tie.Else3 Inv-loop μ-loop)
+    → let d = c .before .before .before .before .before .before .before .before .before .before .args .s .now in
+    let i = c .before .before .before .before .before .before .before .before .loop .i in
+    Says d (Pair (c .before .before .before .before .before .before .before .before .before .before .args .o)) i
+    (Byte (pairOf (getD d i 0) (getD d (i + 1) 0))) (i + 2)
+    (Pair (c .before .before .before .before .before .before .before .before .before .before .args .o))
 here c = pair-step _ _ _ (omega arith) (sym (c .before .before .before .is-hex .ensures) ∙ not-false _ (c .before .before .if2 .left))
     (sym (c .before .is-hex2 .ensures) ∙ not-false _ (c .if3 .left))
 
-room : (c : tie.Else3 Inv-loop μ-loop) → c .before .before .before .before .before .before .before .before .loop .m < length (c .before .before .before .before .before .before .before .before .loop .list)
-room c = let l = c .before .before .before .before .before .before .before .before .loop in let e = ap length (here c .split) in omega (arith, l .inv .1, l .inv .2, c .before .before .before .before .before .before .before .before .before .before .pre .1)
+room : (c : tie.Else3 Inv-loop μ-loop) → c .before .before .before .before .before .before .before .before .loop .m
+    < length (c .before .before .before .before .before .before .before .before .loop .list)
+room c = let l = c .before .before .before .before .before .before .before .before .loop in let e = ap length (here c .split) in
+    omega (arith, l .inv .1, l .inv .2, c .before .before .before .before .before .before .before .before .before .before .pre .1)
 
 returns : tie.Need-returns Inv-loop μ-loop
-returns c = let l = c .before .before .loop in record { same-left = l .inv .0; same-count = l .inv .1; same-room = l .inv .2; ahead = l .inv .3 }
+returns c = let l = c .before .before .loop in record
+    { same-left = l .inv .0; same-count = l .inv .1; same-room = l .inv .2; ahead = l .inv .3 }
 
 returns-2 : tie.Need-returns-2 Inv-loop μ-loop
-returns-2 c = let l = c .before .before .before .before .before .before .loop in record { same-left = l .inv .0; same-count = l .inv .1; same-room = l .inv .2; ahead = l .inv .3 }
+returns-2 c = let l = c .before .before .before .before .before .before .loop in
+    record { same-left = l .inv .0; same-count = l .inv .1; same-room = l .inv .2; ahead = l .inv .3 }
 
 returns-3 : tie.Need-returns-3 Inv-loop μ-loop
-returns-3 c = let l = c .before .before .before .before .before .before .before .before .loop in record { same-left = l .inv .0; same-count = l .inv .1; same-room = l .inv .2; ahead = l .inv .3 }
+returns-3 c = let l = c .before .before .before .before .before .before .before .before .loop in
+    record { same-left = l .inv .0; same-count = l .inv .1; same-room = l .inv .2; ahead = l .inv .3 }
 
 loop-again : tie.Need-loop-again Inv-loop μ-loop
 unfolding signNumber
@@ -92,9 +101,15 @@ copy-pairs-spec =
     (λ c κs. c .before .before .before .before .before .before .before .before .pre .0)
     (λ c. c .before .before .before .before .before .before .before .before .loop .inv .2)
     returns-3
-    (λ c κs. (c .before .before .before .before .before .before .before .before .before .before .pre .0, sym (c .before .before .before .is-hex .ensures) ∙ not-false _ (c .before .before .if2 .left)))
+    (λ c κs. (
+      c .before .before .before .before .before .before .before .before .before .before .pre .0,
+      sym (c .before .before .before .is-hex .ensures) ∙ not-false _ (c .before .before .if2 .left),
+    ))
     (λ c. omega (arith, c .hex-of .ensures .1))
-    (λ c κs. (c .before .before .before .before .before .before .before .before .before .before .before .pre .0, sym (c .before .before .is-hex2 .ensures) ∙ not-false _ (c .before .if3 .left)))
+    (λ c κs. (
+      c .before .before .before .before .before .before .before .before .before .before .before .pre .0,
+      sym (c .before .before .is-hex2 .ensures) ∙ not-false _ (c .before .if3 .left),
+    ))
     (λ c. omega (arith, c .before .hex-of .ensures .1, c .hex-of2 .ensures .1))
     (λ c κs. search needs)
     (λ c κs. omega (arith, c .number-of .ensures .1))

@@ -32,14 +32,18 @@ abbrev μ-loop : tie.MeasureT-loop
 μ-loop classes s n list₀ k i₀ m₀ list i m = length s - i
 
 returns : tie.Need-returns Inv-loop μ-loop
-returns c = let l = c .before .before .before .before .before .before .loop in record { same-left = l .inv .0; same-count = l .inv .1; same-room = l .inv .2; ahead = l .inv .3 }
+returns c = let l = c .before .before .before .before .before .before .loop in
+    record { same-left = l .inv .0; same-count = l .inv .1; same-room = l .inv .2; ahead = l .inv .3 }
 
 -- ---- a form that was told: what it says is the next to store
-form : (c : tie.Else2 Inv-loop μ-loop) → Form (c .before .before .before .before .before .before .before .before .args .s .now) (c .before .before .before .before .before .before .loop .i) (c .before .form-end .result)
+form : (c : tie.Else2 Inv-loop μ-loop) → Form (c .before .before .before .before .before .before .before .before .args .s .now)
+    (c .before .before .before .before .before .before .loop .i) (c .before .form-end .result)
 form c = was-form (c .before .form-end .ensures) (c .if2 .left)
 
-form-room : (c : tie.Else2 Inv-loop μ-loop) → c .before .before .before .before .before .before .loop .m < length (c .before .before .before .before .before .before .loop .list)
-form-room c = let l = c .before .before .before .before .before .before .loop in let e = ap length (form c .says .split) in omega (arith, l .inv .1, l .inv .2, c .before .before .before .before .before .before .before .before .pre .1)
+form-room : (c : tie.Else2 Inv-loop μ-loop) → c .before .before .before .before .before .before .loop .m
+    < length (c .before .before .before .before .before .before .loop .list)
+form-room c = let l = c .before .before .before .before .before .before .loop in let e = ap length (form c .says .split) in
+    omega (arith, l .inv .1, l .inv .2, c .before .before .before .before .before .before .before .before .pre .1)
 
 loop-less : tie.Need-loop-less Inv-loop μ-loop
 loop-less c = let s = form (c .before .before .before) .says in omega (arith, s .ahead, s .within)
@@ -50,7 +54,13 @@ loop-again c =
     let s = form (c .before .before .before) .says in
     let n = ap length (s .split) in (
       l .inv .0
-          ∙ rw (toZ-ofZ (sfits-of (c .cell-of .ok)), c .cell-of .ensures, c .before .number-of .ensures .0, c .before .before .form-sign .ensures, add-one (l .m))
+          ∙ rw (
+            toZ-ofZ (sfits-of (c .cell-of .ok)),
+            c .cell-of .ensures,
+            c .before .number-of .ensures .0,
+            c .before .before .form-sign .ensures,
+            add-one (l .m),
+          )
           (next-stored (l .list) (l .m) (s .split)),
       l .inv .1 ∙ omega arith,
       simp length-set (l .inv .2),
@@ -58,12 +68,17 @@ loop-again c =
     )
 
 -- ---- a byte that is kept is the next to store
-here : (c : tie.Then3 Inv-loop μ-loop) → let d = c .before .before .before .before .before .before .before .args .s .now in let i = c .before .before .before .before .before .loop .i in
+here : (c : tie.Then3 Inv-loop μ-loop) → let d = c .before .before .before .before .before .before .before .args .s .now in
+    let i = c .before .before .before .before .before .loop .i in
     decodeOf Plain 0 (text d i) ≡ Byte (getD d i 0) ∷ decodeOf Plain 0 (text d (i + 1))
-here c = decode-kept (c .before .before .before .before .before .before .before .args .s .now) (c .before .before .before .before .before .loop .i) (c .before .before .before .before .loop-test .taken) (c .if3 .taken) (sym (c .before .before .marked .ensures) ∙ c .before .if1 .left)
+here c = decode-kept (c .before .before .before .before .before .before .before .args .s .now)
+    (c .before .before .before .before .before .loop .i) (c .before .before .before .before .loop-test .taken) (c .if3 .taken)
+    (sym (c .before .before .marked .ensures) ∙ c .before .if1 .left)
 
-room : (c : tie.Then3 Inv-loop μ-loop) → c .before .before .before .before .before .loop .m < length (c .before .before .before .before .before .loop .list)
-room c = let l = c .before .before .before .before .before .loop in let e = ap length (here c) in omega (arith, l .inv .1, l .inv .2, c .before .before .before .before .before .before .before .pre .1)
+room : (c : tie.Then3 Inv-loop μ-loop) → c .before .before .before .before .before .loop .m
+    < length (c .before .before .before .before .before .loop .list)
+room c = let l = c .before .before .before .before .before .loop in let e = ap length (here c) in
+    omega (arith, l .inv .1, l .inv .2, c .before .before .before .before .before .before .before .pre .1)
 
 loop-again-2 : tie.Need-loop-again-2 Inv-loop μ-loop
 unfolding numbersOf signNumber
@@ -83,7 +98,8 @@ loop-again-3 : tie.Need-loop-again-3 Inv-loop μ-loop
 loop-again-3 c =
     let l = c .before .before .before .before .before .loop in
     let low : getD (c .before .before .before .before .before .before .before .args .s .now) (l .i) 0 < 32 = omega (arith, c .if3 .left) in
-    let e = decode-dropped (c .before .before .before .before .before .before .before .args .s .now) (l .i) (c .before .before .before .before .loop-test .taken) low in
+    let e = decode-dropped (c .before .before .before .before .before .before .before .args .s .now) (l .i)
+    (c .before .before .before .before .loop-test .taken) low in
     (rw e at (l .inv .0), rw e at (l .inv .1), l .inv .2, l .inv .3)
 
 returns-2 : tie.Need-returns-2 Inv-loop μ-loop

@@ -23,16 +23,25 @@ measure-requires c κs =
     (c .before .before .classes .ensures, omega arith)
 
 returns-3 : tie.Need-returns-3
-returns-3 c = no-room _ _ _ _ (omega arith) (c .before .before .before .before .measure .ensures) (c .before .before .n .given .1) (c .if3 .taken)
+returns-3 c = no-room _ _ _ _ (omega arith) (c .before .before .before .before .measure .ensures) (c .before .before .n .given .1)
+    (c .if3 .taken)
 
 write-requires : tie.Need-write-requires
 write-requires c κs =
     let a = c .before .before .before .before .before .before .before .before .before .before .before .before .before .before .args in
-    let h : a .place + a .long ≤ length (a .d .now) = omega arith in
-    (c .before .before .before .before .before .before .before .before .before .before .classes .ensures, (counted _ _ _ (a .list .now) h (c .before .before .before .before .before .before .before .measure .ensures) (c .before .before .before .before .before .n .given .1), omega arith))
+    let h : a .place + a .long ≤ length (a .d .now) = omega arith in (
+      c .before .before .before .before .before .before .before .before .before .before .classes .ensures,
+      (
+        counted _ _ _ (a .list .now) h (c .before .before .before .before .before .before .before .measure .ensures)
+            (c .before .before .before .before .before .n .given .1),
+        omega arith,
+      ),
+    )
 
 returns-4 : tie.Need-returns-4
-returns-4 c = decodes _ _ _ _ (omega arith) (c .before .before .before .before .before .before .before .before .before .measure .ensures) (c .before .before .before .before .before .before .before .n .given .1) (c .before .before .before .before .before .if3 .left) (c .before .write .ensures)
+returns-4 c = decodes _ _ _ _ (omega arith) (c .before .before .before .before .before .before .before .before .before .measure .ensures)
+    (c .before .before .before .before .before .before .before .n .given .1) (c .before .before .before .before .before .if3 .left)
+    (c .before .write .ensures)
 
 returns-5 : tie.Need-returns-5
 returns-5 c = no-text _ _ _ _ (omega arith) (c .before .before .measure .ensures) (c .enum-told .given .1)

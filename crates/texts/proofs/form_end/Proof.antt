@@ -9,16 +9,30 @@ use Rattle.texts.proofs.form_end.Statement.{statement}
 use Rattle.texts.proofs.form_end.Tie as tie
 
 returns-3 : tie.Need-returns-3
-returns-3 c = inr (mark-form _ _ (omega (arith, c .before .before .before .before .before .before .before .before .before .pre .1)) (c .before .before .before .before .before .if2 .left) (sym (c .before .before .marked .ensures) ∙ c .before .if3 .taken) (c .if4 .taken))
+returns-3 c = inr (mark-form _ _ (omega (arith, c .before .before .before .before .before .before .before .before .before .pre .1))
+    (c .before .before .before .before .before .if2 .left) (sym (c .before .before .marked .ensures) ∙ c .before .if3 .taken)
+    (c .if4 .taken))
 
 returns-6 : tie.Need-returns-6
-returns-6 c = inr (line-form _ _ (omega (arith, c .before .before .before .before .before .before .before .before .before .before .before .before .pre .1)) (c .before .before .before .before .before .before .before .before .if2 .left) (c .before .if6 .taken) (c .if7 .taken) (c .before .before .if5 .left))
+returns-6 c = inr
+    (line-form _ _
+    (omega (arith, c .before .before .before .before .before .before .before .before .before .before .before .before .pre .1))
+    (c .before .before .before .before .before .before .before .before .if2 .left) (c .before .if6 .taken) (c .if7 .taken)
+    (c .before .before .if5 .left))
 
 returns-9 : tie.Need-returns-9
 returns-9 c =
     inr
-    (pair-form _ _ (omega (arith, c .before .before .before .before .before .before .before .before .before .before .before .before .before .before .before .pre .1)) (c .before .before .before .before .before .before .before .before .before .before .before .if2 .left) (c .before .before .before .before .if6 .left) (sym (c .before .before .before .before .before .before .before .before .marked .ensures) ∙ c .before .before .before .before .before .before .before .if3 .left)
-    (sym (c .before .before .before .is-hex .ensures) ∙ not-false _ (c .before .before .if8 .left)) (sym (c .before .is-hex2 .ensures) ∙ c .if9 .taken) (c .before .before .before .before .before .if5 .left))
+    (pair-form _ _
+    (omega (
+      arith,
+      c .before .before .before .before .before .before .before .before .before .before .before .before .before .before .before .pre .1,
+    )) (c .before .before .before .before .before .before .before .before .before .before .before .if2 .left)
+    (c .before .before .before .before .if6 .left)
+    (sym (c .before .before .before .before .before .before .before .before .marked .ensures)
+    ∙ c .before .before .before .before .before .before .before .if3 .left)
+    (sym (c .before .before .before .is-hex .ensures) ∙ not-false _ (c .before .before .if8 .left))
+    (sym (c .before .is-hex2 .ensures) ∙ c .if9 .taken) (c .before .before .before .before .before .if5 .left))
 
 pub form-end-spec : {M : Type 1} → statement M
 form-end-spec =
@@ -45,6 +59,10 @@ form-end-spec =
     (λ c κs. c .before .before .before .before .before .before .before .before .before .before .before .pre .0)
     (λ c. inl refl)
     (λ c κs. c .before .before .before .before .before .before .before .before .before .before .before .before .before .pre .0)
-    (λ c. omega (arith, c .before .before .before .before .before .before .before .before .before .before .before .before .before .before .before .pre .1))
+    (λ c. omega (
+      arith,
+      c .before .before .before .before .before .before .before .before .before .before .before .before .before .before .before .pre
+          .1,
+    ))
     returns-9
     (λ c. inl refl))

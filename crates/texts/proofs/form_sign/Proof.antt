@@ -16,15 +16,28 @@ unfolding formSign
 returns-2 c = rw (ne-eqb _ 78 (c .before .before .if1 .left), sym (c .before .marked .ensures) ∙ c .if2 .taken)
 
 hex-of-requires : tie.Need-hex-of-requires
-hex-of-requires c κs = (c .before .before .before .before .before .pre .0, c .before .before .before .before .before .pre .1 .hex (c .before .before .if1 .left) (sym (c .before .marked .ensures) ∙ c .if2 .left) .0)
+hex-of-requires c κs = (
+  c .before .before .before .before .before .pre .0,
+  c .before .before .before .before .before .pre .1 .hex (c .before .before .if1 .left)
+      (sym (c .before .marked .ensures) ∙ c .if2 .left) .0,
+)
 
 hex-of-requires-2 : tie.Need-hex-of-requires-2
-hex-of-requires-2 c κs = (c .before .before .before .before .before .before .before .pre .0, c .before .before .before .before .before .before .before .pre .1 .hex (c .before .before .before .before .if1 .left) (sym (c .before .before .before .marked .ensures) ∙ c .before .before .if2 .left) .1)
+hex-of-requires-2 c κs = (
+  c .before .before .before .before .before .before .before .pre .0,
+  c .before .before .before .before .before .before .before .pre .1 .hex (c .before .before .before .before .if1 .left)
+      (sym (c .before .before .before .marked .ensures) ∙ c .before .before .if2 .left) .1,
+)
 
 returns-3 : tie.Need-returns-3
 unfolding formSign
 returns-3 c =
-    rw (ne-eqb _ 78 (c .before .before .before .before .before .if1 .left), sym (c .before .before .before .before .marked .ensures) ∙ c .before .before .before .if2 .left, c .before .before .hex-of .ensures .0, c .hex-of2 .ensures .0)
+    rw (
+      ne-eqb _ 78 (c .before .before .before .before .before .if1 .left),
+      sym (c .before .before .before .before .marked .ensures) ∙ c .before .before .before .if2 .left,
+      c .before .before .hex-of .ensures .0,
+      c .hex-of2 .ensures .0,
+    )
 
 pub form-sign-spec : {M : Type 1} → statement M
 form-sign-spec =

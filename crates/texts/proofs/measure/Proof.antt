@@ -44,13 +44,16 @@ loop-again c =
 
 returns : tie.Need-returns Inv-loop μ-loop
 unfolding pacedOf
-returns c = sym (c .before .before .before .before .before .loop .inv .0 ∙ c .before .before .before .before .pass .ensures .same _ ∙ paced (c .before .before .step .ensures) (c .enum-told .given .1) _)
+returns c = sym (c .before .before .before .before .before .loop .inv .0 ∙ c .before .before .before .before .pass .ensures .same _
+    ∙ paced (c .before .before .step .ensures) (c .enum-told .given .1) _)
 
 returns-2 : tie.Need-returns-2 Inv-loop μ-loop
 unfolding pacedOf
 returns-2 c =
     c .ended .ensures
-    ∙ sym (c .before .before .before .before .before .before .loop .inv .0 ∙ c .before .before .before .before .before .pass .ensures .same _ ∙ paced (c .before .before .before .step .ensures) (c .before .enum-told2 .given .1) _)
+    ∙ sym (c .before .before .before .before .before .before .loop .inv .0
+    ∙ c .before .before .before .before .before .pass .ensures .same _
+    ∙ paced (c .before .before .before .step .ensures) (c .before .enum-told2 .given .1) _)
 
 pub measure-spec : {M : Type 1} → statement M
 measure-spec =

@@ -25,19 +25,23 @@ loop-holds : tie.Need-loop-holds Inv-loop μ-loop
 loop-holds c = (λ k. let z : k ≡ k + 0 = omega arith in ap (λ (j : ℕ). measureFrom (Pair _) j (text _ _)) z, omega arith, λ h. h)
 
 returns : tie.Need-returns Inv-loop μ-loop
-returns c = let l = c .before .before .loop in record { same = l .inv .0; onward = omega (arith, l .inv .1); inside = l .inv .2; few = l .inv .1 }
+returns c = let l = c .before .before .loop in record
+    { same = l .inv .0; onward = omega (arith, l .inv .1); inside = l .inv .2; few = l .inv .1 }
 
 returns-2 : tie.Need-returns-2 Inv-loop μ-loop
-returns-2 c = let l = c .before .before .before .before .before .loop in record { same = l .inv .0; onward = omega (arith, l .inv .1); inside = l .inv .2; few = l .inv .1 }
+returns-2 c = let l = c .before .before .before .before .before .loop in
+    record { same = l .inv .0; onward = omega (arith, l .inv .1); inside = l .inv .2; few = l .inv .1 }
 
 returns-3 : tie.Need-returns-3 Inv-loop μ-loop
-returns-3 c = let l = c .before .before .before .before .before .before .before .before .loop in record { same = l .inv .0; onward = omega (arith, l .inv .1); inside = l .inv .2; few = l .inv .1 }
+returns-3 c = let l = c .before .before .before .before .before .before .before .before .loop in
+    record { same = l .inv .0; onward = omega (arith, l .inv .1); inside = l .inv .2; few = l .inv .1 }
 
 loop-again : tie.Need-loop-again Inv-loop μ-loop
 loop-again c =
     let l = c .before .before .before .before .before .before .before .before .loop in
     let a = c .before .before .before .before .before .before .before .before .before .before .args in
-    let p = pair-step (a .s .now) (a .o) (l .i) (omega arith) (sym (c .before .before .before .before .is-hex .ensures) ∙ not-false _ (c .before .before .before .if2 .left))
+    let p = pair-step (a .s .now) (a .o) (l .i) (omega arith)
+    (sym (c .before .before .before .before .is-hex .ensures) ∙ not-false _ (c .before .before .before .if2 .left))
     (sym (c .before .is-hex2 .ensures) ∙ not-false _ (c .if3 .left)) in (
       λ j. let z : j + (l .count + 1) ≡ j + l .count + 1 = omega arith in l .inv .0 j ∙ p .counts (j + l .count) ∙ rw z,
       omega (arith, l .inv .1),

@@ -25,7 +25,8 @@ loop-holds : tie.Need-loop-holds Inv-loop μ-loop
 loop-holds c = (λ k. let z : k ≡ k + 0 = omega arith in ap (λ (j : ℕ). measureFrom Plain j (text _ _)) z, omega arith, λ h. h)
 
 returns : tie.Need-returns Inv-loop μ-loop
-returns c = let l = c .before .before .before .before .before .before .loop in record { same = l .inv .0; onward = omega (arith, l .inv .1); inside = l .inv .2; few = l .inv .1 }
+returns c = let l = c .before .before .before .before .before .before .loop in
+    record { same = l .inv .0; onward = omega (arith, l .inv .1); inside = l .inv .2; few = l .inv .1 }
 
 -- a form that was passed
 loop-less : tie.Need-loop-less Inv-loop μ-loop
@@ -46,7 +47,8 @@ loop-again-2 c =
     let l = c .before .before .before .before .before .loop in
     let k = c .kept .ensures in (
       λ j. l .inv .0 j
-          ∙ measure-over _ _ (c .before .before .before .before .loop-test .taken) _ (sym (c .before .before .marked .ensures) ∙ c .before .if1 .left)
+          ∙ measure-over _ _ (c .before .before .before .before .loop-test .taken) _
+          (sym (c .before .before .marked .ensures) ∙ c .before .if1 .left)
           ∙ rw (sym (k .0), add-assoc j),
       omega (arith, k .1),
       λ h. omega arith,

@@ -12,17 +12,20 @@ use Rattle.texts.proofs.step.Tie as tie
 returns : tie.Need-returns
 unfolding pacedOf
 returns c =
-    let s = stepped _ _ (c .before .before .before .before .before .before .before .before .next-byte .ensures) (c .before .before .before .before .before .before .byte .given .1) in
+    let s = stepped _ _ (c .before .before .before .before .before .before .before .before .next-byte .ensures)
+    (c .before .before .before .before .before .before .byte .given .1) in
     let k = c .completed .ensures in
     record {
-      paces = λ j. measure-on _ _ (s .split) (c .before .before .before .before .move-inside .ensures) (c .before .before .t .given .1) ∙ rw (sym (k .0));
+      paces = λ j. measure-on _ _ (s .split) (c .before .before .before .before .move-inside .ensures) (c .before .before .t .given .1)
+          ∙ rw (sym (k .0));
       onwards = λ e. paced-on e (omega (arith, s .from, s .next)) (omega (arith, s .within, s .next)) (k .1);
     }
 
 returns-2 : tie.Need-returns-2
 unfolding pacedOf
 returns-2 c =
-    let s = stepped _ _ (c .before .before .before .before .before .before .next-byte .ensures) (c .before .before .before .before .byte .given .1) in
+    let s = stepped _ _ (c .before .before .before .before .before .before .next-byte .ensures)
+    (c .before .before .before .before .byte .given .1) in
     record {
       paces = λ j. measure-closed _ _ (s .split) (c .before .before .move-inside .ensures) (c .enum-told .given .1);
       onwards = λ e. let z : _≡_ {A = ℕ} 0 1 = cc in absurd (omega arith);
@@ -31,7 +34,8 @@ returns-2 c =
 returns-3 : tie.Need-returns-3
 unfolding pacedOf
 returns-3 c =
-    let s = stepped _ _ (c .before .before .before .before .before .before .next-byte .ensures) (c .before .before .before .before .byte .given .1) in
+    let s = stepped _ _ (c .before .before .before .before .before .before .next-byte .ensures)
+    (c .before .before .before .before .byte .given .1) in
     record {
       paces = λ j. measure-wrong _ _ (s .split) (c .before .before .move-inside .ensures) (c .enum-told2 .given .1);
       onwards = λ e. let z : _≡_ {A = ℕ} 0 1 = cc in absurd (omega arith);

@@ -33,7 +33,10 @@ unfolding idle
 loop-holds c = (refl, omega (arith, c .before .pre .1 .0), refl, refl)
 
 copy-requires : tie.Need-copy-requires Inv-loop μ-loop
-copy-requires c κs = let l = c .before .before .loop in (c .before .before .before .before .pre .0, omega (arith, l .inv .1, l .inv .2, c .before .before .before .before .pre .1 .1))
+copy-requires c κs = let l = c .before .before .loop in (
+  c .before .before .before .before .pre .0,
+  omega (arith, l .inv .1, l .inv .2, c .before .before .before .before .pre .1 .1),
+)
 
 next-part-requires : tie.Need-next-part-requires Inv-loop μ-loop
 next-part-requires c κs = (c .before .before .before .before .before .before .pre .0, c .before .before .before .before .loop .inv .3)
@@ -43,43 +46,89 @@ mul-t20 : tie.Need-mul-t20 Inv-loop μ-loop
 mul-t20 c =
     let l = c .before .before .before .before .before .before .before .before .before .before .loop in
     let p = c .before .before .before .before .before .before .before .copy .ensures in
-    let s = part-said _ _ _ _ _ _ (c .before .before .before .before .before .next-part .ensures) (c .before .before .before .sign .given .1) in
+    let s = part-said _ _ _ _ _ _ (c .before .before .before .before .before .next-part .ensures)
+    (c .before .before .before .sign .given .1) in
     let n = ap length (s .split) in
-    omega (arith, n, p .same-count, p .same-room, p .ahead, l .inv .1, l .inv .2, c .before .before .before .before .before .before .before .before .before .before .before .before .pre .1 .1)
+    omega (
+      arith,
+      n,
+      p .same-count,
+      p .same-room,
+      p .ahead,
+      l .inv .1,
+      l .inv .2,
+      c .before .before .before .before .before .before .before .before .before .before .before .before .pre .1 .1,
+    )
 
 slice-set-from-list : tie.Need-slice-set-from-list Inv-loop μ-loop
 slice-set-from-list c =
     let l = c .before .before .before .before .before .before .before .before .before .before .loop in
     let p = c .before .before .before .before .before .before .before .copy .ensures in
-    let s = part-said _ _ _ _ _ _ (c .before .before .before .before .before .next-part .ensures) (c .before .before .before .sign .given .1) in
+    let s = part-said _ _ _ _ _ _ (c .before .before .before .before .before .next-part .ensures)
+    (c .before .before .before .sign .given .1) in
     let n = ap length (s .split) in
-    omega (arith, n, p .same-count, p .same-room, p .ahead, l .inv .1, l .inv .2, c .before .before .before .before .before .before .before .before .before .before .before .before .pre .1 .1)
+    omega (
+      arith,
+      n,
+      p .same-count,
+      p .same-room,
+      p .ahead,
+      l .inv .1,
+      l .inv .2,
+      c .before .before .before .before .before .before .before .before .before .before .before .before .pre .1 .1,
+    )
 
 add-k : tie.Need-add-k Inv-loop μ-loop
 add-k c =
     let l = c .before .before .before .before .before .before .before .before .before .before .loop in
     let p = c .before .before .before .before .before .before .before .copy .ensures in
-    let s = part-said _ _ _ _ _ _ (c .before .before .before .before .before .next-part .ensures) (c .before .before .before .sign .given .1) in
+    let s = part-said _ _ _ _ _ _ (c .before .before .before .before .before .next-part .ensures)
+    (c .before .before .before .sign .given .1) in
     let n = ap length (s .split) in
-    omega (arith, n, p .same-count, p .same-room, p .ahead, l .inv .1, l .inv .2, c .before .before .before .before .before .before .before .before .before .before .before .before .pre .1 .1)
+    omega (
+      arith,
+      n,
+      p .same-count,
+      p .same-room,
+      p .ahead,
+      l .inv .1,
+      l .inv .2,
+      c .before .before .before .before .before .before .before .before .before .before .before .before .pre .1 .1,
+    )
 
 loop-less : tie.Need-loop-less Inv-loop μ-loop
 loop-less c =
     let l = c .before .before .before .before .before .before .before .before .before .before .loop in
     let p = c .before .before .before .before .before .before .before .copy .ensures in
-    let s = part-said _ _ _ _ _ _ (c .before .before .before .before .before .next-part .ensures) (c .before .before .before .sign .given .1) in
+    let s = part-said _ _ _ _ _ _ (c .before .before .before .before .before .next-part .ensures)
+    (c .before .before .before .sign .given .1) in
     let n = ap length (s .split) in
-    omega (arith, n, p .same-count, p .same-room, p .ahead, l .inv .1, l .inv .2, c .before .before .before .before .before .before .before .before .before .before .before .before .pre .1 .1)
+    omega (
+      arith,
+      n,
+      p .same-count,
+      p .same-room,
+      p .ahead,
+      l .inv .1,
+      l .inv .2,
+      c .before .before .before .before .before .before .before .before .before .before .before .before .pre .1 .1,
+    )
 
 loop-again : tie.Need-loop-again Inv-loop μ-loop
 loop-again c =
     let l = c .before .before .before .before .before .before .before .before .before .before .loop in
     let p = c .before .before .before .before .before .before .before .copy .ensures in
-    let s = part-said _ _ _ _ _ _ (c .before .before .before .before .before .next-part .ensures) (c .before .before .before .sign .given .1) in
+    let s = part-said _ _ _ _ _ _ (c .before .before .before .before .before .next-part .ensures)
+    (c .before .before .before .sign .given .1) in
     let n = ap length (s .split) in (
       l .inv .0
           ∙ p .same-left
-          ∙ rw (toZ-ofZ (sfits-of (c .cell-of .ok)), c .cell-of .ensures, c .before .number-of .ensures .0, add-one (c .before .before .before .before .before .before .before .copy .result .count))
+          ∙ rw (
+            toZ-ofZ (sfits-of (c .cell-of .ok)),
+            c .cell-of .ensures,
+            c .before .number-of .ensures .0,
+            add-one (c .before .before .before .before .before .before .before .copy .result .count),
+          )
           (next-stored _ _ (s .split)),
       omega (arith, n, p .same-count, l .inv .1),
       simp length-set (p .same-room ∙ l .inv .2),
@@ -91,10 +140,13 @@ returns c =
     let l = c .before .before .before .before .before .before .before .loop in
     let p = c .before .before .before .before .copy .ensures in
     let e = part-over _ _ _ (c .before .before .next-part .ensures) (c .enum-told .given .1) in
-    all-written _ _ _ _ _ _ (l .inv .0 ∙ p .same-left) (ap length e) (c .before .before .before .before .before .before .before .before .before .pre .1 .0) (c .before .before .before .before .before .before .before .before .before .pre .1 .1)
+    all-written _ _ _ _ _ _ (l .inv .0 ∙ p .same-left) (ap length e)
+    (c .before .before .before .before .before .before .before .before .before .pre .1 .0)
+    (c .before .before .before .before .before .before .before .before .before .pre .1 .1)
 
 returns-2 : tie.Need-returns-2 Inv-loop μ-loop
-returns-2 c = let l = c .before .loop in all-written _ _ _ _ _ _ (l .inv .0) (omega (arith, l .inv .1)) (c .before .before .before .pre .1 .0) (c .before .before .before .pre .1 .1)
+returns-2 c = let l = c .before .loop in all-written _ _ _ _ _ _ (l .inv .0) (omega (arith, l .inv .1))
+    (c .before .before .before .pre .1 .0) (c .before .before .before .pre .1 .1)
 
 pub write-spec : {M : Type 1} → statement M
 write-spec =
@@ -114,7 +166,8 @@ write-spec =
     loop-less
     loop-again
     (λ c. search needs)
-    (λ c. c .before .before .before .before .copy .ensures .same-room ∙ c .before .before .before .before .before .before .before .loop .inv .2)
+    (λ c. c .before .before .before .before .copy .ensures .same-room
+    ∙ c .before .before .before .before .before .before .before .loop .inv .2)
     returns
     (λ c. c .before .loop .inv .2)
     returns-2)

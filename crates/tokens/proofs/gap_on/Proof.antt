@@ -30,4 +30,5 @@ returns-3 c =
 pub gap-on-spec : {M : Type 1} → statement M
 gap-on-spec =
     tie.close
-    (tie.spec (λ c. search needs) (λ c κs. search needs) (λ c κs. search needs) returns (λ c κs. c .before .before .before .before .before .before .before .pre) (λ c. search needs) returns-2 returns-3)
+    (tie.spec (λ c. search needs) (λ c κs. search needs) (λ c κs. search needs) returns
+    (λ c κs. c .before .before .before .before .before .before .before .pre) (λ c. search needs) returns-2 returns-3)

@@ -26,8 +26,11 @@ loop-again : tie.Need-loop-again Inv-loop μ-loop
 loop-again c =
     let l = c .before .before .before .before .before .loop in
     let at = c .before .before .before .before .before .before .args .at in
-    let q : (l .i - at) + 1 ≡ (l .i + 1) - at = omega (arith, l .inv .1) in
-    (l .inv .0 ∙ lead-next _ (l .i) (l .v) (l .i - at) (omega arith) (omega arith) (omega arith) (omega arith) ∙ rw q, omega (arith, l .inv .1), omega arith)
+    let q : (l .i - at) + 1 ≡ (l .i + 1) - at = omega (arith, l .inv .1) in (
+      l .inv .0 ∙ lead-next _ (l .i) (l .v) (l .i - at) (omega arith) (omega arith) (omega arith) (omega arith) ∙ rw q,
+      omega (arith, l .inv .1),
+      omega arith,
+    )
 
 pub lead-at-spec : {M : Type 1} → statement M
 lead-at-spec =

@@ -12,15 +12,24 @@ returns : tie.Need-returns
 returns c =
     let q = c .before .before .before .before .before .lead-at .ensures in
     rw (c .before .before .before .before .before .before .before .t .given .1)
-    (sym (lead-number _ _ _ _ (c .before .before .before .if1 .taken) (q .1 .1) (q .0) (sym (c .before .before .over-at .ensures) ∙ c .before .if2 .taken)))
+    (sym (lead-number _ _ _ _ (c .before .before .before .if1 .taken) (q .1 .1) (q .0)
+    (sym (c .before .before .over-at .ensures) ∙ c .before .if2 .taken)))
 
 returns-2 : tie.Need-returns-2
 unfolding numberHere ofDigits
-returns-2 c = rw (c .before .before .before .before .before .before .before .t .given .1, sym (c .before .before .read-digits .ensures), eq-eqb _ 0 (c .if3 .taken))
+returns-2 c = rw (
+  c .before .before .before .before .before .before .before .t .given .1,
+  sym (c .before .before .read-digits .ensures),
+  eq-eqb _ 0 (c .if3 .taken),
+)
 
 returns-3 : tie.Need-returns-3
 unfolding numberHere ofDigits
-returns-3 c = rw (c .before .before .before .before .before .before .before .t .given .1, sym (c .before .before .read-digits .ensures), ne-eqb _ 0 (c .if3 .left))
+returns-3 c = rw (
+  c .before .before .before .before .before .before .before .t .given .1,
+  sym (c .before .before .read-digits .ensures),
+  ne-eqb _ 0 (c .if3 .left),
+)
 
 returns-4 : tie.Need-returns-4
 unfolding numberHere

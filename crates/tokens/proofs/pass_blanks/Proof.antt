@@ -22,4 +22,5 @@ loop-again c =
 
 pub pass-blanks-spec : {M : Type 1} → statement M
 pass-blanks-spec =
-    tie.close (tie.spec Inv-loop μ-loop (λ c κs. search needs) (λ c. c .pass-few .ensures) (λ c. omega arith) (λ c. c .before .before .before .loop .inv) (λ c. omega arith) (λ c. omega arith) loop-again (λ c. c .before .loop .inv))
+    tie.close (tie.spec Inv-loop μ-loop (λ c κs. search needs) (λ c. c .pass-few .ensures) (λ c. omega arith)
+    (λ c. c .before .before .before .loop .inv) (λ c. omega arith) (λ c. omega arith) loop-again (λ c. c .before .loop .inv))

@@ -11,7 +11,10 @@ returns-4 : tie.Need-returns-4
 returns-4 c = (gap-blank _ _ (omega arith) (omega arith), omega arith)
 
 returns-5 : tie.Need-returns-5
-returns-5 c = (gap-two _ _ _ (omega arith) (omega arith) (omega arith) (c .pass-fours .ensures .0), omega (arith, c .pass-fours .ensures .1))
+returns-5 c = (
+  gap-two _ _ _ (omega arith) (omega arith) (omega arith) (c .pass-fours .ensures .0),
+  omega (arith, c .pass-fours .ensures .1),
+)
 
 pub pass-few-spec : {M : Type 1} → statement M
 pass-few-spec =

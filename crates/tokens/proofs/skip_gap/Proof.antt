@@ -18,7 +18,8 @@ abbrev μ-loop : tie.MeasureT-loop
 
 -- a token that stands right behind the blanks
 returns : tie.Need-returns Inv-loop μ-loop
-returns c = sym (c .before .before .before .loop .inv ∙ c .before .before .pass-blanks .ensures .0 ∙ c .before .token-at .ensures (c .if1 .taken))
+returns c = sym (c .before .before .before .loop .inv ∙ c .before .before .pass-blanks .ensures .0
+    ∙ c .before .token-at .ensures (c .if1 .taken))
 
 loop-less : tie.Need-loop-less Inv-loop μ-loop
 loop-less c =
@@ -41,4 +42,5 @@ returns-2 c =
 pub skip-gap-spec : {M : Type 1} → statement M
 skip-gap-spec =
     tie.close
-    (tie.spec Inv-loop μ-loop (λ c. refl) (λ c κs. search needs) (λ c κs. search needs) returns (λ c κs. c .before .before .before .before .before .pre) (λ c. search needs) loop-less loop-again (λ c. search needs) returns-2)
+    (tie.spec Inv-loop μ-loop (λ c. refl) (λ c κs. search needs) (λ c κs. search needs) returns
+    (λ c κs. c .before .before .before .before .before .pre) (λ c. search needs) loop-less loop-again (λ c. search needs) returns-2)

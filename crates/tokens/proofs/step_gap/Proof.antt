@@ -18,26 +18,48 @@ returns c =
 returns-2 : tie.Need-returns-2
 unfolding gapStep paceOf isSpace
 returns-2 c =
-    let s = stepped _ _ (c .before .before .before .before .before .before .next-byte .ensures) (c .before .before .before .before .byte .given .1) in
+    let s = stepped _ _ (c .before .before .before .before .before .before .next-byte .ensures)
+    (c .before .before .before .before .byte .given .1) in
     rw (s .split, ne-eqb _ 1 (λ e. c .before .if1 .left (c .before .before .class-of .ensures ∙ e)), ne-eqb _ 60 (c .if2 .taken))
 
 returns-3 : tie.Need-returns-3
 unfolding gapStep paceOf isSpace
 returns-3 c =
-    let s = stepped _ _ (c .before .before .before .before .before .before .before .before .before .before .next-byte .ensures) (c .before .before .before .before .before .before .before .before .byte .given .1) in
-    rw (s .split, ne-eqb _ 1 (λ e. c .before .before .before .before .before .if1 .left (c .before .before .before .before .before .before .class-of .ensures ∙ e)), eq-eqb _ 60 (c .before .before .before .before .if2 .left), sym (c .before .before .before .comment .ensures) ∙ c .before .m .given .1)
+    let s = stepped _ _ (c .before .before .before .before .before .before .before .before .before .before .next-byte .ensures)
+    (c .before .before .before .before .before .before .before .before .byte .given .1) in
+    rw (
+      s .split,
+      ne-eqb _ 1 (λ e. c .before .before .before .before .before .if1 .left
+          (c .before .before .before .before .before .before .class-of .ensures ∙ e)),
+      eq-eqb _ 60 (c .before .before .before .before .if2 .left),
+      sym (c .before .before .before .comment .ensures) ∙ c .before .m .given .1,
+    )
 
 returns-4 : tie.Need-returns-4
 unfolding gapStep paceOf isSpace
 returns-4 c =
-    let s = stepped _ _ (c .before .before .before .before .before .before .before .before .before .next-byte .ensures) (c .before .before .before .before .before .before .before .byte .given .1) in
-    rw (s .split, ne-eqb _ 1 (λ e. c .before .before .before .before .if1 .left (c .before .before .before .before .before .class-of .ensures ∙ e)), eq-eqb _ 60 (c .before .before .before .if2 .left), sym (c .before .before .comment .ensures) ∙ c .enum-told .given .1)
+    let s = stepped _ _ (c .before .before .before .before .before .before .before .before .before .next-byte .ensures)
+    (c .before .before .before .before .before .before .before .byte .given .1) in
+    rw (
+      s .split,
+      ne-eqb _ 1 (λ e. c .before .before .before .before .if1 .left
+          (c .before .before .before .before .before .class-of .ensures ∙ e)),
+      eq-eqb _ 60 (c .before .before .before .if2 .left),
+      sym (c .before .before .comment .ensures) ∙ c .enum-told .given .1,
+    )
 
 returns-5 : tie.Need-returns-5
 unfolding gapStep paceOf isSpace
 returns-5 c =
-    let s = stepped _ _ (c .before .before .before .before .before .before .before .before .before .before .next-byte .ensures) (c .before .before .before .before .before .before .before .before .byte .given .1) in
-    rw (s .split, ne-eqb _ 1 (λ e. c .before .before .before .before .before .if1 .left (c .before .before .before .before .before .before .class-of .ensures ∙ e)), eq-eqb _ 60 (c .before .before .before .before .if2 .left), sym (c .before .before .before .comment .ensures) ∙ c .before .p .given .1)
+    let s = stepped _ _ (c .before .before .before .before .before .before .before .before .before .before .next-byte .ensures)
+    (c .before .before .before .before .before .before .before .before .byte .given .1) in
+    rw (
+      s .split,
+      ne-eqb _ 1 (λ e. c .before .before .before .before .before .if1 .left
+          (c .before .before .before .before .before .before .class-of .ensures ∙ e)),
+      eq-eqb _ 60 (c .before .before .before .before .if2 .left),
+      sym (c .before .before .before .comment .ensures) ∙ c .before .p .given .1,
+    )
 
 returns-6 : tie.Need-returns-6
 unfolding gapStep paceOf isSpace
@@ -47,4 +69,5 @@ returns-6 c =
 pub step-gap-spec : {M : Type 1} → statement M
 step-gap-spec =
     tie.close
-    (tie.spec (λ c κs. search needs) (λ c. search needs) (λ c κs. search needs) returns returns-2 (λ c κs. search needs) (λ c. search needs) (λ c. search needs) (λ c. search needs) (λ c. search needs) returns-3 returns-4 returns-5 returns-6)
+    (tie.spec (λ c κs. search needs) (λ c. search needs) (λ c κs. search needs) returns returns-2 (λ c κs. search needs) (λ c. search needs)
+    (λ c. search needs) (λ c. search needs) (λ c. search needs) returns-3 returns-4 returns-5 returns-6)

@@ -18,7 +18,12 @@ read-requires c κs = rw (c .base .ensures) (omega arith)
 
 returns-3 : tie.Need-returns-3
 unfolding filterGood
-returns-3 c = rw (ne-eqb _ 0 (c .before .before .before .before .if1 .left), le-leb _ _ (c .before .before .before .if2 .left), c .before .read .ensures, c .before .before .base .ensures)
+returns-3 c = rw (
+  ne-eqb _ 0 (c .before .before .before .before .if1 .left),
+  le-leb _ _ (c .before .before .before .if2 .left),
+  c .before .read .ensures,
+  c .before .before .base .ensures,
+)
 
 pub filter-good-spec : {M : Type 1} → statement M
 filter-good-spec =

@@ -24,15 +24,21 @@ loop-holds c = (omega arith, all-none _)
 read-requires : tie.Need-read-requires Inv-loop μ-loop
 read-requires c κs = rw (c .base .ensures) (omega arith)
 
-unused-here : (c : tie.After-unused Inv-loop μ-loop) → c .unused .result ≡ unused (columnsAt (c .before .before .before .before .before .args .t .now) (rowBase (c .before .before .before .before .loop .i)))
+unused-here : (c : tie.After-unused Inv-loop μ-loop) → c .unused .result
+    ≡ unused (columnsAt (c .before .before .before .before .before .args .t .now) (rowBase (c .before .before .before .before .loop .i)))
 unused-here c = c .unused .ensures ∙ rw (c .before .read .ensures, c .before .before .base .ensures)
 
 returns : tie.Need-returns Inv-loop μ-loop
 unfolding rowsUnused
-returns c = sym (all-fails _ _ (c .before .before .before .before .before .loop .i) (omega arith) (sym (unused-here (c .before)) ∙ not-true _ (c .if1 .taken)))
+returns c = sym (all-fails _ _ (c .before .before .before .before .before .loop .i) (omega arith)
+    (sym (unused-here (c .before)) ∙ not-true _ (c .if1 .taken)))
 
 loop-again : tie.Need-loop-again Inv-loop μ-loop
-loop-again c = (omega arith, all-more _ _ (c .before .before .before .before .before .loop .inv .1) (sym (unused-here (c .before)) ∙ not-false _ (c .if1 .left)))
+loop-again c = (
+  omega arith,
+  all-more _ _ (c .before .before .before .before .before .loop .inv .1)
+      (sym (unused-here (c .before)) ∙ not-false _ (c .if1 .left)),
+)
 
 returns-2 : tie.Need-returns-2 Inv-loop μ-loop
 unfolding rowsUnused
@@ -42,4 +48,5 @@ returns-2 c =
 
 pub rows-unused-spec : {M : Type 1} → statement M
 rows-unused-spec =
-    tie.close (tie.spec Inv-loop μ-loop loop-holds (λ c κs. search needs) read-requires (λ c κs. search needs) returns (λ c. omega arith) (λ c. omega arith) loop-again returns-2)
+    tie.close (tie.spec Inv-loop μ-loop loop-holds (λ c κs. search needs) read-requires (λ c κs. search needs) returns (λ c. omega arith)
+    (λ c. omega arith) loop-again returns-2)

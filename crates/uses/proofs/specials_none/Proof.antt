@@ -25,15 +25,22 @@ loop-holds c = (omega arith, all-none _)
 read-requires : tie.Need-read-requires Inv-loop μ-loop
 read-requires c κs = rw (c .base .ensures) (omega arith)
 
-line-here : (c : tie.After-read Inv-loop μ-loop) → c .read .result ≡ lineAt (c .before .before .before .before .args .t .now) (lineBase (c .before .before .before .before .args .v) (c .before .before .before .loop .j))
+line-here : (c : tie.After-read Inv-loop μ-loop) → c .read .result
+    ≡ lineAt (c .before .before .before .before .args .t .now)
+    (lineBase (c .before .before .before .before .args .v) (c .before .before .before .loop .j))
 line-here c = c .read .ensures ∙ rw (c .before .base .ensures)
 
 returns : tie.Need-returns Inv-loop μ-loop
 unfolding specialsNone
-returns c = sym (all-fails _ _ (c .before .before .before .before .before .loop .j) (omega arith) (rw (← line-here (c .before .before)) (ne-eqb _ 0 (c .if1 .taken))))
+returns c = sym (all-fails _ _ (c .before .before .before .before .before .loop .j) (omega arith)
+    (rw (← line-here (c .before .before)) (ne-eqb _ 0 (c .if1 .taken))))
 
 loop-again : tie.Need-loop-again Inv-loop μ-loop
-loop-again c = (omega arith, all-more _ _ (c .before .before .before .before .before .loop .inv .1) (rw (← line-here (c .before .before)) (eq-eqb _ 0 (c .if1 .left))))
+loop-again c = (
+  omega arith,
+  all-more _ _ (c .before .before .before .before .before .loop .inv .1)
+      (rw (← line-here (c .before .before)) (eq-eqb _ 0 (c .if1 .left))),
+)
 
 returns-2 : tie.Need-returns-2 Inv-loop μ-loop
 unfolding specialsNone
@@ -43,4 +50,5 @@ returns-2 c =
 
 pub specials-none-spec : {M : Type 1} → statement M
 specials-none-spec =
-    tie.close (tie.spec Inv-loop μ-loop loop-holds (λ c κs. omega arith) read-requires returns (λ c. omega arith) (λ c. omega arith) loop-again returns-2)
+    tie.close (tie.spec Inv-loop μ-loop loop-holds (λ c κs. omega arith) read-requires returns (λ c. omega arith) (λ c. omega arith)
+    loop-again returns-2)

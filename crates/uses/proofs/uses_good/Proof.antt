@@ -32,20 +32,28 @@ use-good-requires : tie.Need-use-good-requires Inv-loop μ-loop
 use-good-requires c κs = (omega arith, omega arith)
 
 -- the columns read are those of row i, and what is answered is whether its use and filter are good
-columns-here : (c : tie.After-read Inv-loop μ-loop) → c .read .result ≡ columnsAt (c .before .before .before .before .args .t .now) (rowBase (c .before .before .before .loop .i))
+columns-here : (c : tie.After-read Inv-loop μ-loop) → c .read .result
+    ≡ columnsAt (c .before .before .before .before .args .t .now) (rowBase (c .before .before .before .loop .i))
 columns-here c = c .read .ensures ∙ rw (c .before .base .ensures)
 
-good-here : (c : tie.After-use-good Inv-loop μ-loop) → c .use-good .result ≡ useGood (c .before .before .before .before .before .args .t .now) (c .before .before .before .before .loop .i) (columnsAt (c .before .before .before .before .before .args .t .now) (rowBase (c .before .before .before .before .loop .i)))
+good-here : (c : tie.After-use-good Inv-loop μ-loop) → c .use-good .result
+    ≡ useGood (c .before .before .before .before .before .args .t .now) (c .before .before .before .before .loop .i)
+    (columnsAt (c .before .before .before .before .before .args .t .now) (rowBase (c .before .before .before .before .loop .i)))
 good-here c = c .use-good .ensures ∙ rw (columns-here (c .before))
 
 returns : tie.Need-returns Inv-loop μ-loop
 unfolding usesGood
-returns c = sym (and-no _ _ (all-fails _ _ (c .before .before .before .before .before .loop .i) (omega arith) (sym (good-here (c .before)) ∙ not-true _ (c .if1 .taken))))
+returns c = sym (and-no _ _ (all-fails _ _ (c .before .before .before .before .before .loop .i) (omega arith)
+    (sym (good-here (c .before)) ∙ not-true _ (c .if1 .taken))))
 
-serial-here : (c : tie.After-is-use Inv-loop μ-loop) → c .is-use .result ≡ isUse (columnsAt (c .before .before .before .before .before .before .before .args .t .now) (rowBase (c .before .before .before .before .before .before .loop .i)) .usage) 1
+serial-here : (c : tie.After-is-use Inv-loop μ-loop) → c .is-use .result
+    ≡ isUse (columnsAt (c .before .before .before .before .before .before .before .args .t .now)
+    (rowBase (c .before .before .before .before .before .before .loop .i)) .usage) 1
 serial-here c = c .is-use .ensures ∙ rw (columns-here (c .before .before .before))
 
-weight-here : (c : tie.After-is-use2 Inv-loop μ-loop) → c .is-use2 .result ≡ isUse (columnsAt (c .before .before .before .before .before .before .before .before .args .t .now) (rowBase (c .before .before .before .before .before .before .before .loop .i)) .usage) 2
+weight-here : (c : tie.After-is-use2 Inv-loop μ-loop) → c .is-use2 .result
+    ≡ isUse (columnsAt (c .before .before .before .before .before .before .before .before .args .t .now)
+    (rowBase (c .before .before .before .before .before .before .before .loop .i)) .usage) 2
 weight-here c = c .is-use2 .ensures ∙ rw (columns-here (c .before .before .before .before))
 
 add-serials : tie.Need-add-serials Inv-loop μ-loop
@@ -74,4 +82,5 @@ returns-2 c =
 
 pub uses-good-spec : {M : Type 1} → statement M
 uses-good-spec =
-    tie.close (tie.spec Inv-loop μ-loop loop-holds (λ c κs. search needs) read-requires use-good-requires returns (λ c κs. search needs) add-serials (λ c κs. search needs) add-weights (λ c. omega arith) (λ c. omega arith) loop-again returns-2)
+    tie.close (tie.spec Inv-loop μ-loop loop-holds (λ c κs. search needs) read-requires use-good-requires returns (λ c κs. search needs)
+    add-serials (λ c κs. search needs) add-weights (λ c. omega arith) (λ c. omega arith) loop-again returns-2)

@@ -13,7 +13,8 @@ returns c = sym (and-no _ _ (sym (c .before .uses-good .ensures) ∙ not-true _ 
 
 returns-2 : tie.Need-returns-2
 unfolding xmlGood
-returns-2 c = c .specials-none .ensures ∙ sym (and-yes _ _ (sym (c .before .before .uses-good .ensures) ∙ not-false _ (c .before .if1 .left)))
+returns-2 c = c .specials-none .ensures ∙ sym (and-yes _ _
+    (sym (c .before .before .uses-good .ensures) ∙ not-false _ (c .before .if1 .left)))
 
 pub xml-good-spec : {M : Type 1} → statement M
 xml-good-spec = tie.close (tie.spec (λ c κs. (omega arith, omega arith)) returns (λ c κs. search needs) returns-2)

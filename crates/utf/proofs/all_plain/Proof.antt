@@ -32,4 +32,5 @@ returns c =
     c .before .loop .inv .1 ∙ ap (allPlain _ _ _) e
 
 pub all-plain-spec : {M : Type 1} → statement M
-all-plain-spec = tie.close (tie.spec Inv-loop μ-loop loop-holds (λ c. omega arith) (λ c. omega arith) (λ c κs. search needs) (λ c. omega arith) (λ c. omega arith) loop-again returns)
+all-plain-spec = tie.close (tie.spec Inv-loop μ-loop loop-holds (λ c. omega arith) (λ c. omega arith) (λ c κs. search needs)
+    (λ c. omega arith) (λ c. omega arith) loop-again returns)

@@ -18,22 +18,32 @@ returns c =
     rw (e, k) (c .lead .ensures ∙ omega arith)
 
 of-two-requires : tie.Need-of-two-requires
-of-two-requires c κs = let a = c .before .before .args in (c .if2 .taken, short _ _ _ (ap length (encode-2 (a .c) (omega arith) (omega arith))) (c .before .before .pre .1))
+of-two-requires c κs = let a = c .before .before .args in (
+  c .if2 .taken,
+  short _ _ _ (ap length (encode-2 (a .c) (omega arith) (omega arith))) (c .before .before .pre .1),
+)
 
 returns-2 : tie.Need-returns-2
 returns-2 c = let a = c .before .before .before .args in rw (encode-2 (a .c) (omega arith) (omega arith)) (c .of-two .ensures)
 
 of-three-requires : tie.Need-of-three-requires
-of-three-requires c κs = let a = c .before .before .before .args in (c .if3 .taken, short _ _ _ (ap length (encode-3 (a .c) (omega arith) (omega arith))) (c .before .before .before .pre .1))
+of-three-requires c κs = let a = c .before .before .before .args in (
+  c .if3 .taken,
+  short _ _ _ (ap length (encode-3 (a .c) (omega arith) (omega arith))) (c .before .before .before .pre .1),
+)
 
 returns-3 : tie.Need-returns-3
 returns-3 c = let a = c .before .before .before .before .args in rw (encode-3 (a .c) (omega arith) (omega arith)) (c .of-three .ensures)
 
 of-four-requires : tie.Need-of-four-requires
-of-four-requires c κs = let a = c .before .before .before .args in (c .before .before .before .pre .0, short _ _ _ (ap length (encode-4 (a .c) (omega arith))) (c .before .before .before .pre .1))
+of-four-requires c κs = let a = c .before .before .before .args in (
+  c .before .before .before .pre .0,
+  short _ _ _ (ap length (encode-4 (a .c) (omega arith))) (c .before .before .before .pre .1),
+)
 
 returns-4 : tie.Need-returns-4
 returns-4 c = let a = c .before .before .before .before .args in rw (encode-4 (a .c) (omega arith)) (c .of-four .ensures)
 
 pub encoded-spec : {M : Type 1} → statement M
-encoded-spec = tie.close (tie.spec (λ c κs. search needs) returns of-two-requires returns-2 of-three-requires returns-3 of-four-requires returns-4)
+encoded-spec = tie.close (tie.spec (λ c κs. search needs) returns of-two-requires returns-2 of-three-requires returns-3 of-four-requires
+    returns-4)

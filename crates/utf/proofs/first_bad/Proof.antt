@@ -20,7 +20,8 @@ loop-holds c = (refl, omega arith, refl)
 returns : tie.Need-returns Inv-loop μ-loop
 returns c =
     let l = c .before .before .before .loop in
-    let e = l .inv .0 ∙ bad-here (c .before .before .before .before .before .args .latin) (c .before .before .before .before .before .args .d .now) (l .i) (c .before .stride .ensures .over (c .if1 .taken)) in
+    let e = l .inv .0 ∙ bad-here (c .before .before .before .before .before .args .latin)
+    (c .before .before .before .before .before .args .d .now) (l .i) (c .before .stride .ensures .over (c .if1 .taken)) in
     (sym e, l .inv .1)
 
 loop-less : tie.Need-loop-less Inv-loop μ-loop
@@ -32,12 +33,18 @@ loop-less c =
     omega arith
 
 loop-again : tie.Need-loop-again Inv-loop μ-loop
-loop-again c = (c .before .before .before .loop .inv .0 ∙ c .before .stride .ensures .again, c .before .stride .ensures .within, c .before .before .before .loop .inv .2)
+loop-again c = (
+  c .before .before .before .loop .inv .0 ∙ c .before .stride .ensures .again,
+  c .before .stride .ensures .within,
+  c .before .before .before .loop .inv .2,
+)
 
 returns-2 : tie.Need-returns-2 Inv-loop μ-loop
 returns-2 c =
-    let l = c .before .loop in
-    (sym (l .inv .0 ∙ bad-end (c .before .before .before .args .latin) (c .before .before .before .args .d .now) (l .i) (omega arith)), l .inv .1)
+    let l = c .before .loop in (
+      sym (l .inv .0 ∙ bad-end (c .before .before .before .args .latin) (c .before .before .before .args .d .now) (l .i) (omega arith)),
+      l .inv .1,
+    )
 
 pub first-bad-spec : {M : Type 1} → statement M
 first-bad-spec = tie.close (tie.spec Inv-loop μ-loop loop-holds (λ c κs. search needs) returns loop-less loop-again returns-2)

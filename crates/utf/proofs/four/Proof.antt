@@ -6,8 +6,20 @@ use Rattle.utf.proofs.four.Tie as tie
 returns : tie.Need-returns
 unfolding fourOf
 returns c =
-    rw (c .before .before .before .does-follow .ensures, c .before .before .does-follow2 .ensures, c .before .does-follow3 .ensures, c .is-legal .ensures)
-    (rw (c .before .before .before .before .before .before .before .bits .ensures .0, c .before .before .before .before .before .before .bits2 .ensures .0, c .before .before .before .before .before .bits3 .ensures .0, c .before .before .before .before .bits4 .ensures .0))
+    rw (
+      c .before .before .before .does-follow .ensures,
+      c .before .before .does-follow2 .ensures,
+      c .before .does-follow3 .ensures,
+      c .is-legal .ensures,
+    )
+    (rw (
+      c .before .before .before .before .before .before .before .bits .ensures .0,
+      c .before .before .before .before .before .before .bits2 .ensures .0,
+      c .before .before .before .before .before .bits3 .ensures .0,
+      c .before .before .before .before .bits4 .ensures .0,
+    ))
 
 pub four-spec : {M : Type 1} → statement M
-four-spec = tie.close (tie.spec (λ c κs. search needs) (λ c. search needs) (λ c κs. search needs) (λ c. search needs) (λ c κs. search needs) (λ c. search needs) (λ c κs. search needs) (λ c. search needs) (λ c. search needs) (λ c. search needs) (λ c κs. search needs) (λ c κs. search needs) (λ c κs. search needs) (λ c κs. search needs) returns)
+four-spec = tie.close (tie.spec (λ c κs. search needs) (λ c. search needs) (λ c κs. search needs) (λ c. search needs) (λ c κs. search needs)
+    (λ c. search needs) (λ c κs. search needs) (λ c. search needs) (λ c. search needs) (λ c. search needs) (λ c κs. search needs)
+    (λ c κs. search needs) (λ c κs. search needs) (λ c κs. search needs) returns)

@@ -18,4 +18,5 @@ returns-4 : tie.Need-returns-4
 returns-4 c = let e : c .before .before .before .before .args .k ≡ 3 = omega arith in rw e (c .six3 .ensures)
 
 pub of-four-spec : {M : Type 1} → statement M
-of-four-spec = tie.close (tie.spec (λ c κs. search needs) returns (λ c κs. search needs) returns-2 (λ c κs. search needs) returns-3 (λ c κs. search needs) returns-4)
+of-four-spec = tie.close (tie.spec (λ c κs. search needs) returns (λ c κs. search needs) returns-2 (λ c κs. search needs) returns-3
+    (λ c κs. search needs) returns-4)

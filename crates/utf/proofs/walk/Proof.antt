@@ -41,8 +41,11 @@ loop-again c =
     let i = c .before .before .before .before .loop .i in
     let w = c .before .width .ensures in
     let m = positive (c .before .width .result) (c .if2 .left) in
-    let b = bad-next (a .latin) (a .d .now) i (λ z. c .if2 .left (w ∙ z)) in
-    (c .before .before .before .before .loop .inv .0 ∙ rw (← w) at b, omega arith, omega (arith, width-within (a .latin) (drop i (a .d .now)), length-drop i (a .d .now)))
+    let b = bad-next (a .latin) (a .d .now) i (λ z. c .if2 .left (w ∙ z)) in (
+      c .before .before .before .before .loop .inv .0 ∙ rw (← w) at b,
+      omega arith,
+      omega (arith, width-within (a .latin) (drop i (a .d .now)), length-drop i (a .d .now)),
+    )
 
 returns-3 : tie.Need-returns-3 Inv-loop μ-loop
 returns-3 c =
@@ -50,4 +53,5 @@ returns-3 c =
     record { again = l .inv .0; on = omega arith; within = l .inv .2; over = λ e. absurd (omega arith) }
 
 pub walk-spec : {M : Type 1} → statement M
-walk-spec = tie.close (tie.spec Inv-loop μ-loop loop-holds returns (λ c κs. search needs) returns-2 add-i (λ c. omega arith) (λ c. omega arith) loop-again returns-3)
+walk-spec = tie.close (tie.spec Inv-loop μ-loop loop-holds returns (λ c κs. search needs) returns-2 add-i (λ c. omega arith)
+    (λ c. omega arith) loop-again returns-3)

@@ -7,15 +7,32 @@ use Rattle.utf.proofs.width.Tie as tie
 
 returns : tie.Need-returns
 unfolding widthOf
-returns c = rw (drop-1 (c .before .before .before .before .args .d .now) (c .before .before .before .before .args .at) (omega arith), ← (c .before .is-plain .ensures), c .if1 .taken)
+returns c = rw (
+  drop-1 (c .before .before .before .before .args .d .now) (c .before .before .before .before .args .at) (omega arith),
+  ← (c .before .is-plain .ensures),
+  c .if1 .taken,
+)
 
 returns-2 : tie.Need-returns-2
 unfolding widthOf
-returns-2 c = rw (drop-1 (c .before .before .before .before .before .args .d .now) (c .before .before .before .before .before .args .at) (omega arith), ← (c .before .before .is-plain .ensures), c .before .if1 .left, c .if2 .taken)
+returns-2 c = rw (
+  drop-1 (c .before .before .before .before .before .args .d .now) (c .before .before .before .before .before .args .at)
+      (omega arith),
+  ← (c .before .before .is-plain .ensures),
+  c .before .if1 .left,
+  c .if2 .taken,
+)
 
 returns-3 : tie.Need-returns-3
 unfolding widthOf
-returns-3 c = rw (drop-1 (c .before .before .before .before .before .before .args .d .now) (c .before .before .before .before .before .before .args .at) (omega arith), ← (c .before .before .before .is-plain .ensures), c .before .before .if1 .left, c .before .if2 .left) (c .long .ensures)
+returns-3 c = rw (
+  drop-1 (c .before .before .before .before .before .before .args .d .now)
+      (c .before .before .before .before .before .before .args .at) (omega arith),
+  ← (c .before .before .before .is-plain .ensures),
+  c .before .before .if1 .left,
+  c .before .if2 .left,
+) (c .long .ensures)
 
 pub width-spec : {M : Type 1} → statement M
-width-spec = tie.close (tie.spec (λ c. search needs) (λ c κs. search needs) returns returns-2 (λ c. search needs) (λ c κs. search needs) returns-3)
+width-spec = tie.close (tie.spec (λ c. search needs) (λ c κs. search needs) returns returns-2 (λ c. search needs) (λ c κs. search needs)
+    returns-3)

@@ -18,7 +18,10 @@ returns-3 : tie.Need-returns-3
 returns-3 c = λ e. holds-not e refl
 
 returns-4 : tie.Need-returns-4
-returns-4 c = λ e. (omega (arith, c .if3 .left, c .before .before .if1 .left), omega (arith, leb-true (c .before .before .before .args .at) (c .before .before .before .args .room - 4) e, c .before .if2 .left))
+returns-4 c = λ e. (
+  omega (arith, c .if3 .left, c .before .before .if1 .left),
+  omega (arith, leb-true (c .before .before .before .args .at) (c .before .before .before .args .room - 4) e, c .before .if2 .left),
+)
 
 pub roomy-spec : {M : Type 1} → statement M
 roomy-spec =

@@ -18,10 +18,21 @@ div-whole : tie.Need-div-whole
 div-whole c = rw (c .power .ensures) (ten-some (c .before .before .before .args .k))
 
 send-count-requires-2 : tie.Need-send-count-requires-2
-send-count-requires-2 c κs = (c .before .before .before .before .pre .0, omega (arith, div-le-self (c .before .before .before .before .args .n) (c .before .power .result), c .before .before .before .before .pre .1 .0))
+send-count-requires-2 c κs = (
+  c .before .before .before .before .pre .0,
+  omega (
+    arith,
+    div-le-self (c .before .before .before .before .args .n) (c .before .power .result),
+    c .before .before .before .before .pre .1 .0,
+  ),
+)
 
 returns-2 : tie.Need-returns-2
-returns-2 c = sent-as (then (c .before .before .before .before .before .before .before .before .before .before .send-count2 .ensures) (then (c .before .before .before .before .before .before .send-byte .ensures) (c .before .before .send-digits .ensures))) (rw (c .before .before .before .before .before .before .before .before .before .before .before .before .power .ensures) (amount-parts _ _ (c .before .before .before .before .before .before .before .before .before .before .before .before .before .if1 .left)))
+returns-2 c = sent-as (then (c .before .before .before .before .before .before .before .before .before .before .send-count2 .ensures)
+    (then (c .before .before .before .before .before .before .send-byte .ensures) (c .before .before .send-digits .ensures)))
+    (rw (c .before .before .before .before .before .before .before .before .before .before .before .before .power .ensures)
+    (amount-parts _ _
+    (c .before .before .before .before .before .before .before .before .before .before .before .before .before .if1 .left)))
 
 pub send-amount-spec : {M : Type 1} → statement M
 send-amount-spec =

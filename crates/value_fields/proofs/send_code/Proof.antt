@@ -27,21 +27,30 @@ store-count-requires c κs =
     (c .before .before .before .if1 .taken, (omega (arith, f .0), rw length-set (omega (arith, f .1))))
 
 same-length : tie.Need-same-length
-same-length c = c .before .before .store-count .ensures .room ∙ length-set (c .before .before .before .before .before .before .before .before .before .args .out .now) (c .before .before .before .before .before .before .before .before .before .args .at) 59
+same-length c = c .before .before .store-count .ensures .room
+    ∙ length-set (c .before .before .before .before .before .before .before .before .before .args .out .now)
+    (c .before .before .before .before .before .before .before .before .before .args .at) 59
 
 returns : tie.Need-returns
 returns c =
     let f = (c .before .before .before .before .before .roomy .ensures) (c .before .before .before .before .if2 .taken) in
     sent-as (then (byte-stored _ _ _ _ (omega (arith, f .1)) (omega (arith, f .0))) (c .before .before .store-count .ensures))
-    (ap (λ (s : List ℕ). (59 ∷ []) ++ s) (code-number _ _ (split (c .before .before .before .before .before .before .before)) (c .before .before .before .before .before .before .before .before .before .pre .1 .1)))
+    (ap (λ (s : List ℕ). (59 ∷ []) ++ s) (code-number _ _ (split (c .before .before .before .before .before .before .before))
+    (c .before .before .before .before .before .before .before .before .before .pre .1 .1)))
 
 send-count-requires : tie.Need-send-count-requires
-send-count-requires c κs = (c .before .before .before .before .before .before .before .before .pre .0, rw (split (c .before .before .before .before .before .before)) (c .before .before .before .before .before .before .before .before .pre .1 .0))
+send-count-requires c κs = (
+  c .before .before .before .before .before .before .before .before .pre .0,
+  rw (split (c .before .before .before .before .before .before))
+      (c .before .before .before .before .before .before .before .before .pre .1 .0),
+)
 
 returns-2 : tie.Need-returns-2
 returns-2 c =
     sent-as (then (c .before .before .before .before .before .before .send-byte .ensures) (c .before .before .send-count .ensures))
-    (ap (λ (s : List ℕ). (59 ∷ []) ++ s) (code-number _ _ (split (c .before .before .before .before .before .before .before .before .before)) (c .before .before .before .before .before .before .before .before .before .before .before .pre .1 .1)))
+    (ap (λ (s : List ℕ). (59 ∷ []) ++ s) (code-number _ _
+    (split (c .before .before .before .before .before .before .before .before .before))
+    (c .before .before .before .before .before .before .before .before .before .before .before .pre .1 .1)))
 
 pub send-code-spec : {M : Type 1} → statement M
 send-code-spec =

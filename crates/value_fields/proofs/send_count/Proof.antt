@@ -14,7 +14,14 @@ store-count-requires c κs =
     (c .before .before .before .if1 .taken, (omega (arith, f .0), omega (arith, f .1)))
 
 send-digits-requires : tie.Need-send-digits-requires
-send-digits-requires c κs = (c .before .before .before .before .pre .0, (c .before .before .before .before .pre .1, omega (arith, digits-few (c .before .before .before .before .args .n), c .before .digit-count .ensures)))
+send-digits-requires c κs = (
+  c .before .before .before .before .pre .0,
+  (
+    c .before .before .before .before .pre .1,
+    omega
+        (arith, digits-few (c .before .before .before .before .args .n), c .before .digit-count .ensures),
+  ),
+)
 
 returns-2 : tie.Need-returns-2
 unfolding numeral

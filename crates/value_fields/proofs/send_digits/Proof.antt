@@ -16,7 +16,8 @@ returns-3 : tie.Need-returns-3
 returns-3 c = digits-counted _ _ _ _ _ (c .if3 .taken)
 
 returns-4 : tie.Need-returns-4
-returns-4 c = digits-stored _ _ _ _ _ (omega (arith, c .before .before .before .before .before .if2 .left)) (c .before .before .put-digits .ensures)
+returns-4 c = digits-stored _ _ _ _ _ (omega (arith, c .before .before .before .before .before .if2 .left))
+    (c .before .before .put-digits .ensures)
 
 pub send-digits-spec : {M : Type 1} → statement M
 send-digits-spec =

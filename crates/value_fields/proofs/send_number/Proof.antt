@@ -14,16 +14,29 @@ split : (c : tie.After-signed-of) → c .signed-of .result ≡ signedOf (c .befo
 split c = c .signed-of .ensures ∙ ap signedOf (toZ-ofZ (c .before .before .fits .z))
 
 send-amount-requires : tie.Need-send-amount-requires
-send-amount-requires c κs = (c .before .before .before .before .before .before .before .before .pre .0, (rw (split (c .before .before .before .before .before .before)) (c .before .before .before .before .before .before .before .before .pre .1 .0), c .before .before .before .before .before .before .before .before .pre .1 .1))
+send-amount-requires c κs = (
+  c .before .before .before .before .before .before .before .before .pre .0,
+  (
+    rw (split (c .before .before .before .before .before .before))
+        (c .before .before .before .before .before .before .before .before .pre .1 .0),
+    c .before .before .before .before .before .before .before .before .pre .1 .1,
+  ),
+)
 
 returns : tie.Need-returns
-returns c = sent-as (then (c .before .before .before .before .before .before .send-byte .ensures) (c .before .before .send-amount .ensures)) (number-minus _ _ _ (split (c .before .before .before .before .before .before .before .before .before)) (c .before .before .before .before .before .before .before .before .if1 .taken))
+returns c = sent-as (then (c .before .before .before .before .before .before .send-byte .ensures) (c .before .before .send-amount .ensures))
+    (number-minus _ _ _ (split (c .before .before .before .before .before .before .before .before .before))
+    (c .before .before .before .before .before .before .before .before .if1 .taken))
 
 send-amount-requires-2 : tie.Need-send-amount-requires-2
-send-amount-requires-2 c κs = (c .before .before .before .before .pre .0, (rw (split (c .before .before)) (c .before .before .before .before .pre .1 .0), c .before .before .before .before .pre .1 .1))
+send-amount-requires-2 c κs = (
+  c .before .before .before .before .pre .0,
+  (rw (split (c .before .before)) (c .before .before .before .before .pre .1 .0), c .before .before .before .before .pre .1 .1),
+)
 
 returns-2 : tie.Need-returns-2
-returns-2 c = sent-as (c .before .before .send-amount2 .ensures) (number-amount _ _ _ (split (c .before .before .before .before .before)) (c .before .before .before .before .if1 .left))
+returns-2 c = sent-as (c .before .before .send-amount2 .ensures)
+    (number-amount _ _ _ (split (c .before .before .before .before .before)) (c .before .before .before .before .if1 .left))
 
 pub send-number-spec : {M : Type 1} → statement M
 send-number-spec =

@@ -15,7 +15,8 @@ use Rattle.value_fields.proofs.send_others.Statement.{statement}
 use Rattle.value_fields.proofs.send_others.Tie as tie
 
 abbrev Inv-loop : tie.InvT-loop
-Inv-loop powers bound out₀ at list n end₀ j₀ out end j = (1 ≤ j) × (j ≤ n) × Owed bound out₀ at (codesBehind (drop 1 (take n list))) out end (codesBehind (drop j (take n list)))
+Inv-loop powers bound out₀ at list n end₀ j₀ out end j = (1 ≤ j) × (j ≤ n)
+    × Owed bound out₀ at (codesBehind (drop 1 (take n list))) out end (codesBehind (drop j (take n list)))
 
 abbrev μ-loop : tie.MeasureT-loop
 μ-loop powers bound out₀ at list n end₀ j₀ out end j = n - j
@@ -25,8 +26,15 @@ loop-holds c = (omega arith, c .before .pre .1 .1, all-owed _ _ _ refl)
 
 send-code-requires : tie.Need-send-code-requires Inv-loop μ-loop
 send-code-requires c κs =
-    let p = c .before .before .before .before .before .pre .1 .0 in
-    (c .before .before .before .before .before .pre .0, (rw (toZ-ofZ (sfits-of (c .number .ok)), c .number .ensures) (let f = p .few (c .before .before .before .loop .j) (c .before .before .loop-test .taken) in omega arith), rw (toZ-ofZ (sfits-of (c .number .ok)), c .number .ensures) (p .plain (c .before .before .before .loop .j) (c .before .before .loop-test .taken))))
+    let p = c .before .before .before .before .before .pre .1 .0 in (
+      c .before .before .before .before .before .pre .0,
+      (
+        rw (toZ-ofZ (sfits-of (c .number .ok)), c .number .ensures)
+            (let f = p .few (c .before .before .before .loop .j) (c .before .before .loop-test .taken) in omega arith),
+        rw (toZ-ofZ (sfits-of (c .number .ok)), c .number .ensures)
+            (p .plain (c .before .before .before .loop .j) (c .before .before .loop-test .taken)),
+      ),
+    )
 
 add-j : tie.Need-add-j Inv-loop μ-loop
 add-j c = omega (arith, c .before .before .before .before .before .loop-test .taken)
@@ -35,7 +43,16 @@ loop-less : tie.Need-loop-less Inv-loop μ-loop
 loop-less c = omega (arith, c .before .before .before .before .before .loop-test .taken)
 
 loop-again : tie.Need-loop-again Inv-loop μ-loop
-loop-again c = (omega (arith, c .before .before .before .before .before .before .loop .inv .0), omega (arith, c .before .before .before .before .before .loop-test .taken), less-owed (c .before .before .before .before .before .before .loop .inv .2) (codes-next _ _ _ (c .before .before .before .before .before .loop-test .taken) (c .before .before .before .before .before .before .before .before .pre .1 .0 .many)) (sent-as (c .before .before .send-code .ensures) (ap (λ (z : ℤ). (59 ∷ []) ++ numberText 0 z) (toZ-ofZ (sfits-of (c .before .before .before .number .ok)) ∙ c .before .before .before .number .ensures))))
+loop-again c = (
+  omega (arith, c .before .before .before .before .before .before .loop .inv .0),
+  omega (arith, c .before .before .before .before .before .loop-test .taken),
+  less-owed (c .before .before .before .before .before .before .loop .inv .2)
+      (codes-next _ _ _ (c .before .before .before .before .before .loop-test .taken)
+      (c .before .before .before .before .before .before .before .before .pre .1 .0 .many))
+      (sent-as (c .before .before .send-code .ensures)
+      (ap (λ (z : ℤ). (59 ∷ []) ++ numberText 0 z)
+      (toZ-ofZ (sfits-of (c .before .before .before .number .ok)) ∙ c .before .before .before .number .ensures))),
+)
 
 same-length : tie.Need-same-length Inv-loop μ-loop
 same-length c = c .before .loop .inv .2 .same-room

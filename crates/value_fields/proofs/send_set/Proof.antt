@@ -15,13 +15,30 @@ returns : tie.Need-returns
 returns c = sent-as (c .before .before .send-bytes .ensures) (codes-none _ _ (c .before .before .before .before .before .if1 .taken))
 
 send-number-requires : tie.Need-send-number-requires
-send-number-requires c κs = (c .before .before .before .before .pre .0, (rw (toZ-ofZ (sfits-of (c .number .ok)), c .number .ensures) (let f = c .before .before .before .before .pre .1 .few 0 (some-of _ (c .before .before .if1 .left)) in omega arith), omega arith))
+send-number-requires c κs = (
+  c .before .before .before .before .pre .0,
+  (
+    rw (toZ-ofZ (sfits-of (c .number .ok)), c .number .ensures)
+        (let f = c .before .before .before .before .pre .1 .few 0 (some-of _ (c .before .before .if1 .left)) in omega arith),
+    omega arith,
+  ),
+)
 
 send-others-requires : tie.Need-send-others-requires
-send-others-requires c κs = (c .before .before .before .before .before .before .before .before .pre .0, (c .before .before .before .before .before .before .before .before .pre .1, some-of _ (c .before .before .before .before .before .before .if1 .left)))
+send-others-requires c κs = (
+  c .before .before .before .before .before .before .before .before .pre .0,
+  (
+    c .before .before .before .before .before .before .before .before .pre .1,
+    some-of _ (c .before .before .before .before .before .before .if1 .left),
+  ),
+)
 
 returns-2 : tie.Need-returns-2
-returns-2 c = sent-as (then (sent-as (c .before .before .before .before .before .before .send-number .ensures) (ap (numberText 0) (toZ-ofZ (sfits-of (c .before .before .before .before .before .before .before .number .ok)) ∙ c .before .before .before .before .before .before .before .number .ensures))) (c .before .before .send-others .ensures)) (codes-first _ _ (some-of _ (c .before .before .before .before .before .before .before .before .before .if1 .left)) (c .before .before .before .before .before .before .before .before .before .before .before .pre .1 .many))
+returns-2 c = sent-as (then (sent-as (c .before .before .before .before .before .before .send-number .ensures)
+    (ap (numberText 0) (toZ-ofZ (sfits-of (c .before .before .before .before .before .before .before .number .ok))
+    ∙ c .before .before .before .before .before .before .before .number .ensures))) (c .before .before .send-others .ensures))
+    (codes-first _ _ (some-of _ (c .before .before .before .before .before .before .before .before .before .if1 .left))
+    (c .before .before .before .before .before .before .before .before .before .before .before .pre .1 .many))
 
 pub send-set-spec : {M : Type 1} → statement M
 send-set-spec =

@@ -23,7 +23,10 @@ part-send-field-end : tie.Need-part-send-field-end
 part-send-field-end c = omega (arith, c .before .before .before .pre .1)
 
 returns : tie.Need-returns
-returns c = sent-as (c .before .before .send-field .ensures) (ap fieldBytes (part-is (c .before .before .before .before .before .before .before .args .bytes .now) (c .before .before .before .before .before .before .before .args .p) (c .before .before .before .before .before .before .before .args .n)))
+returns c = sent-as (c .before .before .send-field .ensures)
+    (ap fieldBytes (part-is (c .before .before .before .before .before .before .before .args .bytes .now)
+    (c .before .before .before .before .before .before .before .args .p)
+    (c .before .before .before .before .before .before .before .args .n)))
 
 pub send-text-spec : {M : Type 1} → statement M
 send-text-spec =

@@ -16,10 +16,20 @@ back : (c : tie.After-known-told) → toZ w64 (ofZ w64 (c .before .a .given .0 .
 back c = search needs
 
 send-number-requires : tie.Need-send-number-requires
-send-number-requires c κs = (c .before .before .before .before .before .before .pre .0, (rw (back (c .before)) (number-listed _ _ (c .before .before .before .before .before .before .pre .1 .0) (c .before .before .a .given .1)), c .before .before .before .before .before .before .pre .1 .1))
+send-number-requires c κs = (
+  c .before .before .before .before .before .before .pre .0,
+  (
+    rw (back (c .before)) (number-listed _ _ (c .before .before .before .before .before .before .pre .1 .0)
+        (c .before .before .a .given .1)),
+    c .before .before .before .before .before .before .pre .1 .1,
+  ),
+)
 
 send-set-requires : tie.Need-send-set-requires
-send-set-requires c κs = (c .before .before .before .before .before .before .pre .0, set-listed _ _ (c .before .before .before .before .before .before .pre .1 .0) (c .before .before .a2 .given .1))
+send-set-requires c κs = (
+  c .before .before .before .before .before .before .pre .0,
+  set-listed _ _ (c .before .before .before .before .before .before .pre .1 .0) (c .before .before .a2 .given .1),
+)
 
 send-text-requires : tie.Need-send-text-requires
 send-text-requires c κs = text-listed _ _ (c .before .before .before .before .before .before .pre .1 .0) (c .before .before .a3 .given .1)
@@ -28,7 +38,9 @@ returns : tie.Need-returns
 returns c = sent-as (nothing-sent _ _ _) (missing-field _ _ _ _ (c .enum-told .given .1))
 
 returns-2 : tie.Need-returns-2
-returns-2 c = sent-as (c .before .before .send-number .ensures) (ap (numberText _) (back (c .before .before .before .before)) ∙ number-field _ _ _ _ (c .before .before .before .before .before .a .given .1))
+returns-2 c = sent-as (c .before .before .send-number .ensures)
+    (ap (numberText _) (back (c .before .before .before .before))
+    ∙ number-field _ _ _ _ (c .before .before .before .before .before .a .given .1))
 
 returns-3 : tie.Need-returns-3
 returns-3 c = sent-as (c .before .before .send-set .ensures) (set-field _ _ _ _ (c .before .before .before .before .before .a2 .given .1))
@@ -37,7 +49,8 @@ returns-4 : tie.Need-returns-4
 returns-4 c = sent-as (c .before .before .send-text .ensures) (text-field _ _ _ _ (c .before .before .before .before .before .a3 .given .1))
 
 returns-5 : tie.Need-returns-5
-returns-5 c = sent-as (rw (c .before .before .before .bit-of .ensures) at (c .before .before .send-byte .ensures)) (truth-field _ _ _ _ (c .before .before .before .before .before .before .a4 .given .1))
+returns-5 c = sent-as (rw (c .before .before .before .bit-of .ensures) at (c .before .before .send-byte .ensures))
+    (truth-field _ _ _ _ (c .before .before .before .before .before .before .a4 .given .1))
 
 returns-6 : tie.Need-returns-6
 unfolding Listable

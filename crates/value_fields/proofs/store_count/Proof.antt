@@ -14,7 +14,8 @@ slice-write-out-3 : tie.Need-slice-write-out-3
 slice-write-out-3 c = rw length-set (omega (arith, c .before .before .pre .1 .1))
 
 returns-2 : tie.Need-returns-2
-returns-2 c = two-digits _ _ _ _ (omega (arith, c .before .if1 .left)) (c .if2 .taken) (omega (arith, c .before .before .pre .1 .1)) (omega (arith, c .before .before .pre .1 .0))
+returns-2 c = two-digits _ _ _ _ (omega (arith, c .before .if1 .left)) (c .if2 .taken) (omega (arith, c .before .before .pre .1 .1))
+    (omega (arith, c .before .before .pre .1 .0))
 
 slice-write-out-5 : tie.Need-slice-write-out-5
 slice-write-out-5 c = rw length-set (omega (arith, c .before .before .pre .1 .1))
@@ -23,7 +24,8 @@ slice-write-out-6 : tie.Need-slice-write-out-6
 slice-write-out-6 c = rw (length-set, length-set) (omega (arith, c .before .before .pre .1 .1))
 
 returns-3 : tie.Need-returns-3
-returns-3 c = three-digits _ _ _ _ (omega (arith, c .if2 .left)) (c .before .before .pre .0) (omega (arith, c .before .before .pre .1 .1)) (omega (arith, c .before .before .pre .1 .0))
+returns-3 c = three-digits _ _ _ _ (omega (arith, c .if2 .left)) (c .before .before .pre .0) (omega (arith, c .before .before .pre .1 .1))
+    (omega (arith, c .before .before .pre .1 .0))
 
 pub store-count-spec : {M : Type 1} → statement M
 store-count-spec =

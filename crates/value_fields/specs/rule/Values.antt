@@ -1,5 +1,7 @@
--- What is exported for a value (document 02, C-16): "Numbers have a digit or more before the point without needless zeros, their decimals, and
--- no point where there are none; sets are codes joined by semicolons with `none` for the empty set, missing is an empty field, truths are 0 and
+-- What is exported for a value (document 02, C-16): "Numbers have a digit or more before the point without needless zeros, their decimals,
+-- and
+-- no point where there are none; sets are codes joined by semicolons with `none` for the empty set, missing is an empty field, truths are 0
+-- and
 -- 1". 45 is the minus, 46 the point, 59 the semicolon, 48 and 49 are 0 and 1.
 use mathlib.Core.Bool.{cond}
 use mathlib.Core.List.{List, [], _∷_, _++_}

@@ -27,19 +27,41 @@ returns-2 : tie.Need-returns-2
 unfolding judgeLine
 returns-2 c =
     let e = rw (toZ-ofZ (sfits-of (c .before .before .scaled .ok))) at (sym (c .before .said-before .ensures) ∙ c .if2 .taken) in
-    rw (sym (c .before .before .before .before .line-fault .ensures), eq-eqb _ 0 (c .before .before .before .if1 .left), sym (c .before .before .scaled .ensures), e)
+    rw (
+      sym (c .before .before .before .before .line-fault .ensures),
+      eq-eqb _ 0 (c .before .before .before .if1 .left),
+      sym (c .before .before .scaled .ensures),
+      e,
+    )
 
 returns-3 : tie.Need-returns-3
 unfolding judgeLine
 returns-3 c =
-    let e = rw (toZ-ofZ (sfits-of (c .before .before .before .scaled .ok))) at (sym (c .before .before .said-before .ensures) ∙ c .before .if2 .left) in
-    rw (sym (c .before .before .before .before .before .line-fault .ensures), eq-eqb _ 0 (c .before .before .before .before .if1 .left), sym (c .before .before .before .scaled .ensures), e, all-lines _ _ (c .before .before .before .before .before .before .before .pre .0 .1), le-leb 4096 _ (c .if3 .taken))
+    let e = rw (toZ-ofZ (sfits-of (c .before .before .before .scaled .ok))) at
+    (sym (c .before .before .said-before .ensures) ∙ c .before .if2 .left) in
+    rw (
+      sym (c .before .before .before .before .before .line-fault .ensures),
+      eq-eqb _ 0 (c .before .before .before .before .if1 .left),
+      sym (c .before .before .before .scaled .ensures),
+      e,
+      all-lines _ _ (c .before .before .before .before .before .before .before .pre .0 .1),
+      le-leb 4096 _ (c .if3 .taken),
+    )
 
 returns-4 : tie.Need-returns-4
 unfolding judgeLine
 returns-4 c =
-    let e = rw (toZ-ofZ (sfits-of (c .before .before .before .scaled .ok))) at (sym (c .before .before .said-before .ensures) ∙ c .before .if2 .left) in
-    rw (sym (c .before .before .before .before .before .line-fault .ensures), eq-eqb _ 0 (c .before .before .before .before .if1 .left), sym (c .before .before .before .scaled .ensures), e, all-lines _ _ (c .before .before .before .before .before .before .before .pre .0 .1), lt-leb 4096 _ (c .if3 .left), toZ-ofZ (sfits-of (c .before .before .before .scaled .ok)))
+    let e = rw (toZ-ofZ (sfits-of (c .before .before .before .scaled .ok))) at
+    (sym (c .before .before .said-before .ensures) ∙ c .before .if2 .left) in
+    rw (
+      sym (c .before .before .before .before .before .line-fault .ensures),
+      eq-eqb _ 0 (c .before .before .before .before .if1 .left),
+      sym (c .before .before .before .scaled .ensures),
+      e,
+      all-lines _ _ (c .before .before .before .before .before .before .before .pre .0 .1),
+      lt-leb 4096 _ (c .if3 .left),
+      toZ-ofZ (sfits-of (c .before .before .before .scaled .ok)),
+    )
 
 pub judge-line-spec : {M : Type 1} → statement M
 judge-line-spec =

@@ -22,7 +22,8 @@ returns-3 : tie.Need-returns-3
 unfolding judgeRange
 returns-3 c =
     rw (
-      sym (c .before .before .before .before .before .before .formed .ensures) ∙ not-false _ (c .before .before .before .before .before .if1 .left),
+      sym (c .before .before .before .before .before .before .formed .ensures)
+          ∙ not-false _ (c .before .before .before .before .before .if1 .left),
       sym (c .before .before .before .before .formed2 .ensures) ∙ not-false _ (c .before .before .before .if2 .left),
       ne-eqb _ _ (c .if3 .taken),
     )
@@ -31,7 +32,8 @@ returns-4 : tie.Need-returns-4
 unfolding judgeRange
 returns-4 c =
     rw (
-      sym (c .before .before .before .before .before .before .before .formed .ensures) ∙ not-false _ (c .before .before .before .before .before .before .if1 .left),
+      sym (c .before .before .before .before .before .before .before .formed .ensures)
+          ∙ not-false _ (c .before .before .before .before .before .before .if1 .left),
       sym (c .before .before .before .before .before .formed2 .ensures) ∙ not-false _ (c .before .before .before .before .if2 .left),
       eq-eqb _ _ (c .before .if3 .left),
       c .if4 .taken,
@@ -41,8 +43,10 @@ returns-5 : tie.Need-returns-5
 unfolding judgeRange
 returns-5 c =
     rw (
-      sym (c .before .before .before .before .before .before .before .before .formed .ensures) ∙ not-false _ (c .before .before .before .before .before .before .before .if1 .left),
-      sym (c .before .before .before .before .before .before .formed2 .ensures) ∙ not-false _ (c .before .before .before .before .before .if2 .left),
+      sym (c .before .before .before .before .before .before .before .before .formed .ensures)
+          ∙ not-false _ (c .before .before .before .before .before .before .before .if1 .left),
+      sym (c .before .before .before .before .before .before .formed2 .ensures)
+          ∙ not-false _ (c .before .before .before .before .before .if2 .left),
       eq-eqb _ _ (c .before .before .if3 .left),
       c .before .if4 .left,
       sym (c .limit-range .ensures),
@@ -50,4 +54,5 @@ returns-5 c =
 
 pub judge-range-spec : {M : Type 1} → statement M
 judge-range-spec =
-    tie.close (tie.spec (λ c κs. search needs) returns (λ c κs. search needs) returns-2 returns-3 returns-4 (λ c κs. search needs) returns-5)
+    tie.close (tie.spec (λ c κs. search needs) returns (λ c κs. search needs) returns-2 returns-3 returns-4 (λ c κs. search needs)
+    returns-5)

@@ -41,4 +41,5 @@ returns-3 c =
 
 pub limit-range-spec : {M : Type 1} → statement M
 limit-range-spec =
-    tie.close (tie.spec (λ c κs. search needs) returns (λ c κs. search needs) returns-2 scaled-requires scaled-requires-2 (λ c κs. search needs) (λ c κs. search needs) (λ c κs. search needs) returns-3)
+    tie.close (tie.spec (λ c κs. search needs) returns (λ c κs. search needs) returns-2 scaled-requires scaled-requires-2
+    (λ c κs. search needs) (λ c κs. search needs) (λ c κs. search needs) returns-3)

@@ -22,7 +22,8 @@ returns-3 : tie.Need-returns-3
 unfolding lineFault
 returns-3 c =
     rw (
-      sym (c .before .before .before .before .before .before .before .formed .ensures) ∙ not-false _ (c .before .before .before .before .before .before .if1 .left),
+      sym (c .before .before .before .before .before .before .before .formed .ensures)
+          ∙ not-false _ (c .before .before .before .before .before .before .if1 .left),
       c .before .before .if2 .left,
       sym (c .before .large .ensures) ∙ c .if3 .taken,
     )
@@ -31,7 +32,8 @@ returns-4 : tie.Need-returns-4
 unfolding lineFault
 returns-4 c =
     rw (
-      sym (c .before .before .before .before .before .before .before .formed .ensures) ∙ not-false _ (c .before .before .before .before .before .before .if1 .left),
+      sym (c .before .before .before .before .before .before .before .formed .ensures)
+          ∙ not-false _ (c .before .before .before .before .before .before .if1 .left),
       c .before .before .if2 .left,
       sym (c .before .large .ensures) ∙ c .if3 .left,
     )

@@ -6,14 +6,26 @@ use Rattle.values.proofs.one_line.Statement.{statement}
 use Rattle.values.proofs.one_line.Tie as tie
 
 place-line-requires : tie.Need-place-line-requires
-place-line-requires c κs =
-    (c .before .before .before .before .before .before .before .before .pre .0, (c .before .before .before .before .before .before .before .before .pre .1 .1 .0, (c .before .before .before .before .before .before .before .before .pre .1 .1 .1, line-storable _ _ _ (c .before .before .before .before .before .before .before .before .pre .1 .0) (sym (c .before .before .before .before .before .line-rest .ensures) ∙ c .before .before .before .s .given .1))))
+place-line-requires c κs = (
+  c .before .before .before .before .before .before .before .before .pre .0,
+  (
+    c .before .before .before .before .before .before .before .before .pre .1 .1 .0,
+    (
+      c .before .before .before .before .before .before .before .before .pre .1 .1 .1,
+      line-storable _ _ _ (c .before .before .before .before .before .before .before .before .pre .1 .0)
+          (sym (c .before .before .before .before .before .line-rest .ensures) ∙ c .before .before .before .s .given .1),
+    ),
+  ),
+)
 
 returns : tie.Need-returns
 unfolding turnOf roomAfter marksAfter
 returns c =
-    let e = sym (c .before .before .before .before .before .before .before .before .before .line-rest .ensures) ∙ c .before .before .before .before .before .before .before .s .given .1 in
-    (rw e (c .before .before .before .place-line .ensures .0), (rw e (c .before .before .before .place-line .ensures .1 .0), rw e (c .before .before .before .place-line .ensures .1 .1)))
+    let e = sym (c .before .before .before .before .before .before .before .before .before .line-rest .ensures)
+    ∙ c .before .before .before .before .before .before .before .s .given .1 in (
+      rw e (c .before .before .before .place-line .ensures .0),
+      (rw e (c .before .before .before .place-line .ensures .1 .0), rw e (c .before .before .before .place-line .ensures .1 .1)),
+    )
 
 returns-2 : tie.Need-returns-2
 unfolding turnOf roomAfter marksAfter
@@ -24,4 +36,5 @@ returns-2 c =
 pub one-line-spec : {M : Type 1} → statement M
 one-line-spec =
     tie.close
-    (tie.spec (λ c κs. search needs) (λ c. search needs) place-line-requires (λ c. search needs) (λ c. search needs) (λ c. search needs) returns returns-2)
+    (tie.spec (λ c κs. search needs) (λ c. search needs) place-line-requires (λ c. search needs) (λ c. search needs) (λ c. search needs)
+    returns returns-2)

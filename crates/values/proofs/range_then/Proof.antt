@@ -8,7 +8,12 @@ use Rattle.values.proofs.range_then.Tie as tie
 
 returns : tie.Need-returns
 unfolding rangeThen
-returns c = rw (c .before .before .before .before .before .before .before .before .before .before .r2 .given .1, sym (c .before .before .before .before .before .before .before .before .notes-on .ensures), c .before .before .before .before .before .before .before .if1 .taken, sym (c .before .before .before .before .before .before .value-here .ensures)) (c .before .before .before .read-lines .ensures)
+returns c = rw (
+  c .before .before .before .before .before .before .before .before .before .before .r2 .given .1,
+  sym (c .before .before .before .before .before .before .before .before .notes-on .ensures),
+  c .before .before .before .before .before .before .before .if1 .taken,
+  sym (c .before .before .before .before .before .before .value-here .ensures),
+) (c .before .before .before .read-lines .ensures)
 
 returns-2 : tie.Need-returns-2
 unfolding rangeThen listedOf
@@ -17,9 +22,17 @@ returns-2 c = rw (c .before .r .given .1) (refl, stored-not _ _ _ _)
 returns-3 : tie.Need-returns-3
 unfolding rangeThen
 returns-3 c =
-    rw (c .before .before .before .before .before .before .before .before .r2 .given .1, sym (c .before .before .before .before .before .before .notes-on .ensures), c .before .before .before .before .before .if1 .left, sym (c .before .before .before .word-here .ensures), sym (c .before .word-on .ensures))
+    rw (
+      c .before .before .before .before .before .before .before .before .r2 .given .1,
+      sym (c .before .before .before .before .before .before .notes-on .ensures),
+      c .before .before .before .before .before .if1 .left,
+      sym (c .before .before .before .word-here .ensures),
+      sym (c .before .word-on .ensures),
+    )
     (c .close-block .ensures, stored-none _ _ _ _)
 
 pub range-then-spec : {M : Type 1} → statement M
 range-then-spec =
-    tie.close (tie.spec (λ c. search needs) (λ c. search needs) (λ c κs. search needs) (λ c κs. search needs) (λ c κs. search needs) (λ c. search needs) (λ c. search needs) returns (λ c. search needs) (λ c κs. search needs) (λ c. search needs) (λ c κs. search needs) (λ c κs. search needs) returns-2 returns-3)
+    tie.close (tie.spec (λ c. search needs) (λ c. search needs) (λ c κs. search needs) (λ c κs. search needs) (λ c κs. search needs)
+    (λ c. search needs) (λ c. search needs) returns (λ c. search needs) (λ c κs. search needs) (λ c. search needs) (λ c κs. search needs)
+    (λ c κs. search needs) returns-2 returns-3)

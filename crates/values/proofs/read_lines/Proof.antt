@@ -5,7 +5,8 @@ use Prim.Native.Nat.{_-_}
 use native.Mathlib.Omega.{arith}
 use borrow.Author.Needs.{needs}
 use Rattle.values.specs.Line.{stateOf}
-use Rattle.values.proofs.Lists.{Ran, none-held, marked-here, went-more, went-over, turned-not, lines-more, lines-done, listed-over, listed-not}
+use Rattle.values.proofs.Lists.{Ran, none-held, marked-here, went-more, went-over, turned-not, lines-more, lines-done, listed-over}
+use Rattle.values.proofs.Lists.{listed-not}
 use Rattle.values.proofs.read_lines.Statement.{statement}
 use Rattle.values.proofs.read_lines.Tie as tie
 
@@ -23,8 +24,10 @@ loop-holds c =
 
 one-line-requires : tie.Need-one-line-requires Inv-loop μ-loop
 one-line-requires c κs =
-    let h = c .before .before .loop .inv .holds in
-    (c .before .before .before .before .before .pre .0, (c .before .before .before .before .before .pre .1 .0, ((h .kept, omega (arith, h .count), h .most, h .slots), marked-here h)))
+    let h = c .before .before .loop .inv .holds in (
+      c .before .before .before .before .before .pre .0,
+      (c .before .before .before .before .before .pre .1 .0, ((h .kept, omega (arith, h .count), h .most, h .slots), marked-here h)),
+    )
 
 loop-again : tie.Need-loop-again Inv-loop μ-loop
 loop-again c =
@@ -50,7 +53,9 @@ returns c =
 returns-2 : tie.Need-returns-2 Inv-loop μ-loop
 returns-2 c =
     let i = c .before .before .before .before .before .before .before .before .before .loop .inv in
-    listed-not _ _ _ (i .same ∙ lines-done _ _ _ _ (turned-not _ _ _ _ _ (i .holds) (sym (c .before .f .given .1) ∙ c .before .before .before .before .before .before .one-line .ensures .0)))
+    listed-not _ _ _ (i .same ∙ lines-done _ _ _ _
+    (turned-not _ _ _ _ _ (i .holds) (sym (c .before .f .given .1)
+    ∙ c .before .before .before .before .before .before .one-line .ensures .0)))
 
 pub read-lines-spec : {M : Type 1} → statement M
 read-lines-spec =

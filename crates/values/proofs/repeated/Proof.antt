@@ -24,13 +24,20 @@ loop-holds c = (omega arith, omega arith, none-yet _ _ _)
 
 returns : tie.Need-returns Inv-loop μ-loop
 returns c =
-    let e = rw (toZ-ofZ (sfits-of (c .before .before .x .given)), toZ-ofZ (c .before .before .before .before .before .fits .z)) at (sym (c .before .same .ensures) ∙ c .if1 .taken) in
-    one-says _ _ _ _ (c .before .before .before .before .loop .i) (c .before .before .before .before .loop .inv .0) (c .before .before .before .loop-test .taken) e
+    let e = rw (toZ-ofZ (sfits-of (c .before .before .x .given)), toZ-ofZ (c .before .before .before .before .before .fits .z)) at
+    (sym (c .before .same .ensures) ∙ c .if1 .taken) in
+    one-says _ _ _ _ (c .before .before .before .before .loop .i) (c .before .before .before .before .loop .inv .0)
+    (c .before .before .before .loop-test .taken) e
 
 loop-again : tie.Need-loop-again Inv-loop μ-loop
 loop-again c =
-    let e = rw (toZ-ofZ (sfits-of (c .before .before .x .given))) at (sym (c .before .same .ensures) ∙ c .if1 .left) in
-    (omega arith, omega arith, none-until _ _ (c .before .before .before .before .before .args .last) _ (c .before .before .before .before .loop .i) (c .before .before .before .before .loop .inv .0) (c .before .before .before .before .loop .inv .2) e)
+    let e = rw (toZ-ofZ (sfits-of (c .before .before .x .given))) at (sym (c .before .same .ensures) ∙ c .if1 .left) in (
+      omega arith,
+      omega arith,
+      none-until _ _ (c .before .before .before .before .before .args .last) _
+          (c .before .before .before .before .loop .i) (c .before .before .before .before .loop .inv .0)
+          (c .before .before .before .before .loop .inv .2) e,
+    )
 
 returns-2 : tie.Need-returns-2 Inv-loop μ-loop
 returns-2 c =
@@ -40,4 +47,5 @@ returns-2 c =
 pub repeated-spec : {M : Type 1} → statement M
 repeated-spec =
     tie.close
-    (tie.spec Inv-loop μ-loop loop-holds (λ c. omega arith) (λ c. omega arith) (λ c. omega arith) (λ c κs. search needs) returns (λ c. omega arith) (λ c. omega arith) loop-again returns-2)
+    (tie.spec Inv-loop μ-loop loop-holds (λ c. omega arith) (λ c. omega arith) (λ c. omega arith) (λ c κs. search needs) returns
+    (λ c. omega arith) (λ c. omega arith) loop-again returns-2)

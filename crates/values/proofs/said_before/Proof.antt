@@ -8,7 +8,8 @@ use Rattle.values.proofs.said_before.Statement.{statement}
 use Rattle.values.proofs.said_before.Tie as tie
 
 returns : tie.Need-returns
-returns c = none-marked _ _ _ _ _ _ (c .before .before .before .before .pre .1 .1) (c .before .before .slot-of .ensures .0 ∙ ap slotOf (toZ-ofZ (c .before .before .before .before .fits .z))) (c .if1 .taken)
+returns c = none-marked _ _ _ _ _ _ (c .before .before .before .before .pre .1 .1)
+    (c .before .before .slot-of .ensures .0 ∙ ap slotOf (toZ-ofZ (c .before .before .before .before .fits .z))) (c .if1 .taken)
 
 returns-2 : tie.Need-returns-2
 returns-2 c = rw (c .repeated .ensures, toZ-ofZ (c .before .before .before .before .before .fits .z))
@@ -16,4 +17,5 @@ returns-2 c = rw (c .repeated .ensures, toZ-ofZ (c .before .before .before .befo
 pub said-before-spec : {M : Type 1} → statement M
 said-before-spec =
     tie.close
-    (tie.spec (λ c κs. search needs) (λ c. omega arith) (λ c. omega arith) returns (λ c κs. c .before .before .before .before .pre .0) returns-2)
+    (tie.spec (λ c κs. search needs) (λ c. omega arith) (λ c. omega arith) returns (λ c κs. c .before .before .before .before .pre .0)
+    returns-2)

@@ -6,11 +6,17 @@ use Rattle.values.proofs.settle.Tie as tie
 
 returns : tie.Need-returns
 returns c =
-    rw (← c .before .before .before .before .reversed .ensures, sym (c .before .before .before .judge-range .ensures) ∙ c .before .block .given .1)
+    rw (
+      ← c .before .before .before .before .reversed .ensures,
+      sym (c .before .before .before .judge-range .ensures) ∙ c .before .block .given .1,
+    )
 
 returns-2 : tie.Need-returns-2
 returns-2 c =
-    rw (← c .before .before .before .before .reversed .ensures, sym (c .before .before .before .judge-range .ensures) ∙ c .before .f .given .1)
+    rw (
+      ← c .before .before .before .before .reversed .ensures,
+      sym (c .before .before .before .judge-range .ensures) ∙ c .before .f .given .1,
+    )
 
 pub settle-spec : {M : Type 1} → statement M
 settle-spec =

@@ -18,13 +18,24 @@ z-back c = search needs
 store-requires : tie.Need-store-requires
 store-requires c κs =
     let p = c .before .before .before .before .before .before .before .before .before .pre .0 in
-    let g = good-line _ _ _ _ _ _ (sym (c .before .before .before .before .judge-line .ensures) ∙ c .before .before .z .given .1) in
-    ((omega (arith, g .few, p .0, p .1), p .2), (c .before .before .before .before .before .before .before .before .before .pre .1 .1, z-back (c .before) ∙ g .says))
+    let g = good-line _ _ _ _ _ _ (sym (c .before .before .before .before .judge-line .ensures) ∙ c .before .before .z .given .1) in (
+      (omega (arith, g .few, p .0, p .1), p .2),
+      (
+        c .before .before .before .before .before .before .before .before .before .pre .1 .1,
+        z-back (c .before) ∙ g .says,
+      ),
+    )
 
 returns : tie.Need-returns
 returns c =
-    let e = sym (c .before .before .before .before .before .before .before .before .before .before .judge-line .ensures) ∙ c .before .before .before .before .before .before .before .before .z .given .1 in
-    (rw (e, z-back (c .before .before .before .before .before .before .before)), (rw e (c .before .before .before .before .before .store .ensures), rw e (c .before .before .leave-mark .ensures ∙ rw (z-back (c .before .before .before .before .before .before .before)))))
+    let e = sym (c .before .before .before .before .before .before .before .before .before .before .judge-line .ensures)
+    ∙ c .before .before .before .before .before .before .before .before .z .given .1 in (
+      rw (e, z-back (c .before .before .before .before .before .before .before)),
+      (
+        rw e (c .before .before .before .before .before .store .ensures),
+        rw e (c .before .before .leave-mark .ensures ∙ rw (z-back (c .before .before .before .before .before .before .before))),
+      ),
+    )
 
 returns-2 : tie.Need-returns-2
 returns-2 c =
@@ -34,4 +45,5 @@ returns-2 c =
 pub stand-line-spec : {M : Type 1} → statement M
 stand-line-spec =
     tie.close
-    (tie.spec judge-line-requires (λ c. search needs) store-requires (λ c κs. search needs) (λ c. search needs) (λ c. search needs) (λ c. search needs) returns (λ c. search needs) (λ c. search needs) returns-2)
+    (tie.spec judge-line-requires (λ c. search needs) store-requires (λ c κs. search needs) (λ c. search needs) (λ c. search needs)
+    (λ c. search needs) returns (λ c. search needs) (λ c. search needs) returns-2)

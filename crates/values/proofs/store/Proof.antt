@@ -15,9 +15,15 @@ returns c =
       toZ-ofZ (sfits-of (c .before .before .before .before .before .cell-of2 .ok)),
       toZ-ofZ (sfits-of (c .before .before .before .before .cell-of3 .ok)),
     )
-    (rw (c .before .before .before .before .before .before .cell-of .ensures, c .before .before .before .before .before .cell-of2 .ensures, c .before .before .before .before .cell-of3 .ensures, c .before .before .before .before .before .before .before .before .pre .1 .1))
+    (rw (
+      c .before .before .before .before .before .before .cell-of .ensures,
+      c .before .before .before .before .before .cell-of2 .ensures,
+      c .before .before .before .before .cell-of3 .ensures,
+      c .before .before .before .before .before .before .before .before .pre .1 .1,
+    ))
 
 pub store-spec : {M : Type 1} → statement M
 store-spec =
     tie.close
-    (tie.spec (λ c κs. search needs) (λ c κs. search needs) (λ c κs. search needs) (λ c. search needs) (λ c. search needs) (λ c κs. search needs) (λ c. search needs) returns)
+    (tie.spec (λ c κs. search needs) (λ c κs. search needs) (λ c κs. search needs) (λ c. search needs) (λ c. search needs)
+    (λ c κs. search needs) (λ c. search needs) returns)

@@ -8,28 +8,49 @@ use Rattle.variables.proofs.rest_on.Tie as tie
 
 returns : tie.Need-returns
 unfolding restOf
-returns c = rw (eq-eqb _ 1 (c .before .before .before .before .before .before .if1 .taken)) (c .before .before .before .values-rest .ensures)
+returns c = rw (eq-eqb _ 1 (c .before .before .before .before .before .before .if1 .taken))
+    (c .before .before .before .values-rest .ensures)
 
 returns-2 : tie.Need-returns-2
 unfolding restOf
-returns-2 c = rw (ne-eqb _ 1 (c .before .before .before .before .before .before .before .if1 .left), eq-eqb _ 2 (c .before .before .before .before .before .before .if2 .taken)) (c .before .before .before .spread-then .ensures)
+returns-2 c = rw (
+  ne-eqb _ 1 (c .before .before .before .before .before .before .before .if1 .left),
+  eq-eqb _ 2 (c .before .before .before .before .before .before .if2 .taken),
+) (c .before .before .before .spread-then .ensures)
 
 returns-3 : tie.Need-returns-3
 unfolding restOf
-returns-3 c = rw (ne-eqb _ 1 (c .before .before .before .before .before .before .before .before .if1 .left), ne-eqb _ 2 (c .before .before .before .before .before .before .before .if2 .left), eq-eqb _ 3 (c .before .before .before .before .before .before .if3 .taken)) (c .before .before .before .values-rest2 .ensures)
+returns-3 c = rw (
+  ne-eqb _ 1 (c .before .before .before .before .before .before .before .before .if1 .left),
+  ne-eqb _ 2 (c .before .before .before .before .before .before .before .if2 .left),
+  eq-eqb _ 3 (c .before .before .before .before .before .before .if3 .taken),
+) (c .before .before .before .values-rest2 .ensures)
 
 returns-4 : tie.Need-returns-4
 unfolding restOf
 returns-4 c =
-    rw (ne-eqb _ 1 (c .before .before .before .before .before .if1 .left), ne-eqb _ 2 (c .before .before .before .before .if2 .left), ne-eqb _ 3 (c .before .before .before .if3 .left), eq-eqb _ 4 (c .before .before .if4 .taken), sym (c .before .size-on .ensures))
+    rw (
+      ne-eqb _ 1 (c .before .before .before .before .before .if1 .left),
+      ne-eqb _ 2 (c .before .before .before .before .if2 .left),
+      ne-eqb _ 3 (c .before .before .before .if3 .left),
+      eq-eqb _ 4 (c .before .before .if4 .taken),
+      sym (c .before .size-on .ensures),
+    )
     (c .join-size .ensures, stored-size _ _ _)
 
 returns-5 : tie.Need-returns-5
 unfolding restOf
 returns-5 c =
-    rw (ne-eqb _ 1 (c .before .before .before .before .if1 .left), ne-eqb _ 2 (c .before .before .before .if2 .left), ne-eqb _ 3 (c .before .before .if3 .left), ne-eqb _ 4 (c .before .if4 .left))
+    rw (
+      ne-eqb _ 1 (c .before .before .before .before .if1 .left),
+      ne-eqb _ 2 (c .before .before .before .if2 .left),
+      ne-eqb _ 3 (c .before .before .if3 .left),
+      ne-eqb _ 4 (c .before .if4 .left),
+    )
     (c .join-nothing .ensures, stored-nothing _ _ _)
 
 pub rest-on-spec : {M : Type 1} → statement M
 rest-on-spec =
-    tie.close (tie.spec (λ c κs. search needs) (λ c. search needs) (λ c. search needs) returns (λ c κs. search needs) (λ c. search needs) (λ c. search needs) returns-2 (λ c κs. search needs) (λ c. search needs) (λ c. search needs) returns-3 (λ c κs. search needs) (λ c κs. search needs) returns-4 (λ c κs. search needs) returns-5)
+    tie.close (tie.spec (λ c κs. search needs) (λ c. search needs) (λ c. search needs) returns (λ c κs. search needs) (λ c. search needs)
+    (λ c. search needs) returns-2 (λ c κs. search needs) (λ c. search needs) (λ c. search needs) returns-3 (λ c κs. search needs)
+    (λ c κs. search needs) returns-4 (λ c κs. search needs) returns-5)

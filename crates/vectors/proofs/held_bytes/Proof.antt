@@ -14,4 +14,5 @@ abbrev μ-loop : tie.MeasureT-loop
 
 pub held-bytes-spec : {M : Type 1} → statement M
 held-bytes-spec =
-    tie.close (tie.spec Inv-loop μ-loop (λ c. search needs) (λ c. omega arith) (λ c. search needs) (λ c. search needs) (λ c. omega arith) (λ c. omega arith) (λ c. search needs))
+    tie.close (tie.spec Inv-loop μ-loop (λ c. search needs) (λ c. omega arith) (λ c. search needs) (λ c. search needs) (λ c. omega arith)
+    (λ c. omega arith) (λ c. search needs))

@@ -1,4 +1,5 @@
--- `vectors::run_all` meets its contract: each case starts further on than the one before, so that no count of cases passes the text's length.
+-- `vectors::run_all` meets its contract: each case starts further on than the one before, so that no count of cases passes the text's
+-- length.
 use mathlib.Core.Path.{_≡_}
 use Prim.Native.Nat.{_≤_, _-_}
 use lib.ListN.{length, length-take}
@@ -20,4 +21,6 @@ slice-aggregate-write-all c =
 
 pub run-all-spec : {M : Type 1} → statement M
 run-all-spec =
-    tie.close (tie.spec Inv-loop μ-loop (λ c. search needs) (λ c. omega arith) (λ c κs. search needs) (λ c. omega arith) (λ c. search needs) (λ c κs. search needs) (λ c. search needs) slice-aggregate-write-all (λ c κs. search needs) (λ c. search needs) (λ c. search needs) (λ c. search needs))
+    tie.close (tie.spec Inv-loop μ-loop (λ c. search needs) (λ c. omega arith) (λ c κs. search needs) (λ c. omega arith) (λ c. search needs)
+    (λ c κs. search needs) (λ c. search needs) slice-aggregate-write-all (λ c κs. search needs) (λ c. search needs) (λ c. search needs)
+    (λ c. search needs))

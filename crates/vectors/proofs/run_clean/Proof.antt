@@ -10,4 +10,6 @@ slice-aggregate-page c = let h = c .before .bounded .ensures in simp length-take
 
 pub run-clean-spec : {M : Type 1} → statement M
 run-clean-spec =
-    tie.close (tie.spec (λ c κs. search needs) (λ c. search needs) slice-aggregate-page (λ c κs. search needs) (λ c. search needs) (λ c κs. search needs) (λ c. search needs) (λ c κs. search needs) (λ c κs. search needs) (λ c. search needs) (λ c. search needs) (λ c. search needs) (λ c. search needs))
+    tie.close (tie.spec (λ c κs. search needs) (λ c. search needs) slice-aggregate-page (λ c κs. search needs) (λ c. search needs)
+    (λ c κs. search needs) (λ c. search needs) (λ c κs. search needs) (λ c κs. search needs) (λ c. search needs) (λ c. search needs)
+    (λ c. search needs) (λ c. search needs))

@@ -10,7 +10,12 @@ sub-result : tie.Need-sub-result
 sub-result c = omega (arith, c .power .ensures, ten-some (c .before .before .before .args .f .decimals))
 
 returns : tie.Need-returns
-returns c = omega (arith, c .power .ensures, share-most (c .before .before .before .args .f) (c .before .if1 .taken) (c .before .before .before .pre .1))
+returns c = omega (
+  arith,
+  c .power .ensures,
+  share-most (c .before .before .before .args .f) (c .before .if1 .taken)
+      (c .before .before .before .pre .1),
+)
 
 returns-2 : tie.Need-returns-2
 unfolding mostSize

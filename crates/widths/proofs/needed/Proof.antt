@@ -12,15 +12,29 @@ quantity-width-requires c κs = (search needs, rw (c .before .kind2 .given .1) a
 
 returns : tie.Need-returns
 unfolding need
-returns c = c .digit-count .ensures ∙ rw (c .before .signed-of .ensures, toZ-ofZ (c .before .before .before .before .fits .z), c .before .before .enum-told .given .1)
+returns c = c .digit-count .ensures ∙ rw (
+  c .before .signed-of .ensures,
+  toZ-ofZ (c .before .before .before .before .fits .z),
+  c .before .before .enum-told .given .1,
+)
 
 returns-2 : tie.Need-returns-2
 unfolding need
-returns-2 c = rw (c .signed-of2 .ensures, toZ-ofZ (c .before .before .before .before .before .before .fits .z), c .before .before .before .before .kind .given .1, c .before .enum-told2 .given .1)
+returns-2 c = rw (
+  c .signed-of2 .ensures,
+  toZ-ofZ (c .before .before .before .before .before .before .fits .z),
+  c .before .before .before .before .kind .given .1,
+  c .before .enum-told2 .given .1,
+)
 
 returns-3 : tie.Need-returns-3
 unfolding need
-returns-3 c = c .digit-count2 .ensures ∙ rw (c .before .signed-of3 .ensures, toZ-ofZ (c .before .before .before .before .before .before .before .fits .z), c .before .before .before .before .before .kind .given .1, c .before .before .enum-told3 .given .1)
+returns-3 c = c .digit-count2 .ensures ∙ rw (
+  c .before .signed-of3 .ensures,
+  toZ-ofZ (c .before .before .before .before .before .before .before .fits .z),
+  c .before .before .before .before .before .kind .given .1,
+  c .before .before .enum-told3 .given .1,
+)
 
 returns-4 : tie.Need-returns-4
 unfolding need
@@ -36,4 +50,6 @@ returns-6 c = rw (c .enum-told5 .given .1)
 
 pub needed-spec : {M : Type 1} → statement M
 needed-spec =
-    tie.close (tie.spec (λ c. search needs) (λ c κs. search needs) (λ c κs. search needs) (λ c. search needs) (λ c. search needs) (λ c κs. search needs) (λ c. search needs) (λ c κs. search needs) (λ c κs. search needs) (λ c. search needs) quantity-width-requires (λ c. search needs) (λ c. search needs) returns returns-2 returns-3 returns-4 returns-5 returns-6)
+    tie.close (tie.spec (λ c. search needs) (λ c κs. search needs) (λ c κs. search needs) (λ c. search needs) (λ c. search needs)
+    (λ c κs. search needs) (λ c. search needs) (λ c κs. search needs) (λ c κs. search needs) (λ c. search needs) quantity-width-requires
+    (λ c. search needs) (λ c. search needs) returns returns-2 returns-3 returns-4 returns-5 returns-6)

@@ -18,7 +18,8 @@ div-whole : tie.Need-div-whole
 div-whole c = rw (c .before .power .ensures) (ten-some _)
 
 -- what the digits are of
-whole : (c : tie.After-tail) → c .before .whole-digits .result ≡ wholeDigits (c .before .before .before .before .before .args .f) (c .before .before .before .before .signed-of .result .size)
+whole : (c : tie.After-tail) → c .before .whole-digits .result
+    ≡ wholeDigits (c .before .before .before .before .before .args .f) (c .before .before .before .before .signed-of .result .size)
 unfolding wholeDigits
 whole c = c .before .whole-digits .ensures ∙ rw (c .before .before .before .power .ensures)
 
@@ -40,11 +41,22 @@ split : (c : tie.After-signed-of) → c .signed-of .result ≡ signedOf (c .befo
 split c = c .signed-of .ensures ∙ ap signedOf (toZ-ofZ (c .before .fits .z))
 
 returns : tie.Need-returns
-returns c = rw (whole (c .before), c .before .tail .ensures, width-parts _ _ _ (split (c .before .before .before .before .before)), c .if1 .taken)
+returns c = rw (
+  whole (c .before),
+  c .before .tail .ensures,
+  width-parts _ _ _ (split (c .before .before .before .before .before)),
+  c .if1 .taken,
+)
 
 returns-2 : tie.Need-returns-2
-returns-2 c = rw (whole (c .before), c .before .tail .ensures, width-parts _ _ _ (split (c .before .before .before .before .before)), c .if1 .left) (omega arith)
+returns-2 c = rw (
+  whole (c .before),
+  c .before .tail .ensures,
+  width-parts _ _ _ (split (c .before .before .before .before .before)),
+  c .if1 .left,
+) (omega arith)
 
 pub quantity-width-spec : {M : Type 1} → statement M
 quantity-width-spec =
-    tie.close (tie.spec (λ c κs. search needs) (λ c κs. search needs) div-whole (λ c κs. search needs) (λ c κs. search needs) add-unsigned add-result returns returns-2)
+    tie.close (tie.spec (λ c κs. search needs) (λ c κs. search needs) div-whole (λ c κs. search needs) (λ c κs. search needs) add-unsigned
+    add-result returns returns-2)

@@ -27,14 +27,18 @@ read-requires-2 : tie.Need-read-requires-2
 read-requires-2 c κs =
     let h = c .before .before .before .before .before in
     let s = h .before .before .before .before .before in
-    row-stands (s .args .table .now) (s .args .row) (s .args .bytes .now) (good h) _ (h .read .ensures) (c .before .before .before .before .if2 .left)
+    row-stands (s .args .table .now) (s .args .row) (s .args .bytes .now) (good h) _ (h .read .ensures)
+    (c .before .before .before .before .if2 .left)
 
 write-row-requires : tie.Need-write-row-requires
 write-row-requires c κs =
     let l = c .before .before .before .before in
     let h = l .before .before .before in
-    let s = h .before .before .before .before .before in
-    (c .before .before .before .powers .ensures, row-ready (s .args .table .now) (s .args .row) (s .args .bytes .now) (good h) _ (h .read .ensures) (l .before .before .if2 .left) (l .if3 .left) _ (c .before .read2 .ensures))
+    let s = h .before .before .before .before .before in (
+      c .before .before .before .powers .ensures,
+      row-ready (s .args .table .now) (s .args .row) (s .args .bytes .now) (good h) _
+          (h .read .ensures) (l .before .before .if2 .left) (l .if3 .left) _ (c .before .read2 .ensures),
+    )
 
 returns-4 : tie.Need-returns-4
 returns-4 c =
@@ -42,7 +46,8 @@ returns-4 c =
     let l = w .before .before .before .before .before in
     let h = l .before .before .before in
     let s = h .before .before .before .before .before in
-    row-written (s .args .table .now) (s .args .row) (s .args .bytes .now) (good h) _ (h .read .ensures) (l .before .before .if2 .left) (l .if3 .left) _ (w .before .before .read2 .ensures) (w .write-row .ensures)
+    row-written (s .args .table .now) (s .args .row) (s .args .bytes .now) (good h) _ (h .read .ensures) (l .before .before .if2 .left)
+    (l .if3 .left) _ (w .before .before .read2 .ensures) (w .write-row .ensures)
 
 pub write-value-spec : {M : Type 1} → statement M
 write-value-spec =

@@ -8,37 +8,50 @@ use Rattle.xml_files.proofs.one_variable.Tie as tie
 begin-variable-requires : tie.Need-begin-variable-requires
 begin-variable-requires c κs =
     let p = c .before .before .before .before .before .before .before .before .before .before .before .pre in
-    let i = start-in (c .before .before .before .before .before .before .before .before .before .before .before .args .d .now) (c .before .before .before .before .before .before .before .before .before .before .before .args .at) _ (c .before .before .before .before .before .before .find-open .ensures .1) (c .before .before .before .before .place .given .1) in
+    let i = start-in (c .before .before .before .before .before .before .before .before .before .before .before .args .d .now)
+    (c .before .before .before .before .before .before .before .before .before .before .before .args .at) _
+    (c .before .before .before .before .before .before .find-open .ensures .1) (c .before .before .before .before .place .given .1) in
     (p .0, ((p .1 .0 .0, i .0, i .1), (p .1 .1 .0, p .1 .1 .1)))
 
 returns : tie.Need-returns
 returns c =
     let a = c .before .before .before .before .before .before .before .before .before .before .args in
-    turned-none (a .bad) (a .d .now) (ruleOf (a .m)) (a .at) (a .seen .now) (a .y) (a .rows .now) _ (a .lines .now) _ _ (c .before .before .before .before .before .find-open .ensures .0) _ _
+    turned-none (a .bad) (a .d .now) (ruleOf (a .m)) (a .at) (a .seen .now) (a .y) (a .rows .now) _ (a .lines .now) _ _
+    (c .before .before .before .before .before .find-open .ensures .0) _ _
     (c .before .before .before .place2 .given .1) (c .if1 .taken)
 
 returns-2 : tie.Need-returns-2
 returns-2 c =
-    let a = c .before .before .before .before .before .before .before .before .before .before .before .before .before .before .before .before .before .before .before .args in
-    turned-more (a .bad) (a .d .now) (ruleOf (a .m)) (a .at) (a .seen .now) (a .y) (a .rows .now) _ (a .lines .now) _ _ (c .before .before .before .before .before .before .before .before .before .before .before .before .before .before .find-open .ensures .0) _ _
-    (c .before .before .before .before .before .before .before .before .before .before .before .before .place .given .1) _ (c .before .before .before .before .before .before .before .begin-variable .ensures) _ _ _ (c .before .ident .given .1)
+    let a = c .before .before .before .before .before .before .before .before .before .before .before .before .before .before .before
+    .before .before .before .before .args in
+    turned-more (a .bad) (a .d .now) (ruleOf (a .m)) (a .at) (a .seen .now) (a .y) (a .rows .now) _ (a .lines .now) _ _
+    (c .before .before .before .before .before .before .before .before .before .before .before .before .before .before .find-open .ensures
+    .0) _ _
+    (c .before .before .before .before .before .before .before .before .before .before .before .before .place .given .1) _
+    (c .before .before .before .before .before .before .before .begin-variable .ensures) _ _ _ (c .before .ident .given .1)
 
 returns-3 : tie.Need-returns-3
 returns-3 c =
-    let a = c .before .before .before .before .before .before .before .before .before .before .before .before .before .before .before .before .before .before .before .args in
-    turned-fails (a .bad) (a .d .now) (ruleOf (a .m)) (a .at) (a .seen .now) (a .y) (a .rows .now) _ (a .lines .now) _ _ (c .before .before .before .before .before .before .before .before .before .before .before .before .before .before .find-open .ensures .0) _ _
-    (c .before .before .before .before .before .before .before .before .before .before .before .before .place .given .1) _ (c .before .before .before .before .before .before .before .begin-variable .ensures) _ (c .before .f .given .1)
+    let a = c .before .before .before .before .before .before .before .before .before .before .before .before .before .before .before
+    .before .before .before .before .args in
+    turned-fails (a .bad) (a .d .now) (ruleOf (a .m)) (a .at) (a .seen .now) (a .y) (a .rows .now) _ (a .lines .now) _ _
+    (c .before .before .before .before .before .before .before .before .before .before .before .before .before .before .find-open .ensures
+    .0) _ _
+    (c .before .before .before .before .before .before .before .before .before .before .before .before .place .given .1) _
+    (c .before .before .before .before .before .before .before .begin-variable .ensures) _ (c .before .f .given .1)
 
 returns-4 : tie.Need-returns-4
 returns-4 c =
     let a = c .before .before .before .before .before .before .before .before .before .before .args in
-    turned-over (a .bad) (a .d .now) (ruleOf (a .m)) (a .at) (a .seen .now) (a .y) (a .rows .now) _ (a .lines .now) _ _ (c .before .before .before .before .before .find-open .ensures .0) _ _
+    turned-over (a .bad) (a .d .now) (ruleOf (a .m)) (a .at) (a .seen .now) (a .y) (a .rows .now) _ (a .lines .now) _ _
+    (c .before .before .before .before .before .find-open .ensures .0) _ _
     (c .before .before .before .place2 .given .1) (some-rows (a .y .rows) (c .if1 .left)) refl refl
 
 returns-5 : tie.Need-returns-5
 returns-5 c =
     let a = c .before .before .before .before .before .before .before .before .args in
-    turned-not (a .bad) (a .d .now) (ruleOf (a .m)) (a .at) (a .seen .now) (a .y) (a .rows .now) _ (a .lines .now) _ _ (c .before .before .before .find-open .ensures .0) _
+    turned-not (a .bad) (a .d .now) (ruleOf (a .m)) (a .at) (a .seen .now) (a .y) (a .rows .now) _ (a .lines .now) _ _
+    (c .before .before .before .find-open .ensures .0) _
     (c .before .f2 .given .1)
 
 pub one-variable-spec : {M : Type 1} → statement M

@@ -9,13 +9,31 @@ read-preface-requires c κs = c .before .before .before .pre .1 .1 .0 .1
 
 read-body-requires : tie.Need-read-body-requires
 read-body-requires c κs =
-    let p = c .before .before .before .before .before .before .before .before .before .before .before .pre in
-    (p .0, (p .1 .0, ((p .1 .1 .0 .0, ends-in (c .before .before .before .before .before .before .before .before .before .before .before .args .d .now) _ (c .before .before .before .before .before .before .before .read-preface .ensures .1) (c .before .before .before .before .before .manner .given .1)), (p .1 .1 .1 .0, p .1 .1 .1 .1))))
+    let p = c .before .before .before .before .before .before .before .before .before .before .before .pre in (
+      p .0,
+      (
+        p .1 .0,
+        (
+          (
+            p .1 .1 .0 .0,
+            ends-in (c .before .before .before .before .before .before .before .before .before .before .before .args .d .now) _
+                (c .before .before .before .before .before .before .before .read-preface .ensures .1)
+                (c .before .before .before .before .before .manner .given .1),
+          ),
+          (p .1 .1 .1 .0, p .1 .1 .1 .1),
+        ),
+      ),
+    )
 
 returns : tie.Need-returns
 returns c =
-    let a = c .before .before .before .before .before .before .before .before .before .before .before .before .before .before .before .before .before .before .args in
-    sheet-here (a .bad) (a .latin) (a .d .now) (a .at) _ (c .before .before .before .before .before .before .before .before .before .before .before .before .before .before .read-preface .ensures .0) _ _ _ _ _ (c .before .before .before .before .before .before .before .before .before .before .before .before .manner .given .1) (c .before .before .before .before .before .before .read-body .ensures)
+    let a = c .before .before .before .before .before .before .before .before .before .before .before .before .before .before .before
+    .before .before .before .args in
+    sheet-here (a .bad) (a .latin) (a .d .now) (a .at) _
+    (c .before .before .before .before .before .before .before .before .before .before .before .before .before .before .read-preface
+    .ensures .0) _ _ _ _ _
+    (c .before .before .before .before .before .before .before .before .before .before .before .before .manner .given .1)
+    (c .before .before .before .before .before .before .read-body .ensures)
 
 returns-2 : tie.Need-returns-2
 returns-2 c =

@@ -15,7 +15,8 @@ use Rattle.xml_files.proofs.read_variables.Tie as tie
 
 abbrev Inv-loop : tie.InvT-loop
 Inv-loop powers bad d from m rows₀ lines₀ marks₀ seen₀ at₀ y₀ rows lines marks seen at y =
-    Ran bad d (ruleOf m) from at y seen rows lines × (length rows ≡ rowSize * mostRows) × (length lines ≡ lineSize * mostLines) × (length marks ≡ 16384)
+    Ran bad d (ruleOf m) from at y seen rows lines × (length rows ≡ rowSize * mostRows) × (length lines ≡ lineSize * mostLines)
+    × (length marks ≡ 16384)
 
 abbrev μ-loop : tie.MeasureT-loop
 μ-loop powers bad d from m rows₀ lines₀ marks₀ seen₀ at₀ y₀ rows lines marks seen at y = 512 - y .rows
@@ -32,11 +33,51 @@ one-variable-requires c κs =
     let i = c .before .before .before .before .loop .inv in
     (p .0, ((p .1 .0 .0, i .0 .next), ((i .2, i .3), ran-sofar _ _ _ (p .1 .0 .0) _ _ _ _ _ _ (i .0) (i .1) (i .2))))
 
-onward : (c : tie.After-known-told Inv-loop μ-loop) → Onward (c .before .before .before .before .before .before .before .before .before .before .before .before .before .before .before .before .args .bad) (c .before .before .before .before .before .before .before .before .before .before .before .before .before .before .before .before .args .d .now) (ruleOf (c .before .before .before .before .before .before .before .before .before .before .before .before .before .before .before .before .args .m)) (c .before .before .before .before .before .before .before .before .before .before .before .before .before .before .before .before .pre .1 .0 .0) (c .before .before .before .before .before .before .before .before .before .before .before .before .before .before .before .before .args .from) (c .before .before .before .before .before .before .before .before .before .before .before .before .loop .at) (c .before .before .before .before .before .before .before .before .before .before .before .before .loop .y) (c .before .before .before .before .before .before .before .before .before .before .before .before .loop .seen) (c .before .before .before .before .before .before .before .before .before .before .before .before .loop .rows) (c .before .before .before .before .before .before .before .before .before .before .before .before .loop .lines) (c .before .before .before .before .before .before .before .before .before .before .before .before .loop .inv .0) (c .before .before .before .before .before .before .before .before .before .before .before .before .loop .inv .1) (c .before .before .before .before .before .before .before .before .before .before .before .before .loop .inv .2) (c .before .ident .given .0 .0) (c .before .ident .given .0 .1 .0) (c .before .ident .given .0 .1 .1 .0) (c .before .before .before .before .before .before .before .one-variable .last .1 .1 .1 .1 .1 .1 .1 .0) (c .before .before .before .before .before .before .before .one-variable .last .1 .1 .1 .1 .1 .1 .1 .1 .0)
-onward c = ran-more (c .before .before .before .before .before .before .before .before .before .before .before .before .before .before .before .before .args .bad) (c .before .before .before .before .before .before .before .before .before .before .before .before .before .before .before .before .args .d .now) (ruleOf (c .before .before .before .before .before .before .before .before .before .before .before .before .before .before .before .before .args .m)) (c .before .before .before .before .before .before .before .before .before .before .before .before .before .before .before .before .pre .1 .0 .0) (c .before .before .before .before .before .before .before .before .before .before .before .before .before .before .before .before .args .from) (c .before .before .before .before .before .before .before .before .before .before .before .before .loop .at) (c .before .before .before .before .before .before .before .before .before .before .before .before .loop .y) (c .before .before .before .before .before .before .before .before .before .before .before .before .loop .seen) (c .before .before .before .before .before .before .before .before .before .before .before .before .loop .rows) (c .before .before .before .before .before .before .before .before .before .before .before .before .loop .lines) (c .before .before .before .before .before .before .before .before .before .before .before .before .loop .inv .0) (c .before .before .before .before .before .before .before .before .before .before .before .before .loop .inv .1) (c .before .before .before .before .before .before .before .before .before .before .before .before .loop .inv .2) _ _ _ (c .before .before .before .before .before .before .before .one-variable .ensures) _ _ _ (c .before .ident .given .1)
+onward : (c : tie.After-known-told Inv-loop μ-loop)
+    → Onward (c .before .before .before .before .before .before .before .before .before .before .before .before .before .before .before
+    .before .args .bad)
+    (c .before .before .before .before .before .before .before .before .before .before .before .before .before .before .before .before .args
+    .d .now) (ruleOf
+    (c .before .before .before .before .before .before .before .before .before .before .before .before .before .before .before .before .args
+    .m)) (c .before .before .before .before .before .before .before .before .before .before .before .before .before .before .before .before
+    .pre .1 .0 .0)
+    (c .before .before .before .before .before .before .before .before .before .before .before .before .before .before .before .before .args
+    .from) (c .before .before .before .before .before .before .before .before .before .before .before .before .loop .at)
+    (c .before .before .before .before .before .before .before .before .before .before .before .before .loop .y)
+    (c .before .before .before .before .before .before .before .before .before .before .before .before .loop .seen)
+    (c .before .before .before .before .before .before .before .before .before .before .before .before .loop .rows)
+    (c .before .before .before .before .before .before .before .before .before .before .before .before .loop .lines)
+    (c .before .before .before .before .before .before .before .before .before .before .before .before .loop .inv .0)
+    (c .before .before .before .before .before .before .before .before .before .before .before .before .loop .inv .1)
+    (c .before .before .before .before .before .before .before .before .before .before .before .before .loop .inv .2)
+    (c .before .ident .given .0 .0) (c .before .ident .given .0 .1 .0) (c .before .ident .given .0 .1 .1 .0)
+    (c .before .before .before .before .before .before .before .one-variable .last .1 .1 .1 .1 .1 .1 .1 .0)
+    (c .before .before .before .before .before .before .before .one-variable .last .1 .1 .1 .1 .1 .1 .1 .1 .0)
+onward c = ran-more
+    (c .before .before .before .before .before .before .before .before .before .before .before .before .before .before .before .before .args
+    .bad) (c .before .before .before .before .before .before .before .before .before .before .before .before .before .before .before .before
+    .args .d .now)
+    (ruleOf (c .before .before .before .before .before .before .before .before .before .before .before .before .before .before .before
+    .before .args .m))
+    (c .before .before .before .before .before .before .before .before .before .before .before .before .before .before .before .before .pre
+    .1 .0 .0)
+    (c .before .before .before .before .before .before .before .before .before .before .before .before .before .before .before .before .args
+    .from) (c .before .before .before .before .before .before .before .before .before .before .before .before .loop .at)
+    (c .before .before .before .before .before .before .before .before .before .before .before .before .loop .y)
+    (c .before .before .before .before .before .before .before .before .before .before .before .before .loop .seen)
+    (c .before .before .before .before .before .before .before .before .before .before .before .before .loop .rows)
+    (c .before .before .before .before .before .before .before .before .before .before .before .before .loop .lines)
+    (c .before .before .before .before .before .before .before .before .before .before .before .before .loop .inv .0)
+    (c .before .before .before .before .before .before .before .before .before .before .before .before .loop .inv .1)
+    (c .before .before .before .before .before .before .before .before .before .before .before .before .loop .inv .2) _ _ _
+    (c .before .before .before .before .before .before .before .one-variable .ensures) _ _ _ (c .before .ident .given .1)
 
 slice-write-seen : tie.Need-slice-write-seen Inv-loop μ-loop
-slice-write-seen c = omega (arith, onward c .small, c .before .before .before .before .before .before .before .before .before .before .before .before .loop .inv .0 .seen-long)
+slice-write-seen c = omega (
+  arith,
+  onward c .small,
+  c .before .before .before .before .before .before .before .before .before .before .before .before .loop .inv .0 .seen-long,
+)
 
 loop-less : tie.Need-loop-less Inv-loop μ-loop
 loop-less c = omega (arith, onward c .further, onward c .left)
@@ -63,11 +104,52 @@ same-length-3 : tie.Need-same-length-3 Inv-loop μ-loop
 same-length-3 c = search needs
 
 same-length-4 : tie.Need-same-length-4 Inv-loop μ-loop
-same-length-4 c = c .before .before .before .before .before .before .before .before .before .before .before .before .loop .inv .0 .seen-long ∙ sym (zeros-long _ (c .before .before .before .before .before .before .before .before .before .before .before .before .before .before .before .before .pre .1 .1 .1))
+same-length-4 c = c .before .before .before .before .before .before .before .before .before .before .before .before .loop .inv .0 .seen-long
+    ∙ sym (zeros-long _
+    (c .before .before .before .before .before .before .before .before .before .before .before .before .before .before .before .before .pre
+    .1 .1 .1))
 
 returns : tie.Need-returns Inv-loop μ-loop
-returns c =
-    (run-over (c .before .before .before .before .before .before .before .before .before .before .before .before .before .before .before .before .args .bad) (c .before .before .before .before .before .before .before .before .before .before .before .before .before .before .before .before .args .d .now) (ruleOf (c .before .before .before .before .before .before .before .before .before .before .before .before .before .before .before .before .args .m)) (c .before .before .before .before .before .before .before .before .before .before .before .before .before .before .before .before .pre .1 .0 .0) (c .before .before .before .before .before .before .before .before .before .before .before .before .before .before .before .before .args .from) (c .before .before .before .before .before .before .before .before .before .before .before .before .loop .at) (c .before .before .before .before .before .before .before .before .before .before .before .before .loop .y) (c .before .before .before .before .before .before .before .before .before .before .before .before .loop .seen) (c .before .before .before .before .before .before .before .before .before .before .before .before .loop .rows) (c .before .before .before .before .before .before .before .before .before .before .before .before .loop .lines) (c .before .before .before .before .before .before .before .before .before .before .before .before .loop .inv .0) (c .before .before .before .before .before .before .before .before .before .before .before .before .loop .inv .1) (c .before .before .before .before .before .before .before .before .before .before .before .before .loop .inv .2) _ _ _ (c .before .before .before .before .before .before .before .one-variable .ensures) _ (c .before .next .given .1), laid-over (c .before .before .before .before .before .before .before .before .before .before .before .before .before .before .before .before .args .bad) (c .before .before .before .before .before .before .before .before .before .before .before .before .before .before .before .before .args .d .now) (ruleOf (c .before .before .before .before .before .before .before .before .before .before .before .before .before .before .before .before .args .m)) (c .before .before .before .before .before .before .before .before .before .before .before .before .before .before .before .before .pre .1 .0 .0) (c .before .before .before .before .before .before .before .before .before .before .before .before .before .before .before .before .args .from) (c .before .before .before .before .before .before .before .before .before .before .before .before .loop .at) (c .before .before .before .before .before .before .before .before .before .before .before .before .loop .y) (c .before .before .before .before .before .before .before .before .before .before .before .before .loop .seen) (c .before .before .before .before .before .before .before .before .before .before .before .before .loop .rows) (c .before .before .before .before .before .before .before .before .before .before .before .before .loop .lines) (c .before .before .before .before .before .before .before .before .before .before .before .before .loop .inv .0) (c .before .before .before .before .before .before .before .before .before .before .before .before .loop .inv .1) (c .before .before .before .before .before .before .before .before .before .before .before .before .loop .inv .2) _ _ _ (c .before .before .before .before .before .before .before .one-variable .ensures) _ (c .before .next .given .1))
+returns c = (
+  run-over
+      (c .before .before .before .before .before .before .before .before .before .before .before .before .before .before .before .before
+      .args .bad)
+      (c .before .before .before .before .before .before .before .before .before .before .before .before .before .before .before .before
+      .args .d .now)
+      (ruleOf (c .before .before .before .before .before .before .before .before .before .before .before .before .before .before .before
+      .before .args .m))
+      (c .before .before .before .before .before .before .before .before .before .before .before .before .before .before .before .before
+      .pre .1 .0 .0)
+      (c .before .before .before .before .before .before .before .before .before .before .before .before .before .before .before .before
+      .args .from) (c .before .before .before .before .before .before .before .before .before .before .before .before .loop .at)
+      (c .before .before .before .before .before .before .before .before .before .before .before .before .loop .y)
+      (c .before .before .before .before .before .before .before .before .before .before .before .before .loop .seen)
+      (c .before .before .before .before .before .before .before .before .before .before .before .before .loop .rows)
+      (c .before .before .before .before .before .before .before .before .before .before .before .before .loop .lines)
+      (c .before .before .before .before .before .before .before .before .before .before .before .before .loop .inv .0)
+      (c .before .before .before .before .before .before .before .before .before .before .before .before .loop .inv .1)
+      (c .before .before .before .before .before .before .before .before .before .before .before .before .loop .inv .2) _ _ _
+      (c .before .before .before .before .before .before .before .one-variable .ensures) _ (c .before .next .given .1),
+  laid-over
+      (c .before .before .before .before .before .before .before .before .before .before .before .before .before .before .before .before
+      .args .bad)
+      (c .before .before .before .before .before .before .before .before .before .before .before .before .before .before .before .before
+      .args .d .now)
+      (ruleOf (c .before .before .before .before .before .before .before .before .before .before .before .before .before .before .before
+      .before .args .m))
+      (c .before .before .before .before .before .before .before .before .before .before .before .before .before .before .before .before
+      .pre .1 .0 .0)
+      (c .before .before .before .before .before .before .before .before .before .before .before .before .before .before .before .before
+      .args .from) (c .before .before .before .before .before .before .before .before .before .before .before .before .loop .at)
+      (c .before .before .before .before .before .before .before .before .before .before .before .before .loop .y)
+      (c .before .before .before .before .before .before .before .before .before .before .before .before .loop .seen)
+      (c .before .before .before .before .before .before .before .before .before .before .before .before .loop .rows)
+      (c .before .before .before .before .before .before .before .before .before .before .before .before .loop .lines)
+      (c .before .before .before .before .before .before .before .before .before .before .before .before .loop .inv .0)
+      (c .before .before .before .before .before .before .before .before .before .before .before .before .loop .inv .1)
+      (c .before .before .before .before .before .before .before .before .before .before .before .before .loop .inv .2) _ _ _
+      (c .before .before .before .before .before .before .before .one-variable .ensures) _ (c .before .next .given .1),
+)
 
 enum-known-f : tie.Need-enum-known-f Inv-loop μ-loop
 enum-known-f c = search needs
@@ -82,11 +164,50 @@ same-length-7 : tie.Need-same-length-7 Inv-loop μ-loop
 same-length-7 c = search needs
 
 same-length-8 : tie.Need-same-length-8 Inv-loop μ-loop
-same-length-8 c = c .before .before .before .before .before .before .before .before .before .before .before .before .loop .inv .0 .seen-long ∙ sym (zeros-long _ (c .before .before .before .before .before .before .before .before .before .before .before .before .before .before .before .before .pre .1 .1 .1))
+same-length-8 c = c .before .before .before .before .before .before .before .before .before .before .before .before .loop .inv .0 .seen-long
+    ∙ sym (zeros-long _
+    (c .before .before .before .before .before .before .before .before .before .before .before .before .before .before .before .before .pre
+    .1 .1 .1))
 
 returns-2 : tie.Need-returns-2 Inv-loop μ-loop
-returns-2 c =
-    (run-not (c .before .before .before .before .before .before .before .before .before .before .before .before .before .before .before .before .args .bad) (c .before .before .before .before .before .before .before .before .before .before .before .before .before .before .before .before .args .d .now) (ruleOf (c .before .before .before .before .before .before .before .before .before .before .before .before .before .before .before .before .args .m)) (c .before .before .before .before .before .before .before .before .before .before .before .before .before .before .before .before .pre .1 .0 .0) (c .before .before .before .before .before .before .before .before .before .before .before .before .before .before .before .before .args .from) (c .before .before .before .before .before .before .before .before .before .before .before .before .loop .at) (c .before .before .before .before .before .before .before .before .before .before .before .before .loop .y) (c .before .before .before .before .before .before .before .before .before .before .before .before .loop .seen) (c .before .before .before .before .before .before .before .before .before .before .before .before .loop .rows) (c .before .before .before .before .before .before .before .before .before .before .before .before .loop .lines) (c .before .before .before .before .before .before .before .before .before .before .before .before .loop .inv .0) (c .before .before .before .before .before .before .before .before .before .before .before .before .loop .inv .1) (c .before .before .before .before .before .before .before .before .before .before .before .before .loop .inv .2) _ _ _ (c .before .before .before .before .before .before .before .one-variable .ensures) _ (c .before .f .given .1), laid-not (c .before .before .before .before .before .before .before .before .before .before .before .before .before .before .before .before .args .bad) (c .before .before .before .before .before .before .before .before .before .before .before .before .before .before .before .before .args .d .now) (ruleOf (c .before .before .before .before .before .before .before .before .before .before .before .before .before .before .before .before .args .m)) (c .before .before .before .before .before .before .before .before .before .before .before .before .before .before .before .before .pre .1 .0 .0) (c .before .before .before .before .before .before .before .before .before .before .before .before .before .before .before .before .args .from) (c .before .before .before .before .before .before .before .before .before .before .before .before .loop .at) (c .before .before .before .before .before .before .before .before .before .before .before .before .loop .y) (c .before .before .before .before .before .before .before .before .before .before .before .before .loop .seen) (c .before .before .before .before .before .before .before .before .before .before .before .before .loop .rows) (c .before .before .before .before .before .before .before .before .before .before .before .before .loop .lines) (c .before .before .before .before .before .before .before .before .before .before .before .before .loop .inv .0) (c .before .before .before .before .before .before .before .before .before .before .before .before .loop .inv .1) (c .before .before .before .before .before .before .before .before .before .before .before .before .loop .inv .2) _ _ _ (c .before .before .before .before .before .before .before .one-variable .ensures) _ (c .before .f .given .1))
+returns-2 c = (
+  run-not (c .before .before .before .before .before .before .before .before .before .before .before .before .before .before .before
+      .before .args .bad)
+      (c .before .before .before .before .before .before .before .before .before .before .before .before .before .before .before .before
+      .args .d .now)
+      (ruleOf (c .before .before .before .before .before .before .before .before .before .before .before .before .before .before .before
+      .before .args .m))
+      (c .before .before .before .before .before .before .before .before .before .before .before .before .before .before .before .before
+      .pre .1 .0 .0)
+      (c .before .before .before .before .before .before .before .before .before .before .before .before .before .before .before .before
+      .args .from) (c .before .before .before .before .before .before .before .before .before .before .before .before .loop .at)
+      (c .before .before .before .before .before .before .before .before .before .before .before .before .loop .y)
+      (c .before .before .before .before .before .before .before .before .before .before .before .before .loop .seen)
+      (c .before .before .before .before .before .before .before .before .before .before .before .before .loop .rows)
+      (c .before .before .before .before .before .before .before .before .before .before .before .before .loop .lines)
+      (c .before .before .before .before .before .before .before .before .before .before .before .before .loop .inv .0)
+      (c .before .before .before .before .before .before .before .before .before .before .before .before .loop .inv .1)
+      (c .before .before .before .before .before .before .before .before .before .before .before .before .loop .inv .2) _ _ _
+      (c .before .before .before .before .before .before .before .one-variable .ensures) _ (c .before .f .given .1),
+  laid-not (c .before .before .before .before .before .before .before .before .before .before .before .before .before .before .before
+      .before .args .bad)
+      (c .before .before .before .before .before .before .before .before .before .before .before .before .before .before .before .before
+      .args .d .now)
+      (ruleOf (c .before .before .before .before .before .before .before .before .before .before .before .before .before .before .before
+      .before .args .m))
+      (c .before .before .before .before .before .before .before .before .before .before .before .before .before .before .before .before
+      .pre .1 .0 .0)
+      (c .before .before .before .before .before .before .before .before .before .before .before .before .before .before .before .before
+      .args .from) (c .before .before .before .before .before .before .before .before .before .before .before .before .loop .at)
+      (c .before .before .before .before .before .before .before .before .before .before .before .before .loop .y)
+      (c .before .before .before .before .before .before .before .before .before .before .before .before .loop .seen)
+      (c .before .before .before .before .before .before .before .before .before .before .before .before .loop .rows)
+      (c .before .before .before .before .before .before .before .before .before .before .before .before .loop .lines)
+      (c .before .before .before .before .before .before .before .before .before .before .before .before .loop .inv .0)
+      (c .before .before .before .before .before .before .before .before .before .before .before .before .loop .inv .1)
+      (c .before .before .before .before .before .before .before .before .before .before .before .before .loop .inv .2) _ _ _
+      (c .before .before .before .before .before .before .before .one-variable .ensures) _ (c .before .f .given .1),
+)
 
 pub read-variables-spec : {M : Type 1} → statement M
 read-variables-spec =

@@ -16,7 +16,8 @@ returns-2 : tie.Need-returns-2
 returns-2 c =
     let a = c .before .before .before .before .before .before .args in
     let s : a .standard ≡ true = not-false _ (c .before .before .before .before .if1 .left) in
-    rw s (bad-settled (a .latin) (a .d .now) (a .y) (a .rows .now) _ (c .before .before .before .names-fault .ensures) _ (c .before .if2 .taken) (c .name-place .ensures))
+    rw s (bad-settled (a .latin) (a .d .now) (a .y) (a .rows .now) _ (c .before .before .before .names-fault .ensures) _
+    (c .before .if2 .taken) (c .name-place .ensures))
 
 returns-3 : tie.Need-returns-3
 returns-3 c =

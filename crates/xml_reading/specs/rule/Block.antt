@@ -1,4 +1,5 @@
--- "values(range value* | value+)"; `<range from to/>`, `<value code>text</value>`: judged as 1.1's ranges and lines are; "SPECIAL is always 0
+-- "values(range value* | value+)"; `<range from to/>`, `<value code>text</value>`: judged as 1.1's ranges and lines are; "SPECIAL is always
+-- 0
 -- here". "XML blocks alike" for the point's code.
 use mathlib.Core.Bool.{Bool, false, cond, not, _&&_}
 use mathlib.Core.List.{List, [], _∷_, _++_}

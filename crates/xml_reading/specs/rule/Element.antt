@@ -1,4 +1,5 @@
--- "An element from its `<` to the end of its end tag is a statement. It is judged once read: the first 2 or 50 met, then 4, 5, 6, 7, 8, 51, 52
+-- "An element from its `<` to the end of its end tag is a statement. It is judged once read: the first 2 or 50 met, then 4, 5, 6, 7, 8, 51,
+-- 52
 -- by lowest number, equal numbers by place." Texts, POSITION, SPREAD and SIZE, by the charges that 1.1 has for them. "A text tabled: place
 -- just after its tag's `>`, length to its end tag's `<`." "An unknown attribute is 51 at its name."
 -- Each reader begins behind the name of its start tag, whose < stands at p.

@@ -1,5 +1,7 @@
--- "Where something is due and something else stands: 50 if XML itself is broken there; 51 if a start tag or an attribute stands there that is
--- not the one due; 2 if anything else does (an end tag, text, a tag's end, a value of wrong form)." "A start tag that may not stand there ..
+-- "Where something is due and something else stands: 50 if XML itself is broken there; 51 if a start tag or an attribute stands there that
+-- is
+-- not the one due; 2 if anything else does (an end tag, text, a tag's end, a value of wrong form)." "A start tag that may not stand there
+-- ..
 -- is read for its form only (50 first)." "An end tag where something is due is read whole first; of another name: 50 at its `<`."
 -- d is the file up to its first character that is not legal; `bad` says that there is one.
 use mathlib.Core.Bool.{Bool, cond, not}

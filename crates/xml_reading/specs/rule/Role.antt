@@ -1,5 +1,7 @@
--- The start tag of a variable, its use and its filter. "At most one serial, a character or quantity, and one weight, a quantity; neither may
--- have a filter": "a second serial or weight, or a wrong type: 52 at the use value's first byte". "Filter: of the variables up to and with its
+-- The start tag of a variable, its use and its filter. "At most one serial, a character or quantity, and one weight, a quantity; neither
+-- may
+-- have a filter": "a second serial or weight, or a wrong type: 52 at the use value's first byte". "Filter: of the variables up to and with
+-- its
 -- own, exactly one has the decoded text as its name, and that is an earlier logical; else, and on a serial or weight, 52 at the text's
 -- place. A later variable with the name of a logical that has served as a filter is 52 at its name's text. Names compare by decoded
 -- characters, with standardnames case aside."

@@ -1,4 +1,5 @@
--- "sss(date?, time?, origin?, user?, survey(name?, version?, title?, record(variable+)))." "Version 1.1 has no survey name, version, .. href,
+-- "sss(date?, time?, origin?, user?, survey(name?, version?, title?, record(variable+)))." "Version 1.1 has no survey name, version, ..
+-- href,
 -- languages: each 51." "4 in XML a version not 1.1 or 1.2." "Before `<sss`: another start tag 51, a processing instruction 51", anything
 -- else 50. "Behind `</sss>` only white space and comments, else 50 there (51 for a processing instruction)."
 use mathlib.Core.Bool.{Bool, true, false, cond, not, _&&_}

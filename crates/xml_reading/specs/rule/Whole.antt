@@ -1,5 +1,7 @@
--- A definition in XML and a lent table: "1 is first of all"; the declaration; characters are legal up to the first that is not, 50 there; the
--- elements; then, with standardnames, 9 at the text's place, and 10. "The first header number becomes 12 for XML"; rows have use and filter.
+-- A definition in XML and a lent table: "1 is first of all"; the declaration; characters are legal up to the first that is not, 50 there;
+-- the
+-- elements; then, with standardnames, 9 at the text's place, and 10. "The first header number becomes 12 for XML"; rows have use and
+-- filter.
 use mathlib.Core.Bool.{Bool, true, false, cond}
 use mathlib.Core.List.{List, [], _∷_, _++_, map}
 use Prim.Native.Nat.{ℕ, zero, suc, _+_}

@@ -8,17 +8,26 @@ use Rattle.zarfolin.proofs.bad_truth.Statement.{statement}
 use Rattle.zarfolin.proofs.bad_truth.Tie as tie
 
 returns : tie.Need-returns
-returns c = bad-row _ _ _ (sym (c .before .before .before .before .well-formed .ensures .says) ∙ c .before .before .before .if1 .taken) _ (c .before .before .read .ensures) (c .if2 .taken)
+returns c = bad-row _ _ _ (sym (c .before .before .before .before .well-formed .ensures .says) ∙ c .before .before .before .if1 .taken) _
+    (c .before .before .read .ensures) (c .if2 .taken)
 
 returns-2 : tie.Need-returns-2
-returns-2 c = bad-length _ _ _ (sym (c .before .before .before .before .before .before .well-formed .ensures .says) ∙ c .before .before .before .before .before .if1 .taken) _ (c .before .before .before .before .read .ensures) (c .before .before .if2 .left) (c .if3 .taken)
+returns-2 c = bad-length _ _ _ (sym (c .before .before .before .before .before .before .well-formed .ensures .says)
+    ∙ c .before .before .before .before .before .if1 .taken) _ (c .before .before .before .before .read .ensures)
+    (c .before .before .if2 .left) (c .if3 .taken)
 
 read-requires-2 : tie.Need-read-requires-2
-read-requires-2 c κs = row-stands _ _ [] (sym (c .before .before .before .before .before .before .well-formed .ensures .says) ∙ c .before .before .before .before .before .if1 .taken) _ (c .before .before .before .before .read .ensures) (c .before .before .if2 .left)
+read-requires-2 c κs = row-stands _ _ [] (sym (c .before .before .before .before .before .before .well-formed .ensures .says)
+    ∙ c .before .before .before .before .before .if1 .taken) _ (c .before .before .before .before .read .ensures)
+    (c .before .before .if2 .left)
 
 returns-3 : tie.Need-returns-3
 returns-3 c =
-    c .kind-number .ensures ∙ bad-kind _ _ _ (sym (c .before .before .before .before .before .before .before .before .well-formed .ensures .says) ∙ c .before .before .before .before .before .before .before .if1 .taken) _ (c .before .before .before .before .before .before .read .ensures) (c .before .before .before .before .if2 .left) (c .before .before .if3 .left) _ (c .before .read2 .ensures)
+    c .kind-number .ensures ∙ bad-kind _ _ _ (sym
+    (c .before .before .before .before .before .before .before .before .well-formed .ensures .says)
+    ∙ c .before .before .before .before .before .before .before .if1 .taken) _
+    (c .before .before .before .before .before .before .read .ensures) (c .before .before .before .before .if2 .left)
+    (c .before .before .if3 .left) _ (c .before .read2 .ensures)
 
 returns-4 : tie.Need-returns-4
 returns-4 c = bad-table _ _ _ (sym (c .before .well-formed .ensures .says) ∙ c .if1 .left)

@@ -16,4 +16,9 @@ clean-cells-spec =
     (λ c κs. search needs)
     (λ c κs. search needs)
     (λ c. rw (c .before .before .w .given .1, toZ-ofZ (sfits-of (c .cell .ok)), c .cell .ensures))
-    (λ c. rw (c .before .before .before .w2 .given .1, c .with-one .ensures, toZ-ofZ (sfits-of (c .before .cell2 .ok)), c .before .cell2 .ensures)))
+    (λ c. rw (
+      c .before .before .before .w2 .given .1,
+      c .with-one .ensures,
+      toZ-ofZ (sfits-of (c .before .cell2 .ok)),
+      c .before .cell2 .ensures,
+    )))

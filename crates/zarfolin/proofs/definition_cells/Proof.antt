@@ -16,5 +16,16 @@ definition-cells-spec =
     (λ c. search needs)
     (λ c κs. search needs)
     (λ c κs. search needs)
-    (λ c. rw (c .before .before .before .a .given .1, toZ-ofZ (sfits-of (c .before .cell .ok)), toZ-ofZ (sfits-of (c .cell2 .ok)), c .before .cell .ensures, c .cell2 .ensures))
-    (λ c. rw (c .before .before .before .a2 .given .1, c .with-one .ensures, toZ-ofZ (sfits-of (c .before .cell3 .ok)), c .before .cell3 .ensures)))
+    (λ c. rw (
+      c .before .before .before .a .given .1,
+      toZ-ofZ (sfits-of (c .before .cell .ok)),
+      toZ-ofZ (sfits-of (c .cell2 .ok)),
+      c .before .cell .ensures,
+      c .cell2 .ensures,
+    ))
+    (λ c. rw (
+      c .before .before .before .a2 .given .1,
+      c .with-one .ensures,
+      toZ-ofZ (sfits-of (c .before .cell3 .ok)),
+      c .before .cell3 .ensures,
+    )))

@@ -16,7 +16,12 @@ faulty c =
       toZ-ofZ (sfits-of (c .before .cell3 .ok)),
       toZ-ofZ (sfits-of (c .fault-cell .ok)),
     )
-    (rw (c .before .before .before .before .before .before .cell .ensures, c .before .cell3 .ensures, c .fault-cell .ensures, c .before .before .fault-number .ensures))
+    (rw (
+      c .before .before .before .before .before .before .cell .ensures,
+      c .before .cell3 .ensures,
+      c .fault-cell .ensures,
+      c .before .before .fault-number .ensures,
+    ))
 
 pub fault-cells-spec : {M : Type 1} → statement M
 unfolding faultCells judgedAs verdictNumber
@@ -36,8 +41,29 @@ fault-cells-spec =
     (λ c κs. search needs)
     (λ c κs. search needs)
     (λ c κs. search needs)
-    (λ c. rw (c .before .enum-told .given .1, c .with-one .ensures, toZ-ofZ (sfits-of (c .before .before .before .cell .ok)), c .before .before .before .cell .ensures))
-    (λ c. rw (c .before .enum-told2 .given .1, c .with-one2 .ensures, toZ-ofZ (sfits-of (c .before .before .before .cell .ok)), c .before .before .before .cell .ensures))
-    (λ c. rw (c .before .enum-told3 .given .1, c .with-one3 .ensures, toZ-ofZ (sfits-of (c .before .before .before .cell .ok)), c .before .before .before .cell .ensures))
-    (λ c. rw (c .before .before .j .given .1, toZ-ofZ (sfits-of (c .before .before .before .before .cell .ok)), toZ-ofZ (sfits-of (c .cell2 .ok)), c .before .before .before .before .cell .ensures, c .cell2 .ensures))
+    (λ c. rw (
+      c .before .enum-told .given .1,
+      c .with-one .ensures,
+      toZ-ofZ (sfits-of (c .before .before .before .cell .ok)),
+      c .before .before .before .cell .ensures,
+    ))
+    (λ c. rw (
+      c .before .enum-told2 .given .1,
+      c .with-one2 .ensures,
+      toZ-ofZ (sfits-of (c .before .before .before .cell .ok)),
+      c .before .before .before .cell .ensures,
+    ))
+    (λ c. rw (
+      c .before .enum-told3 .given .1,
+      c .with-one3 .ensures,
+      toZ-ofZ (sfits-of (c .before .before .before .cell .ok)),
+      c .before .before .before .cell .ensures,
+    ))
+    (λ c. rw (
+      c .before .before .j .given .1,
+      toZ-ofZ (sfits-of (c .before .before .before .before .cell .ok)),
+      toZ-ofZ (sfits-of (c .cell2 .ok)),
+      c .before .before .before .before .cell .ensures,
+      c .cell2 .ensures,
+    ))
     faulty)

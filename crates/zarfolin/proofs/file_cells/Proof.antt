@@ -26,8 +26,23 @@ file-cells-spec =
     (λ c κs. search needs)
     (λ c. search needs)
     (λ c κs. search needs)
-    (λ c. rw (c .before .before .before .j .given .1, c .with-one .ensures, toZ-ofZ (sfits-of (c .before .cell .ok)), c .before .cell .ensures))
+    (λ c. rw (
+      c .before .before .before .j .given .1,
+      c .with-one .ensures,
+      toZ-ofZ (sfits-of (c .before .cell .ok)),
+      c .before .cell .ensures,
+    ))
     (λ c. rw (c .before .enum-told .given .1, sym (c .bare .ensures)))
-    (λ c. rw (c .before .before .before .j2 .given .1, c .with-one2 .ensures, toZ-ofZ (sfits-of (c .before .cell2 .ok)), c .before .cell2 .ensures))
-    (λ c. rw (c .before .before .before .j3 .given .1, c .with-one3 .ensures, toZ-ofZ (sfits-of (c .before .cell3 .ok)), c .before .cell3 .ensures))
+    (λ c. rw (
+      c .before .before .before .j2 .given .1,
+      c .with-one2 .ensures,
+      toZ-ofZ (sfits-of (c .before .cell2 .ok)),
+      c .before .cell2 .ensures,
+    ))
+    (λ c. rw (
+      c .before .before .before .j3 .given .1,
+      c .with-one3 .ensures,
+      toZ-ofZ (sfits-of (c .before .cell3 .ok)),
+      c .before .cell3 .ensures,
+    ))
     (λ c. rw (c .before .before .j4 .given .1, sym (c .fault-cells .ensures))))

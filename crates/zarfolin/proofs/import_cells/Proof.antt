@@ -29,6 +29,18 @@ import-cells-spec =
     (λ c. rw (c .before .enum-told .given .1) (c .bare .ensures))
     (λ c. rw (c .before .enum-told2 .given .1) (c .bare2 .ensures))
     (λ c. rw (c .before .enum-told3 .given .1) (c .bare3 .ensures))
-    (λ c. rw (c .before .before .before .i .given .1, toZ-ofZ (sfits-of (c .before .cell .ok)), toZ-ofZ (sfits-of (c .cell2 .ok)), c .before .cell .ensures, c .cell2 .ensures))
+    (λ c. rw (
+      c .before .before .before .i .given .1,
+      toZ-ofZ (sfits-of (c .before .cell .ok)),
+      toZ-ofZ (sfits-of (c .cell2 .ok)),
+      c .before .cell .ensures,
+      c .cell2 .ensures,
+    ))
     (λ c. rw (c .before .enum-told4 .given .1) (c .bare4 .ensures))
-    (λ c. rw (c .before .before .before .i2 .given .1, toZ-ofZ (sfits-of (c .before .cell3 .ok)), toZ-ofZ (sfits-of (c .cell4 .ok)), c .before .cell3 .ensures, c .cell4 .ensures)))
+    (λ c. rw (
+      c .before .before .before .i2 .given .1,
+      toZ-ofZ (sfits-of (c .before .cell3 .ok)),
+      toZ-ofZ (sfits-of (c .cell4 .ok)),
+      c .before .cell3 .ensures,
+      c .cell4 .ensures,
+    )))

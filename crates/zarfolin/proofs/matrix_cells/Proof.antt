@@ -28,4 +28,12 @@ matrix-cells-spec =
     (λ c. rw (c .before .enum-told .given .1, sym (c .bare .ensures)))
     (λ c. rw (c .before .enum-told2 .given .1, sym (c .bare2 .ensures)))
     (λ c. rw (c .before .enum-told3 .given .1, sym (c .bare3 .ensures)))
-    (λ c. rw (c .before .before .before .before .m2 .given .1, toZ-ofZ (sfits-of (c .before .before .cell .ok)), toZ-ofZ (sfits-of (c .before .cell2 .ok)), toZ-ofZ (sfits-of (c .cell3 .ok)), c .before .before .cell .ensures, c .before .cell2 .ensures, c .cell3 .ensures)))
+    (λ c. rw (
+      c .before .before .before .before .m2 .given .1,
+      toZ-ofZ (sfits-of (c .before .before .cell .ok)),
+      toZ-ofZ (sfits-of (c .before .cell2 .ok)),
+      toZ-ofZ (sfits-of (c .cell3 .ok)),
+      c .before .before .cell .ensures,
+      c .before .cell2 .ensures,
+      c .cell3 .ensures,
+    )))

@@ -21,6 +21,22 @@ next-cells-spec =
     (λ c κs. search needs)
     (λ c. search needs)
     (λ c κs. search needs)
-    (λ c. rw (c .before .before .before .before .n .given .1, toZ-ofZ (sfits-of (c .before .before .cell .ok)), toZ-ofZ (sfits-of (c .before .cell2 .ok)), toZ-ofZ (sfits-of (c .cell3 .ok)), c .before .before .cell .ensures, c .before .cell2 .ensures, c .cell3 .ensures))
-    (λ c. rw (c .before .before .before .before .n2 .given .1, toZ-ofZ (sfits-of (c .before .before .cell4 .ok)), toZ-ofZ (sfits-of (c .before .cell5 .ok)), toZ-ofZ (sfits-of (c .cell6 .ok)), c .before .before .cell4 .ensures, c .before .cell5 .ensures, c .cell6 .ensures))
+    (λ c. rw (
+      c .before .before .before .before .n .given .1,
+      toZ-ofZ (sfits-of (c .before .before .cell .ok)),
+      toZ-ofZ (sfits-of (c .before .cell2 .ok)),
+      toZ-ofZ (sfits-of (c .cell3 .ok)),
+      c .before .before .cell .ensures,
+      c .before .cell2 .ensures,
+      c .cell3 .ensures,
+    ))
+    (λ c. rw (
+      c .before .before .before .before .n2 .given .1,
+      toZ-ofZ (sfits-of (c .before .before .cell4 .ok)),
+      toZ-ofZ (sfits-of (c .before .cell5 .ok)),
+      toZ-ofZ (sfits-of (c .cell6 .ok)),
+      c .before .before .cell4 .ensures,
+      c .before .cell5 .ensures,
+      c .cell6 .ensures,
+    ))
     (λ c. rw (c .before .enum-told .given .1, sym (c .bare .ensures))))

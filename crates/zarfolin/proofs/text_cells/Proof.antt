@@ -19,6 +19,11 @@ text-cells-spec =
     (λ c κs. search needs)
     (λ c. search needs)
     (λ c κs. search needs)
-    (λ c. rw (c .before .before .before .a .given .1, c .with-one .ensures, toZ-ofZ (sfits-of (c .before .cell .ok)), c .before .cell .ensures))
+    (λ c. rw (
+      c .before .before .before .a .given .1,
+      c .with-one .ensures,
+      toZ-ofZ (sfits-of (c .before .cell .ok)),
+      c .before .cell .ensures,
+    ))
     (λ c. rw (c .before .enum-told .given .1, sym (c .bare .ensures)))
     (λ c. rw (c .before .enum-told2 .given .1, sym (c .bare2 .ensures))))

@@ -26,5 +26,10 @@ verdict-cells-spec =
     (λ c. rw (c .before .enum-told .given .1, sym (c .bare .ensures)))
     (λ c. rw (c .before .enum-told2 .given .1, sym (c .bare2 .ensures)))
     (λ c. rw (c .before .enum-told3 .given .1, sym (c .bare3 .ensures)))
-    (λ c. rw (c .before .before .before .j .given .1, c .with-one .ensures, toZ-ofZ (sfits-of (c .before .cell .ok)), c .before .cell .ensures))
+    (λ c. rw (
+      c .before .before .before .j .given .1,
+      c .with-one .ensures,
+      toZ-ofZ (sfits-of (c .before .cell .ok)),
+      c .before .cell .ensures,
+    ))
     (λ c. rw (c .before .before .j2 .given .1, sym (c .row-cells .ensures))))

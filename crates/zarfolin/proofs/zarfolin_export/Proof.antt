@@ -8,7 +8,8 @@ returns : tie.Need-returns
 returns c = record {
   outcome = _;
   promise = c .before .before .before .before .before .before .write-export .ensures;
-  tells = rw (← (c .before .before .export-cells .ensures), ← (c .before .export-length .ensures)) (rw (toZ-ofZ (sfits-of (c .before .export-length .ok))) at (c .tell-five .ensures));
+  tells = rw (← (c .before .before .export-cells .ensures), ← (c .before .export-length .ensures))
+      (rw (toZ-ofZ (sfits-of (c .before .export-length .ok))) at (c .tell-five .ensures));
 }
 
 pub zarfolin-export-spec : {M : Type 1} → statement M

@@ -4,7 +4,12 @@ use Rattle.zarfolin.proofs.zarfolin_judge_record.Statement.{statement}
 use Rattle.zarfolin.proofs.zarfolin_judge_record.Tie as tie
 
 returns : tie.Need-returns
-returns c = record { outcome = _; promise = c .before .before .judge-record .ensures; tells = rw (← (c .before .verdict-cells .ensures)) (c .tell .ensures) }
+returns c = record {
+  outcome = _;
+  promise = c .before .before .judge-record .ensures;
+  tells = rw (← (c .before .verdict-cells .ensures))
+      (c .tell .ensures);
+}
 
 pub zarfolin-judge-record-spec : {M : Type 1} → statement M
 zarfolin-judge-record-spec =

@@ -9,4 +9,5 @@ unfolding valueOf
 returns c = rw (c .number-of .ensures) (c .before .before .before .write-value .ensures)
 
 pub zarfolin-write-missing-spec : {M : Type 1} → statement M
-zarfolin-write-missing-spec = tie.close (tie.spec (λ c. search needs) (λ c κs. search needs) (λ c κs. search needs) (λ c. search needs) returns)
+zarfolin-write-missing-spec = tie.close (tie.spec (λ c. search needs) (λ c κs. search needs) (λ c κs. search needs) (λ c. search needs)
+    returns)

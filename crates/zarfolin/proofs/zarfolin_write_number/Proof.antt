@@ -8,7 +8,8 @@ use Rattle.zarfolin.proofs.zarfolin_write_number.Tie as tie
 returns : tie.Need-returns
 unfolding valueOf
 returns c =
-    let w = rw (toZ-ofZ (c .before .before .before .before .before .before .before .fits .number)) at (c .before .before .before .write-value .ensures) in
+    let w = rw (toZ-ofZ (c .before .before .before .before .before .before .before .fits .number)) at
+    (c .before .before .before .write-value .ensures) in
     rw (c .number-of .ensures) w
 
 pub zarfolin-write-number-spec : {M : Type 1} → statement M

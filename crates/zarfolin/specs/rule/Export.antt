@@ -1,4 +1,5 @@
--- An export, for C and Rust: five numbers, judge_file's four and the length of the text that stands in the output; "20, 40, 60 .. tell zeros
+-- An export, for C and Rust: five numbers, judge_file's four and the length of the text that stands in the output; "20, 40, 60 .. tell
+-- zeros
 -- behind the number".
 use mathlib.Core.Path.{_≡_}
 use mathlib.Core.List.{List, [], _∷_}

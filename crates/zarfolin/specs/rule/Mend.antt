@@ -1,4 +1,5 @@
--- A data file mended, at the face (document 02, C-19): the number, how many bytes and entries were written, 0; on a refusal zeros behind the
+-- A data file mended, at the face (document 02, C-19): the number, how many bytes and entries were written, 0; on a refusal zeros behind
+-- the
 -- number.
 use mathlib.Core.List.{List}
 use Prim.Native.Nat.{ℕ}

@@ -10,11 +10,18 @@ returns : tie.Need-returns
 unfolding columnsAt
 returns c =
     rw (
-      toZ-ofZ (sfits-of (c .before .before .before .before .before .before .before .before .before .before .before .before .before .before .before .before .before .before .before .from .given)),
-      toZ-ofZ (sfits-of (c .before .before .before .before .before .before .before .before .before .before .before .before .before .before .before .before .before .before .to .given)),
-      c .before .before .before .before .before .before .before .before .before .before .before .before .before .before .before .before .before .count-at .ensures,
-      c .before .before .before .before .before .before .before .before .before .before .before .before .before .before .before .before .count-at2 .ensures,
-      c .before .before .before .before .before .before .before .before .before .before .before .before .before .before .before .count-at3 .ensures,
+      toZ-ofZ (sfits-of
+          (c .before .before .before .before .before .before .before .before .before .before .before .before .before .before .before .before
+          .before .before .before .from .given)),
+      toZ-ofZ (sfits-of
+          (c .before .before .before .before .before .before .before .before .before .before .before .before .before .before .before .before
+          .before .before .to .given)),
+      c .before .before .before .before .before .before .before .before .before .before .before .before .before .before .before .before
+          .before .count-at .ensures,
+      c .before .before .before .before .before .before .before .before .before .before .before .before .before .before .before .before
+          .count-at2 .ensures,
+      c .before .before .before .before .before .before .before .before .before .before .before .before .before .before .before .count-at3
+          .ensures,
       c .before .before .before .before .before .before .before .before .before .before .before .before .before .before .count-at4 .ensures,
     )
     (rw (
@@ -43,8 +50,20 @@ near : (c : tie.After-to) → c .before .before .args .at + 20 < 2 ^ 64
 near c = omega arith
 
 add-last : tie.Need-add-count-at-18
-add-last c = omega (arith, near (c .before .before .before .before .before .before .before .before .before .before .before .before .before .before .before .before .before))
+add-last c = omega (
+  arith,
+  near
+      (c .before .before .before .before .before .before .before .before .before .before .before .before .before .before .before .before
+      .before),
+)
 
 pub read-spec : {M : Type 1} → statement M
 read-spec =
-    tie.close (tie.spec (λ c. search needs) (λ c. search needs) (λ c. search needs) (λ c. search needs) (λ c. search needs) (λ c. search needs) (λ c. search needs) (λ c κs. search needs) (λ c. search needs) (λ c κs. search needs) (λ c. search needs) (λ c κs. search needs) (λ c. search needs) (λ c κs. search needs) (λ c. search needs) (λ c κs. search needs) (λ c. search needs) (λ c κs. search needs) (λ c. search needs) (λ c κs. search needs) (λ c. search needs) (λ c κs. search needs) (λ c. search needs) (λ c κs. search needs) (λ c. search needs) (λ c κs. search needs) (λ c. search needs) (λ c κs. search needs) (λ c. search needs) (λ c κs. search needs) (λ c. search needs) (λ c κs. search needs) (λ c. search needs) (λ c κs. search needs) (λ c. search needs) (λ c κs. search needs) (λ c. search needs) (λ c κs. search needs) (λ c. search needs) (λ c κs. search needs) add-last (λ c κs. search needs) returns)
+    tie.close (tie.spec (λ c. search needs) (λ c. search needs) (λ c. search needs) (λ c. search needs) (λ c. search needs)
+    (λ c. search needs) (λ c. search needs) (λ c κs. search needs) (λ c. search needs) (λ c κs. search needs) (λ c. search needs)
+    (λ c κs. search needs) (λ c. search needs) (λ c κs. search needs) (λ c. search needs) (λ c κs. search needs) (λ c. search needs)
+    (λ c κs. search needs) (λ c. search needs) (λ c κs. search needs) (λ c. search needs) (λ c κs. search needs) (λ c. search needs)
+    (λ c κs. search needs) (λ c. search needs) (λ c κs. search needs) (λ c. search needs) (λ c κs. search needs) (λ c. search needs)
+    (λ c κs. search needs) (λ c. search needs) (λ c κs. search needs) (λ c. search needs) (λ c κs. search needs) (λ c. search needs)
+    (λ c κs. search needs) (λ c. search needs) (λ c κs. search needs) (λ c. search needs) (λ c κs. search needs) add-last
+    (λ c κs. search needs) returns)

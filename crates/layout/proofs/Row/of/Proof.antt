@@ -7,7 +7,8 @@ use Rattle.layout.proofs.Row.of.Statement.{statement}
 use Rattle.layout.proofs.Row.of.Tie as tie
 
 -- from and to are read back from their bits as they are
-from-back : (c : tie.After-struct-told2) → toZ w64 (ofZ w64 (c .before .before .before .args .c .from)) ≡ c .before .before .before .args .c .from
+from-back : (c : tie.After-struct-told2) → toZ w64 (ofZ w64 (c .before .before .before .args .c .from))
+    ≡ c .before .before .before .args .c .from
 from-back c = search needs
 
 to-back : (c : tie.After-struct-told2) → toZ w64 (ofZ w64 (c .before .before .before .args .c .to)) ≡ c .before .before .before .args .c .to

@@ -6,7 +6,8 @@ use Rattle.layout.proofs.Row.read.Statement.{statement}
 use Rattle.layout.proofs.Row.read.Tie as tie
 
 returns : tie.Need-returns
-returns c = c .of .ensures ∙ ap rowOf (c .before .read .ensures ∙ ap (columnsAt (c .before .before .before .args .t .now)) (c .before .before .base .ensures))
+returns c = c .of .ensures ∙ ap rowOf (c .before .read .ensures
+    ∙ ap (columnsAt (c .before .before .before .args .t .now)) (c .before .before .base .ensures))
 
 pub read-spec : {M : Type 1} → statement M
 read-spec =

@@ -31,7 +31,8 @@ loop-again c =
     let a = c .before .before .args in (
       omega arith,
       simp length-set (l .inv .1),
-      taken always (a .at) (a .w) (l .bytes) (l .i) (c .loop-test .taken) [] 0 false refl (record { rising = rising-empty (l .i + 1) (a .w - l .i) }) refl ∙ l .inv .2,
+      taken always (a .at) (a .w) (l .bytes) (l .i) (c .loop-test .taken) [] 0 false refl
+          (record { rising = rising-empty (l .i + 1) (a .w - l .i) }) refl ∙ l .inv .2,
     )
 
 returns : tie.Need-returns Inv-loop μ-loop

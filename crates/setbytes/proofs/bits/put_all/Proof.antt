@@ -12,15 +12,19 @@ use Rattle.setbytes.proofs.bits.put_all.Tie as tie
 
 set-members-requires : tie.Need-set-members-requires
 set-members-requires c κs =
-    let p = c .before .before .before .before .before .before .pre .1 in
-    (record { few = p .0 .few; inside = let k = c .before .before .before .clear-each .kept .0 in let i = p .0 .inside in omega arith }, p .1)
+    let p = c .before .before .before .before .before .before .pre .1 in (
+      record { few = p .0 .few; inside = let k = c .before .before .before .clear-each .kept .0 in let i = p .0 .inside in omega arith },
+      p .1,
+    )
 
 returns : tie.Need-returns
 returns c =
     let s = c .before .before .before .before .before .before .before .before .before in
     let a = s .args in
     rw (all-defined (a .t .now) (a .rows) (a .row) (a .w) (s .pre .0))
-    (c .before .before .set-members .ensures ∙ ap (λ (r : List ℕ). withMembers r (a .at) (a .list .now)) (c .before .before .before .before .before .before .clear-each .ensures) ∙ members-put (a .at) (s .pre .1 .1) (omega arith) (a .bytes .now))
+    (c .before .before .set-members .ensures ∙ ap (λ (r : List ℕ). withMembers r (a .at) (a .list .now))
+    (c .before .before .before .before .before .before .clear-each .ensures)
+    ∙ members-put (a .at) (s .pre .1 .1) (omega arith) (a .bytes .now))
 
 pub put-all-spec : {M : Type 1} → statement M
 put-all-spec = tie.close (tie.spec (λ c κs. c .before .before .pre .1 .0) set-members-requires (λ c. search needs) returns)

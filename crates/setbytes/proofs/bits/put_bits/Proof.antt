@@ -19,7 +19,8 @@ use Rattle.setbytes.proofs.bits.put_bits.Tie as tie
 abbrev Inv-loop : tie.InvT-loop
 Inv-loop t rows row marks bytes₀ at w list j₀ i₀ bytes j i =
     (i ≤ w) × (j ≤ i) × (length bytes ≡ length bytes₀) × Left w i (drop j list)
-    × (rest (legal t rows row) at w bytes list i j ≡ put bytes₀ (bitPlaces at (defined (legal t rows row) 1 w)) (bitBytes list (defined (legal t rows row) 1 w)))
+    × (rest (legal t rows row) at w bytes list i j
+    ≡ put bytes₀ (bitPlaces at (defined (legal t rows row) 1 w)) (bitBytes list (defined (legal t rows row) 1 w)))
 
 abbrev μ-loop : tie.MeasureT-loop
 μ-loop t rows row marks bytes₀ at w list j₀ i₀ bytes j i = w - i
@@ -48,7 +49,8 @@ loop-again c =
       omega arith,
       omega (arith, step (c .before .before .before)),
       simp length-set (l .inv .2),
-      rw (c .before .before .before .step-of .ensures) (left-on ok (a .at) (a .w) (l .bytes) (l .i) h (a .list .now) (l .j) _ (n .next-is .ensures) (l .inv .3)),
+      rw (c .before .before .before .step-of .ensures)
+          (left-on ok (a .at) (a .w) (l .bytes) (l .i) h (a .list .now) (l .j) _ (n .next-is .ensures) (l .inv .3)),
       rw (c .before .before .before .step-of .ensures, c .bit-of .ensures)
           (taken ok (a .at) (a .w) (l .bytes) (l .i) h (a .list .now) (l .j) _ (n .next-is .ensures) (l .inv .3) yes ∙ l .inv .4),
     )
@@ -64,7 +66,8 @@ loop-again-2 c =
       omega arith,
       omega (arith, step (c .before .before)),
       l .inv .2,
-      rw (c .before .before .step-of .ensures) (left-on ok (a .at) (a .w) (l .bytes) (l .i) h (a .list .now) (l .j) _ (n .next-is .ensures) (l .inv .3)),
+      rw (c .before .before .step-of .ensures) (left-on ok (a .at) (a .w) (l .bytes) (l .i) h (a .list .now) (l .j) _ (n .next-is .ensures)
+          (l .inv .3)),
       rw (c .before .before .step-of .ensures)
           (passed ok (a .at) (a .w) (l .bytes) (l .i) h (a .list .now) (l .j) _ (n .next-is .ensures) (l .inv .3) no ∙ l .inv .4),
     )

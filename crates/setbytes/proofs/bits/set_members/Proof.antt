@@ -21,14 +21,17 @@ abbrev μ-loop : tie.MeasureT-loop
 
 -- the category is the member's number, and lies in the position
 module _ (c : tie.After-count-of Inv-loop μ-loop) where
-  counted : c .count-of .result ≡ countOf (getD (c .before .before .before .before .before .args .list .now) (c .before .before .before .loop .j) (pos 0))
+  counted : c .count-of .result ≡ countOf (getD (c .before .before .before .before .before .args .list .now)
+      (c .before .before .before .loop .j) (pos 0))
   counted = rw (c .count-of .ensures, toZ-ofZ (sfits-of (c .before .count-of-arg .given)))
 
   low : 1 ≤ c .count-of .result
-  low = rw counted (member-low (c .before .before .before .before .before .pre .1) (c .before .before .before .loop .j) (c .before .before .loop-test .taken))
+  low = rw counted (member-low (c .before .before .before .before .before .pre .1) (c .before .before .before .loop .j)
+      (c .before .before .loop-test .taken))
 
   high : c .count-of .result < 1 + c .before .before .before .before .before .args .w
-  high = rw counted (member-high (c .before .before .before .before .before .pre .1) (c .before .before .before .loop .j) (c .before .before .loop-test .taken))
+  high = rw counted (member-high (c .before .before .before .before .before .pre .1) (c .before .before .before .loop .j)
+      (c .before .before .loop-test .taken))
 
 loop-again : tie.Need-loop-again Inv-loop μ-loop
 loop-again c =

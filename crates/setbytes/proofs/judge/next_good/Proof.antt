@@ -14,12 +14,18 @@ compared : (c : tie.After-not-above) → let s = c .before .before .before .befo
     c .not-above .result ≡ leZ (cell (s .args .list .now) (s .args .k)) (cell (s .args .list .now) (s .args .k - 1))
 compared c =
     c .not-above .ensures
-    ∙ rw (toZ-ofZ (sfits-of (c .before .before .number .ok)), toZ-ofZ (sfits-of (c .before .number2 .ok)), c .before .before .number .ensures, c .before .number2 .ensures)
+    ∙ rw (
+      toZ-ofZ (sfits-of (c .before .before .number .ok)),
+      toZ-ofZ (sfits-of (c .before .number2 .ok)),
+      c .before .before .number .ensures,
+      c .before .number2 .ensures,
+    )
 
 returns : tie.Need-returns
 returns c =
     let s = c .before .before .before .before .before in
-    not-good (cell (s .args .list .now) (s .args .k - 1)) (cell (s .args .list .now) (s .args .k)) _ (sym (compared (c .before)) ∙ c .if1 .taken)
+    not-good (cell (s .args .list .now) (s .args .k - 1)) (cell (s .args .list .now) (s .args .k)) _
+    (sym (compared (c .before)) ∙ c .if1 .taken)
 
 returns-2 : tie.Need-returns-2
 returns-2 c =
@@ -27,7 +33,8 @@ returns-2 c =
     let s = n .before .before .before .before in
     c .allows-number .ensures
     ∙ rw (toZ-ofZ (sfits-of (n .before .before .number .ok)), n .before .before .number .ensures)
-    (is-good (cell (s .args .list .now) (s .args .k - 1)) (cell (s .args .list .now) (s .args .k)) _ (sym (compared n) ∙ c .before .if1 .left))
+    (is-good (cell (s .args .list .now) (s .args .k - 1)) (cell (s .args .list .now) (s .args .k)) _
+    (sym (compared n) ∙ c .before .if1 .left))
 
 pub next-good-spec : {M : Type 1} → statement M
 next-good-spec =

@@ -40,15 +40,22 @@ loop-holds c = (omega arith, some (c .before), fits-first _ _ (some (c .before))
 returns-3 : tie.Need-returns-3 Inv-loop μ-loop
 returns-3 c =
     let l = c .before .before .before .loop in
-    sym (l .inv .2 ∙ bad-on _ (c .before .before .before .before .before .before .before .before .before .args .list .now) (l .i) (c .before .before .loop-test .taken) (sym (c .before .next-good .ensures) ∙ not-true _ (c .if3 .taken)))
+    sym (l .inv .2 ∙ bad-on _ (c .before .before .before .before .before .before .before .before .before .args .list .now) (l .i)
+    (c .before .before .loop-test .taken) (sym (c .before .next-good .ensures) ∙ not-true _ (c .if3 .taken)))
 
 loop-again : tie.Need-loop-again Inv-loop μ-loop
 loop-again c =
-    let l = c .before .before .before .loop in
-    (omega arith, omega arith, l .inv .2 ∙ good-on _ (c .before .before .before .before .before .before .before .before .before .args .list .now) (l .i) (c .before .before .loop-test .taken) (sym (c .before .next-good .ensures) ∙ not-false _ (c .if3 .left)))
+    let l = c .before .before .before .loop in (
+      omega arith,
+      omega arith,
+      l .inv .2 ∙ good-on _
+          (c .before .before .before .before .before .before .before .before .before .args .list .now) (l .i)
+          (c .before .before .loop-test .taken) (sym (c .before .next-good .ensures) ∙ not-false _ (c .if3 .left)),
+    )
 
 returns-4 : tie.Need-returns-4 Inv-loop μ-loop
-returns-4 c = sym (c .before .loop .inv .2 ∙ good-end _ (c .before .before .before .before .before .before .before .args .list .now) _ (c .loop-test .left))
+returns-4 c = sym (c .before .loop .inv .2 ∙ good-end _ (c .before .before .before .before .before .before .before .args .list .now) _
+    (c .loop-test .left))
 
 pub set-fits-spec : {M : Type 1} → statement M
 set-fits-spec =

@@ -15,7 +15,8 @@ use Rattle.setbytes.proofs.spread.put_spread.Tie as tie
 abbrev Inv-loop : tie.InvT-loop
 Inv-loop powers bytes₀ start b w n list gap at₀ i₀ left₀ bytes at i left =
     (i + left ≡ n) × (length bytes ≡ length bytes₀) × (at + left * b ≤ length bytes₀)
-    × (put bytes (spreadPlaces at b w left) (spreadBytes w left (drop i list)) ≡ put bytes₀ (spreadPlaces start b w n) (spreadBytes w n list))
+    × (put bytes (spreadPlaces at b w left) (spreadBytes w left (drop i list))
+    ≡ put bytes₀ (spreadPlaces start b w n) (spreadBytes w n list))
 
 abbrev μ-loop : tie.MeasureT-loop
 μ-loop powers bytes₀ start b w n list gap at₀ i₀ left₀ bytes at i left = left
@@ -30,8 +31,14 @@ room c =
 
 put-code-requires : tie.Need-put-code-requires Inv-loop μ-loop
 put-code-requires c κs =
-    let s = c .before .before .before .before .before in
-    (s .pre .0, (rw (toZ-ofZ (sfits-of (c .number .ok)), c .number .ensures) (s .pre .1 .1 .at _), s .pre .1 .0 .few, omega (arith, room (c .before .before) .0)))
+    let s = c .before .before .before .before .before in (
+      s .pre .0,
+      (
+        rw (toZ-ofZ (sfits-of (c .number .ok)), c .number .ensures) (s .pre .1 .1 .at _),
+        s .pre .1 .0 .few,
+        omega (arith, room (c .before .before) .0),
+      ),
+    )
 
 loop-again : tie.Need-loop-again Inv-loop μ-loop
 loop-again c =
@@ -44,7 +51,8 @@ loop-again c =
       d .put-code .kept .1 .0 ∙ l .inv .1,
       room t .1,
       rw (d .put-code .ensures)
-          (member-on (l .at) (a .b) (a .w) (l .left) (l .left - 1) e _ (a .list .now) (l .i) _ (toZ-ofZ (sfits-of (d .before .number .ok)) ∙ d .before .number .ensures) ∙ l .inv .3),
+          (member-on (l .at) (a .b) (a .w) (l .left) (l .left - 1) e _ (a .list .now) (l .i) _
+          (toZ-ofZ (sfits-of (d .before .number .ok)) ∙ d .before .number .ensures) ∙ l .inv .3),
     )
 
 returns : tie.Need-returns Inv-loop μ-loop

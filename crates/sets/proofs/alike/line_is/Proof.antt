@@ -31,7 +31,8 @@ add-is-one : tie.Need-add-is-one
 add-is-one c = let h = high c in let i = c .before .before .before .pre .inside in omega arith
 
 shared-slice-read-is-one : tie.Need-shared-slice-read-is-one
-shared-slice-read-is-one c = let l = low (c .before) in let h = high (c .before) in let i = c .before .before .before .before .pre .inside in omega arith
+shared-slice-read-is-one c = let l = low (c .before) in let h = high (c .before) in
+    let i = c .before .before .before .before .pre .inside in omega arith
 
 returns : tie.Need-returns
 returns c =
@@ -39,13 +40,15 @@ returns c =
     let t = c .before .before in
     let e = counted (t .before) in
     c .is-one .ensures
-    ∙ (rw e (one-inside (a .x) (a .y) (a .bytes .now) (a .at) (a .w) (a .z) (c .before .before .before .before .before .pre .few) (rw e at (low t)) (rw e at (high t))))
+    ∙ (rw e (one-inside (a .x) (a .y) (a .bytes .now) (a .at) (a .w) (a .z) (c .before .before .before .before .before .pre .few)
+    (rw e at (low t)) (rw e at (high t))))
 
 returns-2 : tie.Need-returns-2
 returns-2 c =
     let a = c .before .before .before .args in
     one-outside (a .x) (a .y) (a .bytes .now) (a .at) (a .w) (a .z) (c .before .before .before .pre .few)
-    (λ l h. holds-not (rw (counted (c .before)) (and-true (ltb 0 (countOf (a .z))) (leb (countOf (a .z)) (a .w)) (lt-ltb 0 _ l) (le-leb _ _ h))) (c .if1 .left))
+    (λ l h. holds-not (rw (counted (c .before)) (and-true (ltb 0 (countOf (a .z))) (leb (countOf (a .z)) (a .w)) (lt-ltb 0 _ l)
+    (le-leb _ _ h))) (c .if1 .left))
 
 pub line-is-spec : {M : Type 1} → statement M
 line-is-spec =

@@ -25,21 +25,27 @@ abbrev μ-loop : tie.MeasureT-loop
 
 -- what the test of a line says
 here : (c : tie.After-line-is Inv-loop μ-loop) → let a = c .before .before .before .before .before .before .args in
-    c .line-is .result ≡ allAt (a .x) (a .y) (a .bytes .now) (a .at) (a .w) (λ u. eqZ (cell (a .t .now) (lineBase (a .rows) (a .row .before + c .before .before .before .before .loop .k))) u)
+    c .line-is .result ≡ allAt (a .x) (a .y) (a .bytes .now) (a .at) (a .w)
+    (λ u. eqZ (cell (a .t .now) (lineBase (a .rows) (a .row .before + c .before .before .before .before .loop .k))) u)
 here c = rw (c .line-is .ensures, toZ-ofZ (sfits-of (c .before .line-is-arg .given)), c .before .before .base .ensures)
 
 -- line k's bytes, and all lines'
 module _ (c : tie.Start Inv-loop μ-loop) where
   abbrev line : ℕ → Bool
-  line k = allAt (c .args .x) (c .args .y) (c .args .bytes .now) (c .args .at) (c .args .w) (λ u. eqZ (cell (c .args .t .now) (lineBase (c .args .rows) (c .args .row .before + k))) u)
+  line k = allAt (c .args .x) (c .args .y) (c .args .bytes .now) (c .args .at) (c .args .w)
+      (λ u. eqZ (cell (c .args .t .now) (lineBase (c .args .rows) (c .args .row .before + k))) u)
 
-  all : allBelow (c .args .row .lines) (λ k. line k) ≡ allAt (c .args .x) (c .args .y) (c .args .bytes .now) (c .args .at) (c .args .w) (λ z. onLine (c .args .t .now) (c .args .rows) (c .args .row) z)
-  all = lines-alike (c .args .x) (c .args .y) (c .args .bytes .now) (c .args .at) (c .args .w) (c .args .t .now) (c .args .rows) (c .args .row)
+  all : allBelow (c .args .row .lines) (λ k. line k)
+      ≡ allAt (c .args .x) (c .args .y) (c .args .bytes .now) (c .args .at) (c .args .w)
+      (λ z. onLine (c .args .t .now) (c .args .rows) (c .args .row) z)
+  all = lines-alike (c .args .x) (c .args .y) (c .args .bytes .now) (c .args .at) (c .args .w) (c .args .t .now) (c .args .rows)
+      (c .args .row)
 
 returns : tie.Need-returns Inv-loop μ-loop
 returns c =
     let s = c .before .before .before .before .before .before .before in
-    sym (all-fails (λ k. line s k) (s .args .row .lines) (c .before .before .before .before .before .loop .k) (omega arith) (sym (here (c .before)) ∙ not-true _ (c .if1 .taken))) ∙ all s
+    sym (all-fails (λ k. line s k) (s .args .row .lines) (c .before .before .before .before .before .loop .k) (omega arith)
+    (sym (here (c .before)) ∙ not-true _ (c .if1 .taken))) ∙ all s
 
 loop-again : tie.Need-loop-again Inv-loop μ-loop
 loop-again c =

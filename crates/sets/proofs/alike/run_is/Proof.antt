@@ -28,10 +28,15 @@ loop-holds : tie.Need-loop-holds Inv-loop μ-loop
 loop-holds c = (omega arith, sym (all-more _ 0 (all-none _) (rw add-zero (sym (c .before .is-one .ensures) ∙ not-false _ (c .if2 .left)))))
 
 loop-again : tie.Need-loop-again Inv-loop μ-loop
-loop-again c = (omega arith, rw (c .is-one2 .ensures, c .before .before .before .loop .inv .1) (sym (all-next _ (c .before .before .before .loop .k))))
+loop-again c = (
+  omega arith,
+  rw (c .is-one2 .ensures, c .before .before .before .loop .inv .1)
+      (sym (all-next _ (c .before .before .before .loop .k))),
+)
 
 returns-3 : tie.Need-returns-3 Inv-loop μ-loop
-returns-3 c = let e : c .before .loop .k ≡ c .before .before .before .before .before .before .before .args .n = omega arith in rw e at (c .before .loop .inv .1)
+returns-3 c = let e : c .before .loop .k ≡ c .before .before .before .before .before .before .before .args .n = omega arith in
+    rw e at (c .before .loop .inv .1)
 
 pub run-is-spec : {M : Type 1} → statement M
 run-is-spec =

@@ -25,30 +25,40 @@ abbrev μ-loop : tie.MeasureT-loop
 μ-loop t rows row marks bytes at w list₀ n₀ i₀ list n i = w - i
 
 -- a category that is set: the members that are left
-here : (c : tie.Then2 Inv-loop μ-loop) → let a = c .before .before .before .before .before .before .before .before .args in let i = c .before .before .before .before .before .loop .i in
-    restSet (legal (a .t .now) (a .rows) (a .row)) (a .w) (a .bytes .now) (a .at) i ≡ pos (i + 1) ∷ restSet (legal (a .t .now) (a .rows) (a .row)) (a .w) (a .bytes .now) (a .at) (i + 1)
+here : (c : tie.Then2 Inv-loop μ-loop) → let a = c .before .before .before .before .before .before .before .before .args in
+    let i = c .before .before .before .before .before .loop .i in
+    restSet (legal (a .t .now) (a .rows) (a .row)) (a .w) (a .bytes .now) (a .at) i ≡ pos (i + 1)
+    ∷ restSet (legal (a .t .now) (a .rows) (a .row)) (a .w) (a .bytes .now) (a .at) (i + 1)
 here c =
     let a = c .before .before .before .before .before .before .before .before .args in
-    member (legal (a .t .now) (a .rows) (a .row)) (a .w) (c .before .before .before .before .before .loop .i) (c .before .before .before .before .loop-test .taken) (a .bytes .now) (a .at) (sym (c .before .before .before .allows .ensures) ∙ c .before .before .if1 .taken) (c .if2 .taken)
+    member (legal (a .t .now) (a .rows) (a .row)) (a .w) (c .before .before .before .before .before .loop .i)
+    (c .before .before .before .before .loop-test .taken) (a .bytes .now) (a .at)
+    (sym (c .before .before .before .allows .ensures) ∙ c .before .before .if1 .taken) (c .if2 .taken)
 
 loop-again : tie.Need-loop-again Inv-loop μ-loop
 loop-again c =
     let l = c .before .before .before .before .before .before .loop in
-    let e = ap length (here (c .before)) in
-    (omega arith, simp length-set (l .inv .1), omega arith, rw (toZ-ofZ (sfits-of (c .cell-of .ok)), c .cell-of .ensures, add-one (l .n)) (rw (here (c .before)) at (l .inv .3)))
+    let e = ap length (here (c .before)) in (
+      omega arith,
+      simp length-set (l .inv .1),
+      omega arith,
+      rw (toZ-ofZ (sfits-of (c .cell-of .ok)), c .cell-of .ensures, add-one (l .n)) (rw (here (c .before)) at (l .inv .3)),
+    )
 
 loop-again-2 : tie.Need-loop-again-2 Inv-loop μ-loop
 loop-again-2 c =
     let a = c .before .before .before .before .before .before .before .before .args in
     let l = c .before .before .before .before .before .loop in
-    let e = no-member (legal (a .t .now) (a .rows) (a .row)) (a .w) (l .i) (c .before .before .before .before .loop-test .taken) (a .bytes .now) (a .at) (sym (c .before .before .before .allows .ensures) ∙ c .before .before .if1 .taken) (c .if2 .left) in
+    let e = no-member (legal (a .t .now) (a .rows) (a .row)) (a .w) (l .i) (c .before .before .before .before .loop-test .taken)
+    (a .bytes .now) (a .at) (sym (c .before .before .before .allows .ensures) ∙ c .before .before .if1 .taken) (c .if2 .left) in
     (omega arith, l .inv .1, rw e at (l .inv .2), rw e at (l .inv .3))
 
 loop-again-3 : tie.Need-loop-again-3 Inv-loop μ-loop
 loop-again-3 c =
     let a = c .before .before .before .before .before .before .args in
     let l = c .before .before .before .loop in
-    let e = no-set (legal (a .t .now) (a .rows) (a .row)) (a .w) (l .i) (c .before .before .loop-test .taken) (a .bytes .now) (a .at) (sym (c .before .allows .ensures) ∙ c .if1 .left) in
+    let e = no-set (legal (a .t .now) (a .rows) (a .row)) (a .w) (l .i) (c .before .before .loop-test .taken) (a .bytes .now) (a .at)
+    (sym (c .before .allows .ensures) ∙ c .if1 .left) in
     (omega arith, l .inv .1, rw e at (l .inv .2), rw e at (l .inv .3))
 
 returns : tie.Need-returns Inv-loop μ-loop

@@ -39,7 +39,8 @@ count-each-spec =
     (λ c. omega arith)
     (λ c. omega arith)
     (λ c κs. tt)
-    (λ c. let m = few-bit (c .bit-of .result) (getD (c .before .before .before .before .before .args .bytes .now) (c .before .before .before .before .before .args .at + c .before .before .before .loop .i) 0) (c .bit-of .ensures) in omega arith)
+    (λ c. let m = few-bit (c .bit-of .result) (getD (c .before .before .before .before .before .args .bytes .now)
+    (c .before .before .before .before .before .args .at + c .before .before .before .loop .i) 0) (c .bit-of .ensures) in omega arith)
     (λ c. omega arith)
     (λ c. omega arith)
     loop-again

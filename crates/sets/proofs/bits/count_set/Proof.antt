@@ -18,21 +18,25 @@ abbrev μ-loop : tie.MeasureT-loop
 
 loop-again : tie.Need-loop-again Inv-loop μ-loop
 loop-again c =
-    let a = c .before .before .before .before .before .before .before .before .args in let l = c .before .before .before .before .before .loop in
-    let e = count-more (legal (a .t .now) (a .rows) (a .row)) (a .w) (l .i) (c .before .before .before .before .loop-test .taken) (a .bytes .now) (a .at) (sym (c .before .before .before .allows .ensures) ∙ c .before .before .if1 .taken) in
+    let a = c .before .before .before .before .before .before .before .before .args in
+    let l = c .before .before .before .before .before .loop in
+    let e = count-more (legal (a .t .now) (a .rows) (a .row)) (a .w) (l .i) (c .before .before .before .before .loop-test .taken)
+    (a .bytes .now) (a .at) (sym (c .before .before .before .allows .ensures) ∙ c .before .before .if1 .taken) in
     let b = c .bit-of .ensures in let m = few-bit (c .bit-of .result) (getD (a .bytes .now) (a .at + l .i) 0) b in
     (omega arith, omega arith, omega arith)
 
 loop-again-2 : tie.Need-loop-again-2 Inv-loop μ-loop
 loop-again-2 c =
     let a = c .before .before .before .before .before .before .args in let l = c .before .before .before .loop in
-    let e = ap length (no-set (legal (a .t .now) (a .rows) (a .row)) (a .w) (l .i) (c .before .before .loop-test .taken) (a .bytes .now) (a .at) (sym (c .before .allows .ensures) ∙ c .if1 .left)) in
+    let e = ap length (no-set (legal (a .t .now) (a .rows) (a .row)) (a .w) (l .i) (c .before .before .loop-test .taken) (a .bytes .now)
+    (a .at) (sym (c .before .allows .ensures) ∙ c .if1 .left)) in
     (omega arith, omega arith, omega arith)
 
 returns : tie.Need-returns Inv-loop μ-loop
 returns c =
     let a = c .before .before .before .before .args in
-    let e = ap length (set-end (legal (a .t .now) (a .rows) (a .row)) (a .w) (a .bytes .now) (a .at) (c .before .loop .i) (c .loop-test .left)) in
+    let e = ap length (set-end (legal (a .t .now) (a .rows) (a .row)) (a .w) (a .bytes .now) (a .at) (c .before .loop .i)
+    (c .loop-test .left)) in
     rw (sub-zero (a .w)) at (count-whole _ _ _ (c .before .loop .inv .2) e)
 
 pub count-set-spec : {M : Type 1} → statement M
@@ -47,7 +51,9 @@ count-set-spec =
     (λ c. omega arith)
     (λ c. omega arith)
     (λ c κs. tt)
-    (λ c. let m = few-bit (c .bit-of .result) (getD (c .before .before .before .before .before .before .before .before .args .bytes .now) (c .before .before .before .before .before .before .before .before .args .at + c .before .before .before .before .before .loop .i) 0) (c .bit-of .ensures) in omega arith)
+    (λ c. let m = few-bit (c .bit-of .result) (getD (c .before .before .before .before .before .before .before .before .args .bytes .now)
+    (c .before .before .before .before .before .before .before .before .args .at + c .before .before .before .before .before .loop .i) 0)
+    (c .bit-of .ensures) in omega arith)
     (λ c. omega arith)
     loop-again
     (λ c. omega arith)

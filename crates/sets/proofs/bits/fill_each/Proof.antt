@@ -25,15 +25,22 @@ abbrev μ-loop : tie.MeasureT-loop
 μ-loop bytes at w list₀ n₀ i₀ list n i = w - i
 
 -- a category that is set: the members that are left
-here : (c : tie.Then1 Inv-loop μ-loop) → let a = c .before .before .before .before .before .args in let i = c .before .before .before .loop .i in
+here : (c : tie.Then1 Inv-loop μ-loop) → let a = c .before .before .before .before .before .args in
+    let i = c .before .before .before .loop .i in
     restSet always (a .w) (a .bytes .now) (a .at) i ≡ pos (i + 1) ∷ restSet always (a .w) (a .bytes .now) (a .at) (i + 1)
-here c = member always (c .before .before .before .before .before .args .w) (c .before .before .before .loop .i) (c .before .before .loop-test .taken) (c .before .before .before .before .before .args .bytes .now) (c .before .before .before .before .before .args .at) refl (c .if1 .taken)
+here c = member always (c .before .before .before .before .before .args .w) (c .before .before .before .loop .i)
+    (c .before .before .loop-test .taken) (c .before .before .before .before .before .args .bytes .now)
+    (c .before .before .before .before .before .args .at) refl (c .if1 .taken)
 
 loop-again : tie.Need-loop-again Inv-loop μ-loop
 loop-again c =
     let l = c .before .before .before .before .loop in
-    let e = ap length (here (c .before)) in
-    (omega arith, simp length-set (l .inv .1), omega arith, rw (toZ-ofZ (sfits-of (c .cell-of .ok)), c .cell-of .ensures, add-one (l .n)) (rw (here (c .before)) at (l .inv .3)))
+    let e = ap length (here (c .before)) in (
+      omega arith,
+      simp length-set (l .inv .1),
+      omega arith,
+      rw (toZ-ofZ (sfits-of (c .cell-of .ok)), c .cell-of .ensures, add-one (l .n)) (rw (here (c .before)) at (l .inv .3)),
+    )
 
 loop-again-2 : tie.Need-loop-again-2 Inv-loop μ-loop
 loop-again-2 c =

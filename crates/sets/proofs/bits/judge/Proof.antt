@@ -11,7 +11,8 @@ returns : tie.Need-returns
 returns c = legal-not _ _ (bits-missing _ _ (spaces-alike _ ∙ sym (c .before .all-are .ensures) ∙ c .if1 .taken))
 
 returns-2 : tie.Need-returns-2
-returns-2 c = bits-judged _ _ (spaces-alike _ ∙ sym (c .before .before .all-are .ensures) ∙ c .before .if1 .left) _ (c .all-are2 .ensures ∙ sym (bits-alike _))
+returns-2 c = bits-judged _ _ (spaces-alike _ ∙ sym (c .before .before .all-are .ensures) ∙ c .before .if1 .left) _
+    (c .all-are2 .ensures ∙ sym (bits-alike _))
 
 pub judge-spec : {M : Type 1} → statement M
 judge-spec = tie.close (tie.spec (λ c κs. search needs) returns (λ c κs. search needs) returns-2)

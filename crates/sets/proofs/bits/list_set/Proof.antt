@@ -11,7 +11,8 @@ bits-fill-requires c κs =
     (p .0, (p .1 .0, (p .1 .1 .0, rw (c .before .before .count-set .ensures) at (c .before .if1 .taken))))
 
 returns : tie.Need-returns
-returns c = read-room _ _ _ _ (c .before .before .before .before .before .before .before .pre .1 .1 .1) (c .before .before .before .before .count-set .ensures) _ (c .before .before .before .if1 .taken) (c .before .bits-fill .ensures)
+returns c = read-room _ _ _ _ (c .before .before .before .before .before .before .before .pre .1 .1 .1)
+    (c .before .before .before .before .count-set .ensures) _ (c .before .before .before .if1 .taken) (c .before .bits-fill .ensures)
 
 returns-2 : tie.Need-returns-2
 returns-2 c = read-short _ _ _ _ (c .before .before .before .before .pre .1 .1 .1) (c .before .count-set .ensures) (c .if1 .left)

@@ -22,21 +22,38 @@ returns c = illegal (legal-not (sym (c .before .set-fits .ensures) ∙ not-true 
 
 put-all-requires : tie.Need-put-all-requires
 put-all-requires c κs =
-    let s = c .before .before .before .before .before .before .before .before .before .before .before .before .before in
-    (sym (c .before .before .range-has .ensures) ∙ c .before .if2 .taken, (record { few = s .pre .0 .kind .few; inside = omega arith }, bits-rising (s .pre .0) _ (sym (c .before .before .before .before .set-fits .ensures) ∙ not-false _ (c .before .before .before .if1 .left))))
+    let s = c .before .before .before .before .before .before .before .before .before .before .before .before .before in (
+      sym (c .before .before .range-has .ensures) ∙ c .before .if2 .taken,
+      (
+        record { few = s .pre .0 .kind .few; inside = omega arith },
+        bits-rising (s .pre .0) _ (sym (c .before .before .before .before .set-fits .ensures)
+            ∙ not-false _ (c .before .before .before .if1 .left)),
+      ),
+    )
 
 returns-2 : tie.Need-returns-2
 unfolding valueOf fitsBy placesBy bytesBy
-returns-2 c = accepted (legal-fits (sym (c .before .before .before .before .before .before .before .set-fits .ensures) ∙ not-false _ (c .before .before .before .before .before .before .if1 .left))) (c .before .before .put-all .ensures)
+returns-2 c = accepted (legal-fits (sym (c .before .before .before .before .before .before .before .set-fits .ensures)
+    ∙ not-false _ (c .before .before .before .before .before .before .if1 .left))) (c .before .before .put-all .ensures)
 
 put-bits-requires : tie.Need-put-bits-requires
 put-bits-requires c κs =
-    let s = c .before .before .before .before .before .before .before .before .before .before .before .before .before .before in
-    (s .pre .0 .lines, (c .before .before .before .before .before .before .before .before .before .mark-legal .ensures, (record { few = s .pre .0 .kind .few; inside = omega arith }, bits-rising (s .pre .0) _ (sym (c .before .before .before .before .before .set-fits .ensures) ∙ not-false _ (c .before .before .before .before .if1 .left)))))
+    let s = c .before .before .before .before .before .before .before .before .before .before .before .before .before .before in (
+      s .pre .0 .lines,
+      (
+        c .before .before .before .before .before .before .before .before .before .mark-legal .ensures,
+        (
+          record { few = s .pre .0 .kind .few; inside = omega arith },
+          bits-rising (s .pre .0) _ (sym (c .before .before .before .before .before .set-fits .ensures)
+              ∙ not-false _ (c .before .before .before .before .if1 .left)),
+        ),
+      ),
+    )
 
 returns-3 : tie.Need-returns-3
 unfolding valueOf fitsBy placesBy bytesBy
-returns-3 c = accepted (legal-fits (sym (c .before .before .before .before .before .before .before .before .set-fits .ensures) ∙ not-false _ (c .before .before .before .before .before .before .before .if1 .left))) (c .before .before .put-bits .ensures)
+returns-3 c = accepted (legal-fits (sym (c .before .before .before .before .before .before .before .before .set-fits .ensures)
+    ∙ not-false _ (c .before .before .before .before .before .before .before .if1 .left))) (c .before .before .put-bits .ensures)
 
 pub bits-set-spec : {M : Type 1} → statement M
 bits-set-spec =

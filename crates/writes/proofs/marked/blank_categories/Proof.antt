@@ -13,7 +13,9 @@ blank-requires c κs = let p = c .before .before .before .before .before .pre in
 
 returns : tie.Need-returns
 unfolding placesBy
-returns c = blanked (c .before .before .blank .ensures ∙ each-blank _ _ _ _ (c .before .before .before .before .before .lines-count .ensures (c .before .before .before .before .if1 .taken)) _ _)
+returns c = blanked (c .before .before .blank .ensures
+    ∙ each-blank _ _ _ _ (c .before .before .before .before .before .lines-count .ensures (c .before .before .before .before .if1 .taken)) _
+    _)
 
 returns-2 : tie.Need-returns-2
 unfolding valueOf

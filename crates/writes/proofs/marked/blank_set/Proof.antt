@@ -21,7 +21,8 @@ returns c = written-as (ap Multiple (c .before .before .before .before .enum-tol
 
 returns-2 : tie.Need-returns-2
 unfolding placesBy
-returns-2 c = written-as (ap Multiple (c .before .before .before .before .before .before .s .given .1)) (blanked (c .before .before .blank-spread .ensures))
+returns-2 c = written-as (ap Multiple (c .before .before .before .before .before .before .s .given .1))
+    (blanked (c .before .before .blank-spread .ensures))
 
 pub blank-set-spec : {M : Type 1} → statement M
 blank-set-spec =

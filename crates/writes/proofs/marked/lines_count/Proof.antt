@@ -22,11 +22,22 @@ abbrev μ-loop : tie.MeasureT-loop
 
 -- what the test of a line says
 here : (c : tie.After-same Inv-loop μ-loop) → let a = c .before .before .before .before .before .before .before .before .args in
-    c .same .result ≡ eqZ (cell (a .t .now) (lineBase (a .rows) (a .row .before + c .before .before .before .before .before .loop .k))) (pos (c .before .before .before .before .before .loop .k + 1))
-here c = rw (c .same .ensures, toZ-ofZ (sfits-of (c .before .before .same-arg .given)), toZ-ofZ (sfits-of (c .before .cell-of .ok)), c .before .cell-of .ensures, c .before .before .before .base .ensures)
+    c .same .result ≡ eqZ (cell (a .t .now) (lineBase (a .rows) (a .row .before + c .before .before .before .before .before .loop .k)))
+    (pos (c .before .before .before .before .before .loop .k + 1))
+here c = rw (
+  c .same .ensures,
+  toZ-ofZ (sfits-of (c .before .before .same-arg .given)),
+  toZ-ofZ (sfits-of (c .before .cell-of .ok)),
+  c .before .cell-of .ensures,
+  c .before .before .before .base .ensures,
+)
 
 loop-again : tie.Need-loop-again Inv-loop μ-loop
-loop-again c = (omega arith, below-more _ _ (c .before .before .before .before .before .before .loop .inv .1) (sym (here (c .before)) ∙ not-false _ (c .if2 .left)))
+loop-again c = (
+  omega arith,
+  below-more _ _ (c .before .before .before .before .before .before .loop .inv .1)
+      (sym (here (c .before)) ∙ not-false _ (c .if2 .left)),
+)
 
 returns-3 : tie.Need-returns-3 Inv-loop μ-loop
 returns-3 c = λ e.

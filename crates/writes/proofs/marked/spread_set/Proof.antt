@@ -32,15 +32,21 @@ put-spread-requires : tie.Need-put-spread-requires
 put-spread-requires c κs =
     let j = c .before .before .before in
     let s = j .before .before .before .before .before .before .before .before .before in
-    let h = s .pre .1 .0 in
-    (s .pre .0, (record { few = omega (arith, h .kind .few); holds = h .kind .holds; inside = omega (arith, h .kind .room) }, spread-small h _ (sym (j .set-fits .ensures) ∙ not-false _ (c .before .before .if1 .left))))
+    let h = s .pre .1 .0 in (
+      s .pre .0,
+      (
+        record { few = omega (arith, h .kind .few); holds = h .kind .holds; inside = omega (arith, h .kind .room) },
+        spread-small h _ (sym (j .set-fits .ensures) ∙ not-false _ (c .before .before .if1 .left)),
+      ),
+    )
 
 returns-3 : tie.Need-returns-3
 unfolding valueOf fitsBy placesBy bytesBy
 returns-3 c =
     let p = c .before .before in
     let t = p .before .before in
-    accepted (set-fits (sym (t .before .before .set-fits .ensures) ∙ not-false _ (t .before .if1 .left)) (le-ltb _ _ (t .if2 .left))) (p .put-spread .ensures)
+    accepted (set-fits (sym (t .before .before .set-fits .ensures) ∙ not-false _ (t .before .if1 .left)) (le-ltb _ _ (t .if2 .left)))
+    (p .put-spread .ensures)
 
 pub spread-set-spec : {M : Type 1} → statement M
 spread-set-spec =

@@ -9,10 +9,12 @@ use Rattle.writes.proofs.plain.blank_row.Statement.{statement}
 use Rattle.writes.proofs.plain.blank_row.Tie as tie
 
 sub-blank : tie.Need-sub-blank
-sub-blank c = let h = ready-as (c .before .before .enum-told .given .1) (c .before .before .before .before .before .pre) in omega (arith, h .from-one, h .kind .room)
+sub-blank c = let h = ready-as (c .before .before .enum-told .given .1) (c .before .before .before .before .before .pre) in
+    omega (arith, h .from-one, h .kind .room)
 
 blank-requires : tie.Need-blank-requires
-blank-requires c κs = let h = ready-as (c .before .before .enum-told .given .1) (c .before .before .before .before .before .pre) in omega (arith, h .from-one, h .ordered, h .inside, h .kind .room)
+blank-requires c κs = let h = ready-as (c .before .before .enum-told .given .1) (c .before .before .before .before .before .pre) in
+    omega (arith, h .from-one, h .ordered, h .inside, h .kind .room)
 
 blank-multiple-requires : tie.Need-blank-multiple-requires
 blank-multiple-requires c κs = ready-as (c .before .before .kind .given .1) (c .before .before .before .before .before .pre)
@@ -21,40 +23,48 @@ returns : tie.Need-returns
 returns c = written-as (c .before .before .before .before .before .kind .given .1) (c .before .before .blank-multiple .ensures)
 
 sub-blank-2 : tie.Need-sub-blank-2
-sub-blank-2 c = let h = ready-as (c .before .before .enum-told2 .given .1) (c .before .before .before .before .before .pre) in omega (arith, h .from-one, h .kind .width .room)
+sub-blank-2 c = let h = ready-as (c .before .before .enum-told2 .given .1) (c .before .before .before .before .before .pre) in
+    omega (arith, h .from-one, h .kind .width .room)
 
 blank-requires-2 : tie.Need-blank-requires-2
-blank-requires-2 c κs = let h = ready-as (c .before .before .enum-told2 .given .1) (c .before .before .before .before .before .pre) in omega (arith, h .from-one, h .ordered, h .inside, h .kind .width .room)
+blank-requires-2 c κs = let h = ready-as (c .before .before .enum-told2 .given .1) (c .before .before .before .before .before .pre) in
+    omega (arith, h .from-one, h .ordered, h .inside, h .kind .width .room)
 
 blank-requires-3 : tie.Need-blank-requires-3
-blank-requires-3 c κs = let h = ready-as (c .before .before .enum-told3 .given .1) (c .before .before .before .before .before .pre) in omega (arith, h .from-one, h .ordered, h .inside, h .kind .room)
+blank-requires-3 c κs = let h = ready-as (c .before .before .enum-told3 .given .1) (c .before .before .before .before .before .pre) in
+    omega (arith, h .from-one, h .ordered, h .inside, h .kind .room)
 
 blank-requires-4 : tie.Need-blank-requires-4
-blank-requires-4 c κs = let h = ready-as (c .before .before .enum-told4 .given .1) (c .before .before .before .before .before .pre) in omega (arith, h .from-one, h .ordered, h .inside, h .kind .room)
+blank-requires-4 c κs = let h = ready-as (c .before .before .enum-told4 .given .1) (c .before .before .before .before .before .pre) in
+    omega (arith, h .from-one, h .ordered, h .inside, h .kind .room)
 
 returns-2 : tie.Need-returns-2
 unfolding placesBy
 returns-2 c =
     let row = c .before .before .before .before .before .before .before .before .args .row in
-    blanked-run (c .before .before .before .before .before .enum-told .given .1) (row .finish - row .width) (row .width) refl (c .before .before .blank .ensures)
+    blanked-run (c .before .before .before .before .before .enum-told .given .1) (row .finish - row .width) (row .width) refl
+    (c .before .before .blank .ensures)
 
 returns-3 : tie.Need-returns-3
 unfolding placesBy
 returns-3 c =
     let row = c .before .before .before .before .before .before .before .before .args .row in
-    blanked-run (c .before .before .before .before .before .enum-told2 .given .1) (row .finish - row .width) (row .width) refl (c .before .before .blank2 .ensures)
+    blanked-run (c .before .before .before .before .before .enum-told2 .given .1) (row .finish - row .width) (row .width) refl
+    (c .before .before .blank2 .ensures)
 
 returns-4 : tie.Need-returns-4
 unfolding placesBy
 returns-4 c =
     let row = c .before .before .before .before .before .before .before .before .args .row in
-    blanked-run (c .before .before .before .before .before .enum-told3 .given .1) (row .start - 1) (row .width) refl (c .before .before .blank3 .ensures)
+    blanked-run (c .before .before .before .before .before .enum-told3 .given .1) (row .start - 1) (row .width) refl
+    (c .before .before .blank3 .ensures)
 
 returns-5 : tie.Need-returns-5
 unfolding placesBy
 returns-5 c =
     let row = c .before .before .before .before .before .before .before .before .args .row in
-    blanked-run (c .before .before .before .before .before .enum-told4 .given .1) (row .finish - 1) 1 refl (c .before .before .blank4 .ensures)
+    blanked-run (c .before .before .before .before .before .enum-told4 .given .1) (row .finish - 1) 1 refl
+    (c .before .before .blank4 .ensures)
 
 pub blank-row-spec : {M : Type 1} → statement M
 blank-row-spec =

@@ -13,7 +13,8 @@ use Rattle.writes.proofs.plain.put_figures.Statement.{statement}
 use Rattle.writes.proofs.plain.put_figures.Tie as tie
 
 sub-put-code : tie.Need-sub-put-code
-sub-put-code c = let h = ready-as (c .before .before .enum-told .given .1) (c .before .before .before .before .before .pre .1 .0) in omega (arith, h .from-one, h .kind .room)
+sub-put-code c = let h = ready-as (c .before .before .enum-told .given .1) (c .before .before .before .before .before .pre .1 .0) in
+    omega (arith, h .from-one, h .kind .room)
 
 put-code-requires : tie.Need-put-code-requires
 put-code-requires c κs =
@@ -28,7 +29,8 @@ put-code-requires c κs =
     )
 
 sub-put-quantity : tie.Need-sub-put-quantity
-sub-put-quantity c = let h = ready-as (c .before .before .before .kind .given .1) (c .before .before .before .before .before .before .pre .1 .0) in omega (arith, h .from-one, h .kind .width .room)
+sub-put-quantity c = let h = ready-as (c .before .before .before .kind .given .1)
+    (c .before .before .before .before .before .before .pre .1 .0) in omega (arith, h .from-one, h .kind .width .room)
 
 put-quantity-requires : tie.Need-put-quantity-requires
 put-quantity-requires c κs =
@@ -39,16 +41,20 @@ put-quantity-requires c κs =
 -- another kind has no bytes for a number
 none : (s : tie.Start) → let a = s .args in takesNumbers (a .row .kind) ≡ false
     → a .bytes .now
-    ≡ put (a .bytes .now) (placesBy (a .row .kind) (a .t .now) (a .rows) (a .row)) (bytesBy (a .row .kind) (a .t .now) (a .rows) (a .row) (number (a .z)))
+    ≡ put (a .bytes .now) (placesBy (a .row .kind) (a .t .now) (a .rows) (a .row))
+    (bytesBy (a .row .kind) (a .t .now) (a .rows) (a .row) (number (a .z)))
 none s e = no-figures (s .args .t .now) (s .args .rows) (s .args .row) (s .args .z) (s .args .bytes .now) (s .args .row .kind) e
 
 returns : tie.Need-returns
 unfolding placesBy bytesBy
-returns c = rw (c .before .before .before .before .before .enum-told .given .1) (c .before .before .put-code .ensures ∙ rw (toZ-ofZ (c .before .before .before .before .before .before .before .before .fits .z)))
+returns c = rw (c .before .before .before .before .before .enum-told .given .1)
+    (c .before .before .put-code .ensures ∙ rw (toZ-ofZ (c .before .before .before .before .before .before .before .before .fits .z)))
 
 returns-3 : tie.Need-returns-3
 unfolding placesBy bytesBy
-returns-3 c = rw (c .before .before .before .before .before .before .kind .given .1) (c .before .before .put-quantity .ensures ∙ rw (toZ-ofZ (c .before .before .before .before .before .before .before .before .before .fits .z)))
+returns-3 c = rw (c .before .before .before .before .before .before .kind .given .1)
+    (c .before .before .put-quantity .ensures ∙ rw (toZ-ofZ
+    (c .before .before .before .before .before .before .before .before .before .fits .z)))
 
 pub put-figures-spec : {M : Type 1} → statement M
 put-figures-spec =

@@ -17,7 +17,8 @@ returns : tie.Need-returns
 returns c = number-other (sym (c .before .takes-numbers .ensures) ∙ not-true _ (c .if1 .taken))
 
 returns-2 : tie.Need-returns-2
-returns-2 c = number-illegal (sym (c .before .before .before .takes-numbers .ensures) ∙ not-false _ (c .before .before .if1 .left)) (tested (c .before) ∙ not-true _ (c .if2 .taken))
+returns-2 c = number-illegal (sym (c .before .before .before .takes-numbers .ensures) ∙ not-false _ (c .before .before .if1 .left))
+    (tested (c .before) ∙ not-true _ (c .if2 .taken))
 
 put-figures-requires : tie.Need-put-figures-requires
 put-figures-requires c κs =
@@ -27,7 +28,9 @@ put-figures-requires c κs =
 returns-3 : tie.Need-returns-3
 returns-3 c =
     let k = c .before .before .before .before .before in
-    number-put (sym (k .before .before .takes-numbers .ensures) ∙ not-false _ (k .before .if1 .left)) (tested k ∙ not-false _ (c .before .before .before .before .if2 .left)) (c .before .before .put-figures .ensures ∙ rw (toZ-ofZ (k .before .before .before .before .fits .z)))
+    number-put (sym (k .before .before .takes-numbers .ensures) ∙ not-false _ (k .before .if1 .left))
+    (tested k ∙ not-false _ (c .before .before .before .before .if2 .left))
+    (c .before .before .put-figures .ensures ∙ rw (toZ-ofZ (k .before .before .before .before .fits .z)))
 
 pub write-number-spec : {M : Type 1} → statement M
 write-number-spec =

@@ -12,7 +12,8 @@ use Rattle.writes.proofs.plain.write_text.Tie as tie
 
 returns : tie.Need-returns
 unfolding valueOf fitsBy
-returns c = written-as (c .before .before .enum-told .given .1) (illegal (legal-not (sym (c .before .text-fits .ensures) ∙ not-true _ (c .if1 .taken))))
+returns c = written-as (c .before .before .enum-told .given .1)
+    (illegal (legal-not (sym (c .before .text-fits .ensures) ∙ not-true _ (c .if1 .taken))))
 
 put-text-requires : tie.Need-put-text-requires
 put-text-requires c κs =
@@ -27,7 +28,9 @@ returns-2 : tie.Need-returns-2
 unfolding valueOf fitsBy placesBy bytesBy
 returns-2 c =
     let k = c .before .before .before .before .before .before in
-    written-as (k .before .enum-told .given .1) (accepted (legal-fits (sym (k .text-fits .ensures) ∙ not-false _ (c .before .before .before .before .before .if1 .left))) (c .before .before .put-text .ensures))
+    written-as (k .before .enum-told .given .1) (accepted
+    (legal-fits (sym (k .text-fits .ensures) ∙ not-false _ (c .before .before .before .before .before .if1 .left)))
+    (c .before .before .put-text .ensures))
 
 pub write-text-spec : {M : Type 1} → statement M
 unfolding valueOf fitsBy

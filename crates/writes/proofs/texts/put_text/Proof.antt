@@ -13,7 +13,8 @@ use Rattle.writes.proofs.texts.put_text.Statement.{statement}
 use Rattle.writes.proofs.texts.put_text.Tie as tie
 
 joined : (bytes : List ℕ) (at w : ℕ) (s : List ℕ) → length s ≤ w
-    → put (put bytes (run at (length s)) (take (length s) s)) (run (at + length s) (w - length s)) (spaces (w - length s)) ≡ put bytes (run at w) (textBytes w s)
+    → put (put bytes (run at (length s)) (take (length s) s)) (run (at + length s) (w - length s)) (spaces (w - length s))
+    ≡ put bytes (run at w) (textBytes w s)
 unfolding textBytes
 joined bytes at w s h =
     let e : length s + (w - length s) ≡ w = omega arith in
