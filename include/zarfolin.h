@@ -24,12 +24,13 @@
  *             shared by all of them. A call may be made in a signal handler, if there is stack enough.
  *   Stack     See ZARFOLIN_STACK_IMPORT below: up to 464,000 bytes. A small thread (musl gives 128 KiB) is not enough.
  *   Needs     Of the C library memcpy and memset alone.
- *   Refusal   The value returned is 0 for done, otherwise a refusal, ZARFOLIN_E_TOO_LONG to ZARFOLIN_E_LENGTH below, which
- *             zarfolin_message puts into words. zarfolin_next_record alone has its own meaning for it. A later library may
- *             have further refusals: treat a number that you don't know as a refusal.
- *   Kept      A refusal leaves every buffer but `answer` as it was, and so is whatever a call doesn't say that it writes.
- *   answer    Points to four numbers (ZARFOLIN_ANSWER). A call that has one fills all four each time, refused or not, and
- *             the first of them is the value returned.
+ *   Refusal   The value returned is 0 for done, otherwise a refusal, one of ZARFOLIN_E_.. below, which zarfolin_message puts
+ *             into words. zarfolin_next_record alone has its own meaning for it, and zarfolin_version has none. A later
+ *             library may have further refusals: treat a number that you don't know as a refusal.
+ *   Kept      A refusal leaves every buffer but `answer` as it was, and so is whatever a call doesn't say that it writes. One
+ *             call alone writes beside a refusal: zarfolin_export, of a faulty data file, the lines before the fault.
+ *   answer    Points to four numbers (ZARFOLIN_ANSWER), that of zarfolin_export to five (ZARFOLIN_EXPORT_ANSWER). A call that
+ *             has one fills all of them each time, refused or not, and the first of them is the value returned.
  *   Counting  Rows, lines, byte places and text places count from 0; records, the locations of POSITION, and the lines and
  *             columns of comma-separated text, from 1.
  *   Encoding  Data and definitions are bytes. Outside its texts a definition means what it means in ASCII. Names, labels and
@@ -279,14 +280,15 @@ enum {
 zarfolin_number zarfolin_read_definition(const uint8_t *def, size_t def_len, int64_t *table, size_t table_len,
                                          int64_t *answer);
 
-/* Writes a definition anew, clean: every statement on a line of its own that CR LF ends, one space between two tokens, keywords in
- * capitals and in one order, TO for every POSITION and OF for every SPREAD; texts and numbers as they stand, bytes below 32 dropped;
- * comments, notes and what follows END SSS left out. The clean text is read without a refusal. Its table is the same but for
- * ZARFOLIN_NAME to ZARFOLIN_LABEL_LENGTH and ZARFOLIN_LINE_TEXT and its length, every text decodes to the same numbers, and cleaned
- * again it comes out as it is.
+/* Writes a definition of version 1.1 anew, clean: every statement on a line of its own that CR LF ends, one space between two
+ * tokens, keywords in capitals and in one order, TO for every POSITION and OF for every SPREAD; texts and numbers as they stand,
+ * bytes below 32 dropped; comments, notes and what follows END SSS left out. The clean text is read without a refusal. Its table is
+ * the same but for ZARFOLIN_NAME to ZARFOLIN_LABEL_LENGTH and ZARFOLIN_LINE_TEXT and its length, every text decodes to the same
+ * numbers, and cleaned again it comes out as it is.
  *
- * Answers 0; or 1 to 9, as zarfolin_read_definition does; or the first of 40 (the table is not the one that the definition yields),
- * 41 (the clean text is longer than ZARFOLIN_MAX_DEFINITION), 42 (it doesn't fit) that holds.
+ * Answers 0; or 1 to 9, as zarfolin_read_definition does of version 1.1 (one in XML is 2 at its first byte, or 1); or the first of
+ * 40 (the table is not the one that the definition yields), 41 (the clean text is longer than ZARFOLIN_MAX_DEFINITION), 42 (it
+ * doesn't fit) that holds.
  * answer: the number; its place in the definition (2 to 9, else 0); the length of the clean text (on 0, else 0); 0.
  * out:    on 0 the clean text from its start on; what lies beyond is kept. On a refusal all of it is kept. With
  *         ZARFOLIN_MAX_DEFINITION bytes 42 can't come.

@@ -5,8 +5,8 @@
  *
  * The clean text says the same: its table differs in the places and lengths of texts alone, and cleaned again it comes out as it is.
  *
- * Exit status: 0 done; 2 the definition is refused, or its clean text would be too long; 64 usage; 66 the file can't be read; 70 the
- * archive is of another version than the header; 74 the text can't be written. */
+ * Exit status: 0 done; 2 the definition is refused, as one in XML is, or its clean text would be too long; 64 usage; 66 the file can't
+ * be read; 70 the archive is of another version than the header; 74 the text can't be written. */
 #include <inttypes.h>
 #include <stdio.h>
 #include "zarfolin.h"

@@ -3,7 +3,7 @@
  *     cc -I include examples/c/import.c target/staticlib/libzarfolin.a -o import
  *     ./import examples/counter/survey.sss examples/counter/survey.csv >survey.asc
  *
- * A record for each line behind the names, so that the text's LF times the length of a record is room enough.
+ * A record for each line behind the names, so that as many records with their CR LF as the text has LF are room enough.
  *
  * Exit status: 0 done; 1 the text is refused, and nothing was written; 2 the definition is refused, or gives a byte to two variables; 64
  * usage; 66 a file can't be read, or is longer than the room here; 70 the archive is of another version than the header; 71 no memory. */
