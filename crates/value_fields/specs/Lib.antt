@@ -1,5 +1,5 @@
 pub mod rule
 pub mod Plain
 pub mod Values
-pub mod Numeral
 pub mod Rows
+pub mod Numeral

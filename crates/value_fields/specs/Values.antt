@@ -3,7 +3,6 @@ use mathlib.Core.Path.{_≡_, refl, sym, ap, _∙_}
 use mathlib.Core.Bool.{Bool, true, false, cond}
 use mathlib.Core.List.{List, [], _∷_, _++_}
 use Prim.Native.Nat.{ℕ, zero, suc, _+_, _-_, _/_, _^_, _≤_, _<_}
-use native.Mathlib.Nat.{div-one}
 use native.Mathlib.Numerals.{add-one}
 use native.Mathlib.Omega.{arith}
 use borrow.Author.Tests.{eq-eqb, ne-eqb}
@@ -57,9 +56,6 @@ amount-whole k n e = rw (eq-eqb k 0 e) (sym (append-none (numeral (n / 10 ^ k)))
     append-none [] = refl
     append-none (b ∷ s) = ap (λ (l : List ℕ). b ∷ l) (append-none s)
 
-pub amount-none : (k n : ℕ) → k ≡ 0 → numeral n ≡ amountText k n
-amount-none k n e = let d : n ≡ n / 10 ^ k = rw e (sym (div-one n)) in ap numeral d ∙ amount-whole k n e
-
 pub amount-parts : (k n : ℕ) → (k ≡ 0 → ⊥) → numeral (n / 10 ^ k) ++ ((46 ∷ []) ++ padded k n) ≡ amountText k n
 unfolding amountText
 amount-parts k n e = rw (ne-eqb k 0 e)
@@ -73,10 +69,6 @@ module _ (k : ℕ) (z : ℤ) (s : Signed) (e : s ≡ signedOf z) where
   pub number-amount : s .minus ≡ false → amountText k (s .size) ≡ numberText k z
   unfolding numberText
   number-amount m = rw (← e, m)
-
--- a code
-pub code-number : (z : ℤ) (s : Signed) → s ≡ signedOf z → signedOf z .minus ≡ false → numeral (s .size) ≡ numberText 0 z
-code-number z s e m = amount-none 0 (s .size) refl ∙ number-amount 0 z s e (ap (λ (x : Signed). x .minus) e ∙ m)
 
 -- the codes of a list one by one
 module _ (list : List ℤ) (n j : ℕ) (h : j < n) (l : n ≤ length list) where

@@ -2,8 +2,7 @@
 // it
 // stands the export of a file.
 ghost use mathlib.Core.Path.{_≡_};
-ghost use mathlib.Core.Bool.{true, false, cond};
-ghost use mathlib.Core.List.{[], _∷_, _++_};
+ghost use mathlib.Core.Bool.{cond};
 ghost use Prim.Native.Nat.{_+_, _^_, _≤_, _<_};
 ghost use lib.ListN.{length, take, drop};
 ghost use Rattle.ascii.specs.rule.Tens.{Tens};
@@ -47,56 +46,12 @@ fn send_digits(
     end
 }
 
-// Whether there is room for a few bytes more, and the bound lies behind them.
-fn roomy(bound: usize, room: usize, at: usize) -> bool
-    ensures { λ r. ⌜ (r ≡ true → (at + 4 < bound) × (at + 4 ≤ room)) ⌝ }
-{
-    if bound < 5 {
-        return false;
-    }
-    if room < 4 {
-        return false;
-    }
-    if bound - 4 <= at {
-        return false;
-    }
-    at <= room - 4
-}
-
-// A count of at most three digits, each stored at once.
-fn store_count(bound: usize, out: &mut [u8], at: usize, n: u64) -> usize
-    requires { ⌜ n < 1000 ⌝ }
-    requires { ⌜ (at + 3 < bound) × (at + 3 ≤ length (now out)) ⌝ }
-    ensures { λ r. ⌜ Sent bound (now (out .entry)) at (numeral n) (now (out .exit)) r ⌝ }
-{
-    if n < 10 {
-        out[at] = 48 + n as u8;
-        return at + 1;
-    }
-    let second = at + 1;
-    if n < 100 {
-        out[at] = 48 + (n / 10) as u8;
-        out[second] = 48 + (n % 10) as u8;
-        return second + 1;
-    }
-    let third = second + 1;
-    out[at] = 48 + (n / 100) as u8;
-    out[second] = 48 + (n / 10 % 10) as u8;
-    out[third] = 48 + (n % 10) as u8;
-    third + 1
-}
-
 // A count, in as many digits as it has.
 fn send_count(powers: &[u64; 16], bound: usize, out: &mut [u8], at: usize, n: u64) -> usize
     requires { ⌜ Tens (now powers) ⌝ }
     requires { ⌜ n < 10 ^ 16 ⌝ }
     ensures { λ r. ⌜ Sent bound (now (out .entry)) at (numeral n) (now (out .exit)) r ⌝ }
 {
-    if n < 1000 {
-        if roomy(bound, out.len(), at) {
-            return store_count(bound, out, at, n);
-        }
-    }
     let w = ascii::digit_count(powers, n);
     send_digits(powers, bound, out, at, w, n)
 }
@@ -114,11 +69,11 @@ fn send_amount(
     requires { ⌜ (n < 10 ^ 16) × (k ≤ 9) ⌝ }
     ensures { λ r. ⌜ Sent bound (now (out .entry)) at (amountText k n) (now (out .exit)) r ⌝ }
 {
-    if k == 0 {
-        return send_count(powers, bound, out, at, n);
-    }
     let whole = n / ascii::power(powers, k);
     let end = send_count(powers, bound, out, at, whole);
+    if k == 0 {
+        return end;
+    }
     let point = sink::send_byte(bound, out, end, 46);
     send_digits(powers, bound, out, point, k, n)
 }
@@ -145,23 +100,6 @@ pub fn send_number(
     send_amount(powers, bound, out, at, k, n)
 }
 
-// A code, which has no minus, behind its semicolon.
-fn send_code(powers: &[u64; 16], bound: usize, out: &mut [u8], at: usize, z: i64) -> usize
-    requires { ⌜ Tens (now powers) ⌝ }
-    requires { ⌜ (signedOf z .size < 10 ^ 16) × (signedOf z .minus ≡ false) ⌝ }
-    ensures { λ r. ⌜ Sent bound (now (out .entry)) at ((59 ∷ []) ++ numberText 0 z) (now (out .exit)) r ⌝ }
-{
-    let n = cells::signed_of(z).size;
-    if n < 1000 {
-        if roomy(bound, out.len(), at) {
-            out[at] = 59;
-            return store_count(bound, out, at + 1, n);
-        }
-    }
-    let end = sink::send_byte(bound, out, at, 59);
-    send_count(powers, bound, out, end, n)
-}
-
 // Behind the first of n codes of a list, the others, each with its semicolon.
 fn send_others(
     powers: &[u64; 16],
@@ -178,7 +116,8 @@ fn send_others(
     let mut end = at;
     let mut j: usize = 1;
     while j < n {
-        end = send_code(powers, bound, out, end, cells::number(list, j));
+        end = sink::send_byte(bound, out, end, 59);
+        end = send_number(powers, bound, out, end, 0, cells::number(list, j));
         j += 1;
     }
     end

@@ -8,34 +8,21 @@ use Rattle.sink.specs.Sent.{sent-as}
 use Rattle.value_fields.proofs.send_count.Statement.{statement}
 use Rattle.value_fields.proofs.send_count.Tie as tie
 
-store-count-requires : tie.Need-store-count-requires
-store-count-requires c κs =
-    let f = (c .before .before .roomy .ensures) (c .before .if2 .taken) in
-    (c .before .before .before .if1 .taken, (omega (arith, f .0), omega (arith, f .1)))
-
 send-digits-requires : tie.Need-send-digits-requires
 send-digits-requires c κs = (
-  c .before .before .before .before .pre .0,
-  (
-    c .before .before .before .before .pre .1,
-    omega
-        (arith, digits-few (c .before .before .before .before .args .n), c .before .digit-count .ensures),
-  ),
+  c .before .before .before .pre .0,
+  (c .before .before .before .pre .1, omega (arith, digits-few (c .before .before .before .args .n), c .before .digit-count .ensures)),
 )
 
-returns-2 : tie.Need-returns-2
+returns : tie.Need-returns
 unfolding numeral
-returns-2 c = sent-as (c .before .before .send-digits .ensures) (rw (c .before .before .before .before .digit-count .ensures))
+returns c = sent-as (c .before .before .send-digits .ensures) (rw (c .before .before .before .before .digit-count .ensures))
 
 pub send-count-spec : {M : Type 1} → statement M
 send-count-spec =
     tie.close
     (tie.spec
     (λ c κs. search needs)
-    store-count-requires
-    (λ c. search needs)
-    (λ c. search needs)
-    (λ c κs. search needs)
     send-digits-requires
     (λ c. search needs)
-    returns-2)
+    returns)

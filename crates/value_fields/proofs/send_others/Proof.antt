@@ -1,12 +1,10 @@
 -- `value_fields::send_others` meets its contract. The invariant: what is left to send gives the whole.
 use mathlib.Core.Path.{_≡_, refl, sym, ap, _∙_}
-use mathlib.Core.List.{[], _∷_, _++_}
 use native.Mathlib.Omega.{arith}
 use borrow.Author.Needs.{needs}
 use Prim.Native.Nat.{_-_, _≤_}
 use borrow.Author.Needs.{sfits-of}
 use mir.Facts.{toZ-ofZ}
-use lib.IntN.{ℤ}
 use lib.ListN.{length, take, drop}
 use Rattle.value_fields.specs.rule.Values.{codesBehind, numberText}
 use Rattle.value_fields.specs.Values.{codes-next, codes-over}
@@ -24,34 +22,34 @@ abbrev μ-loop : tie.MeasureT-loop
 loop-holds : tie.Need-loop-holds Inv-loop μ-loop
 loop-holds c = (omega arith, c .before .pre .1 .1, all-owed _ _ _ refl)
 
-send-code-requires : tie.Need-send-code-requires Inv-loop μ-loop
-send-code-requires c κs =
-    let p = c .before .before .before .before .before .pre .1 .0 in (
-      c .before .before .before .before .before .pre .0,
-      (
-        rw (toZ-ofZ (sfits-of (c .number .ok)), c .number .ensures)
-            (let f = p .few (c .before .before .before .loop .j) (c .before .before .loop-test .taken) in omega arith),
-        rw (toZ-ofZ (sfits-of (c .number .ok)), c .number .ensures)
-            (p .plain (c .before .before .before .loop .j) (c .before .before .loop-test .taken)),
-      ),
-    )
+send-number-requires : tie.Need-send-number-requires Inv-loop μ-loop
+send-number-requires c κs = (
+  c .before .before .before .before .before .before .before .before .before .pre .0,
+  (
+    rw (toZ-ofZ (sfits-of (c .number .ok)), c .number .ensures)
+        (let f = c .before .before .before .before .before .before .before .before .before .pre .1 .0 .few
+        (c .before .before .before .before .before .before .before .loop .j)
+        (c .before .before .before .before .before .before .loop-test .taken) in omega arith),
+    omega arith,
+  ),
+)
 
 add-j : tie.Need-add-j Inv-loop μ-loop
-add-j c = omega (arith, c .before .before .before .before .before .loop-test .taken)
+add-j c = omega (arith, c .before .before .before .before .before .before .before .before .before .loop-test .taken)
 
 loop-less : tie.Need-loop-less Inv-loop μ-loop
-loop-less c = omega (arith, c .before .before .before .before .before .loop-test .taken)
+loop-less c = omega (arith, c .before .before .before .before .before .before .before .before .before .loop-test .taken)
 
 loop-again : tie.Need-loop-again Inv-loop μ-loop
 loop-again c = (
-  omega (arith, c .before .before .before .before .before .before .loop .inv .0),
-  omega (arith, c .before .before .before .before .before .loop-test .taken),
-  less-owed (c .before .before .before .before .before .before .loop .inv .2)
-      (codes-next _ _ _ (c .before .before .before .before .before .loop-test .taken)
-      (c .before .before .before .before .before .before .before .before .pre .1 .0 .many))
-      (sent-as (c .before .before .send-code .ensures)
-      (ap (λ (z : ℤ). (59 ∷ []) ++ numberText 0 z)
-      (toZ-ofZ (sfits-of (c .before .before .before .number .ok)) ∙ c .before .before .before .number .ensures))),
+  omega (arith, c .before .before .before .before .before .before .before .before .before .before .loop .inv .0),
+  omega (arith, c .before .before .before .before .before .before .before .before .before .loop-test .taken),
+  less-owed (less-owed (c .before .before .before .before .before .before .before .before .before .before .loop .inv .2)
+      (codes-next _ _ _ (c .before .before .before .before .before .before .before .before .before .loop-test .taken)
+      (c .before .before .before .before .before .before .before .before .before .before .before .before .pre .1 .0 .many))
+      (c .before .before .before .before .before .before .before .send-byte .ensures)) refl
+      (sent-as (c .before .before .send-number .ensures)
+      (ap (numberText 0) (toZ-ofZ (sfits-of (c .before .before .before .number .ok)) ∙ c .before .before .before .number .ensures))),
 )
 
 same-length : tie.Need-same-length Inv-loop μ-loop
@@ -68,7 +66,8 @@ send-others-spec =
     μ-loop
     loop-holds
     (λ c κs. search needs)
-    send-code-requires
+    (λ c κs. search needs)
+    send-number-requires
     add-j
     loop-less
     loop-again
