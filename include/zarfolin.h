@@ -529,7 +529,7 @@ zarfolin_number zarfolin_import(const uint8_t *def, size_t def_len, const int64_
 #define ZARFOLIN_STACK_JUDGE_RECORD 27500
 #define ZARFOLIN_STACK_WRITE 17600
 /* A write to a row that is no MULTIPLE, where the idents and each row's values rise, or are 24 at most. */
-#define ZARFOLIN_STACK_WRITE_PLAIN 1000
+#define ZARFOLIN_STACK_WRITE_PLAIN 1100
 #define ZARFOLIN_STACK_CORRECT 17600
 #define ZARFOLIN_STACK_NORMAL 102000
 #define ZARFOLIN_STACK_JUDGE_FILE 27500
