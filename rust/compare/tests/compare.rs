@@ -1236,7 +1236,7 @@ fn imports_of_texts() {
         assert_eq!(check(&mut tally, seed, &room(length - 1)).number, 60, "seed {seed}");
         // What was built is a sound file, whose export imports as the same records.
         let (def, built) = (&case.bytes[..case.row as usize], &done.text[8..8 + length]);
-        let (mut text, mut five) = (vec![0; 60_000], [0; 5]);
+        let (mut text, mut five) = (vec![0; 1_000_000], [0; 5]);
         assert_eq!(tally.other.export(def, &case.table, built, &mut text, &mut five), 0, "seed {seed}");
         assert_eq!(five[1], done.answer[1], "seed {seed}");
         let bytes = [def, &text[..five[4] as usize]].concat();
