@@ -65,8 +65,12 @@ int main(int argc, char **argv) {
     }
     number = zarfolin_matrix(table, ZARFOLIN_MAX_TABLE, data, length, out, sizeof out, answer);
     if (number != ZARFOLIN_OK) {
-        const char *name = argv[number == ZARFOLIN_E_NO_COLUMN ? 1 : 2];
-        fprintf(stderr, "%s: record %" PRId64 ": %s [%" PRIu64 "]\n", name, answer[1], zarfolin_message(number), number);
+        /* 80 is the definition's fault and 81 the file's as a whole: neither names a record. */
+        if (number == ZARFOLIN_E_NO_COLUMN || number == ZARFOLIN_E_MATRIX_SIZE) {
+            fprintf(stderr, "%s: %s [%" PRIu64 "]\n", argv[number == ZARFOLIN_E_NO_COLUMN ? 1 : 2], zarfolin_message(number), number);
+        } else {
+            fprintf(stderr, "%s: record %" PRId64 ": %s [%" PRIu64 "]\n", argv[2], answer[1], zarfolin_message(number), number);
+        }
         return number == ZARFOLIN_E_NO_COLUMN ? 2 : 1;
     }
     for (int64_t k = 0; k < answer[3]; k++) {

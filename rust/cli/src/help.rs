@@ -35,7 +35,7 @@ pub fn of(words: &[OsString]) -> Outcome {
 fn whole() -> String {
     let lines: Vec<_> = commands::ALL.iter().map(|c| format!("  {:<11} {}", c.name, c.summary)).collect();
     format!(
-        "zarfolin reads, judges and corrects Triple-S survey files: a definition (.sss) and its data (.asc).\n\n{}\n\n\
+        "zarfolin reads, judges and corrects Triple-S survey files: a definition (.sss or .xml) and its data (.asc).\n\n{}\n\n\
          zarfolin COMMAND --help tells a command's options.\n\n{COMMON}\n\n{TRUST}",
         lines.join("\n")
     )
