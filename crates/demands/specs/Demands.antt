@@ -41,6 +41,7 @@ use Rattle.summary.specs.rule.Summary.{summaryOf}
 use Rattle.matrix.specs.rule.Entry.{presenceOf, floatOf, presentOf}
 use Rattle.matrix.specs.rule.Bytes.{presenceAt, valuesAt, totalOf, summaryBytes}
 use Rattle.columns.specs.rule.Columns.{ofRow, entryOf}
+use Rattle.matrices.specs.rule.Matrix as matrix-rule
 use Rattle.matrices.specs.rule.Matrix.{endedOf, tableColumns, columnEntries, matrixOf, MatrixVerdict, refusedAs, matrixVerdict}
 use Rattle.matrices.specs.rule.Matrix.{MatrixWritten}
 use Rattle.matrix_laws.specs.rule.Exactly.{Refusal, SizeOutcome}
@@ -50,6 +51,7 @@ use Rattle.matrix_laws.specs.Header as headed
 use Rattle.matrix_laws.specs.Sound as summaries
 use Rattle.matrix_laws.specs.Exactly as sizes
 use Rattle.matrix_laws.specs.Matrix as matrix
+use Rattle.matrix_laws.specs.Kept as matrix-kept
 use Rattle.zarfolin.specs.rule.Matrix.{MatrixTold}
 use Rattle.commas.specs.rule.Csv.{doubled, fieldBytes, lineBytes}
 use Rattle.record_lines.specs.rule.Lines.{before, recordLine}
@@ -71,8 +73,9 @@ use Rattle.imports.specs.rule.Import.{ImportVerdict, importSays, importVerdict,
 use Rattle.imports.specs.rule.Import as import′
 use Rattle.import_laws.specs.rule.Exported.{IsExport, Original, Accepts}
 use Rattle.import_laws.specs.rule.Exactly.{TextOutcome, ImportOutcome}
-use Rattle.import_laws.specs.rule.Trip.{Table, Returned}
+use Rattle.import_laws.specs.rule.Trip.{Table, Returned, CameBack}
 use Rattle.import_laws.specs.Trip as trip
+use Rattle.import_laws.specs.Calls as calls
 use Rattle.import_laws.specs.Accepted as accepted
 use Rattle.import_laws.specs.Exactly as imports
 use Rattle.import_laws.specs.Equal as equal
@@ -333,6 +336,17 @@ matrix-so = sizes.matrix-named
 pub so-matrix : (t : List ℤ) (d : List ℕ) (room n : ℕ) → fileVerdict t d ≡ soundWith n → {v : MatrixVerdict}
     → SizeOutcome n (length (tableColumns t)) room v → matrixVerdict t d room ≡ v
 so-matrix t d room n s o = sizes.matrix-only t d room n s o
+
+-- refused, it leaves the output as it was; written, it leaves what lies beyond the total
+module _ {t : List ℤ} {d out out′ : List ℕ} where
+  pub matrix-own-kept : {v : FileVerdict} → MatrixWritten t d out out′ (refusedAs v) → out′ ≡ out
+  matrix-own-kept = matrix-kept.own-kept
+
+  pub matrix-refused-kept : {k : ℕ} → MatrixWritten t d out out′ (matrix-rule.refused k) → out′ ≡ out
+  matrix-refused-kept = matrix-kept.refused-kept
+
+  pub matrix-beyond-kept : {k r c : ℕ} → MatrixWritten t d out out′ (matrix-rule.written k r c) → drop k out′ ≡ drop k out
+  matrix-beyond-kept = matrix-kept.beyond-kept
 
 -- its length is its total; the presence byte and the eight bytes of record n, column k are those of the column's entry in the record, and
 -- the 24 bytes of column k are the summary of its values that are present
@@ -726,6 +740,24 @@ module _ {def : List ℕ} {t : List ℤ} {s out out′ : List ℕ} {n m : ℕ} (
 -- "For every sound file under a table with no shared value places, importing its export gives records whose rows read as the originals."
 pub import-export : (def : List ℕ) {t : List ℤ} (d : List ℕ) {n : ℕ} → Table t → fileVerdict t d ≡ soundWith n → Returned def t d
 import-export = trip.import-export
+
+-- and by two calls, the text in the export's buffer lent to the import: it is refused for want of room alone, and what is built reads as the
+-- originals
+module _
+  {def : List ℕ}
+  {t : List ℤ}
+  {d out out′ back back′ : List ℕ}
+  {n m : ℕ}
+  {v : FileVerdict}
+  (table : Table t)
+  (sound : fileVerdict t d ≡ soundWith n)
+  (exported : Exported def t d out out′ (export.written v m))
+  where
+    pub calls-come-back : {k l : ℕ} → Imported def t (take m out′) back back′ (import′.written k l) → CameBack t d back′ k l
+    calls-come-back = calls.came-back table sound exported
+
+    pub calls-room-alone : {k a b : ℕ} → Imported def t (take m out′) back back′ (import′.refused k a b) → k ≡ 60
+    calls-room-alone = calls.room-alone table sound exported
 
 -- exporting what a text builds gives the text again, needless quotes and cut zeros aside; and a text is accepted exactly when it is, these
 -- aside,

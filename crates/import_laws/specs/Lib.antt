@@ -7,3 +7,4 @@ pub mod Trip
 pub mod File
 pub mod Accepted
 pub mod Exactly
+pub mod Calls

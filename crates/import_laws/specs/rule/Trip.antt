@@ -5,7 +5,7 @@ use mathlib.Core.Bool.{true}
 use mathlib.Core.List.{List, [], _∷_}
 use Prim.Native.Nat.{ℕ, _<_}
 use lib.IntN.{ℤ}
-use lib.ListN.{length}
+use lib.ListN.{length, take}
 use Rattle.cuts.specs.rule.Records.{over, recordsOf}
 use Rattle.sound.specs.rule.Sound.{wellFormed}
 use Rattle.sound.specs.rule.Rows.{rowsOf, lengthOf}
@@ -13,7 +13,7 @@ use Rattle.sharing.specs.rule.Sharing.{sharesNone}
 use Rattle.records.specs.rule.Value.{readingAt}
 use Rattle.file_laws.specs.rule.Files.{before}
 use Rattle.exports.specs.rule.Text.{exportText}
-use Rattle.import_rule.specs.rule.Text.{TextSays, accepts}
+use Rattle.import_rule.specs.rule.Text.{TextSays, accepts, fileBytes}
 use Rattle.imports.specs.rule.Import.{importSays}
 
 -- a table whose rows share no value place
@@ -38,3 +38,13 @@ pub record Returned (def : List ℕ) (t : List ℤ) (d : List ℕ) : Type 0 wher
   pub originals : List (List ℕ)
   pub are : recordsOf d ≡ before originals over
   pub imported : ReadBack t originals (importSays def t (exportText def t d))
+
+-- and by two calls, the one's buffer lent to the other: so many records, in so many bytes at the second buffer's start, that read as those
+-- of the file
+pub record CameBack (t : List ℤ) (d back : List ℕ) (count long : ℕ) : Type 0 where
+  pub originals : List (List ℕ)
+  pub are : recordsOf d ≡ before originals over
+  pub records : List (List ℕ)
+  pub reads : ReadAs t originals records
+  pub counted : count ≡ length records
+  pub stand : take long back ≡ fileBytes records
