@@ -741,17 +741,17 @@ module _ {def : List ℕ} {t : List ℤ} {s out out′ : List ℕ} {n m : ℕ} (
 pub import-export : (def : List ℕ) {t : List ℤ} (d : List ℕ) {n : ℕ} → Table t → fileVerdict t d ≡ soundWith n → Returned def t d
 import-export = trip.import-export
 
--- and by two calls, the text in the export's buffer lent to the import: it is refused for want of room alone, and what is built reads as the
--- originals
+-- and by two calls, the text in the export's buffer lent to the import: it is refused for want of room alone, and what is built reads
+-- as the originals
 module _
-  {def : List ℕ}
-  {t : List ℤ}
-  {d out out′ back back′ : List ℕ}
-  {n m : ℕ}
-  {v : FileVerdict}
-  (table : Table t)
-  (sound : fileVerdict t d ≡ soundWith n)
-  (exported : Exported def t d out out′ (export.written v m))
+    {def : List ℕ}
+    {t : List ℤ}
+    {d out out′ back back′ : List ℕ}
+    {n m : ℕ}
+    {v : FileVerdict}
+    (table : Table t)
+    (sound : fileVerdict t d ≡ soundWith n)
+    (exported : Exported def t d out out′ (export.written v m))
   where
     pub calls-come-back : {k l : ℕ} → Imported def t (take m out′) back back′ (import′.written k l) → CameBack t d back′ k l
     calls-come-back = calls.came-back table sound exported

@@ -23,14 +23,14 @@ use Rattle.import_laws.specs.Exactly.{import-named, import-stands}
 use Rattle.import_laws.specs.Trip.{import-export}
 
 module _
-  {def : List ℕ}
-  {t : List ℤ}
-  {d out out′ : List ℕ}
-  {n m : ℕ}
-  {v : FileVerdict}
-  (table : Table t)
-  (sound : fileVerdict t d ≡ soundWith n)
-  (exported : Exported def t d out out′ (export.written v m))
+    {def : List ℕ}
+    {t : List ℤ}
+    {d out out′ : List ℕ}
+    {n m : ℕ}
+    {v : FileVerdict}
+    (table : Table t)
+    (sound : fileVerdict t d ≡ soundWith n)
+    (exported : Exported def t d out out′ (export.written v m))
   where
     -- what the export told: its text's length; and the definition yields the table
     told : (length (exportText def t d) ≡ m) × (yields def t ≡ true)
@@ -77,7 +77,7 @@ module _
                 records = trip .imported .records;
                 reads = trip .imported .reads;
                 counted = count ∙ ap length same;
-                stand = ap (λ (j : ℕ). take j back′) (long ∙ ap length (ap fileBytes same ∙ sym stand)) ∙ import-stands i ∙ stand
+                stand = ap (λ (j : ℕ). take j back′) (long ∙ ap length (ap fileBytes same ∙ sym stand)) ∙ import-stands i ∙ stand;
               }
 
       pub room-alone : {k a b : ℕ} → Imported def t (take m out′) back back′ (refused k a b) → k ≡ 60
@@ -86,7 +86,8 @@ module _
           go : {w : ImportVerdict} → ImportOutcome def t (take m out′) (length back) w → refused k a b ≡ w → k ≡ 60
           go (bad-table p) e = let z : true ≡ false = sym (table .formed) ∙ p in let y : _≡_ {A = ℕ} 0 1 = cc in absurd (omega arith)
           go (other-table p q) e = let z : true ≡ false = sym (told .1) ∙ q in let y : _≡_ {A = ℕ} 0 1 = cc in absurd (omega arith)
-          go (shared-place p q r) e = let z : true ≡ false = sym (table .unshared) ∙ r in let y : _≡_ {A = ℕ} 0 1 = cc in absurd (omega arith)
+          go (shared-place p q r) e = let z : true ≡ false = sym (table .unshared) ∙ r in let y : _≡_ {A = ℕ} 0 1 = cc in
+              absurd (omega arith)
           go (refused-text {k = j} {n = i₁} {c = c} p q r x) e =
               let z : accepts (trip .imported .records) ≡ refuses j i₁ c = sym says ∙ x in
               let y : _≡_ {A = ℕ} 0 1 = cc in absurd (omega arith)
