@@ -9,7 +9,7 @@ ghost use Rattle.sets.specs.Sets.{ReadSet, BitsFacts, FieldsFacts, bitsF
 ghost use Rattle.sets.specs.rule.Sets.{isIllegal};
 use layout::Row;
 
-mod alike;
+pub mod alike;
 mod bits;
 mod few;
 pub mod marks;

@@ -24,9 +24,11 @@ room c = record { few = c .pre .0 .few; inside = let h = c .pre .0 .inside in le
 -- the range has every category, or the lines do
 read-each-requires : tie.Need-read-each-requires
 read-each-requires c κs =
-    let a = c .before .before .before .before .before .before .args in (
-      each-legal (a .t .now) (a .rows) (a .row) (a .row .width) (sym (c .before .before .range-has .ensures) ∙ c .before .if1 .taken),
-      room (c .before .before .before .before .before .before),
+    let at-range-has = c .before .before in
+    let start = at-range-has .before .before .before .before in
+    let a = start .args in (
+      each-legal (a .t .now) (a .rows) (a .row) (a .row .width) (sym (at-range-has .range-has .ensures) ∙ c .before .if1 .taken),
+      room start,
     )
 
 read-each-requires-2 : tie.Need-read-each-requires-2
@@ -61,21 +63,22 @@ marks-worth-requires c
 
 few : (c : tie.After-marks-worth) → c .marks-worth .result
     ≤ length (c .before .before .before .before .before .before .before .before .before .before .before .before .args .scratch .now)
-few c = let w = c .before .before .before .before .before .before .before .before .before .before .before .before .pre .0 .few in
-    let s = c .before .before .before .before .before .before .before .before .before .before .before .before .pre .1 in
+few c =
+    let start = c .before .before .before .before .before .before .before .before .before .before .before .before in
+    let w = start .pre .0 .few in
+    let s = start .pre .1 in
     omega (arith, c .marks-worth .ensures)
 
 mark-and-list-requires : tie.Need-mark-and-list-requires
 mark-and-list-requires c κs =
+    let start = c .before .before .before .before .before .before .before .before .before .before .before .before .before .before in
     let f = few (c .before .before) in
-    let s = c .before .before .before .before .before .before .before .before .before .before .before .before .before .before .pre .1 in (
-      c .before .before .before .before .before .before .before .before .before .before .before .before .before .before .pre .0 .lines,
+    let s = start .pre .1 in (
+      start .pre .0 .lines,
       (
-        rw (length-take-le (c .before .before .marks-worth .result)
-            (c .before .before .before .before .before .before .before .before .before .before .before .before .before .before .args
-            .scratch .now) f) (omega arith),
+        rw (length-take-le (c .before .before .marks-worth .result) (start .args .scratch .now) f) (omega arith),
         (
-          room (c .before .before .before .before .before .before .before .before .before .before .before .before .before .before),
+          room start,
           set (c .before .before .before),
         ),
       ),
@@ -94,14 +97,14 @@ read-bits-spec =
     read-each-requires-2
     (λ c. search needs)
     (λ c. c .before .read-each2 .ensures)
-    (λ c κs. (
-      c .before .before .before .before .before .before .before .pre .0 .lines,
-      room (c .before .before .before .before .before .before .before),
+    (λ c κs. let start = c .before .before .before .before .before .before .before in (
+      start .pre .0 .lines,
+      room start,
     ))
     returns-3
-    (λ c κs. (
-      c .before .before .before .before .before .before .before .before .before .pre .0 .lines,
-      room (c .before .before .before .before .before .before .before .before .before),
+    (λ c κs. let start = c .before .before .before .before .before .before .before .before .before in (
+      start .pre .0 .lines,
+      room start,
     ))
     returns-4
     (λ c. let h = c .before .before .before .before .before .before .before .before .before .before .before .pre .0 .few in omega arith)

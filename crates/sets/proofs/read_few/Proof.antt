@@ -25,24 +25,25 @@ returns c = read-missing _ _ (spread-missing _ _ _ _ (sym (c .before .spread-bla
 
 list-kept-requires : tie.Need-list-kept-requires
 list-kept-requires c κs =
-    let g = rw (c .before .before .before .count .given .1) at
-    (c .before .before .before .before .before .before .before .gather .ensures) in (
+    let at-count = c .before .before .before in
+    let g = rw (at-count .count .given .1) at (at-count .before .before .before .before .gather .ensures) in (
       g .few,
       gathered-small _ _ _ _ _ _ g
-          (c .before .before .before .before .before .before .before .before .before .before .before .before .before .before .pre .0 .few),
+          (at-count .before .before .before .before .before .before .before .before .before .before .before .pre .0 .few),
     )
 
 returns-2 : tie.Need-returns-2
-returns-2 c = as-read (gathered-set _ _ _ _ _ _ (rw (c .before .before .before .before .before .count .given .1) at
-    (c .before .before .before .before .before .before .before .before .before .gather .ensures))
-    (sym (c .before .before .before .before .before .before .before .before .before .before .before .before .spread-blank .ensures)
-    ∙ c .before .before .before .before .before .before .before .before .before .before .before .if1 .left)) (c .before .list-kept .ensures)
+returns-2 c =
+    let at-count = c .before .before .before .before .before in
+    let at-gather = at-count .before .before .before .before in
+    as-read (gathered-set _ _ _ _ _ _ (rw (at-count .count .given .1) at (at-gather .gather .ensures))
+    (sym (at-gather .before .before .before .spread-blank .ensures) ∙ at-gather .before .before .if1 .left)) (c .before .list-kept .ensures)
 
 returns-3 : tie.Need-returns-3
-returns-3 c = read-illegal _ _ (spread-wrong _ _ _ _
-    (sym (c .before .before .before .before .before .before .before .spread-blank .ensures)
-    ∙ c .before .before .before .before .before .before .if1 .left)
-    (rw (c .enum-told .given .1) at (c .before .before .before .before .gather .ensures)))
+returns-3 c =
+    let at-gather = c .before .before .before .before in
+    read-illegal _ _ (spread-wrong _ _ _ _ (sym (at-gather .before .before .before .spread-blank .ensures)
+    ∙ at-gather .before .before .if1 .left) (rw (c .enum-told .given .1) at (at-gather .gather .ensures)))
 
 pub read-few-spec : {M : Type 1} → statement M
 read-few-spec =
@@ -51,9 +52,9 @@ read-few-spec =
     (λ c. let h = c .before .before .before .pre .0 .from-one in omega arith)
     (λ c κs. room (c .before .before .before))
     returns
-    (λ c κs. (
-      c .before .before .before .before .before .before .pre .0 .lines,
-      (room (c .before .before .before .before .before .before), c .before .before .before .before .before .before .pre .1),
+    (λ c κs. let start = c .before .before .before .before .before .before in (
+      start .pre .0 .lines,
+      (room start, start .pre .1),
     ))
     (λ c. search needs)
     list-kept-requires

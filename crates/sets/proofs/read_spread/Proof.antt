@@ -24,8 +24,10 @@ returns : tie.Need-returns
 returns c = read-missing _ _ (spread-missing _ _ _ _ (sym (c .before .spread-blank .ensures) ∙ c .if1 .taken))
 
 marks-worth-requires : tie.Need-marks-worth-requires
-marks-worth-requires c κs = let l = c .before .before .before .before .before .before .before .pre .0 .lines .few-lines in
-    let f = c .before .before .before .before .before .before .before .pre .0 .fields in (omega arith, omega arith)
+marks-worth-requires c κs =
+    let start = c .before .before .before .before .before .before .before in
+    let l = start .pre .0 .lines .few-lines in
+    let f = start .pre .0 .fields in (omega arith, omega arith)
 
 -- the marks of all numbers of w digits have room
 reaches : (c : tie.After-reach) → c .reach .result ≤ length (c .before .before .before .before .before .before .before .args .present .now)
@@ -37,24 +39,22 @@ worth c = omega (arith, c .marks-worth .ensures)
 
 gather-and-list-requires : tie.Need-gather-and-list-requires
 gather-and-list-requires c κs =
-    let p = c .before .before .before .before .before .before .before .before .before .before .before .pre in
+    let at-reach = c .before .before .before .before in
+    let at-spread-blank = at-reach .before .before in
+    let start = at-spread-blank .before .before .before .before .before in
+    let p = start .pre in
     let few = worth (c .before .before .before) in (
       p .0 .lines,
       (
-        rw (length-take-le (c .before .before .before .marks-worth .result)
-            (c .before .before .before .before .before .before .before .before .before .before .before .args .scratch .now) few)
-            (omega (arith, p .1 .0)),
+        rw (length-take-le (c .before .before .before .marks-worth .result) (start .args .scratch .now) few) (omega (arith, p .1 .0)),
         (
-          room (c .before .before .before .before .before .before .before .before .before .before .before),
+          room start,
           (
             (
-              length-take-le (c .before .before .before .before .reach .result)
-                  (c .before .before .before .before .before .before .before .before .before .before .before .args .present .now)
-                  (reaches (c .before .before .before .before)) ∙ c .before .before .before .before .reach .ensures,
+              length-take-le (at-reach .reach .result) (start .args .present .now) (reaches at-reach) ∙ at-reach .reach .ensures,
               p .0 .fields,
             ),
-            sym (c .before .before .before .before .before .before .spread-blank .ensures)
-                ∙ c .before .before .before .before .before .if1 .left,
+            sym (at-spread-blank .spread-blank .ensures) ∙ at-reach .before .if1 .left,
           ),
         ),
       ),

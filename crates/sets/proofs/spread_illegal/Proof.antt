@@ -35,12 +35,12 @@ slice-aggregate-judge c = sym (length-take-le _ _ (few (c .before)))
 
 judge-requires : tie.Need-judge-requires
 judge-requires c κs =
-    let f = few (c .before) in let s = c .before .before .before .before .before .before .pre .1 in (
-      c .before .before .before .before .before .before .pre .0 .lines,
+    let start = c .before .before .before .before .before .before in
+    let f = few (c .before) in let s = start .pre .1 in (
+      start .pre .0 .lines,
       (
-        rw (length-take-le (c .before .marks-worth .result) (c .before .before .before .before .before .before .args .scratch .now) f)
-            (omega arith),
-        room (c .before .before .before .before .before .before),
+        rw (length-take-le (c .before .marks-worth .result) (start .args .scratch .now) f) (omega arith),
+        room start,
       ),
     )
 

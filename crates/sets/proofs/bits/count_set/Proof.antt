@@ -51,8 +51,9 @@ count-set-spec =
     (λ c. omega arith)
     (λ c. omega arith)
     (λ c κs. tt)
-    (λ c. let m = few-bit (c .bit-of .result) (getD (c .before .before .before .before .before .before .before .before .args .bytes .now)
-    (c .before .before .before .before .before .before .before .before .args .at + c .before .before .before .before .before .loop .i) 0)
+    (λ c. let at-loop = c .before .before .before .before .before in let args = at-loop .before .before .before .args in
+    let m = few-bit (c .bit-of .result) (getD (args .bytes .now)
+    (args .at + at-loop .loop .i) 0)
     (c .bit-of .ensures) in omega arith)
     (λ c. omega arith)
     loop-again

@@ -46,9 +46,10 @@ set c = bits-members _ _ (spaces-alike _ ∙ sym (spaces (c .before .before .bef
 -- how many members
 counted : (c : tie.After-count-each) → let a = c .before .before .before .before .before .before .args in
     c .count-each .result ≡ length (setBitsAt (codesTo (a .t .now) (a .rows) (a .row) (a .w)) (a .at) (a .bytes .now))
-counted c = let a = c .before .before .before .before .before .before .args in
-    rw (each-defined (a .t .now) (a .rows) (a .row) (a .w) (c .before .before .before .before .before .before .pre .0))
-    (c .count-each .ensures)
+counted c =
+    let start = c .before .before .before .before .before .before in
+    let a = start .args in
+    rw (each-defined (a .t .now) (a .rows) (a .row) (a .w) (start .pre .0)) (c .count-each .ensures)
 
 fill-each-requires : tie.Need-fill-each-requires
 fill-each-requires c κs = (
@@ -58,10 +59,11 @@ fill-each-requires c κs = (
 
 returns-3 : tie.Need-returns-3
 returns-3 c =
-    let a = c .before .before .before .before .before .before .before .before .before .before .args in
+    let start = c .before .before .before .before .before .before .before .before .before .before in
+    let a = start .args in
     read-room _ _ _ _ (set (c .before .before .before .before .before)) (counted (c .before .before .before .before)) _
     (c .before .before .before .if3 .taken) (rw (each-defined (a .t .now) (a .rows) (a .row) (a .w)
-    (c .before .before .before .before .before .before .before .before .before .before .pre .0)) (c .before .fill-each .ensures))
+    (start .pre .0)) (c .before .fill-each .ensures))
 
 returns-4 : tie.Need-returns-4
 returns-4 c = read-short _ _ _ _ (set (c .before .before)) (counted (c .before)) (c .if3 .left)
