@@ -25,13 +25,12 @@ returns c = sym (tell-room false (c .before .before .before .before .before .arg
     (c .before .before .before .before .before .args .latin) (c .before .before .before .run .result + 2))
 
 returns-2 : tie.Need-returns-2
-returns-2 c = c .miss .ensures ∙ sym (tell-room false (c .before .before .before .before .before .before .args .d .now)
-    (c .before .before .before .before .before .before .args .opened) (word (63 ∷ 62 ∷ []) done)
-    (c .before .before .before .before .before .before .args .latin) (c .before .before .before .before .before .before .args .at)
-    (c .before .before .before .before .run .ensures .0)
-    ∙ word-miss false (c .before .before .before .before .before .before .args .d .now)
-    (c .before .before .before .before .before .before .args .opened) done (c .before .before .before .before .before .before .args .latin)
-    (c .before .before .before .before .run .result) (63 ∷ 62 ∷ []) (sym (c .before .before .is-there .ensures) ∙ c .before .if1 .left))
+returns-2 c =
+    let at-run = c .before .before .before .before in
+    let args = at-run .before .before .args in
+    c .miss .ensures ∙ sym (tell-room false (args .d .now) (args .opened) (word (63 ∷ 62 ∷ []) done) (args .latin) (args .at)
+    (at-run .run .ensures .0) ∙ word-miss false (args .d .now) (args .opened) done (args .latin)
+    (at-run .run .result) (63 ∷ 62 ∷ []) (sym (c .before .before .is-there .ensures) ∙ c .before .if1 .left))
 
 pub close-at-spec : {M : Type 1} → statement M
 close-at-spec = tie.close (tie.spec (λ c κs. search needs) (λ c. search needs) (λ c κs. search needs) add-t10 returns (λ c κs. search needs)

@@ -38,36 +38,28 @@ version-named-requires c κs = let h = stands-in 118 (101 ∷ 114 ∷ 115 ∷ 10
     (sym (c .before .is-there .ensures) ∙ c .if2 .taken) in omega arith
 
 returns-2 : tie.Need-returns-2
-returns-2 c = c .version-named .ensures ∙ sym (tell-word false (c .before .before .before .before .before .before .before .args .d .now)
-    (c .before .before .before .before .before .before .before .args .opened)
-    (white (word version (pair (one-nought ∷ []) (encoded (c .before .before .before .before .before .before .before .args .marked)))))
-    false (c .before .before .before .before .before .before .before .args .opened) XML
-    (c .before .before .before .before .before .before .before .pre)
-    ∙ tell-white false (c .before .before .before .before .before .before .before .args .d .now)
-    (c .before .before .before .before .before .before .before .args .opened)
-    (word version (pair (one-nought ∷ []) (encoded (c .before .before .before .before .before .before .before .args .marked)))) false
-    (c .before .before .before .before .before .before .before .args .opened + 5)
-    (c .before .before .before .before .before .run .ensures .0) (c .before .before .before .before .if1 .left)
-    ∙ tell-word false (c .before .before .before .before .before .before .before .args .d .now)
-    (c .before .before .before .before .before .before .before .args .opened)
-    (pair (one-nought ∷ []) (encoded (c .before .before .before .before .before .before .before .args .marked))) false
-    (c .before .before .before .before .before .run .result) version (sym (c .before .before .is-there .ensures) ∙ c .before .if2 .taken))
+returns-2 c =
+    let at-run = c .before .before .before .before .before in
+    let start = at-run .before .before in
+    c .version-named .ensures ∙ sym (tell-word false (start .args .d .now) (start .args .opened)
+    (white (word version (pair (one-nought ∷ []) (encoded (start .args .marked))))) false (start .args .opened) XML (start .pre)
+    ∙ tell-white false (start .args .d .now) (start .args .opened)
+    (word version (pair (one-nought ∷ []) (encoded (start .args .marked)))) false (start .args .opened + 5)
+    (at-run .run .ensures .0) (c .before .before .before .before .if1 .left) ∙ tell-word false (start .args .d .now) (start .args .opened)
+    (pair (one-nought ∷ []) (encoded (start .args .marked))) false
+    (at-run .run .result) version (sym (c .before .before .is-there .ensures) ∙ c .before .if2 .taken))
 
 returns-3 : tie.Need-returns-3
-returns-3 c = c .miss2 .ensures ∙ sym (tell-word false (c .before .before .before .before .before .before .before .args .d .now)
-    (c .before .before .before .before .before .before .before .args .opened)
-    (white (word version (pair (one-nought ∷ []) (encoded (c .before .before .before .before .before .before .before .args .marked)))))
-    false (c .before .before .before .before .before .before .before .args .opened) XML
-    (c .before .before .before .before .before .before .before .pre)
-    ∙ tell-white false (c .before .before .before .before .before .before .before .args .d .now)
-    (c .before .before .before .before .before .before .before .args .opened)
-    (word version (pair (one-nought ∷ []) (encoded (c .before .before .before .before .before .before .before .args .marked)))) false
-    (c .before .before .before .before .before .before .before .args .opened + 5)
-    (c .before .before .before .before .before .run .ensures .0) (c .before .before .before .before .if1 .left)
-    ∙ word-miss false (c .before .before .before .before .before .before .before .args .d .now)
-    (c .before .before .before .before .before .before .before .args .opened)
-    (pair (one-nought ∷ []) (encoded (c .before .before .before .before .before .before .before .args .marked))) false
-    (c .before .before .before .before .before .run .result) version (sym (c .before .before .is-there .ensures) ∙ c .before .if2 .left))
+returns-3 c =
+    let at-run = c .before .before .before .before .before in
+    let start = at-run .before .before in
+    c .miss2 .ensures ∙ sym (tell-word false (start .args .d .now) (start .args .opened)
+    (white (word version (pair (one-nought ∷ []) (encoded (start .args .marked))))) false (start .args .opened) XML (start .pre)
+    ∙ tell-white false (start .args .d .now) (start .args .opened)
+    (word version (pair (one-nought ∷ []) (encoded (start .args .marked)))) false (start .args .opened + 5)
+    (at-run .run .ensures .0) (c .before .before .before .before .if1 .left) ∙ word-miss false (start .args .d .now) (start .args .opened)
+    (pair (one-nought ∷ []) (encoded (start .args .marked))) false
+    (at-run .run .result) version (sym (c .before .before .is-there .ensures) ∙ c .before .if2 .left))
 
 pub declaration-at-spec : {M : Type 1} → statement M
 declaration-at-spec = tie.close (tie.spec add-at run-requires (λ c κs. search needs) returns (λ c. search needs) (λ c κs. search needs)

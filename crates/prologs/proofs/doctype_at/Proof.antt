@@ -36,87 +36,49 @@ behind-at-requires c κs = let h = stands-in 115 (115 ∷ 115 ∷ []) (c .before
     (c .before .before .before .before .run .result) (sym (c .before .is-there .ensures) ∙ c .if2 .taken) in omega arith
 
 returns-2 : tie.Need-returns-2
-returns-2 c = c .behind-at .ensures ∙ sym (tell-word (c .before .before .before .before .before .before .before .args .bad)
-    (c .before .before .before .before .before .before .before .args .d .now)
-    (c .before .before .before .before .before .before .before .args .opened) (white (root behind))
-    (c .before .before .before .before .before .before .before .args .latin)
-    (c .before .before .before .before .before .before .before .args .opened) DOCTYPE
-    (c .before .before .before .before .before .before .before .pre)
-    ∙ tell-white (c .before .before .before .before .before .before .before .args .bad)
-    (c .before .before .before .before .before .before .before .args .d .now)
-    (c .before .before .before .before .before .before .before .args .opened) (root behind)
-    (c .before .before .before .before .before .before .before .args .latin)
-    (c .before .before .before .before .before .before .before .args .opened + 9)
-    (c .before .before .before .before .before .run .ensures .0) (c .before .before .before .before .if1 .left)
-    ∙ tell-root (c .before .before .before .before .before .before .before .args .bad)
-    (c .before .before .before .before .before .before .before .args .d .now)
-    (c .before .before .before .before .before .before .before .args .opened) behind
-    (c .before .before .before .before .before .before .before .args .latin) (c .before .before .before .before .before .run .result)
+returns-2 c =
+    let at-run = c .before .before .before .before .before in
+    let start = at-run .before .before in
+    c .behind-at .ensures ∙ sym (tell-word (start .args .bad) (start .args .d .now) (start .args .opened) (white (root behind))
+    (start .args .latin) (start .args .opened) DOCTYPE (start .pre) ∙ tell-white (start .args .bad) (start .args .d .now)
+    (start .args .opened) (root behind) (start .args .latin) (start .args .opened + 9)
+    (at-run .run .ensures .0) (c .before .before .before .before .if1 .left) ∙ tell-root (start .args .bad) (start .args .d .now)
+    (start .args .opened) behind (start .args .latin) (at-run .run .result)
     (sym (c .before .before .is-there .ensures) ∙ c .before .if2 .taken))
 
 returns-3 : tie.Need-returns-3
-returns-3 c = rw (c .end-fault .ensures) (sym (tell-word (c .before .before .before .before .before .before .before .before .args .bad)
-    (c .before .before .before .before .before .before .before .before .args .d .now)
-    (c .before .before .before .before .before .before .before .before .args .opened) (white (root behind))
-    (c .before .before .before .before .before .before .before .before .args .latin)
-    (c .before .before .before .before .before .before .before .before .args .opened) DOCTYPE
-    (c .before .before .before .before .before .before .before .before .pre)
-    ∙ tell-white (c .before .before .before .before .before .before .before .before .args .bad)
-    (c .before .before .before .before .before .before .before .before .args .d .now)
-    (c .before .before .before .before .before .before .before .before .args .opened) (root behind)
-    (c .before .before .before .before .before .before .before .before .args .latin)
-    (c .before .before .before .before .before .before .before .before .args .opened + 9)
-    (c .before .before .before .before .before .before .run .ensures .0) (c .before .before .before .before .before .if1 .left)
-    ∙ root-gone (c .before .before .before .before .before .before .before .before .args .bad)
-    (c .before .before .before .before .before .before .before .before .args .d .now)
-    (c .before .before .before .before .before .before .before .before .args .opened) behind
-    (c .before .before .before .before .before .before .before .before .args .latin)
-    (c .before .before .before .before .before .before .run .result)
-    (sym (c .before .before .before .is-there .ensures) ∙ c .before .before .if2 .left) (omega arith)))
+returns-3 c =
+    let at-if2 = c .before .before in
+    let at-run = at-if2 .before .before .before .before in
+    let start = at-run .before .before in
+    rw (c .end-fault .ensures) (sym (tell-word (start .args .bad) (start .args .d .now) (start .args .opened) (white (root behind))
+    (start .args .latin) (start .args .opened) DOCTYPE (start .pre) ∙ tell-white (start .args .bad) (start .args .d .now)
+    (start .args .opened) (root behind) (start .args .latin) (start .args .opened + 9)
+    (at-run .run .ensures .0) (at-if2 .before .before .before .if1 .left) ∙ root-gone (start .args .bad) (start .args .d .now)
+    (start .args .opened) behind (start .args .latin) (at-run .run .result)
+    (sym (at-if2 .before .is-there .ensures) ∙ at-if2 .if2 .left) (omega arith)))
 
 returns-4 : tie.Need-returns-4
-returns-4 c = sym (tell-word (c .before .before .before .before .before .before .before .before .before .before .args .bad)
-    (c .before .before .before .before .before .before .before .before .before .before .args .d .now)
-    (c .before .before .before .before .before .before .before .before .before .before .args .opened) (white (root behind))
-    (c .before .before .before .before .before .before .before .before .before .before .args .latin)
-    (c .before .before .before .before .before .before .before .before .before .before .args .opened) DOCTYPE
-    (c .before .before .before .before .before .before .before .before .before .before .pre)
-    ∙ tell-white (c .before .before .before .before .before .before .before .before .before .before .args .bad)
-    (c .before .before .before .before .before .before .before .before .before .before .args .d .now)
-    (c .before .before .before .before .before .before .before .before .before .before .args .opened) (root behind)
-    (c .before .before .before .before .before .before .before .before .before .before .args .latin)
-    (c .before .before .before .before .before .before .before .before .before .before .args .opened + 9)
-    (c .before .before .before .before .before .before .before .before .run .ensures .0)
-    (c .before .before .before .before .before .before .before .if1 .left)
-    ∙ root-other (c .before .before .before .before .before .before .before .before .before .before .args .bad)
-    (c .before .before .before .before .before .before .before .before .before .before .args .d .now)
-    (c .before .before .before .before .before .before .before .before .before .before .args .opened) behind
-    (c .before .before .before .before .before .before .before .before .before .before .args .latin)
-    (c .before .before .before .before .before .before .before .before .run .result)
-    (sym (c .before .before .before .before .before .is-there .ensures) ∙ c .before .before .before .before .if2 .left) (omega arith)
-    (sym (c .before .starts-name .ensures) ∙ c .if4 .taken))
+returns-4 c =
+    let at-if2 = c .before .before .before .before in
+    let at-run = at-if2 .before .before .before .before in
+    let start = at-run .before .before in
+    sym (tell-word (start .args .bad) (start .args .d .now) (start .args .opened) (white (root behind)) (start .args .latin)
+    (start .args .opened) DOCTYPE (start .pre) ∙ tell-white (start .args .bad) (start .args .d .now) (start .args .opened) (root behind)
+    (start .args .latin) (start .args .opened + 9) (at-run .run .ensures .0) (at-if2 .before .before .before .if1 .left)
+    ∙ root-other (start .args .bad) (start .args .d .now) (start .args .opened) behind (start .args .latin) (at-run .run .result)
+    (sym (at-if2 .before .is-there .ensures) ∙ at-if2 .if2 .left) (omega arith) (sym (c .before .starts-name .ensures) ∙ c .if4 .taken))
 
 returns-5 : tie.Need-returns-5
-returns-5 c = sym (tell-word (c .before .before .before .before .before .before .before .before .before .before .args .bad)
-    (c .before .before .before .before .before .before .before .before .before .before .args .d .now)
-    (c .before .before .before .before .before .before .before .before .before .before .args .opened) (white (root behind))
-    (c .before .before .before .before .before .before .before .before .before .before .args .latin)
-    (c .before .before .before .before .before .before .before .before .before .before .args .opened) DOCTYPE
-    (c .before .before .before .before .before .before .before .before .before .before .pre)
-    ∙ tell-white (c .before .before .before .before .before .before .before .before .before .before .args .bad)
-    (c .before .before .before .before .before .before .before .before .before .before .args .d .now)
-    (c .before .before .before .before .before .before .before .before .before .before .args .opened) (root behind)
-    (c .before .before .before .before .before .before .before .before .before .before .args .latin)
-    (c .before .before .before .before .before .before .before .before .before .before .args .opened + 9)
-    (c .before .before .before .before .before .before .before .before .run .ensures .0)
-    (c .before .before .before .before .before .before .before .if1 .left)
-    ∙ root-none (c .before .before .before .before .before .before .before .before .before .before .args .bad)
-    (c .before .before .before .before .before .before .before .before .before .before .args .d .now)
-    (c .before .before .before .before .before .before .before .before .before .before .args .opened) behind
-    (c .before .before .before .before .before .before .before .before .before .before .args .latin)
-    (c .before .before .before .before .before .before .before .before .run .result)
-    (sym (c .before .before .before .before .before .is-there .ensures) ∙ c .before .before .before .before .if2 .left) (omega arith)
-    (sym (c .before .starts-name .ensures) ∙ c .if4 .left))
+returns-5 c =
+    let at-if2 = c .before .before .before .before in
+    let at-run = at-if2 .before .before .before .before in
+    let start = at-run .before .before in
+    sym (tell-word (start .args .bad) (start .args .d .now) (start .args .opened) (white (root behind)) (start .args .latin)
+    (start .args .opened) DOCTYPE (start .pre) ∙ tell-white (start .args .bad) (start .args .d .now) (start .args .opened) (root behind)
+    (start .args .latin) (start .args .opened + 9) (at-run .run .ensures .0) (at-if2 .before .before .before .if1 .left)
+    ∙ root-none (start .args .bad) (start .args .d .now) (start .args .opened) behind (start .args .latin) (at-run .run .result)
+    (sym (at-if2 .before .is-there .ensures) ∙ at-if2 .if2 .left) (omega arith) (sym (c .before .starts-name .ensures) ∙ c .if4 .left))
 
 pub doctype-at-spec : {M : Type 1} → statement M
 doctype-at-spec = tie.close (tie.spec add-at run-requires (λ c κs. search needs) returns (λ c. search needs) (λ c κs. search needs)

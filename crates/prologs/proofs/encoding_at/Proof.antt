@@ -26,18 +26,20 @@ encoding-named-requires c κs = let h = stands-in 101 (110 ∷ 99 ∷ 111 ∷ 10
     (sym (c .before .is-there .ensures) ∙ c .if2 .taken) in omega arith
 
 returns-2 : tie.Need-returns-2
-returns-2 c = c .encoding-named .ensures ∙ sym (perhaps-yes false (c .before .before .before .before .before .before .before .args .d .now)
-    (c .before .before .before .before .before .before .before .args .opened) encoding-is
-    (naming (c .before .before .before .before .before .before .before .args .marked)) standalone false
-    (c .before .before .before .before .before .before .before .args .at) (c .before .before .before .before .before .run .ensures .0)
-    (c .before .before .before .before .if1 .left) (sym (c .before .before .is-there .ensures) ∙ c .before .if2 .taken))
+returns-2 c =
+    let at-is-there = c .before .before in
+    let args = at-is-there .before .before .before .before .before .args in
+    c .encoding-named .ensures ∙ sym (perhaps-yes false (args .d .now) (args .opened) encoding-is (naming (args .marked)) standalone false
+    (args .at) (at-is-there .before .before .before .run .ensures .0)
+    (at-is-there .before .before .if1 .left) (sym (at-is-there .is-there .ensures) ∙ c .before .if2 .taken))
 
 returns-3 : tie.Need-returns-3
-returns-3 c = c .standalone-at2 .ensures ∙ sym (perhaps-not false (c .before .before .before .before .before .before .before .args .d .now)
-    (c .before .before .before .before .before .before .before .args .opened) encoding-is
-    (naming (c .before .before .before .before .before .before .before .args .marked)) standalone false
-    (c .before .before .before .before .before .before .before .args .at) (c .before .before .before .before .before .run .ensures .0)
-    (c .before .before .before .before .if1 .left) (sym (c .before .before .is-there .ensures) ∙ c .before .if2 .left))
+returns-3 c =
+    let at-is-there = c .before .before in
+    let args = at-is-there .before .before .before .before .before .args in
+    c .standalone-at2 .ensures ∙ sym (perhaps-not false (args .d .now) (args .opened) encoding-is (naming (args .marked)) standalone false
+    (args .at) (at-is-there .before .before .before .run .ensures .0)
+    (at-is-there .before .before .if1 .left) (sym (at-is-there .is-there .ensures) ∙ c .before .if2 .left))
 
 pub encoding-at-spec : {M : Type 1} → statement M
 encoding-at-spec = tie.close (tie.spec (λ c κs. search needs) (λ c κs. search needs) returns (λ c. search needs) (λ c κs. search needs)

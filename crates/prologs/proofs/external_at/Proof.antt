@@ -25,44 +25,32 @@ returns c = c .public-at .ensures ∙ sym (which-yes (c .before .before .before 
     (sym (c .before .before .is-there .ensures) ∙ c .before .if1 .taken))
 
 add-located-at : tie.Need-add-located-at
-add-located-at c = let h = stands-in 83 (89 ∷ 83 ∷ 84 ∷ 69 ∷ 77 ∷ [])
-    (c .before .before .before .before .before .before .before .args .d .now)
-    (c .before .before .before .before .before .before .before .args .at) (sym (c .before .is-there2 .ensures) ∙ c .if2 .taken) in
+add-located-at c =
+    let args = c .before .before .before .before .before .before .before .args in
+    let h = stands-in 83 (89 ∷ 83 ∷ 84 ∷ 69 ∷ 77 ∷ []) (args .d .now) (args .at) (sym (c .before .is-there2 .ensures) ∙ c .if2 .taken) in
     omega arith
 
 located-at-requires : tie.Need-located-at-requires
-located-at-requires c κs = let h = stands-in 83 (89 ∷ 83 ∷ 84 ∷ 69 ∷ 77 ∷ [])
-    (c .before .before .before .before .before .before .before .args .d .now)
-    (c .before .before .before .before .before .before .before .args .at) (sym (c .before .is-there2 .ensures) ∙ c .if2 .taken) in
+located-at-requires c κs =
+    let args = c .before .before .before .before .before .before .before .args in
+    let h = stands-in 83 (89 ∷ 83 ∷ 84 ∷ 69 ∷ 77 ∷ []) (args .d .now) (args .at) (sym (c .before .is-there2 .ensures) ∙ c .if2 .taken) in
     omega arith
 
 returns-2 : tie.Need-returns-2
-returns-2 c = c .located-at .ensures ∙ sym (which-no (c .before .before .before .before .before .before .before .before .args .bad)
-    (c .before .before .before .before .before .before .before .before .args .d .now)
-    (c .before .before .before .before .before .before .before .before .args .opened) PUBLIC public (word SYSTEM located)
-    (c .before .before .before .before .before .before .before .before .args .latin)
-    (c .before .before .before .before .before .before .before .before .args .at)
-    (sym (c .before .before .before .before .before .is-there .ensures) ∙ c .before .before .before .before .if1 .left)
-    ∙ tell-word (c .before .before .before .before .before .before .before .before .args .bad)
-    (c .before .before .before .before .before .before .before .before .args .d .now)
-    (c .before .before .before .before .before .before .before .before .args .opened) located
-    (c .before .before .before .before .before .before .before .before .args .latin)
-    (c .before .before .before .before .before .before .before .before .args .at) SYSTEM
-    (sym (c .before .before .is-there2 .ensures) ∙ c .before .if2 .taken))
+returns-2 c =
+    let at-if1 = c .before .before .before .before in
+    let args = at-if1 .before .before .before .before .args in
+    c .located-at .ensures ∙ sym (which-no (args .bad) (args .d .now) (args .opened) PUBLIC public (word SYSTEM located) (args .latin)
+    (args .at) (sym (at-if1 .before .is-there .ensures) ∙ at-if1 .if1 .left) ∙ tell-word (args .bad) (args .d .now) (args .opened) located
+    (args .latin) (args .at) SYSTEM (sym (c .before .before .is-there2 .ensures) ∙ c .before .if2 .taken))
 
 returns-3 : tie.Need-returns-3
-returns-3 c = c .miss .ensures ∙ sym (which-no (c .before .before .before .before .before .before .before .before .args .bad)
-    (c .before .before .before .before .before .before .before .before .args .d .now)
-    (c .before .before .before .before .before .before .before .before .args .opened) PUBLIC public (word SYSTEM located)
-    (c .before .before .before .before .before .before .before .before .args .latin)
-    (c .before .before .before .before .before .before .before .before .args .at)
-    (sym (c .before .before .before .before .before .is-there .ensures) ∙ c .before .before .before .before .if1 .left)
-    ∙ word-miss (c .before .before .before .before .before .before .before .before .args .bad)
-    (c .before .before .before .before .before .before .before .before .args .d .now)
-    (c .before .before .before .before .before .before .before .before .args .opened) located
-    (c .before .before .before .before .before .before .before .before .args .latin)
-    (c .before .before .before .before .before .before .before .before .args .at) SYSTEM
-    (sym (c .before .before .is-there2 .ensures) ∙ c .before .if2 .left))
+returns-3 c =
+    let at-if1 = c .before .before .before .before in
+    let args = at-if1 .before .before .before .before .args in
+    c .miss .ensures ∙ sym (which-no (args .bad) (args .d .now) (args .opened) PUBLIC public (word SYSTEM located) (args .latin) (args .at)
+    (sym (at-if1 .before .is-there .ensures) ∙ at-if1 .if1 .left) ∙ word-miss (args .bad) (args .d .now) (args .opened) located
+    (args .latin) (args .at) SYSTEM (sym (c .before .before .is-there2 .ensures) ∙ c .before .if2 .left))
 
 pub external-at-spec : {M : Type 1} → statement M
 external-at-spec = tie.close (tie.spec (λ c. search needs) (λ c κs. search needs) add-public-at public-at-requires returns

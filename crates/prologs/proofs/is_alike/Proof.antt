@@ -26,23 +26,22 @@ returns c = sym (c .before .before .loop .inv .0 ∙ alikes-short (c .before .be
     (c .before .before .loop .i) (omega arith) (omega arith))
 
 returns-2 : tie.Need-returns-2 Inv-loop μ-loop
-returns-2 c = sym (c .before .before .before .before .before .before .loop .inv .0
-    ∙ alikes-not (c .before .before .before .before .before .before .before .before .before .args .d .now)
-    (c .before .before .before .before .before .before .before .before .before .args .at)
-    (c .before .before .before .before .before .before .before .before .before .args .w .now)
-    (c .before .before .before .before .before .before .loop .i) (omega arith) (omega arith)
-    (λ q. c .if2 .taken (c .before .before .upper .ensures ∙ q)))
+returns-2 c =
+    let at-upper = c .before .before in
+    let at-loop = at-upper .before .before .before .before in
+    let args = at-loop .before .before .before .args in
+    sym (at-loop .loop .inv .0 ∙ alikes-not (args .d .now) (args .at) (args .w .now) (at-loop .loop .i) (omega arith) (omega arith)
+    (λ q. c .if2 .taken (at-upper .upper .ensures ∙ q)))
 
 loop-again : tie.Need-loop-again Inv-loop μ-loop
-loop-again c = (
-  c .before .before .before .before .before .before .loop .inv .0
-      ∙ alikes-next (c .before .before .before .before .before .before .before .before .before .args .d .now)
-      (c .before .before .before .before .before .before .before .before .before .args .at)
-      (c .before .before .before .before .before .before .before .before .before .args .w .now)
-      (c .before .before .before .before .before .before .loop .i) (omega arith) (omega arith)
-      (sym (c .before .before .upper .ensures) ∙ c .if2 .left),
-  omega arith,
-)
+loop-again c =
+    let at-upper = c .before .before in
+    let at-loop = at-upper .before .before .before .before in
+    let args = at-loop .before .before .before .args in (
+      at-loop .loop .inv .0 ∙ alikes-next (args .d .now) (args .at) (args .w .now) (at-loop .loop .i) (omega arith) (omega arith)
+          (sym (at-upper .upper .ensures) ∙ c .if2 .left),
+      omega arith,
+    )
 
 returns-3 : tie.Need-returns-3 Inv-loop μ-loop
 returns-3 c = sym (c .before .loop .inv .0 ∙ alikes-whole (c .before .before .before .before .args .d .now)

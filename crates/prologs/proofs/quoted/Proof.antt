@@ -28,13 +28,15 @@ cut-at-requires c κs = omega arith
 
 returns-2 : tie.Need-returns-2
 unfolding quotedOf
-returns-2 c = rw (
-  lt-leb (length (c .before .before .before .before .before .before .before .args .d .now))
-      (c .before .before .before .before .before .before .before .args .n) (omega arith),
-  c .before .before .before .if2 .taken,
-  ← (c .before .before .run-inside .ensures .0),
-  ← (c .before .cut-at .ensures),
-) (c .find-close .ensures)
+returns-2 c =
+    let at-run-inside = c .before .before in
+    let args = at-run-inside .before .before .before .before .before .args in
+    rw (
+      lt-leb (length (args .d .now)) (args .n) (omega arith),
+      at-run-inside .before .if2 .taken,
+      ← (at-run-inside .run-inside .ensures .0),
+      ← (c .before .cut-at .ensures),
+    ) (c .find-close .ensures)
 
 returns-3 : tie.Need-returns-3
 unfolding quotedOf

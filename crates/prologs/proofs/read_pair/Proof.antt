@@ -20,32 +20,36 @@ returns c = rw (
 )
 
 add-t14 : tie.Need-add-t14
-add-t14 c = let q = quoted-past true false false
-    (c .before .before .before .before .before .before .before .before .before .before .args .d .now)
-    (c .before .before .before .before .before .before .before .before .before .before .args .opened) _ _
+add-t14 c =
+    let args = c .before .before .before .before .before .before .before .before .before .before .args in
+    let q = quoted-past true false false (args .d .now) (args .opened) _ _
     (sym (c .before .before .before .quoted .ensures) ∙ c .before .k .given .1) in let a = q .0 in let b = q .1 in omega arith
 
 returns-2 : tie.Need-returns-2
 unfolding pairOf
-returns-2 c = rw (
-  ← (c .before .before .before .before .before .before .before .before .run .ensures .0),
-  lt-leb (length (c .before .before .before .before .before .before .before .before .before .before .args .d .now))
-      (c .before .before .before .before .before .before .before .before .run .result) (omega arith),
-  eq-eqb _ 61 (c .before .before .before .before .before .if2 .taken),
-  ← (c .before .before .before .before .run2 .ensures .0),
-  sym (c .before .before .before .quoted .ensures) ∙ c .before .k .given .1,
-)
+returns-2 c =
+    let at-quoted = c .before .before .before in
+    let at-run = at-quoted .before .before .before .before .before in
+    rw (
+      ← (at-run .run .ensures .0),
+      lt-leb (length (at-run .before .before .args .d .now)) (at-run .run .result) (omega arith),
+      eq-eqb _ 61 (at-quoted .before .before .if2 .taken),
+      ← (at-quoted .before .run2 .ensures .0),
+      sym (at-quoted .quoted .ensures) ∙ c .before .k .given .1,
+    )
 
 returns-3 : tie.Need-returns-3
 unfolding pairOf
-returns-3 c = rw (
-  ← (c .before .before .before .before .before .before .before .before .run .ensures .0),
-  lt-leb (length (c .before .before .before .before .before .before .before .before .before .before .args .d .now))
-      (c .before .before .before .before .before .before .before .before .run .result) (omega arith),
-  eq-eqb _ 61 (c .before .before .before .before .before .if2 .taken),
-  ← (c .before .before .before .before .run2 .ensures .0),
-  sym (c .before .before .before .quoted .ensures) ∙ c .before .p .given .1,
-)
+returns-3 c =
+    let at-quoted = c .before .before .before in
+    let at-run = at-quoted .before .before .before .before .before in
+    rw (
+      ← (at-run .run .ensures .0),
+      lt-leb (length (at-run .before .before .args .d .now)) (at-run .run .result) (omega arith),
+      eq-eqb _ 61 (at-quoted .before .before .if2 .taken),
+      ← (at-quoted .before .run2 .ensures .0),
+      sym (at-quoted .quoted .ensures) ∙ c .before .p .given .1,
+    )
 
 returns-4 : tie.Need-returns-4
 unfolding pairOf

@@ -19,10 +19,11 @@ returns c = rw (
 ) (c .end-clean .ensures)
 
 is-there-requires : tie.Need-is-there-requires
-is-there-requires c κs = gap-within (c .before .before .before .before .before .before .before .args .bad)
-    (c .before .before .before .before .before .before .before .args .d .now)
-    (c .before .before .before .before .before .before .before .args .at) _ (c .before .before .before .before .before .before .before .pre)
-    (sym (c .before .before .before .before .before .gap .ensures) ∙ c .before .before .before .n .given .1)
+is-there-requires c κs =
+    let at-n = c .before .before .before in
+    let start = at-n .before .before .before .before in
+    gap-within (start .args .bad) (start .args .d .now) (start .args .at) _ (start .pre)
+    (sym (at-n .before .before .gap .ensures) ∙ at-n .n .given .1)
 
 returns-2 : tie.Need-returns-2
 unfolding tailOf

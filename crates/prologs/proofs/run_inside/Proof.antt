@@ -22,22 +22,22 @@ loop-holds : tie.Need-loop-holds Inv-loop μ-loop
 loop-holds c = (refl, omega arith)
 
 loop-again : tie.Need-loop-again Inv-loop μ-loop
-loop-again c = (
-  c .before .before .before .before .loop .inv .0
-      ∙ run-next (insideOf (c .before .before .before .before .before .before .args .public)
-      (c .before .before .before .before .before .before .args .quote)) (c .before .before .before .before .before .before .args .d .now)
-      (c .before .before .before .before .loop .i) (omega arith) (sym (c .before .is-inside .ensures) ∙ c .if1 .taken),
-  omega arith,
-)
+loop-again c =
+    let at-loop = c .before .before .before .before in
+    let args = at-loop .before .before .args in (
+      at-loop .loop .inv .0 ∙ run-next (insideOf (args .public) (args .quote)) (args .d .now)
+          (at-loop .loop .i) (omega arith) (sym (c .before .is-inside .ensures) ∙ c .if1 .taken),
+      omega arith,
+    )
 
 returns : tie.Need-returns Inv-loop μ-loop
-returns c = (
-  sym (c .before .before .before .before .loop .inv .0
-      ∙ run-over (insideOf (c .before .before .before .before .before .before .args .public)
-      (c .before .before .before .before .before .before .args .quote)) (c .before .before .before .before .before .before .args .d .now)
-      (c .before .before .before .before .loop .i) (omega arith) (sym (c .before .is-inside .ensures) ∙ c .if1 .left)),
-  c .before .before .before .before .loop .inv .1,
-)
+returns c =
+    let at-loop = c .before .before .before .before in
+    let args = at-loop .before .before .args in (
+      sym (at-loop .loop .inv .0 ∙ run-over (insideOf (args .public) (args .quote)) (args .d .now)
+          (at-loop .loop .i) (omega arith) (sym (c .before .is-inside .ensures) ∙ c .if1 .left)),
+      at-loop .loop .inv .1,
+    )
 
 returns-2 : tie.Need-returns-2 Inv-loop μ-loop
 returns-2 c = (

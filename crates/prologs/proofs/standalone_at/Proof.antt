@@ -27,18 +27,20 @@ yes-or-no-requires c κs = let h = stands-in 115 (116 ∷ 97 ∷ 110 ∷ 100 ∷
     (sym (c .before .is-there .ensures) ∙ c .if2 .taken) in omega arith
 
 returns-2 : tie.Need-returns-2
-returns-2 c = c .yes-or-no .ensures ∙ sym (perhaps-yes false (c .before .before .before .before .before .before .before .args .d .now)
-    (c .before .before .before .before .before .before .before .args .opened) standalone-is (pair (yes ∷ no ∷ []) close) close
-    (c .before .before .before .before .before .before .before .args .latin)
-    (c .before .before .before .before .before .before .before .args .at) (c .before .before .before .before .before .run .ensures .0)
-    (c .before .before .before .before .if1 .left) (sym (c .before .before .is-there .ensures) ∙ c .before .if2 .taken))
+returns-2 c =
+    let at-is-there = c .before .before in
+    let args = at-is-there .before .before .before .before .before .args in
+    c .yes-or-no .ensures ∙ sym (perhaps-yes false (args .d .now) (args .opened) standalone-is (pair (yes ∷ no ∷ []) close) close
+    (args .latin) (args .at) (at-is-there .before .before .before .run .ensures .0)
+    (at-is-there .before .before .if1 .left) (sym (at-is-there .is-there .ensures) ∙ c .before .if2 .taken))
 
 returns-3 : tie.Need-returns-3
-returns-3 c = c .close-at2 .ensures ∙ sym (perhaps-not false (c .before .before .before .before .before .before .before .args .d .now)
-    (c .before .before .before .before .before .before .before .args .opened) standalone-is (pair (yes ∷ no ∷ []) close) close
-    (c .before .before .before .before .before .before .before .args .latin)
-    (c .before .before .before .before .before .before .before .args .at) (c .before .before .before .before .before .run .ensures .0)
-    (c .before .before .before .before .if1 .left) (sym (c .before .before .is-there .ensures) ∙ c .before .if2 .left))
+returns-3 c =
+    let at-is-there = c .before .before in
+    let args = at-is-there .before .before .before .before .before .args in
+    c .close-at2 .ensures ∙ sym (perhaps-not false (args .d .now) (args .opened) standalone-is (pair (yes ∷ no ∷ []) close) close
+    (args .latin) (args .at) (at-is-there .before .before .before .run .ensures .0)
+    (at-is-there .before .before .if1 .left) (sym (at-is-there .is-there .ensures) ∙ c .before .if2 .left))
 
 pub standalone-at-spec : {M : Type 1} → statement M
 standalone-at-spec = tie.close (tie.spec (λ c κs. search needs) (λ c κs. search needs) returns (λ c. search needs) (λ c κs. search needs)

@@ -11,40 +11,42 @@ use Rattle.prologs.proofs.version_named.Statement.{statement}
 use Rattle.prologs.proofs.version_named.Tie as tie
 
 is-spelt-requires : tie.Need-is-spelt-requires
-is-spelt-requires c κs = let b = pair-bounds (c .before .before .before .before .before .before .args .d .now)
-    (c .before .before .before .before .before .before .args .opened) (c .before .before .before .before .before .before .args .at) _ _
-    (sym (c .before .before .before .before .read-pair .ensures) ∙ c .before .before .value .given .1) in (b .0, omega (arith, b .1))
+is-spelt-requires c κs =
+    let at-value = c .before .before in
+    let args = at-value .before .before .before .before .args in
+    let b = pair-bounds (args .d .now) (args .opened) (args .at) _ _
+    (sym (at-value .before .before .read-pair .ensures) ∙ at-value .value .given .1) in (b .0, omega (arith, b .1))
 
 add-encoding-at : tie.Need-add-encoding-at
-add-encoding-at c = let b = pair-bounds (c .before .before .before .before .before .before .before .before .args .d .now)
-    (c .before .before .before .before .before .before .before .before .args .opened)
-    (c .before .before .before .before .before .before .before .before .args .at) _ _
-    (sym (c .before .before .before .before .before .before .read-pair .ensures) ∙ c .before .before .before .before .value .given .1) in
+add-encoding-at c =
+    let at-value = c .before .before .before .before in
+    let args = at-value .before .before .before .before .args in
+    let b = pair-bounds (args .d .now) (args .opened) (args .at) _ _
+    (sym (at-value .before .before .read-pair .ensures) ∙ at-value .value .given .1) in
     omega (arith, b .1)
 
 encoding-at-requires : tie.Need-encoding-at-requires
-encoding-at-requires c κs = let b = pair-bounds (c .before .before .before .before .before .before .before .before .args .d .now)
-    (c .before .before .before .before .before .before .before .before .args .opened)
-    (c .before .before .before .before .before .before .before .before .args .at) _ _
-    (sym (c .before .before .before .before .before .before .read-pair .ensures) ∙ c .before .before .before .before .value .given .1) in
+encoding-at-requires c κs =
+    let at-value = c .before .before .before .before in
+    let args = at-value .before .before .before .before .args in
+    let b = pair-bounds (args .d .now) (args .opened) (args .at) _ _
+    (sym (at-value .before .before .read-pair .ensures) ∙ at-value .value .given .1) in
     omega (arith, b .1)
 
 returns : tie.Need-returns
-returns c = c .encoding-at .ensures ∙ sym (pair-first
-    (c .before .before .before .before .before .before .before .before .before .args .d .now)
-    (c .before .before .before .before .before .before .before .before .before .args .opened)
-    (c .before .before .before .before .before .before .before .before .before .args .at)
-    (encoded (c .before .before .before .before .before .before .before .before .before .args .marked)) false one-nought []
-    (sym (c .before .before .before .before .before .before .before .read-pair .ensures)
-    ∙ c .before .before .before .before .before .value .given .1) (sym (c .before .before .is-spelt .ensures) ∙ c .before .if1 .taken))
+returns c =
+    let at-value = c .before .before .before .before .before in
+    let args = at-value .before .before .before .before .args in
+    c .encoding-at .ensures ∙ sym (pair-first (args .d .now) (args .opened) (args .at) (encoded (args .marked)) false one-nought []
+    (sym (at-value .before .before .read-pair .ensures)
+    ∙ at-value .value .given .1) (sym (c .before .before .is-spelt .ensures) ∙ c .before .if1 .taken))
 
 returns-2 : tie.Need-returns-2
-returns-2 c = sym (pair-not (c .before .before .before .before .before .before .before .before .args .d .now)
-    (c .before .before .before .before .before .before .before .before .args .opened)
-    (c .before .before .before .before .before .before .before .before .args .at)
-    (encoded (c .before .before .before .before .before .before .before .before .args .marked)) false one-nought
-    (sym (c .before .before .before .before .before .before .read-pair .ensures) ∙ c .before .before .before .before .value .given .1)
-    (sym (c .before .is-spelt .ensures) ∙ c .if1 .left))
+returns-2 c =
+    let at-value = c .before .before .before .before in
+    let args = at-value .before .before .before .before .args in
+    sym (pair-not (args .d .now) (args .opened) (args .at) (encoded (args .marked)) false one-nought
+    (sym (at-value .before .before .read-pair .ensures) ∙ at-value .value .given .1) (sym (c .before .is-spelt .ensures) ∙ c .if1 .left))
 
 returns-3 : tie.Need-returns-3
 returns-3 c = sym (pair-off (c .before .before .before .before .before .args .d .now)
