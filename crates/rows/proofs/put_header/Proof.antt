@@ -8,18 +8,18 @@ use Rattle.rows.proofs.put_header.Tie as tie
 returns : tie.Need-returns
 unfolding headerCells
 returns c =
-    c .before .paste .ensures
-    ∙ rw (
-      back (c .before .before .before .before .before .before .before .before .before .cell-of .ok)
-          (c .before .before .before .before .before .before .before .before .before .cell-of .ensures),
-      back (c .before .before .before .before .before .before .before .before .cell-of2 .ok)
-          (c .before .before .before .before .before .before .before .before .cell-of2 .ensures),
-      back (c .before .before .before .before .before .before .before .cell-of3 .ok)
-          (c .before .before .before .before .before .before .before .cell-of3 .ensures),
-      back (c .before .before .before .before .before .before .cell-of4 .ok)
-          (c .before .before .before .before .before .before .cell-of4 .ensures),
-      back (c .before .before .before .before .before .cell-of5 .ok) (c .before .before .before .before .before .cell-of5 .ensures),
-      back (c .before .before .before .before .cell-of6 .ok) (c .before .before .before .before .cell-of6 .ensures),
+    let at-cell-of6 = c .before .before .before .before in
+    let at-cell-of4 = at-cell-of6 .before .before in
+    let at-cell-of3 = at-cell-of4 .before in
+    let at-cell-of2 = at-cell-of3 .before in
+    let at-cell-of = at-cell-of2 .before in
+    c .before .paste .ensures ∙ rw (
+      back (at-cell-of .cell-of .ok) (at-cell-of .cell-of .ensures),
+      back (at-cell-of2 .cell-of2 .ok) (at-cell-of2 .cell-of2 .ensures),
+      back (at-cell-of3 .cell-of3 .ok) (at-cell-of3 .cell-of3 .ensures),
+      back (at-cell-of4 .cell-of4 .ok) (at-cell-of4 .cell-of4 .ensures),
+      back (at-cell-of6 .before .cell-of5 .ok) (at-cell-of6 .before .cell-of5 .ensures),
+      back (at-cell-of6 .cell-of6 .ok) (at-cell-of6 .cell-of6 .ensures),
     )
 
 pub put-header-spec : {M : Type 1} → statement M

@@ -17,49 +17,40 @@ to-back c = search needs
 returns : tie.Need-returns
 unfolding rowCells
 returns c =
+    let at-cell-of16 = c .before .before in
+    let at-cell-of12 = at-cell-of16 .before .before .before .before in
+    let at-cell-of11 = at-cell-of12 .before in
+    let at-cell-of10 = at-cell-of11 .before in
+    let at-cell-of9 = at-cell-of10 .before in
+    let at-cell-of8 = at-cell-of9 .before in
+    let at-cell-of7 = at-cell-of8 .before in
+    let at-cell-of6 = at-cell-of7 .before in
+    let at-cell-of5 = at-cell-of6 .before in
+    let at-cell-of4 = at-cell-of5 .before in
+    let at-cell-of3 = at-cell-of4 .before in
+    let at-cell-of2 = at-cell-of3 .before in
+    let at-cell-of = at-cell-of2 .before in
     rw (
-      back (c .before .before .before .before .before .before .before .before .before .before .before .before .before .before .before
-          .before .before .cell-of .ok)
-          (c .before .before .before .before .before .before .before .before .before .before .before .before .before .before .before .before
-          .before .cell-of .ensures),
-      back (c .before .before .before .before .before .before .before .before .before .before .before .before .before .before .before
-          .before .cell-of2 .ok)
-          (c .before .before .before .before .before .before .before .before .before .before .before .before .before .before .before .before
-          .cell-of2 .ensures),
-      back (c .before .before .before .before .before .before .before .before .before .before .before .before .before .before .before
-          .cell-of3 .ok)
-          (c .before .before .before .before .before .before .before .before .before .before .before .before .before .before .before
-          .cell-of3 .ensures),
-      back (c .before .before .before .before .before .before .before .before .before .before .before .before .before .before .cell-of4 .ok)
-          (c .before .before .before .before .before .before .before .before .before .before .before .before .before .before .cell-of4
-          .ensures),
-      back (c .before .before .before .before .before .before .before .before .before .before .before .before .before .cell-of5 .ok)
-          (c .before .before .before .before .before .before .before .before .before .before .before .before .before .cell-of5 .ensures),
-      back (c .before .before .before .before .before .before .before .before .before .before .before .before .cell-of6 .ok)
-          (c .before .before .before .before .before .before .before .before .before .before .before .before .cell-of6 .ensures),
-      back (c .before .before .before .before .before .before .before .before .before .before .before .cell-of7 .ok)
-          (c .before .before .before .before .before .before .before .before .before .before .before .cell-of7 .ensures),
-      back (c .before .before .before .before .before .before .before .before .before .before .cell-of8 .ok)
-          (c .before .before .before .before .before .before .before .before .before .before .cell-of8 .ensures),
-      back (c .before .before .before .before .before .before .before .before .before .cell-of9 .ok)
-          (c .before .before .before .before .before .before .before .before .before .cell-of9 .ensures),
-      back (c .before .before .before .before .before .before .before .before .cell-of10 .ok)
-          (c .before .before .before .before .before .before .before .before .cell-of10 .ensures),
-      back (c .before .before .before .before .before .before .before .cell-of11 .ok)
-          (c .before .before .before .before .before .before .before .cell-of11 .ensures),
-      back (c .before .before .before .before .before .before .cell-of12 .ok)
-          (c .before .before .before .before .before .before .cell-of12 .ensures),
-      back (c .before .before .before .before .before .cell-of13 .ok) (c .before .before .before .before .before .cell-of13 .ensures),
-      back (c .before .before .before .before .cell-of14 .ok) (c .before .before .before .before .cell-of14 .ensures),
-      back (c .before .before .before .cell-of15 .ok) (c .before .before .before .cell-of15 .ensures),
-      back (c .before .before .cell-of16 .ok) (c .before .before .cell-of16 .ensures),
+      back (at-cell-of .cell-of .ok) (at-cell-of .cell-of .ensures),
+      back (at-cell-of2 .cell-of2 .ok) (at-cell-of2 .cell-of2 .ensures),
+      back (at-cell-of3 .cell-of3 .ok) (at-cell-of3 .cell-of3 .ensures),
+      back (at-cell-of4 .cell-of4 .ok) (at-cell-of4 .cell-of4 .ensures),
+      back (at-cell-of5 .cell-of5 .ok) (at-cell-of5 .cell-of5 .ensures),
+      back (at-cell-of6 .cell-of6 .ok) (at-cell-of6 .cell-of6 .ensures),
+      back (at-cell-of7 .cell-of7 .ok) (at-cell-of7 .cell-of7 .ensures),
+      back (at-cell-of8 .cell-of8 .ok) (at-cell-of8 .cell-of8 .ensures),
+      back (at-cell-of9 .cell-of9 .ok) (at-cell-of9 .cell-of9 .ensures),
+      back (at-cell-of10 .cell-of10 .ok) (at-cell-of10 .cell-of10 .ensures),
+      back (at-cell-of11 .cell-of11 .ok) (at-cell-of11 .cell-of11 .ensures),
+      back (at-cell-of12 .cell-of12 .ok) (at-cell-of12 .cell-of12 .ensures),
+      back (at-cell-of16 .before .before .before .cell-of13 .ok) (at-cell-of16 .before .before .before .cell-of13 .ensures),
+      back (at-cell-of16 .before .before .cell-of14 .ok) (at-cell-of16 .before .before .cell-of14 .ensures),
+      back (at-cell-of16 .before .cell-of15 .ok) (at-cell-of16 .before .cell-of15 .ensures),
+      back (at-cell-of16 .cell-of16 .ok) (at-cell-of16 .cell-of16 .ensures),
       back (c .before .cell-of17 .ok) (c .before .cell-of17 .ensures),
       back (c .cell-of18 .ok) (c .cell-of18 .ensures),
-      from-back
-          (c .before .before .before .before .before .before .before .before .before .before .before .before .before .before .before .before
-          .before .before),
-      to-back (c .before .before .before .before .before .before .before .before .before .before .before .before .before .before .before
-          .before .before .before),
+      from-back (at-cell-of .before),
+      to-back (at-cell-of .before),
     )
 
 pub row-cells-spec : {M : Type 1} → statement M
