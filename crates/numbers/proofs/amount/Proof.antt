@@ -56,30 +56,29 @@ signed-requires c κs = value-small _ _ (short (c .before .before .before .befor
 returns-2 : tie.Need-returns-2
 unfolding saidOf
 returns-2 c =
+    let at-whole = c .before .before .before .before in
     ap says (toZ-ofZ (sfits-of (c .signed .ok)) ∙ c .signed .ensures)
-    ∙ sym (amount-plain _ _ _ _ (place (c .before .before .before .before .before .before .before .before))
-    (room (c .before .before .before .before .before .before .before .before)) _
-    (sym (c .before .before .before .before .before .before .digits-after .ensures) ∙ c .before .before .before .before .whole .given .1)
-    (c .before .if2 .taken)
-    (c .before .before .before .before .before .before .before .before .before .before .before .before .pre .0 .plain
-    (c .before .if2 .taken)))
+    ∙ sym (amount-plain _ _ _ _ (place (at-whole .before .before .before .before)) (room (at-whole .before .before .before .before)) _
+    (sym (at-whole .before .before .digits-after .ensures) ∙ at-whole .whole .given .1) (c .before .if2 .taken)
+    (at-whole .before .before .before .before .before .before .before .before .pre .0 .plain (c .before .if2 .taken)))
 
 returns-3 : tie.Need-returns-3
 unfolding saidOf
-returns-3 c = sym (amount-pointless _ _ _ _ (place (c .before .before .before .before .before .before .before .before .before))
-    (room (c .before .before .before .before .before .before .before .before .before)) _
-    (sym (c .before .before .before .before .before .before .before .digits-after .ensures)
-    ∙ c .before .before .before .before .before .whole .given .1) (c .before .before .if2 .left) (c .if3 .taken))
+returns-3 c =
+    let at-whole = c .before .before .before .before .before in
+    sym (amount-pointless _ _ _ _ (place (at-whole .before .before .before .before)) (room (at-whole .before .before .before .before)) _
+    (sym (at-whole .before .before .digits-after .ensures) ∙ at-whole .whole .given .1) (c .before .before .if2 .left) (c .if3 .taken))
 
 -- where the block has a point, its place lies before the end
 module _ (c : tie.Else2) where
   inner : length (c .before .before .before .before .before .before .before .before .before .before .before .args .s .now) -
       c .before .before .before .before .before .before .before .before .before .tail .result
       < length (c .before .before .before .before .before .before .before .before .before .before .before .args .s .now)
-  inner = let t = tail-point (c .before .before .before .before .before .before .before .before .before .before .before .args .f)
-      (c .if2 .left) in omega (
+  inner =
+      let at-tail = c .before .before .before .before .before .before .before .before .before in
+      let t = tail-point (at-tail .before .before .args .f) (c .if2 .left) in omega (
         arith,
-        c .before .before .before .before .before .before .before .before .before .tail .ensures,
+        at-tail .tail .ensures,
         room (c .before .before .before .before .before .before .before),
       )
 
@@ -94,30 +93,26 @@ part-decimals-after-start c = let h = inner (c .before .before) in search needs
 
 decimals-after-requires : tie.Need-decimals-after-requires
 decimals-after-requires c κs =
+    let at-whole = c .before .before .before .before .before .before in
+    let at-digits-after = at-whole .before .before in
+    let at-tail = at-digits-after .before .before .before .before in
+    let args = at-tail .before .before .args in
     let h = inner (c .before .before .before) in
-    decimals-room
-    (c .before .before .before .before .before .before .before .before .before .before .before .before .before .before .args .s .now)
-    (length (c .before .before .before .before .before .before .before .before .before .before .before .before .before .before .args .s
-    .now) - c .before .before .before .before .before .before .before .before .before .before .before .before .tail .result) _ (omega arith)
-    (omega arith) (sym (c .before .before .before .before .before .before .before .before .digits-after .ensures)
-    ∙ c .before .before .before .before .before .before .whole .given .1)
+    decimals-room (args .s .now) (length (args .s .now) - at-tail .tail .result) _ (omega arith)
+    (omega arith) (sym (at-digits-after .digits-after .ensures) ∙ at-whole .whole .given .1)
 
 returns-4 : tie.Need-returns-4
 returns-4 c =
-    let h = inner (c .before .before .before .before) in
-    c .decimals-after .ensures ∙ ap (decimalsRead
-    (c .before .before .before .before .before .before .before .before .before .before .before .before .before .before .before .args .minus)
-    (c .before .before .before .before .before .before .before .whole .given .0 .0))
-    (rest-is (c .before .before .before .before .before .before .before .before .before .before .before .before .before .before .before
-    .args .s .now)
-    (length (c .before .before .before .before .before .before .before .before .before .before .before .before .before .before .before .args
-    .s .now) - c .before .before .before .before .before .before .before .before .before .before .before .before .before .tail .result + 1)
-    (omega arith))
-    ∙ sym (amount-decimals _ _ _ _ (place (c .before .before .before .before .before .before .before .before .before .before .before))
-    (room (c .before .before .before .before .before .before .before .before .before .before .before)) _
-    (sym (c .before .before .before .before .before .before .before .before .before .digits-after .ensures)
-    ∙ c .before .before .before .before .before .before .before .whole .given .1) (c .before .before .before .before .if2 .left)
-    (c .before .before .if3 .left))
+    let at-if2 = c .before .before .before .before in
+    let at-whole = at-if2 .before .before .before in
+    let at-digits-after = at-whole .before .before in
+    let at-tail = at-digits-after .before .before .before .before in
+    let args = at-tail .before .before .args in
+    let h = inner at-if2 in
+    c .decimals-after .ensures ∙ ap (decimalsRead (args .minus) (at-whole .whole .given .0 .0)) (rest-is (args .s .now) (length (args
+    .s .now) - at-tail .tail .result + 1) (omega arith)) ∙ sym (amount-decimals _ _ _ _ (place (at-digits-after .before .before))
+    (room (at-digits-after .before .before)) _ (sym (at-digits-after .digits-after .ensures)
+    ∙ at-whole .whole .given .1) (at-if2 .if2 .left) (c .before .before .if3 .left))
 
 returns-5 : tie.Need-returns-5
 unfolding saidOf

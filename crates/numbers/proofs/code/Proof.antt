@@ -27,17 +27,18 @@ read c = c .digits-after .ensures ∙ ap (digitsRead 0) (rest-is _ _ (c .before 
 
 signed-requires : tie.Need-signed-requires
 signed-requires c κs =
-    let s = c .before .before .before .before .before .before .before .before .args .s .now in
-    value-small (drop (c .before .before .before .before .before .before .leading-spaces .result) s) _ (simp length-drop (omega arith))
+    let at-leading-spaces = c .before .before .before .before .before .before in
+    let s = at-leading-spaces .before .before .args .s .now in
+    value-small (drop (at-leading-spaces .leading-spaces .result) s) _ (simp length-drop (omega arith))
     (sym (read (c .before .before .before)) ∙ c .before .n .given .1)
 
 returns-2 : tie.Need-returns-2
 unfolding saidOf numberOf
 returns-2 c =
+    let at-n = c .before .before in
     ap says (toZ-ofZ (sfits-of (c .signed .ok)) ∙ c .signed .ensures)
-    ∙ sym (code-says _ _ (c .before .before .before .before .before .before .before .leading-spaces .ensures .1) _
-    (c .before .before .before .before .before .before .if1 .left)
-    (sym (read (c .before .before .before .before)) ∙ c .before .before .n .given .1))
+    ∙ sym (code-says _ _ (at-n .before .before .before .before .before .leading-spaces .ensures .1) _
+    (at-n .before .before .before .before .if1 .left) (sym (read (at-n .before .before)) ∙ at-n .n .given .1))
 
 returns-3 : tie.Need-returns-3
 unfolding saidOf

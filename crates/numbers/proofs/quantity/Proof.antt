@@ -15,12 +15,12 @@ unfolding saidOf
 returns c = sym (quantity-none _ _ (c .before .leading-spaces .ensures .1) _ (c .if1 .taken))
 
 amount-requires : tie.Need-amount-requires
-amount-requires c κs = (
-  c .before .before .before .before .before .before .pre .0,
-  short-rest (c .before .before .before .before .before .before .args .s .now)
-      (c .before .before .before .before .leading-spaces .result + 1) (omega arith)
-      (c .before .before .before .before .before .before .pre .1),
-)
+amount-requires c κs =
+    let at-leading-spaces = c .before .before .before .before in
+    let start = at-leading-spaces .before .before in (
+      start .pre .0,
+      short-rest (start .args .s .now) (at-leading-spaces .leading-spaces .result + 1) (omega arith) (start .pre .1),
+    )
 
 returns-2 : tie.Need-returns-2
 returns-2 c =
@@ -31,11 +31,12 @@ returns-2 c =
     (c .before .before .before .before .if1 .left) (c .before .before .if2 .taken))
 
 amount-requires-2 : tie.Need-amount-requires-2
-amount-requires-2 c κs = (
-  c .before .before .before .before .before .before .pre .0,
-  short-rest (c .before .before .before .before .before .before .args .s .now) (c .before .before .before .before .leading-spaces .result)
-      (omega arith) (c .before .before .before .before .before .before .pre .1),
-)
+amount-requires-2 c κs =
+    let at-leading-spaces = c .before .before .before .before in
+    let start = at-leading-spaces .before .before in (
+      start .pre .0,
+      short-rest (start .args .s .now) (at-leading-spaces .leading-spaces .result) (omega arith) (start .pre .1),
+    )
 
 returns-3 : tie.Need-returns-3
 returns-3 c =
