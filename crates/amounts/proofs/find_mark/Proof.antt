@@ -13,26 +13,24 @@ use Rattle.amounts.proofs.find_mark.Statement.{statement}
 use Rattle.amounts.proofs.find_mark.Tie as tie
 
 returns : tie.Need-returns
-returns c = (
-  first-on (c .before .before .before .before .before .before .args .s .now)
-      (c .before .before .before .before .before .before .args .at) _ _
-      (sym (c .before .before .before .before .next-char .ensures) ∙ c .before .before .code .given .1) .1,
-  λ cs h. let f = heard-first (c .before .before .before .before .before .before .args .s .now)
-      (c .before .before .before .before .before .before .args .at)
-      (sym (c .before .before .before .before .next-char .ensures) ∙ c .before .before .code .given .1) h in
-      let m = mark-there (c .before .before .before .before .before .before .args .mark) (f .split)
-      (c .if1 .taken) in (m .0, f .left ∙ ap All (sym (m .1))),
-)
+returns c =
+    let at-code = c .before .before in
+    let args = at-code .before .before .before .before .args in (
+      first-on (args .s .now) (args .at) _ _ (sym (at-code .before .before .next-char .ensures) ∙ at-code .code .given .1) .1,
+      λ cs h. let f = heard-first (args .s .now) (args .at) (sym (at-code .before .before .next-char .ensures) ∙ at-code .code .given .1)
+          h in
+          let m = mark-there (args .mark) (f .split) (c .if1 .taken) in (m .0, f .left ∙ ap All (sym (m .1))),
+    )
 
 returns-2 : tie.Need-returns-2
-returns-2 c = (
-  c .before .before .before .before .before .before .pre,
-  λ cs h. let f = heard-first (c .before .before .before .before .before .before .args .s .now)
-      (c .before .before .before .before .before .before .args .at)
-      (sym (c .before .before .before .before .next-char .ensures) ∙ c .before .before .code .given .1) h in
-      let m = mark-other (c .before .before .before .before .before .before .args .mark) (f .split)
-      (c .if1 .left) in (m .0, h ∙ ap All (sym (m .1))),
-)
+returns-2 c =
+    let at-code = c .before .before in
+    let start = at-code .before .before .before .before in (
+      start .pre,
+      λ cs h. let f = heard-first (start .args .s .now) (start .args .at)
+          (sym (at-code .before .before .next-char .ensures) ∙ at-code .code .given .1) h in
+          let m = mark-other (start .args .mark) (f .split) (c .if1 .left) in (m .0, h ∙ ap All (sym (m .1))),
+    )
 
 returns-3 : tie.Need-returns-3
 returns-3 c = (

@@ -33,52 +33,53 @@ next-digit-requires-2 : tie.Need-next-digit-requires-2 Inv-loop μ-loop
 next-digit-requires-2 c κs = c .before .before .before .before .loop .inv .1
 
 loop-less : tie.Need-loop-less Inv-loop μ-loop
-loop-less c = let o = c .before .before .before .before .before .before .before .before .next-digit .ensures .0 _ _
-    (c .before .before .before .before .before .before .x .given .1) in omega (arith, o .0, o .1)
+loop-less c =
+    let at-x = c .before .before .before .before .before .before in
+    let o = at-x .before .before .next-digit .ensures .0 _ _ (at-x .x .given .1) in omega (arith, o .0, o .1)
 
 loop-again : tie.Need-loop-again Inv-loop μ-loop
-loop-again c = (
-  c .before .before .before .before .before .before .before .before .next-digit .ensures .0 _ _
-      (c .before .before .before .before .before .before .x .given .1) .1,
-  c .before .before .before .before .next-digit2 .ensures .0 _ _ (c .before .before .y .given .1) .1,
-  λ x y h k. pairing-next
-      (c .before .before .before .before .before .before .before .before .before .before .before .before .before .before .args .a .now)
-      (c .before .before .before .before .before .before .before .before .before .before .before .before .before .before .args .b .now) x y
-      (c .before .before .before .before .before .before .before .before .before .loop .o)
-      (c .before .before .before .before .before .before .before .before .before .loop .inv .2 x y h k)
-      (c .before .before .before .before .before .before .before .before .next-digit .ensures .1)
-      (c .before .before .before .before .next-digit2 .ensures .1) (c .before .before .before .before .before .before .x .given .1)
-      (c .before .before .y .given .1) (c .then-order .ensures),
-)
+loop-again c =
+    let at-y = c .before .before in
+    let at-x = at-y .before .before .before .before in
+    let at-next-digit = at-x .before .before in
+    let at-loop = at-next-digit .before in
+    let args = at-loop .before .before .before .before .before .args in (
+      at-next-digit .next-digit .ensures .0 _ _ (at-x .x .given .1) .1,
+      at-y .before .before .next-digit2 .ensures .0 _ _ (at-y .y .given .1) .1,
+      λ x y h k. pairing-next (args .a .now) (args .b .now) x y (at-loop .loop .o) (at-loop .loop .inv .2 x y h k)
+          (at-next-digit .next-digit .ensures .1) (at-y .before .before .next-digit2 .ensures .1) (at-x .x .given .1)
+          (at-y .y .given .1) (c .then-order .ensures),
+    )
 
 returns : tie.Need-returns Inv-loop μ-loop
-returns c = λ x y h k. pairing-longer
-    (c .before .before .before .before .before .before .before .before .before .before .before .before .args .a .now)
-    (c .before .before .before .before .before .before .before .before .before .before .before .before .args .b .now) x y
-    (c .before .before .before .before .before .before .before .loop .o)
-    (c .before .before .before .before .before .before .before .loop .inv .2 x y h k)
-    (c .before .before .before .before .before .before .next-digit .ensures .1) (c .before .before .next-digit2 .ensures .1)
-    (c .before .before .before .before .x .given .1) (c .enum-told .given .1)
+returns c =
+    let at-next-digit2 = c .before .before in
+    let at-loop = at-next-digit2 .before .before .before .before .before in
+    let args = at-loop .before .before .before .before .before .args in
+    λ x y h k. pairing-longer (args .a .now) (args .b .now) x y (at-loop .loop .o) (at-loop .loop .inv .2 x y h k)
+    (at-next-digit2 .before .before .before .before .next-digit .ensures .1) (at-next-digit2 .next-digit2 .ensures .1)
+    (at-next-digit2 .before .before .x .given .1) (c .enum-told .given .1)
 
 next-digit-requires-3 : tie.Need-next-digit-requires-3 Inv-loop μ-loop
 next-digit-requires-3 c κs = c .before .before .before .loop .inv .1
 
 returns-2 : tie.Need-returns-2 Inv-loop μ-loop
-returns-2 c = λ x y h k. pairing-shorter
-    (c .before .before .before .before .before .before .before .before .before .before .before .args .a .now)
-    (c .before .before .before .before .before .before .before .before .before .before .before .args .b .now) x y
-    (c .before .before .before .before .before .before .loop .o) (c .before .before .before .before .before .before .loop .inv .2 x y h k)
-    (c .before .before .before .before .before .next-digit .ensures .1) (c .before .before .next-digit3 .ensures .1)
-    (c .before .before .before .enum-told2 .given .1) (c .enum-told3 .given .1)
+returns-2 c =
+    let at-next-digit3 = c .before .before in
+    let at-loop = at-next-digit3 .before .before .before .before in
+    let args = at-loop .before .before .before .before .before .args in
+    λ x y h k. pairing-shorter (args .a .now) (args .b .now) x y (at-loop .loop .o) (at-loop .loop .inv .2 x y h k)
+    (at-next-digit3 .before .before .before .next-digit .ensures .1) (at-next-digit3 .next-digit3 .ensures .1)
+    (at-next-digit3 .before .enum-told2 .given .1) (c .enum-told3 .given .1)
 
 returns-3 : tie.Need-returns-3 Inv-loop μ-loop
-returns-3 c = λ x y h k. c .is-less .ensures ∙ pairing-even
-    (c .before .before .before .before .before .before .before .before .before .before .before .before .args .a .now)
-    (c .before .before .before .before .before .before .before .before .before .before .before .before .args .b .now) x y
-    (c .before .before .before .before .before .before .before .loop .o)
-    (c .before .before .before .before .before .before .before .loop .inv .2 x y h k)
-    (c .before .before .before .before .before .before .next-digit .ensures .1) (c .before .before .before .next-digit3 .ensures .1)
-    (c .before .before .before .before .enum-told2 .given .1) (c .before .enum-told4 .given .1)
+returns-3 c =
+    let at-next-digit3 = c .before .before .before in
+    let at-loop = at-next-digit3 .before .before .before .before in
+    let args = at-loop .before .before .before .before .before .args in
+    λ x y h k. c .is-less .ensures ∙ pairing-even (args .a .now) (args .b .now) x y (at-loop .loop .o) (at-loop .loop .inv .2 x y h k)
+    (at-next-digit3 .before .before .before .next-digit .ensures .1) (at-next-digit3 .next-digit3 .ensures .1)
+    (at-next-digit3 .before .enum-told2 .given .1) (c .before .enum-told4 .given .1)
 
 pub less-in-spec : {M : Type 1} → statement M
 less-in-spec = tie.close (tie.spec Inv-loop μ-loop (λ c κs. search needs) (λ c κs. search needs) loop-holds next-digit-requires

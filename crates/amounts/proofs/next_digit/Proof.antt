@@ -28,34 +28,36 @@ next-char-requires : tie.Need-next-char-requires Inv-loop μ-loop
 next-char-requires c κs = c .loop .inv .0
 
 returns : tie.Need-returns Inv-loop μ-loop
-returns c = let o = first-on (c .before .before .before .before .before .before .before .before .args .s .now)
-    (c .before .before .before .before .before .before .loop .n) _ _
-    (sym (c .before .before .before .before .before .next-char .ensures)
-    ∙ c .before .before .before .code .given .1) in (
-      ahead-one (c .before .before .before .before .before .before .before .before .args .at)
-          (length (c .before .before .before .before .before .before .before .before .args .s .now)) (omega (arith, o .0)) (o .1),
-      λ cs h. left-digit (c .before .before .before .before .before .before .before .before .args .s .now) (digitsIn cs)
-          (c .before .before .before .before .before .before .loop .inv .2 cs h)
-          (sym (c .before .before .before .before .before .next-char .ensures) ∙ c .before .before .before .code .given .1)
+returns c =
+    let at-code = c .before .before .before in
+    let at-loop = at-code .before .before .before in
+    let args = at-loop .before .before .args in
+    let o = first-on (args .s .now) (at-loop .loop .n) _ _ (sym (at-code .before .before .next-char .ensures)
+    ∙ at-code .code .given .1) in (
+      ahead-one (args .at) (length (args .s .now)) (omega (arith, o .0)) (o .1),
+      λ cs h. left-digit (args .s .now) (digitsIn cs) (at-loop .loop .inv .2 cs h)
+          (sym (at-code .before .before .next-char .ensures) ∙ at-code .code .given .1)
           (sym (c .before .is-digit .ensures) ∙ c .if1 .taken) cs refl,
     )
 
 loop-less : tie.Need-loop-less Inv-loop μ-loop
-loop-less c = let o = first-on (c .before .before .before .before .before .before .before .before .args .s .now)
-    (c .before .before .before .before .before .before .loop .n) _ _
-    (sym (c .before .before .before .before .before .next-char .ensures) ∙ c .before .before .before .code .given .1) in
+loop-less c =
+    let at-code = c .before .before .before in
+    let o = first-on (at-code .before .before .before .before .before .args .s .now) (at-code .before .before .before .loop .n) _ _
+    (sym (at-code .before .before .next-char .ensures) ∙ at-code .code .given .1) in
     omega (arith, o .0, o .1)
 
 loop-again : tie.Need-loop-again Inv-loop μ-loop
-loop-again c = let o = first-on (c .before .before .before .before .before .before .before .before .args .s .now)
-    (c .before .before .before .before .before .before .loop .n) _ _
-    (sym (c .before .before .before .before .before .next-char .ensures) ∙ c .before .before .before .code .given .1) in (
+loop-again c =
+    let at-code = c .before .before .before in
+    let at-loop = at-code .before .before .before in
+    let args = at-loop .before .before .args in
+    let o = first-on (args .s .now) (at-loop .loop .n) _ _
+    (sym (at-code .before .before .next-char .ensures) ∙ at-code .code .given .1) in (
       o .1,
       omega (arith, o .0),
-      λ cs h. left-other (c .before .before .before .before .before .before .before .before .args .s .now) (digitsIn cs)
-          (c .before .before .before .before .before .before .loop .inv .2 cs h)
-          (sym (c .before .before .before .before .before .next-char .ensures) ∙ c .before .before .before .code .given .1)
-          (sym (c .before .is-digit .ensures) ∙ c .if1 .left),
+      λ cs h. left-other (args .s .now) (digitsIn cs) (at-loop .loop .inv .2 cs h)
+          (sym (at-code .before .before .next-char .ensures) ∙ at-code .code .given .1) (sym (c .before .is-digit .ensures) ∙ c .if1 .left),
     )
 
 returns-2 : tie.Need-returns-2 Inv-loop μ-loop

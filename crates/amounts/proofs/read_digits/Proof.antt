@@ -32,17 +32,16 @@ next-char-requires : tie.Need-next-char-requires Inv-loop μ-loop
 next-char-requires c κs = c .loop .inv .0
 
 returns : tie.Need-returns Inv-loop μ-loop
-returns c = (
-  c .before .before .before .before .before .before .loop .inv .0,
-  c .before .before .before .before .before .before .loop .inv .1,
-  λ cs h. going-other (c .before .before .before .before .before .before .before .before .args .s .now)
-      (c .before .before .before .before .before .before .before .before .args .v) cs
-      (c .before .before .before .before .before .before .loop .size) (c .before .before .before .before .before .before .loop .count)
-      (c .before .before .before .before .before .before .loop .inv .1)
-      (c .before .before .before .before .before .before .loop .inv .3 cs h)
-      (sym (c .before .before .before .before .before .next-char .ensures) ∙ c .before .before .before .code .given .1)
-      (sym (c .before .is-digit .ensures) ∙ not-true _ (c .if1 .taken)),
-)
+returns c =
+    let at-code = c .before .before .before in
+    let at-loop = at-code .before .before .before in
+    let args = at-loop .before .before .args in (
+      at-loop .loop .inv .0,
+      at-loop .loop .inv .1,
+      λ cs h. going-other (args .s .now) (args .v) cs (at-loop .loop .size) (at-loop .loop .count) (at-loop .loop .inv .1)
+          (at-loop .loop .inv .3 cs h) (sym (at-code .before .before .next-char .ensures) ∙ at-code .code .given .1)
+          (sym (c .before .is-digit .ensures) ∙ not-true _ (c .if1 .taken)),
+    )
 
 push-requires : tie.Need-push-requires Inv-loop μ-loop
 push-requires c κs = (
@@ -51,31 +50,31 @@ push-requires c κs = (
 )
 
 add-count : tie.Need-add-count Inv-loop μ-loop
-add-count c = let o = first-on (c .before .before .before .before .before .before .before .before .before .args .s .now)
-    (c .before .before .before .before .before .before .before .loop .n) _ _
-    (sym (c .before .before .before .before .before .before .next-char .ensures) ∙ c .before .before .before .before .code .given .1) in
+add-count c =
+    let at-code = c .before .before .before .before in
+    let o = first-on (at-code .before .before .before .before .before .args .s .now) (at-code .before .before .before .loop .n) _ _
+    (sym (at-code .before .before .next-char .ensures) ∙ at-code .code .given .1) in
     omega (arith, o .0, o .1)
 
 loop-less : tie.Need-loop-less Inv-loop μ-loop
-loop-less c = let o = first-on (c .before .before .before .before .before .before .before .before .before .args .s .now)
-    (c .before .before .before .before .before .before .before .loop .n) _ _
-    (sym (c .before .before .before .before .before .before .next-char .ensures) ∙ c .before .before .before .before .code .given .1) in
+loop-less c =
+    let at-code = c .before .before .before .before in
+    let o = first-on (at-code .before .before .before .before .before .args .s .now) (at-code .before .before .before .loop .n) _ _
+    (sym (at-code .before .before .next-char .ensures) ∙ at-code .code .given .1) in
     omega (arith, o .0, o .1)
 
 loop-again : tie.Need-loop-again Inv-loop μ-loop
-loop-again c = let o = first-on (c .before .before .before .before .before .before .before .before .before .args .s .now)
-    (c .before .before .before .before .before .before .before .loop .n) _ _
-    (sym (c .before .before .before .before .before .before .next-char .ensures)
-    ∙ c .before .before .before .before .code .given .1) in (
+loop-again c =
+    let at-code = c .before .before .before .before in
+    let at-next-char = at-code .before .before in
+    let at-loop = at-next-char .before in
+    let args = at-loop .before .before .args in
+    let o = first-on (args .s .now) (at-loop .loop .n) _ _ (sym (at-next-char .next-char .ensures) ∙ at-code .code .given .1) in (
       o .1,
       c .push .ensures .1,
       omega (arith, o .0),
-      λ cs h. rw (c .push .ensures .0) (going-next (c .before .before .before .before .before .before .before .before .before .args .s .now)
-          (c .before .before .before .before .before .before .before .before .before .args .v) cs
-          (c .before .before .before .before .before .before .before .loop .size)
-          (c .before .before .before .before .before .before .before .loop .count)
-          (c .before .before .before .before .before .before .before .loop .inv .3 cs h)
-          (sym (c .before .before .before .before .before .before .next-char .ensures) ∙ c .before .before .before .before .code .given .1)
+      λ cs h. rw (c .push .ensures .0) (going-next (args .s .now) (args .v) cs (at-loop .loop .size) (at-loop .loop .count)
+          (at-loop .loop .inv .3 cs h) (sym (at-next-char .next-char .ensures) ∙ at-code .code .given .1)
           (sym (c .before .before .is-digit .ensures) ∙ not-false _ (c .before .if1 .left))),
     )
 
