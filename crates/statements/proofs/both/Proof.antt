@@ -7,12 +7,13 @@ use Rattle.statements.proofs.both.Tie as tie
 returns : tie.Need-returns
 unfolding bothOf
 returns c =
-    c .judge-position .ensures
-    ∙ rw (
+    let at-end = c .before .before .before in
+    let at-b = at-end .before .before .before in
+    c .judge-position .ensures ∙ rw (
       c .before .less .ensures,
-      c .before .before .before .before .before .before .before .before .before .a .given .1,
-      c .before .before .before .before .before .before .b .given .1,
-      c .before .before .before .end .given .1,
+      at-b .before .before .before .a .given .1,
+      at-b .b .given .1,
+      at-end .end .given .1,
     )
 
 returns-2 : tie.Need-returns-2

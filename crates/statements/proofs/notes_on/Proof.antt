@@ -22,10 +22,10 @@ loop-less c = rw (c .gap-on2 .ensures, c .before .past-string .ensures, c .befor
 loop-again : tie.Need-loop-again Inv-loop μ-loop
 unfolding pastNote
 loop-again c =
-    c .before .before .before .before .before .before .before .loop .inv
-    ∙ notes-again _ _ (c .before .before .before .before .before .before .note-word .ensures)
-    (c .before .before .before .before .m .given .1)
-    ∙ rw (sym (c .before .before .string-on .ensures), sym (c .before .past-string .ensures), sym (c .gap-on2 .ensures))
+    let at-string-on = c .before .before in
+    at-string-on .before .before .before .before .before .loop .inv
+    ∙ notes-again _ _ (at-string-on .before .before .before .before .note-word .ensures) (at-string-on .before .before .m .given .1)
+    ∙ rw (sym (at-string-on .string-on .ensures), sym (c .before .past-string .ensures), sym (c .gap-on2 .ensures))
 
 returns : tie.Need-returns Inv-loop μ-loop
 unfolding notesOn

@@ -8,16 +8,18 @@ use Rattle.statements.proofs.position_on.Tie as tie
 returns : tie.Need-returns
 unfolding positionOn statementOn
 returns c =
+    let at-number-on2 = c .before .before in
+    let at-perhaps = at-number-on2 .before .before .before .before in
+    let at-gap-on = at-perhaps .before .before in
     rw (
-      sym (c .before .before .before .before .before .before .before .before .before .before .before .before .before .notes-on .ensures),
-      sym (c .before .before .before .before .before .before .before .before .before .before .before .word-here .ensures),
-      sym (c .before .before .before .before .before .before .before .before .before .before .number-on .ensures),
-      sym (c .before .before .before .before .before .before .before .before .before .past-number .ensures),
-      sym (c .before .before .before .before .before .before .before .before .gap-on .ensures),
-      sym (c .before .before .before .before .before .before .perhaps .ensures) ∙ c .before .before .before .before .m .given .1,
-      sym (c .before .before .number-on2 .ensures),
-    )
-    (rw (
+      sym (at-gap-on .before .before .before .before .before .notes-on .ensures),
+      sym (at-gap-on .before .before .before .word-here .ensures),
+      sym (at-gap-on .before .before .number-on .ensures),
+      sym (at-gap-on .before .past-number .ensures),
+      sym (at-gap-on .gap-on .ensures),
+      sym (at-perhaps .perhaps .ensures) ∙ at-number-on2 .before .before .m .given .1,
+      sym (at-number-on2 .number-on2 .ensures),
+    ) (rw (
       sym (c .before .past-number2 .ensures),
       sym (c .both .ensures),
     ))
@@ -25,12 +27,13 @@ returns c =
 returns-2 : tie.Need-returns-2
 unfolding positionOn statementOn
 returns-2 c =
+    let at-gap-on = c .before .before .before .before .before in
     rw (
-      sym (c .before .before .before .before .before .before .before .before .before .before .notes-on .ensures),
-      sym (c .before .before .before .before .before .before .before .before .word-here .ensures),
-      sym (c .before .before .before .before .before .before .before .number-on .ensures),
-      sym (c .before .before .before .before .before .before .past-number .ensures),
-      sym (c .before .before .before .before .before .gap-on .ensures),
+      sym (at-gap-on .before .before .before .before .before .notes-on .ensures),
+      sym (at-gap-on .before .before .before .word-here .ensures),
+      sym (at-gap-on .before .before .number-on .ensures),
+      sym (at-gap-on .before .past-number .ensures),
+      sym (at-gap-on .gap-on .ensures),
       sym (c .before .before .before .perhaps .ensures) ∙ c .before .enum-told .given .1,
       sym (c .both2 .ensures),
     )

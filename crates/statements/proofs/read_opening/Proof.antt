@@ -7,11 +7,12 @@ use Rattle.statements.proofs.read_opening.Tie as tie
 returns : tie.Need-returns
 unfolding openingOf
 returns c =
+    let at-word-here2 = c .before .before .before .before .before in
     rw (
-      sym (c .before .before .before .before .before .before .before .before .before .before .place-at .ensures),
-      sym (c .before .before .before .before .before .before .before .before .word-here .ensures),
-      sym (c .before .before .before .before .before .before .before .spaces-on .ensures),
-      sym (c .before .before .before .before .before .word-here2 .ensures),
+      sym (at-word-here2 .before .before .before .before .before .place-at .ensures),
+      sym (at-word-here2 .before .before .before .word-here .ensures),
+      sym (at-word-here2 .before .before .spaces-on .ensures),
+      sym (at-word-here2 .word-here2 .ensures),
       sym (c .before .before .before .before .spaces-on2 .ensures) ∙ c .before .before .n .given .1,
       sym (c .version-at .ensures),
     )
@@ -19,11 +20,12 @@ returns c =
 returns-2 : tie.Need-returns-2
 unfolding openingOf
 returns-2 c =
+    let at-word-here2 = c .before .before .before .before in
     rw (
-      sym (c .before .before .before .before .before .before .before .before .before .place-at .ensures),
-      sym (c .before .before .before .before .before .before .before .word-here .ensures),
-      sym (c .before .before .before .before .before .before .spaces-on .ensures),
-      sym (c .before .before .before .before .word-here2 .ensures),
+      sym (at-word-here2 .before .before .before .before .before .place-at .ensures),
+      sym (at-word-here2 .before .before .before .word-here .ensures),
+      sym (at-word-here2 .before .before .spaces-on .ensures),
+      sym (at-word-here2 .word-here2 .ensures),
       sym (c .before .before .before .spaces-on2 .ensures) ∙ c .before .f .given .1,
     )
 

@@ -7,11 +7,12 @@ use Rattle.statements.proofs.spread_rest.Tie as tie
 returns : tie.Need-returns
 unfolding spreadRest
 returns c =
+    let at-perhaps = c .before .before .before .before .before in
     rw (
-      sym (c .before .before .before .before .before .before .before .before .before .number-on .ensures),
-      sym (c .before .before .before .before .before .before .before .before .past-number .ensures),
-      sym (c .before .before .before .before .before .before .before .gap-on .ensures),
-      sym (c .before .before .before .before .before .perhaps .ensures) ∙ c .before .before .before .m .given .1,
+      sym (at-perhaps .before .before .before .before .number-on .ensures),
+      sym (at-perhaps .before .before .before .past-number .ensures),
+      sym (at-perhaps .before .before .gap-on .ensures),
+      sym (at-perhaps .perhaps .ensures) ∙ c .before .before .before .m .given .1,
       sym (c .before .number-on2 .ensures),
       sym (c .fields .ensures),
     )
@@ -19,11 +20,12 @@ returns c =
 returns-2 : tie.Need-returns-2
 unfolding spreadRest
 returns-2 c =
+    let at-perhaps = c .before .before .before in
     rw (
-      sym (c .before .before .before .before .before .before .before .number-on .ensures),
-      sym (c .before .before .before .before .before .before .past-number .ensures),
-      sym (c .before .before .before .before .before .gap-on .ensures),
-      sym (c .before .before .before .perhaps .ensures) ∙ c .before .enum-told .given .1,
+      sym (at-perhaps .before .before .before .before .number-on .ensures),
+      sym (at-perhaps .before .before .before .past-number .ensures),
+      sym (at-perhaps .before .before .gap-on .ensures),
+      sym (at-perhaps .perhaps .ensures) ∙ c .before .enum-told .given .1,
       sym (c .even .ensures),
     )
 

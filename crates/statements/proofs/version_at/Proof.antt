@@ -16,20 +16,22 @@ returns c =
 returns-2 : tie.Need-returns-2
 unfolding versionHere
 returns-2 c =
+    let at-m = c .before .before in
     rw (
-      sym (c .before .before .before .before .before .before .before .value-run .ensures),
-      ne-eqb _ _ (c .before .before .before .before .before .before .if1 .left),
-      sym (c .before .before .before .before .keyword .ensures) ∙ c .before .before .m .given .1,
+      sym (at-m .before .before .before .before .before .value-run .ensures),
+      ne-eqb _ _ (at-m .before .before .before .before .if1 .left),
+      sym (at-m .before .before .keyword .ensures) ∙ at-m .m .given .1,
       eq-eqb _ _ (c .if2 .taken),
     )
 
 returns-3 : tie.Need-returns-3
 unfolding versionHere
 returns-3 c =
+    let at-m = c .before .before in
     rw (
-      sym (c .before .before .before .before .before .before .before .value-run .ensures),
-      ne-eqb _ _ (c .before .before .before .before .before .before .if1 .left),
-      sym (c .before .before .before .before .keyword .ensures) ∙ c .before .before .m .given .1,
+      sym (at-m .before .before .before .before .before .value-run .ensures),
+      ne-eqb _ _ (at-m .before .before .before .before .if1 .left),
+      sym (at-m .before .before .keyword .ensures) ∙ at-m .m .given .1,
       ne-eqb _ _ (c .if2 .left),
     )
 
