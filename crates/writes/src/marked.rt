@@ -1,20 +1,15 @@
 // Rows of sets: bitstrings and spreads. The numbers that the row allows are marked once where that pays, so that its lines are not
 // searched for each category or member.
-ghost use mathlib.Core.Path.{_≡_};
-ghost use mathlib.Core.Bool.{true};
 ghost use mathlib.Core.List.{[]};
 ghost use Prim.Native.Nat.{_≤_};
 ghost use lib.ListN.{length};
 ghost use Rattle.ascii.specs.rule.Tens.{Tens};
-ghost use Rattle.fields.specs.Facts.{LineFacts};
-ghost use Rattle.sets.specs.Full.{EachLegal};
 ghost use Rattle.layout.specs.declared.Kind.the-variants as kind;
 ghost use Rattle.layout.specs.declared.Spread.the-variants as spread;
 ghost use Rattle.writes.specs.declared.Value.the-variants as given;
 ghost use Rattle.writes.specs.Write.{WrittenBy, Ready, setOr};
 use super::Wrote;
 use layout::Kind;
-use layout::Line;
 use layout::Row;
 use layout::Spread;
 
@@ -234,27 +229,6 @@ pub fn write_multiple(
     put_set(powers, t, rows, row, s, list, bytes)
 }
 
-// Whether the first w lines of the row are the categories from 1 to w, in this order, as they mostly are: then each is a category.
-fn lines_count(t: &[i64], rows: usize, row: Row, w: usize) -> bool
-    requires { ⌜ LineFacts (now t) rows row ⌝ }
-    requires { ⌜ w ≤ 9999 ⌝ }
-    ensures { λ r. ⌜ (r ≡ true → EachLegal (now (t .entry)) rows row w) ⌝ }
-{
-    if row.lines < w {
-        return false;
-    }
-    let before = row.before;
-    let mut k: usize = 0;
-    while k < w {
-        let place = Line::base(rows, before + k);
-        if !cells::same(t[place], cells::cell_of(k + 1)) {
-            return false;
-        }
-        k += 1;
-    }
-    true
-}
-
 // Spaces at the places of a bitstring: one run where its lines are its categories, as they mostly are.
 fn blank_categories(t: &[i64], rows: usize, row: Row, bytes: &mut [u8]) -> Wrote
     requires { ⌜ Ready (kind.Multiple spread.Bits) (now t) rows (length (now bytes)) row ⌝ }
@@ -263,7 +237,7 @@ fn blank_categories(t: &[i64], rows: usize, row: Row, bytes: &mut [u8]) -> Wrote
 {
     let w = row.width;
     let at = row.start - 1;
-    if lines_count(t, rows, row, w) {
+    if sets::alike::lines_count(t, rows, row, w) {
         runs::blank(bytes, at, w);
         return Wrote::Done;
     }

@@ -33,27 +33,32 @@ put-all-requires c κs =
 
 returns-2 : tie.Need-returns-2
 unfolding valueOf fitsBy placesBy bytesBy
-returns-2 c = accepted (legal-fits (sym (c .before .before .before .before .before .before .before .set-fits .ensures)
-    ∙ not-false _ (c .before .before .before .before .before .before .if1 .left))) (c .before .before .put-all .ensures)
+returns-2 c =
+    let at-put-all = c .before .before in
+    accepted (legal-fits (sym (at-put-all .before .before .before .before .before .set-fits .ensures)
+    ∙ not-false _ (at-put-all .before .before .before .before .if1 .left))) (at-put-all .put-all .ensures)
 
 put-bits-requires : tie.Need-put-bits-requires
 put-bits-requires c κs =
-    let s = c .before .before .before .before .before .before .before .before .before .before .before .before .before .before in (
+    let at-if1 = c .before .before .before .before in
+    let at-mark-legal = at-if1 .before .before .before .before .before in
+    let s = at-mark-legal .before .before .before .before .before in (
       s .pre .0 .lines,
       (
-        c .before .before .before .before .before .before .before .before .before .mark-legal .ensures,
+        at-mark-legal .mark-legal .ensures,
         (
           record { few = s .pre .0 .kind .few; inside = omega arith },
-          bits-rising (s .pre .0) _ (sym (c .before .before .before .before .before .set-fits .ensures)
-              ∙ not-false _ (c .before .before .before .before .if1 .left)),
+          bits-rising (s .pre .0) _ (sym (at-if1 .before .set-fits .ensures) ∙ not-false _ (at-if1 .if1 .left)),
         ),
       ),
     )
 
 returns-3 : tie.Need-returns-3
 unfolding valueOf fitsBy placesBy bytesBy
-returns-3 c = accepted (legal-fits (sym (c .before .before .before .before .before .before .before .before .set-fits .ensures)
-    ∙ not-false _ (c .before .before .before .before .before .before .before .if1 .left))) (c .before .before .put-bits .ensures)
+returns-3 c =
+    let at-put-bits = c .before .before in
+    let at-if1 = at-put-bits .before .before .before .before .before in
+    accepted (legal-fits (sym (at-if1 .before .set-fits .ensures) ∙ not-false _ (at-if1 .if1 .left))) (at-put-bits .put-bits .ensures)
 
 pub bits-set-spec : {M : Type 1} → statement M
 bits-set-spec =

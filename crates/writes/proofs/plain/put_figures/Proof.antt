@@ -52,9 +52,10 @@ returns c = rw (c .before .before .before .before .before .enum-told .given .1)
 
 returns-3 : tie.Need-returns-3
 unfolding placesBy bytesBy
-returns-3 c = rw (c .before .before .before .before .before .before .kind .given .1)
-    (c .before .before .put-quantity .ensures ∙ rw (toZ-ofZ
-    (c .before .before .before .before .before .before .before .before .before .fits .z)))
+returns-3 c =
+    let at-put-quantity = c .before .before in
+    let at-kind = at-put-quantity .before .before .before .before in
+    rw (at-kind .kind .given .1) (at-put-quantity .put-quantity .ensures ∙ rw (toZ-ofZ (at-kind .before .before .before .fits .z)))
 
 pub put-figures-spec : {M : Type 1} → statement M
 put-figures-spec =
