@@ -1,0 +1,245 @@
+-- What each element of the table says, and what is at fault in it: by the judging functions that the rule has (crates `reading` and
+-- `xml_reading`). No word of a tag, no order and no count is here. Above it: the theorems that the rule is the reader of the table.
+use mathlib.Core.Bool.{Bool, true, false, cond, not, _&&_}
+use mathlib.Core.List.{List, [], _∷_, _++_}
+use mathlib.Core.Option.{Option, none, some, Option·getD}
+use Prim.Native.Nat.{ℕ, suc, _+_}
+use lib.Dec.{eqb}
+use Rattle.layout.specs.rule.Layout.{mostRows, mostLines}
+use Rattle.tags.specs.declared.Held.{Held}
+use Rattle.tokens.specs.rule.Gap.{fault}
+use Rattle.survey.specs.rule.Survey.{Figure, Amount, Text, Content, Block, single, multiple, quantity, character, logical}
+use Rattle.survey.specs.rule.Survey as survey
+use Rattle.survey.specs.rule.Table.{linesAll}
+use Rattle.reading.specs.rule.Result.{Reader, _>>=_, give, bind}
+use Rattle.reading.specs.rule.Least.{Charge, _when_, judged}
+use Rattle.reading.specs.rule.Statement.{positionCharges, spreadCharges, sizeCharges}
+use Rattle.reading.specs.rule.Statement as statement
+use Rattle.reading.specs.rule.Values.{lineCharges, withLine, rangeFrom, unlisted}
+use Rattle.reading.specs.rule.Variable.{Sort, Single, Multiple, Quantity, Character, Logical, room, identCharges, variableOf, held}
+use Rattle.xml_reading.specs.rule.Word.{ONE-ONE, ONE-TWO}
+use Rattle.xml_reading.specs.rule.Element.{figureOf, amountIn, givenAt}
+use Rattle.xml_reading.specs.rule.Block.{pairCharges}
+use Rattle.xml_reading.specs.rule.Role.{Entry, variablesOf, typeAt, useAt, useWrong, hasServed, filterOf}
+use Rattle.xml_reading.specs.rule.Variable.{Manner}
+use Rattle.xml_reading.specs.rule.Sheet.{saysWord}
+use Rattle.xml_grammar.specs.Grammar.{Element, Sss, Date, Time, Origin, User, Survey, SurveyName, SurveyVersion, Title, Record}
+use Rattle.xml_grammar.specs.Grammar.{Variable, Name, Label, Position, Filter, Spread, Size, Values, Range, Value}
+use Rattle.xml_grammar.specs.Reader.{Meaning, Meanings}
+
+-- ---- what was read so far: of the file, and of the variable that is open
+pub record State : Type 0 where
+  pub manner : Manner
+  pub entries : List Entry
+  pub ident : Figure
+  pub sort : Sort
+  pub usage : ℕ
+  pub name : Text
+  pub label : Text
+  pub place : statement.Position
+  pub filter : ℕ
+  pub spread : Option survey.Spread
+  pub block : Block
+  pub size : Figure
+
+abbrev pub state : Manner → List Entry → Figure → Sort → ℕ → Text → Text → statement.Position → ℕ → Option survey.Spread → Block → Figure → State
+state m l i k u n b p f s v z = record {
+  manner = m;
+  entries = l;
+  ident = i;
+  sort = k;
+  usage = u;
+  name = n;
+  label = b;
+  place = p;
+  filter = f;
+  spread = s;
+  block = v;
+  size = z;
+}
+
+abbrev pub noFigure : Figure
+noFigure = record { place = 0; end = 0; digits = 0; value = 0 }
+
+abbrev pub noName : Text
+noName = record { place = 0; length = 0 }
+
+abbrev pub noPlace : statement.Position
+noPlace = record { start = noFigure; finish = none }
+
+-- a variable of which the start tag was read
+abbrev pub begun : Manner → List Entry → Figure → Sort → ℕ → State
+begun m l i k u = state m l i k u noName noName noPlace 0 none (unlisted none) noFigure
+
+-- between variables
+abbrev pub between : Manner → List Entry → State
+between m l = begun m l noFigure Logical 0
+
+abbrev pub withName : State → Text → State
+withName s x = state (s .manner) (s .entries) (s .ident) (s .sort) (s .usage) x (s .label) (s .place) (s .filter) (s .spread) (s .block) (s .size)
+
+abbrev pub withLabel : State → Text → State
+withLabel s x = state (s .manner) (s .entries) (s .ident) (s .sort) (s .usage) (s .name) x (s .place) (s .filter) (s .spread) (s .block) (s .size)
+
+abbrev pub withPlace : State → statement.Position → State
+withPlace s x = state (s .manner) (s .entries) (s .ident) (s .sort) (s .usage) (s .name) (s .label) x (s .filter) (s .spread) (s .block) (s .size)
+
+abbrev pub withFilter : State → ℕ → State
+withFilter s x = state (s .manner) (s .entries) (s .ident) (s .sort) (s .usage) (s .name) (s .label) (s .place) x (s .spread) (s .block) (s .size)
+
+abbrev pub withSpread : State → survey.Spread → State
+withSpread s x =
+    state (s .manner) (s .entries) (s .ident) (s .sort) (s .usage) (s .name) (s .label) (s .place) (s .filter) (some x) (s .block) (s .size)
+
+abbrev pub withBlock : State → Block → State
+withBlock s x = state (s .manner) (s .entries) (s .ident) (s .sort) (s .usage) (s .name) (s .label) (s .place) (s .filter) (s .spread) x (s .size)
+
+abbrev pub withSize : State → Figure → State
+withSize s x = state (s .manner) (s .entries) (s .ident) (s .sort) (s .usage) (s .name) (s .label) (s .place) (s .filter) (s .spread) (s .block) x
+
+-- ---- types
+abbrev pub sortOf : ℕ → Sort
+sortOf t = cond (eqb t 1) Single (cond (eqb t 2) Multiple (cond (eqb t 3) Quantity (cond (eqb t 4) Character Logical)))
+
+abbrev pub isQuantity : Sort → Bool
+isQuantity Single = false
+isQuantity Multiple = false
+isQuantity Quantity = true
+isQuantity Character = false
+isQuantity Logical = false
+
+abbrev pub contentIn : Sort → State → Content
+contentIn Single s = single (s .block)
+contentIn Multiple s = multiple (s .spread) (s .block)
+contentIn Quantity s = quantity (s .block)
+contentIn Character s = character (s .size)
+contentIn Logical s = logical
+
+abbrev pub linesBefore : State → ℕ
+linesBefore s = linesAll (variablesOf (s .entries))
+
+-- ---- elements that say something
+-- says nothing that a table has
+abbrev pub mute : Meaning State
+mute = record { charges = λ s h t. []; also = λ s h t. []; said = λ s h t. give s; closed = give }
+
+-- says something, with no charge but those of its form
+abbrev pub tells : (State → Text → Reader State) → Meaning State
+tells f = record { charges = λ s h t. []; also = λ s h t. []; said = λ s h t. f s t; closed = give }
+
+-- is charged, and says something
+abbrev pub judges : (State → Held → Text → List Charge) → (State → Held → Text → State) → Meaning State
+judges c f = record { charges = c; also = λ s h t. []; said = λ s h t. give (f s h t); closed = give }
+
+module _ (d : List ℕ) where
+  -- an attribute's number or amount, by the order of the table
+  abbrev pub figureA : Held → Figure
+  figureA h = figureOf d (h .a) (h .ae)
+
+  abbrev pub figureB : Held → Option Figure
+  figureB h = givenAt (h .b) (figureOf d (h .b) (h .be))
+
+  abbrev pub amountA : Held → Amount
+  amountA h = amountIn d (h .a) (h .ae)
+
+  abbrev pub amountB : Held → Amount
+  amountB h = amountIn d (h .b) (h .be)
+
+  -- "4 in XML a version not 1.1 or 1.2"; "Version 1.1 has no .. languages"
+  abbrev pub sss : Meaning State
+  sss = record {
+    charges = λ s h t. fault 4 (h .a) when (not (saysWord d (h .a) (h .ae) ONE-ONE) && not (saysWord d (h .a) (h .ae) ONE-TWO)) ∷ [];
+    also = λ s h t. fault 51 (h .third) when (saysWord d (h .a) (h .ae) ONE-ONE && not (eqb (h .c) 0)) ∷ [];
+    said = λ s h t. give (between (record {
+      old = saysWord d (h .a) (h .ae) ONE-ONE;
+      languages = not (eqb (h .c) 0);
+      standard = not (eqb (h .b) 0);
+      latin = s .manner .latin;
+    }) []);
+    closed = give;
+  }
+
+  -- 5, 8; "a second serial or weight, or a wrong type: 52"; its width is judged behind its end tag
+  abbrev pub variable : Meaning State
+  variable = record {
+    charges = λ s h t. identCharges (variablesOf (s .entries)) (figureA h);
+    also = λ s h t. fault 52 (h .c) when useWrong (s .entries) (useAt d (h .c) (h .ce)) (typeAt d (h .b) (h .be)) ∷ [];
+    said = λ s h t. give (begun (s .manner) (s .entries) (figureA h) (sortOf (typeAt d (h .b) (h .be))) (useAt d (h .c) (h .ce)));
+    closed = λ s.
+        held (variableOf (s .ident) (s .name) (s .label) (s .place) (contentIn (s .sort) s)) >>= λ v.
+        give (between (s .manner) (s .entries ++ record { variable = v; usage = s .usage; filter = s .filter } ∷ []));
+  }
+
+  -- "A later variable with the name of a logical that has served as a filter is 52 at its name's text"
+  abbrev pub named : State → Text → Reader State
+  named s t = judged (fault 52 (t .place) when hasServed (s .manner .latin) (s .manner .standard) d (s .entries) t ∷ []) (withName s t)
+
+  -- "exactly one has the decoded text as its name, and that is an earlier logical; else .. 52 at the text's place"
+  abbrev pub filtered : State → Text → Reader State
+  filtered s t =
+      let f = filterOf (s .manner .latin) (s .manner .standard) d (s .entries) (s .name) (s .usage) t in
+      judged (fault 52 (t .place) when eqb f 0 ∷ []) (withFilter s f)
+
+  abbrev pub meaningOf : Element → Meaning State
+  meaningOf Sss = sss
+  meaningOf Date = mute
+  meaningOf Time = mute
+  meaningOf Origin = mute
+  meaningOf User = mute
+  meaningOf Survey = mute
+  meaningOf SurveyName = mute
+  meaningOf SurveyVersion = mute
+  meaningOf Title = mute
+  meaningOf Record = mute
+  meaningOf Variable = variable
+  meaningOf Name = tells named
+  meaningOf Label = tells λ s t. give (withLabel s t)
+  meaningOf Position =
+      judges (λ s h t. positionCharges (figureA h) (Option·getD (figureB h) (figureA h)))
+      λ s h t. withPlace s (record { start = figureA h; finish = figureB h })
+  meaningOf Filter = tells filtered
+  meaningOf Spread =
+      judges (λ s h t. spreadCharges (room (s .place)) (figureA h) (figureB h))
+      λ s h t. withSpread s (record { count = figureA h; width = figureB h })
+  meaningOf Size =
+      judges (λ s h t. sizeCharges (figureOf d (t .place) (t .place + t .length)))
+      λ s h t. withSize s (figureOf d (t .place) (t .place + t .length))
+  meaningOf Values = judges (λ s h t. []) λ s h t. withBlock s (unlisted none)
+  meaningOf Range =
+      judges (λ s h t. pairCharges (isQuantity (s .sort)) (amountA h) (amountB h))
+      λ s h t. withBlock s (unlisted (some (rangeFrom (amountA h) (amountB h))))
+  meaningOf Value =
+      judges (λ s h t. lineCharges (isQuantity (s .sort)) (linesBefore s) (s .block) (amountA h))
+      λ s h t. withBlock s (withLine (s .block) (record { value = amountA h; text = t; special = false }))
+
+  -- "4,096 value lines in all", "512 variables"
+  abbrev pub turnsOf : Element → ℕ
+  turnsOf Sss = 0
+  turnsOf Date = 0
+  turnsOf Time = 0
+  turnsOf Origin = 0
+  turnsOf User = 0
+  turnsOf Survey = 0
+  turnsOf SurveyName = 0
+  turnsOf SurveyVersion = 0
+  turnsOf Title = 0
+  turnsOf Record = 0
+  turnsOf Variable = suc mostRows
+  turnsOf Name = 0
+  turnsOf Label = 0
+  turnsOf Position = 0
+  turnsOf Filter = 0
+  turnsOf Spread = 0
+  turnsOf Size = 0
+  turnsOf Values = 0
+  turnsOf Range = 0
+  turnsOf Value = suc mostLines
+
+  abbrev pub meanings : Meanings State
+  meanings = record {
+    old = λ s. s .manner .old;
+    languages = λ s. s .manner .languages;
+    sort = λ s. s .sort;
+    turns = turnsOf;
+    of = meaningOf;
+  }
