@@ -10,9 +10,10 @@ use Rattle.tags.specs.declared.Tag.the-variants as tag
 use Rattle.tags.specs.rule.Tag.{isNamed}
 use Rattle.pairs.specs.rule.Stand.{bareOf}
 use Rattle.tokens.specs.declared.Fault.{Fault}
+use Rattle.tokens.specs.rule.Gap.{fault}
 use Rattle.reading.specs.rule.Result.{Result, Is, Not, Reader, give, bind}
 use Rattle.reading.specs.rule.Least.{Charge, named, Finding, clean, first, least, found, judged}
-use Rattle.xml_reading.specs.rule.Open.{Open, start, shut, due, onTag, onBare}
+use Rattle.xml_reading.specs.rule.Open.{Open, start, shut, due, onTag, onBare, entered}
 use Rattle.xml_reading.specs.rule.Open as stands
 
 -- ---- one behind the other
@@ -30,6 +31,11 @@ pub both-behind : {A B C E : Type 0} (r : Result A) (k : A → Reader B) (c : A 
     → ((a : A) (n : ℕ) → bind (k a n) z ≡ bind (c a n) y) → bind (bind r k) z ≡ bind (bind r c) y
 both-behind (Is a n) k c z y e = e a n
 both-behind (Not f) k c z y e = refl
+
+-- the first of three first
+pub regroup : {A B C : Type 0} (r : Result A) (k : A → Reader B) (g : B → Reader C) → bind (bind r k) g ≡ bind r λ a n. bind (k a n) g
+regroup (Is a n) k g = refl
+regroup (Not f) k g = refl
 
 -- ---- judged: what it says when nothing is at fault is another matter
 pub judged-as : {A B C : Type 0} (l : List Charge) (a : A) (b : B) (n : ℕ) (k : A → Reader C) (g : B → Reader C) → k a n ≡ g b n
@@ -57,6 +63,17 @@ fit-behind false y l k a f m g = judged-as k (tt {0}) a m (λ u. g a) g refl
 
 module _ (bad : Bool) (d : List ℕ) where
   -- ---- a start tag
+  pub entered-as : {A B C : Type 0} (l : List Charge) (a : A) (b : B) (empty : Bool) (q n : ℕ) (k : A → Reader C) (g : B → Reader C)
+      → ((m : ℕ) → k a m ≡ g b m) → bind (entered bad d l a empty q n) k ≡ bind (entered bad d l b empty q n) g
+  unfolding judged
+  entered-as {A} {B} {C} l a b empty q n k g e = by (least (named l)) empty where
+    by : (x : Finding) (empty : Bool)
+        → bind (bind (found a n x) λ a m. cond empty (Not (fault 2 q)) (Is a m)) k
+        ≡ bind (bind (found b n x) λ b m. cond empty (Not (fault 2 q)) (Is b m)) g
+    by clean true = refl
+    by clean false = e n
+    by (first f) empty = refl
+
   pub on-tag : {A B : Type 0} (t : Tag) (k : Held → Bool → ℕ → Reader A) (c : Held → Bool → ℕ → Reader B) (g : A → Reader B)
       → ((h : Held) (empty : Bool) (q n : ℕ) → c h empty q n ≡ bind (k h empty q n) g) → onTag bad d t c ≡ bind (onTag bad d t k) g
   on-tag (tag.Read h empty q n) k c g e = e h empty q n

@@ -5,3 +5,4 @@ pub mod Behind
 pub mod Leaves
 pub mod Loops
 pub mod Blocks
+pub mod Variables
