@@ -37,6 +37,12 @@ pub regroup : {A B C : Type 0} (r : Result A) (k : A → Reader B) (g : B → Re
 regroup (Is a n) k g = refl
 regroup (Not f) k g = refl
 
+-- three of the one, two of the other
+pub three-behind : {A B C D E : Type 0} (r : Result A) (k : A → Reader B) (c : B → Reader C) (z : C → Reader E) (h : A → Reader D)
+    (y : D → Reader E) → ((a : A) (n : ℕ) → bind (bind (k a n) c) z ≡ bind (h a n) y) → bind (bind (bind r k) c) z ≡ bind (bind r h) y
+three-behind (Is a n) k c z h y e = e a n
+three-behind (Not f) k c z h y e = refl
+
 -- ---- judged: what it says when nothing is at fault is another matter
 pub judged-as : {A B C : Type 0} (l : List Charge) (a : A) (b : B) (n : ℕ) (k : A → Reader C) (g : B → Reader C) → k a n ≡ g b n
     → bind (judged l a n) k ≡ bind (judged l b n) g
@@ -115,3 +121,12 @@ module _ (bad : Bool) (d : List ℕ) where
     by true = e p
     by false = h
   either-behind w (shut p) n c k q r z y e h = h
+
+  -- an element that is due, and what is read on in each
+  pub due-same : {A B E : Type 0} (w : List ℕ) (o : Open) (n : ℕ) (c : ℕ → Reader B) (k : ℕ → Reader A) (z : B → Reader E) (y : A → Reader E)
+      → ((p : ℕ) → bind (c p n) z ≡ bind (k p n) y) → bind (due bad d w o c n) z ≡ bind (due bad d w o k n) y
+  due-same w (start p) n c k z y e = by (isNamed d (p + 1) n w) where
+    by : (x : Bool) → bind (cond x (c p n) (onBare bad d p (bareOf bad d p n))) z ≡ bind (cond x (k p n) (onBare bad d p (bareOf bad d p n))) y
+    by true = e p
+    by false = bare-behind p (bareOf bad d p n) z y
+  due-same w (shut p) n c k z y e = refl

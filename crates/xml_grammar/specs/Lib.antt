@@ -6,3 +6,5 @@ pub mod Leaves
 pub mod Loops
 pub mod Blocks
 pub mod Variables
+pub mod Records
+pub mod Surveys
