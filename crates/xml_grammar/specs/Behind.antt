@@ -99,7 +99,9 @@ module _ (bad : Bool) (d : List ℕ) where
     read : (r : Result A) → bind (bind r λ a. give (f a)) z ≡ bind r y
     read (Is a m) = h a m
     read (Not x) = refl
-    by : (x : Bool) → bind (cond x (c p n) (onBare bad d p (bareOf bad d p n))) z ≡ bind (cond x (k p n) (onBare bad d p (bareOf bad d p n))) y
+
+    by : (x : Bool) → bind (cond x (c p n) (onBare bad d p (bareOf bad d p n))) z
+        ≡ bind (cond x (k p n) (onBare bad d p (bareOf bad d p n))) y
     by true = rw (e p n) (read (k p n))
     by false = bare-behind p (bareOf bad d p n) z y
   due-behind w (shut p) n c k f z y e h = refl
@@ -123,10 +125,12 @@ module _ (bad : Bool) (d : List ℕ) where
   either-behind w (shut p) n c k q r z y e h = h
 
   -- an element that is due, and what is read on in each
-  pub due-same : {A B E : Type 0} (w : List ℕ) (o : Open) (n : ℕ) (c : ℕ → Reader B) (k : ℕ → Reader A) (z : B → Reader E) (y : A → Reader E)
+  pub due-same : {A B E : Type 0} (w : List ℕ) (o : Open) (n : ℕ) (c : ℕ → Reader B) (k : ℕ → Reader A) (z : B → Reader E)
+      (y : A → Reader E)
       → ((p : ℕ) → bind (c p n) z ≡ bind (k p n) y) → bind (due bad d w o c n) z ≡ bind (due bad d w o k n) y
   due-same w (start p) n c k z y e = by (isNamed d (p + 1) n w) where
-    by : (x : Bool) → bind (cond x (c p n) (onBare bad d p (bareOf bad d p n))) z ≡ bind (cond x (k p n) (onBare bad d p (bareOf bad d p n))) y
+    by : (x : Bool) → bind (cond x (c p n) (onBare bad d p (bareOf bad d p n))) z
+        ≡ bind (cond x (k p n) (onBare bad d p (bareOf bad d p n))) y
     by true = e p
     by false = bare-behind p (bareOf bad d p n) z y
   due-same w (shut p) n c k z y e = refl

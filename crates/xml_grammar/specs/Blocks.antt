@@ -59,7 +59,8 @@ module _ (bad : Bool) (d : List ℕ) (f : ℕ) (s : State) where
   unfolding another
   a-round b n K L e =
       turn-is bad d hold VALUE VALUES b (child Value (hold b)) (λ p. lineOn b p >>= λ c. give (Again c)) K L
-      (λ p m. rw (value-is bad d f (hold b) p m) (through (lineIn b p m) (λ l. hold (withLine b l)) K ∙ handed b (λ c. K (hold c)) L (lineIn b p m) e))
+      (λ p m. rw (value-is bad d f (hold b) p m) (through (lineIn b p m) (λ l. hold (withLine b l)) K
+      ∙ handed b (λ c. K (hold c)) L (lineIn b p m) e))
       (onOpen bad d (s .manner .languages) quantity (linesBefore s) b) (λ p m. refl) (λ p m. refl) n
 
   -- ---- a range, or the first value
@@ -73,25 +74,35 @@ module _ (bad : Bool) (d : List ℕ) (f : ℕ) (s : State) where
   first-is n = by (within bad d VALUES n) where
     loop : State → Reader State
     loop t n = bind (repeat (suc mostLines) (round bad d (meanings d) child VALUES Value) t n) (ending bad d hold)
+
     done : Block → Reader State
     done b n = bind (rest b n) held
+
     loops : (b : Block) (n : ℕ) → loop (hold b) n ≡ done b n
     loops b n = rounds-are bad d hold (round bad d (meanings d) child VALUES Value) nextOne a-round (suc mostLines) b n
+
     behind : (r : Result Block) → bind (bind r rest) held ≡ bind r done
     behind (Is b m) = refl
     behind (Not x) = refl
+
     read : (r : Result Block) → bind (bind r held) loop ≡ bind r done
     read (Is b m) = loops b m
     read (Not x) = refl
-    ranged : (p m : ℕ) → bind (child Range (hold (unlisted none)) p m) loop ≡ bind (bind (range bad d quantity p m) λ r. give (unlisted (some r))) done
+
+    ranged : (p m : ℕ) → bind (child Range (hold (unlisted none)) p m) loop
+        ≡ bind (bind (range bad d quantity p m) λ r. give (unlisted (some r))) done
     ranged p m = rw (range-is bad d f (hold (unlisted none)) p m) (on (range bad d quantity p m)) where
-      on : (r : Result survey.Range) → bind (bind r λ r. give (hold (unlisted (some r)))) loop ≡ bind (bind r λ r. give (unlisted (some r))) done
+      on : (r : Result survey.Range) → bind (bind r λ r. give (hold (unlisted (some r)))) loop
+          ≡ bind (bind r λ r. give (unlisted (some r))) done
       on (Is r m) = loops (unlisted (some r)) m
       on (Not x) = refl
+
     lined-is : (p m : ℕ) → child Value (hold (unlisted none)) p m ≡ bind (lineOn (unlisted none) p m) λ b. give (hold b)
     lined-is p m = value-is bad d f (hold (unlisted none)) p m ∙ map-behind (lineIn (unlisted none) p m) _ _ held λ l m. refl
+
     by : (r : Result Open)
-        → bind r (λ o n. bind (stands.either bad d RANGE o (child Range (hold (unlisted none))) (due bad d VALUE o (child Value (hold (unlisted none)))) n) loop)
+        → bind r (λ o n. bind (stands.either bad d RANGE o (child Range (hold (unlisted none)))
+        (due bad d VALUE o (child Value (hold (unlisted none)))) n) loop)
         ≡ bind (bind (bind r λ o. stands.either bad d RANGE o (λ p. range bad d quantity p >>= λ r. give (unlisted (some r)))
         (due bad d VALUE o (lineOn (unlisted none)))) rest) held
     by (Is o m) =

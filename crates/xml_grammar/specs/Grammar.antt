@@ -1,4 +1,5 @@
--- THE GRAMMAR OF DOCUMENT 000, a line an element, as its DTD and "Definition File Elements and Attributes" have it: the word of its tag, its
+-- THE GRAMMAR OF DOCUMENT 000, a line an element, as its DTD and "Definition File Elements and Attributes" have it: the word of its tag,
+-- its
 -- attributes, what it holds. No limit and no test of numbers is here, and nothing mentions a reader. What is `later` or `newly` is not in
 -- version 1.1 ("Changes from triple-s XML 1.1 to triple-s XML 1.2").
 use mathlib.Core.List.{List, [], _∷_, _++_}

@@ -24,7 +24,8 @@ use Rattle.xml_reading.specs.rule.Open.{unknownAt, onTag, nothing}
 use Rattle.xml_reading.specs.rule.Element.{Body, body, text, position, spread, size, sizeIn, figureOf}
 use Rattle.xml_reading.specs.rule.Block.{rich, range, line}
 use Rattle.xml_reading.specs.rule.Role.{naming, filter}
-use Rattle.xml_grammar.specs.Grammar.{Date, Time, Origin, User, SurveyName, SurveyVersion, Title, Name, Label, Position, Filter, Spread}
+use Rattle.xml_grammar.specs.Grammar.{Date, Time, Origin, User, SurveyName, SurveyVersion, Title, Name, Label, Position, Filter}
+use Rattle.xml_grammar.specs.Grammar.{Spread}
 use Rattle.xml_grammar.specs.Grammar.{Size, Range, Value}
 use Rattle.xml_grammar.specs.Reader.{counting, element}
 use Rattle.xml_grammar.specs.Meaning.{State, withName, withLabel, withPlace, withFilter, withSpread, withBlock, withSize, isQuantity}

@@ -8,3 +8,5 @@ pub mod Blocks
 pub mod Variables
 pub mod Records
 pub mod Surveys
+pub mod Words
+pub mod Whole

@@ -36,13 +36,14 @@ module _ (bad : Bool) (d : List ℕ) {S B : Type 0} (hold : B → S) where
   -- rounds of which each is a turn of the rule are its turns
   pub rounds-are : (round : S → Reader (Next S (S × Open))) (another : B → Reader (Next B B))
       → ((b : B) (n : ℕ) (K : S → Reader S) (L : B → Reader S) → ((c : B) (m : ℕ) → K (hold c) m ≡ L c m)
-          → bind (round (hold b) n) (onward K ending) ≡ bind (another b n) (onward L holding))
+      → bind (round (hold b) n) (onward K ending) ≡ bind (another b n) (onward L holding))
       → (f : ℕ) (b : B) (n : ℕ) → bind (repeat f round (hold b) n) ending ≡ bind (repeat f another b n) holding
   unfolding repeat
   rounds-are round another e zero b n = refl
   rounds-are round another e (suc f) b n =
       repeat-by f round (hold b) n ending
-      ∙ (e b n (λ s m. bind (repeat f round s m) ending) (λ c m. bind (repeat f another c m) holding) (λ c m. rounds-are round another e f c m)
+      ∙ (e b n (λ s m. bind (repeat f round s m) ending) (λ c m. bind (repeat f another c m) holding)
+      (λ c m. rounds-are round another e f c m)
       ∙ sym (repeat-by f another b n holding))
 
   -- a round is a turn, where the element in it is read alike

@@ -42,7 +42,8 @@ pub record State : Type 0 where
   pub block : Block
   pub size : Figure
 
-abbrev pub state : Manner → List Entry → Figure → Sort → ℕ → Text → Text → statement.Position → ℕ → Option survey.Spread → Block → Figure → State
+abbrev pub state : Manner → List Entry → Figure → Sort → ℕ → Text → Text → statement.Position → ℕ → Option survey.Spread → Block → Figure
+    → State
 state m l i k u n b p f s v z = record {
   manner = m;
   entries = l;
@@ -76,26 +77,32 @@ abbrev pub between : Manner → List Entry → State
 between m l = begun m l noFigure Logical 0
 
 abbrev pub withName : State → Text → State
-withName s x = state (s .manner) (s .entries) (s .ident) (s .sort) (s .usage) x (s .label) (s .place) (s .filter) (s .spread) (s .block) (s .size)
+withName s x = state (s .manner) (s .entries) (s .ident) (s .sort) (s .usage) x (s .label) (s .place) (s .filter) (s .spread) (s .block)
+    (s .size)
 
 abbrev pub withLabel : State → Text → State
-withLabel s x = state (s .manner) (s .entries) (s .ident) (s .sort) (s .usage) (s .name) x (s .place) (s .filter) (s .spread) (s .block) (s .size)
+withLabel s x = state (s .manner) (s .entries) (s .ident) (s .sort) (s .usage) (s .name) x (s .place) (s .filter) (s .spread) (s .block)
+    (s .size)
 
 abbrev pub withPlace : State → statement.Position → State
-withPlace s x = state (s .manner) (s .entries) (s .ident) (s .sort) (s .usage) (s .name) (s .label) x (s .filter) (s .spread) (s .block) (s .size)
+withPlace s x = state (s .manner) (s .entries) (s .ident) (s .sort) (s .usage) (s .name) (s .label) x (s .filter) (s .spread) (s .block)
+    (s .size)
 
 abbrev pub withFilter : State → ℕ → State
-withFilter s x = state (s .manner) (s .entries) (s .ident) (s .sort) (s .usage) (s .name) (s .label) (s .place) x (s .spread) (s .block) (s .size)
+withFilter s x = state (s .manner) (s .entries) (s .ident) (s .sort) (s .usage) (s .name) (s .label) (s .place) x (s .spread) (s .block)
+    (s .size)
 
 abbrev pub withSpread : State → survey.Spread → State
 withSpread s x =
     state (s .manner) (s .entries) (s .ident) (s .sort) (s .usage) (s .name) (s .label) (s .place) (s .filter) (some x) (s .block) (s .size)
 
 abbrev pub withBlock : State → Block → State
-withBlock s x = state (s .manner) (s .entries) (s .ident) (s .sort) (s .usage) (s .name) (s .label) (s .place) (s .filter) (s .spread) x (s .size)
+withBlock s x = state (s .manner) (s .entries) (s .ident) (s .sort) (s .usage) (s .name) (s .label) (s .place) (s .filter) (s .spread) x
+    (s .size)
 
 abbrev pub withSize : State → Figure → State
-withSize s x = state (s .manner) (s .entries) (s .ident) (s .sort) (s .usage) (s .name) (s .label) (s .place) (s .filter) (s .spread) (s .block) x
+withSize s x = state (s .manner) (s .entries) (s .ident) (s .sort) (s .usage) (s .name) (s .label) (s .place) (s .filter) (s .spread)
+    (s .block) x
 
 -- ---- types
 abbrev pub sortOf : ℕ → Sort

@@ -67,10 +67,12 @@ module _ (bad : Bool) (d : List ℕ) (f : ℕ) (m : Manner) where
     back : (r : Result Entry) → bind r (λ v n. bind (rest v n) held) ≡ bind (bind r rest) held
     back (Is v n) = refl
     back (Not x) = refl
+
     by : (r : Result Open) → bind r (λ o. due bad d VARIABLE o (child Variable (hold [])) >>= loop)
         ≡ bind (bind r λ o. due bad d VARIABLE o (variable bad d m []) >>= rest) held
     by (Is o n) =
-        due-same bad d VARIABLE o n (child Variable (hold [])) (variable bad d m []) loop (λ v n. bind (rest v n) held) (λ p. first-read p n)
+        due-same bad d VARIABLE o n (child Variable (hold [])) (variable bad d m []) loop (λ v n. bind (rest v n) held)
+        (λ p. first-read p n)
         ∙ back (due bad d VARIABLE o (variable bad d m []) n)
     by (Not x) = refl
 

@@ -39,6 +39,7 @@ module _ (bad : Bool) (d : List ℕ) (f : ℕ) where
         → bind (bind r λ t. give s) (λ t. within bad d around >>= at t) ≡ bind (bind r λ t. within bad d around) (at s)
     read (Is t m) = refl
     read (Not x) = refl
+
     by : (x : Bool) → cond x (bind (c p n) λ t. within bad d around >>= at t) (at s (start p) n)
         ≡ bind (cond x (bind (text bad d w k p n) λ t. within bad d around) (Is (start p) n)) (at s)
     by true = rw (e p n) (read (text bad d w k p n))
@@ -46,7 +47,7 @@ module _ (bad : Bool) (d : List ℕ) (f : ℕ) where
   perhaps-is around w k s c at e (shut p) n = refl
 
   -- behind the last part, the end tag of an element
-  abbrev ended : List ℕ → State → Reader State
+  abbrev pub ended : List ℕ → State → Reader State
   ended w s = within bad d w >>= λ o. over bad d o >> give s
 
   -- ---- survey
@@ -66,7 +67,7 @@ module _ (bad : Bool) (d : List ℕ) (f : ℕ) where
   versioned = newly SurveyVersion ∷ titled
 
   -- a manner by its four, so that a version can be looked at
-  abbrev by : Bool → Bool → Bool → Bool → Manner
+  abbrev pub by : Bool → Bool → Bool → Bool → Manner
   by old languages standard latin = record { old = old; languages = languages; standard = standard; latin = latin }
 
   module _ (languages standard latin : Bool) where
@@ -101,7 +102,8 @@ module _ (bad : Bool) (d : List ℕ) (f : ℕ) where
         ≡ bind (titles bad d (by old languages standard latin) n) (inSurvey last .at (so old))
     unfolding steps titles
     titles-part true n =
-        map-behind (within bad d SURVEY n) title-read (inSurvey titled .at (so true)) (inSurvey last .at (so true)) λ o n. title-part true o n
+        map-behind (within bad d SURVEY n) title-read (inSurvey titled .at (so true)) (inSurvey last .at (so true)) λ o n. title-part true o
+        n
     titles-part false n =
         map-behind (within bad d SURVEY n) (λ o. (perhaps bad d SURVEY NAME 0 o >>= perhaps bad d SURVEY VERSION 0) >>= title-read)
         (inSurvey (newly SurveyName ∷ versioned) .at (so false)) (inSurvey last .at (so false)) λ o n.
@@ -110,10 +112,10 @@ module _ (bad : Bool) (d : List ℕ) (f : ℕ) where
         ∙ named-then (perhaps bad d SURVEY NAME 0 o n)
 
   module _ (m : Manner) where
-    abbrev recorded : Reader State
+    abbrev pub recorded : Reader State
     recorded = variables bad d m >>= λ l. ended SURVEY (between m l)
 
-    abbrev surveyed : Reader State
+    abbrev pub surveyed : Reader State
     surveyed = titles bad d m >>= λ o. due bad d RECORD o (record-tag bad d m) >> recorded
 
     record-then : (r : Result Unit) → bind (bind r λ u. variables bad d m >>= λ l. give (between m l)) (ended SURVEY) ≡ bind r λ u. recorded
@@ -138,7 +140,8 @@ module _ (bad : Bool) (d : List ℕ) (f : ℕ) where
         same-behind (enter bad d (unknownAt (h .unknown) ∷ []) empty q n) _ _ λ u n.
         closing _
         ∙ (titles-part (m .languages) (m .standard) (m .latin) (m .old) n
-        ∙ same-behind (titles bad d m n) (inSurvey last .at (between m [])) (λ o. due bad d RECORD o (record-tag bad d m) >> recorded) λ o n.
+        ∙ same-behind (titles bad d m n) (inSurvey last .at (between m [])) (λ o. due bad d RECORD o (record-tag bad d m) >> recorded)
+        λ o n.
         record-part o n)
 
   -- ---- sss
@@ -196,7 +199,8 @@ module _ (bad : Bool) (d : List ℕ) (f : ℕ) where
     sss-part n =
         closing _
         ∙ (heading-part (between m []) n
-        ∙ same-behind (heading bad d n) (inSss surveys .at (between m [])) (λ o. due bad d SURVEY o (survey bad d) >> (surveyed m >>= ended SSS))
+        ∙ same-behind (heading bad d n) (inSss surveys .at (between m []))
+        (λ o. due bad d SURVEY o (survey bad d) >> (surveyed m >>= ended SSS))
         λ o n. survey-part o n)
 
   pub sss-is : (latin : Bool) (p e : ℕ) → element bad d (meanings d) (suc (suc (suc (suc (suc (suc f)))))) Sss (unknown latin) p e

@@ -25,7 +25,8 @@ use Rattle.xml_reading.specs.rule.Variable.{Manner, Then, with, filtered, sprea
 use Rattle.xml_grammar.specs.Grammar.{Element, Variable, Name, Label, Position, Filter, Spread, Values, Size}
 use Rattle.xml_grammar.specs.Grammar.{Part, once, newly, typedOf}
 use Rattle.xml_grammar.specs.Reader.{Steps, steps, element}
-use Rattle.xml_grammar.specs.Meaning.{State, begun, between, withName, withLabel, withPlace, withFilter, withSpread, withBlock, withSize}
+use Rattle.xml_grammar.specs.Meaning.{State, begun, between, withName, withLabel, withPlace, withFilter, withSpread, withBlock}
+use Rattle.xml_grammar.specs.Meaning.{withSize}
 use Rattle.xml_grammar.specs.Meaning.{sortOf, contentIn, linesBefore, meanings}
 use Rattle.xml_grammar.specs.Meaning as meaning
 use Rattle.xml_grammar.specs.Behind.{map-behind, both-behind, regroup, entered-as, on-tag, due-behind, either-behind}
@@ -109,6 +110,7 @@ module _ (bad : Bool) (d : List ℕ) (f : ℕ) where
   content-by m p before t o = by (eqb t 1) (eqb t 2) (eqb t 3) (eqb t 4) where
     of : Sort → Reader Content
     of k = contentBy m p before k o
+
     by : (v w x y : Bool)
         → cond v (of Single) (cond w (of Multiple) (cond x (of Quantity) (cond y (of Character) (of Logical))))
         ≡ of (cond v Single (cond w Multiple (cond x Quantity (cond y Character Logical))))
@@ -123,7 +125,8 @@ module _ (bad : Bool) (d : List ℕ) (f : ℕ) where
       → bind (bind (due bad d VALUES o (child Values s) n) ended) closed
       ≡ bind (bind (blockIn (s .manner) (meaning.isQuantity (s .sort)) (linesBefore s) o n) λ b. ended (con b)) fin
   block-is s con fin e o n =
-      due-then VALUES (child Values s) (values bad d (s .manner .languages) (meaning.isQuantity (s .sort)) (linesBefore s)) (withBlock s) ended
+      due-then VALUES (child Values s) (values bad d (s .manner .languages) (meaning.isQuantity (s .sort)) (linesBefore s)) (withBlock s)
+      ended
       (λ b. ended (con b)) closed fin (λ p m. values-is bad d f s p m) (λ b m. ended-as (withBlock s b) (con b) closed fin (e b) m) o n
 
   module _ (m : Manner) (l : List Entry) (i : Figure) (u : ℕ) (name label : Text) (p : statement.Position) (x : ℕ) where
@@ -196,7 +199,8 @@ module _ (bad : Bool) (d : List ℕ) (f : ℕ) where
         rw (content-by m p lines t o)
         (rest-is (sortOf t) o n
         ∙ map-behind (contentBy m p lines (sortOf t) o n) made fin listed λ c n.
-        map-behind (sort.held (variableOf i name label p c) n) (λ v. give (record { variable = v; usage = u; filter = x })) added listed λ v n.
+        map-behind (sort.held (variableOf i name label p c) n) (λ v. give (record { variable = v; usage = u; filter = x })) added listed
+        λ v n.
         refl)
 
   -- ---- a filter or none
@@ -275,14 +279,16 @@ module _ (bad : Bool) (d : List ℕ) (f : ℕ) where
     opened t = begun m l (t .ident) (sortOf (t .type)) (t .usage)
 
     parts-are : (t : Title) (n : ℕ)
-        → bind (steps bad d (meanings d) child VARIABLE (once Name ∷ once Label ∷ once Position ∷ newly Filter ∷ typedOf (sortOf (t .type))) .go
+        → bind (steps bad d (meanings d) child VARIABLE
+        (once Name ∷ once Label ∷ once Position ∷ newly Filter ∷ typedOf (sortOf (t .type))) .go
         (opened t) n) closed
         ≡ bind (after t n) entry
     unfolding steps
     parts-are t n =
         due-next NAME (child Name (opened t)) (naming bad d (m .latin) (m .standard) l) (withName (opened t)) _ _ closed entry
         (λ q n. name-is bad d (suc f) (opened t) q n) (λ name n.
-        due-next LABEL (child Label (withName (opened t) name)) (text bad d LABEL (rich (m .languages))) (withLabel (withName (opened t) name)) _ _
+        due-next LABEL (child Label (withName (opened t) name)) (text bad d LABEL (rich (m .languages)))
+        (withLabel (withName (opened t) name)) _ _
         closed entry (λ q n. label-is bad d (suc f) (withName (opened t) name) q n) (λ label n.
         due-next POSITION (child Position (withLabel (withName (opened t) name) label)) (position bad d)
         (withPlace (withLabel (withName (opened t) name) label)) _ _ closed entry
