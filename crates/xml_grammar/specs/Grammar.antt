@@ -1,7 +1,6 @@
 -- THE GRAMMAR OF DOCUMENT 000, a line an element, as its DTD and "Definition File Elements and Attributes" have it: the word of its tag,
--- its
--- attributes, what it holds. No limit and no test of numbers is here, and nothing mentions a reader. What is `later` or `newly` is not in
--- version 1.1 ("Changes from triple-s XML 1.1 to triple-s XML 1.2").
+-- its attributes, what it holds, in this order. No limit and no test of numbers is here, and nothing mentions a reader. What is `later` or
+-- `newly` is not in version 1.1 ("Changes from triple-s XML 1.1 to triple-s XML 1.2"). Inside texts stand br and text: crate `contents`.
 use mathlib.Core.List.{List, [], _∷_, _++_}
 use Prim.Native.Nat.{ℕ}
 use Rattle.forms.specs.rule.Form as form
@@ -51,6 +50,7 @@ pub data Holds : Type 0 where
   parts : List Part → Holds
   typed : List Part → Holds
 
+-- attributes that are required stand first
 pub record Rule : Type 0 where
   pub word : List ℕ
   pub attributes : List Attribute
@@ -61,6 +61,7 @@ rule w a h = record { word = w; attributes = a; holds = h }
 
 -- ---- the table
 abbrev pub ruleOf : Element → Rule
+-- <!ELEMENT sss (date?, time?, origin?, user?, survey)>
 ruleOf Sss =
     rule SSS (required VERSION anything ∷ implied OPTIONS option ∷ later LANGUAGES anything ∷ [])
     (parts (perhaps Date ∷ perhaps Time ∷ perhaps Origin ∷ perhaps User ∷ once Survey ∷ []))
@@ -68,11 +69,14 @@ ruleOf Date = rule DATE [] plain
 ruleOf Time = rule TIME [] plain
 ruleOf Origin = rule ORIGIN [] plain
 ruleOf User = rule USER [] plain
+-- <!ELEMENT survey (name?, version?, title?, record)>
 ruleOf Survey = rule SURVEY [] (parts (newly SurveyName ∷ newly SurveyVersion ∷ perhaps Title ∷ once Record ∷ []))
 ruleOf SurveyName = rule NAME [] plain
 ruleOf SurveyVersion = rule VERSION [] plain
 ruleOf Title = rule TITLE [] texts
+-- <!ELEMENT record (variable+)>
 ruleOf Record = rule RECORD (required IDENT letter ∷ later HREF anything ∷ []) (parts (once Variable ∷ any Variable ∷ []))
+-- <!ELEMENT variable (name, label, position, filter?, ((spread?, values) | size)?)>
 ruleOf Variable =
     rule VARIABLE (required IDENT digits ∷ required TYPE type ∷ later USE usage ∷ [])
     (typed (once Name ∷ once Label ∷ once Position ∷ newly Filter ∷ []))
@@ -82,6 +86,7 @@ ruleOf Position = rule POSITION (required START digits ∷ implied FINISH digits
 ruleOf Filter = rule FILTER [] plain
 ruleOf Spread = rule SPREAD (required SUBFIELDS digits ∷ implied WIDTH digits ∷ []) nothing
 ruleOf Size = rule SIZE [] number
+-- <!ELEMENT values (value+ | (range, value*))>
 ruleOf Values = rule VALUES [] (parts (either Range Value ∷ any Value ∷ []))
 ruleOf Range = rule RANGE (required FROM signed ∷ required TO signed ∷ []) nothing
 ruleOf Value = rule VALUE (required CODE signed ∷ []) texts

@@ -1,5 +1,5 @@
 -- What each element of the table says, and what is at fault in it: by the judging functions that the rule has (crates `reading` and
--- `xml_reading`). No word of a tag, no order and no count is here. Above it: the theorems that the rule is the reader of the table.
+-- `xml_reading`). No tag, no attribute and no order is here. Above it: the theorems that the rule is the reader of the table.
 use mathlib.Core.Bool.{Bool, true, false, cond, not, _&&_}
 use mathlib.Core.List.{List, [], _∷_, _++_}
 use mathlib.Core.Option.{Option, none, some, Option·getD}
@@ -25,6 +25,7 @@ use Rattle.xml_reading.specs.rule.Variable.{Manner}
 use Rattle.xml_reading.specs.rule.Sheet.{saysWord}
 use Rattle.xml_grammar.specs.Grammar.{Element, Sss, Date, Time, Origin, User, Survey, SurveyName, SurveyVersion, Title, Record}
 use Rattle.xml_grammar.specs.Grammar.{Variable, Name, Label, Position, Filter, Spread, Size, Values, Range, Value}
+use Rattle.xml_grammar.specs.Grammar.{Attribute, required, implied, later, ruleOf}
 use Rattle.xml_grammar.specs.Reader.{Meaning, Meanings}
 
 -- ---- what was read so far: of the file, and of the variable that is open
@@ -125,6 +126,18 @@ contentIn Logical s = logical
 abbrev pub linesBefore : State → ℕ
 linesBefore s = linesAll (variablesOf (s .entries))
 
+-- the third of the attributes is not in version 1.1
+abbrev pub isLater : Attribute → Bool
+isLater (required w f) = false
+isLater (implied w f) = false
+isLater (later w f) = true
+
+abbrev pub thirdLater : List Attribute → Bool
+thirdLater [] = false
+thirdLater (x ∷ []) = false
+thirdLater (x ∷ y ∷ []) = false
+thirdLater (x ∷ y ∷ z ∷ l) = isLater z
+
 -- ---- elements that say something
 -- says nothing that a table has
 abbrev pub mute : Meaning State
@@ -152,11 +165,13 @@ module _ (d : List ℕ) where
   abbrev pub amountB : Held → Amount
   amountB h = amountIn d (h .b) (h .be)
 
-  -- "4 in XML a version not 1.1 or 1.2"; "Version 1.1 has no .. languages"
+  -- "4 in XML a version not 1.1 or 1.2"; "Version 1.1 has no .. languages": the version is known only with the tag read
   abbrev pub sss : Meaning State
   sss = record {
     charges = λ s h t. fault 4 (h .a) when (not (saysWord d (h .a) (h .ae) ONE-ONE) && not (saysWord d (h .a) (h .ae) ONE-TWO)) ∷ [];
-    also = λ s h t. fault 51 (h .third) when (saysWord d (h .a) (h .ae) ONE-ONE && not (eqb (h .c) 0)) ∷ [];
+    also = λ s h t.
+        cond (thirdLater (ruleOf Sss .attributes)) (fault 51 (h .third) when (saysWord d (h .a) (h .ae) ONE-ONE && not (eqb (h .c) 0)) ∷ [])
+        [];
     said = λ s h t. give (between (record {
       old = saysWord d (h .a) (h .ae) ONE-ONE;
       languages = not (eqb (h .c) 0);

@@ -1,5 +1,6 @@
--- THE READER THAT KNOWS NOTHING BUT THE TABLE (Grammar.antt) and what each element says (`Meaning`): it reads any file of any such table. A
--- state is handed from element to element. Above it: Meaning.antt, and the theorems that the rule of crate `xml_reading` is this reader.
+-- THE READER THAT KNOWS NOTHING BUT THE TABLE (Grammar.antt) and what each element says (`Meaning`). A state is handed from element to
+-- element. Where the grammar is left, `due`, `over` and `within` of crate `xml_reading` have the number: 51 for a start tag that may not
+-- stand there, 2 for an end tag or text, 50 where XML is broken. Above it: Meaning.antt, and that the rule is this reader.
 use mathlib.Core.Bool.{Bool, true, false, cond}
 use mathlib.Core.List.{List, [], _∷_, _++_}
 use Prim.Native.Nat.{ℕ, zero, suc, _+_, _-_}

@@ -1,6 +1,5 @@
 -- THE WHOLE: a definition in XML is read as the table of document 000 (Grammar.antt) says, element by element, and every refusal is the
--- same:
--- number and place. Before `<sss` stand the declaration and the DOCTYPE, behind `</sss>` what may follow: crate `prologs`.
+-- same, number and place. Before `<sss` stand the declaration and the DOCTYPE, behind `</sss>` what may follow: crate `prologs`.
 use mathlib.Core.Path.{_≡_, refl, _∙_, sym}
 use mathlib.Core.Bool.{Bool, true, false, cond}
 use mathlib.Core.List.{List, [], _∷_, _++_}
