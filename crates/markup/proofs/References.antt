@@ -165,6 +165,10 @@ numbered-sound h n c′ n′ s e =
       some [] a g = no-zero (rw (small 0 (omega arith)) at g)
       some (b ∷ l) a g = digits a
 
+-- how long the name of such a character is, with its semicolon
+abbrev pub longOf : ℕ → ℕ
+longOf c = cond (leb 60 c) 3 (cond (eqb c 38) 4 5)
+
 -- one of the five names stands
 record Which (s : List ℕ) : Type 0 where
   pub name : List ℕ
@@ -172,10 +176,13 @@ record Which (s : List ℕ) : Type 0 where
   pub after : List ℕ
   pub ref : Ref name code
   pub split : s ≡ name ++ after
+  pub says : namedOf s ≡ code
+  pub long : length name ≡ longOf code
 
-named-which : (s : List ℕ) → legal (namedOf s) ≡ true → Which s
+named-which : (s : List ℕ) → (namedOf s ≡ 0 → ⊥) → Which s
 unfolding namedOf
-named-which s e = by (stands lt-is s) (stands gt-is s) (stands amp-is s) (stands apos-is s) (stands quot-is s) refl refl refl refl refl e
+named-which s h =
+    by (stands lt-is s) (stands gt-is s) (stands amp-is s) (stands apos-is s) (stands quot-is s) refl refl refl refl refl refl
   where
     lt-is : List ℕ
     lt-is = 108 ∷ 116 ∷ 59 ∷ []
@@ -192,17 +199,46 @@ named-which s e = by (stands lt-is s) (stands gt-is s) (stands amp-is s) (stands
     quot-is : List ℕ
     quot-is = 113 ∷ 117 ∷ 111 ∷ 116 ∷ 59 ∷ []
 
-    found : (w : List ℕ) (c : ℕ) → Ref w c → stands w s ≡ true → Which s
-    found w c r f = let x = stands-split w s f in record { name = w; code = c; after = x .0; ref = r; split = x .1 }
+    found : (w : List ℕ) (c : ℕ) → Ref w c → stands w s ≡ true → namedOf s ≡ c → length w ≡ longOf c → Which s
+    found w c r f g l = let x = stands-split w s f in
+        record { name = w; code = c; after = x .0; ref = r; split = x .1; says = g; long = l }
 
     by : (q r t u v : Bool) → stands lt-is s ≡ q → stands gt-is s ≡ r → stands amp-is s ≡ t → stands apos-is s ≡ u → stands quot-is s ≡ v
-        → legal (cond q 60 (cond r 62 (cond t 38 (cond u 39 (cond v 34 0))))) ≡ true → Which s
-    by true r t u v a b c d e g = found lt-is 60 lt a
-    by false true t u v a b c d e g = found gt-is 62 gt b
-    by false false true u v a b c d e g = found amp-is 38 amp c
-    by false false false true v a b c d e g = found apos-is 39 apos d
-    by false false false false true a b c d e g = found quot-is 34 quot e
-    by false false false false false a b c d e g = no-zero g
+        → namedOf s ≡ cond q 60 (cond r 62 (cond t 38 (cond u 39 (cond v 34 0)))) → Which s
+    by true r t u v a b c d e g = found lt-is 60 lt a g refl
+    by false true t u v a b c d e g = found gt-is 62 gt b g refl
+    by false false true u v a b c d e g = found amp-is 38 amp c g refl
+    by false false false true v a b c d e g = found apos-is 39 apos d g refl
+    by false false false false true a b c d e g = found quot-is 34 quot e g refl
+    by false false false false false a b c d e g = absurd (h g)
+
+-- which of them stands says the character and the place behind it
+pub name-reference : (p : ℕ) (s : List ℕ) → (namedOf s ≡ 0 → ⊥) → referenceOf p s ≡ Is (namedOf s) (p + 1 + longOf (namedOf s))
+name-reference p s h = let w = named-which s h in
+    ap (referenceOf p) (w .split) ∙ reference-complete p (w .ref) (w .after) ∙ rw (w .says, w .long)
+
+pub named-fits : (s : List ℕ) → (namedOf s ≡ 0 → ⊥) → longOf (namedOf s) ≤ length s
+named-fits s h =
+    let w = named-which s h in
+    let a = ap length (w .split) in
+    let b = length-append (w .name) (w .after) in
+    let c = w .long in
+    let e : longOf (w .code) ≤ length s = omega arith in
+    rw (w .says) e
+
+-- any other name says no character, whatever ends it
+no-code : (n : ℕ) (s : List ℕ) → closedOf n 0 s ≡ Bad
+unfolding closedOf legal
+no-code n [] = refl
+no-code n (b ∷ s) = by (eqb b 59) where
+  by : (q : Bool) → cond q (cond (legal 0) (Is 0 (n + 1)) Bad) Bad ≡ Bad
+  by true = refl
+  by false = refl
+
+pub name-bad : (p : ℕ) (s : List ℕ) → stands (35 ∷ 120 ∷ []) s ≡ false → stands (35 ∷ []) s ≡ false → namedOf s ≡ 0 → referenceOf p s
+    ≡ Bad
+unfolding referenceOf
+name-bad p s f g h = rw (f, g, h) (no-code (runOf (ofKind 1) (p + 1) s) (restOf (ofKind 1) s))
 
 name-sound : (p c n : ℕ) (s : List ℕ) → referenceOf p s ≡ Is c n → Which s → Referred s p c n
 name-sound p c n s e w =
@@ -246,7 +282,8 @@ reference-sound p c n s e = by (stands (35 ∷ 120 ∷ []) s) (stands (35 ∷ []
   by false true f g e = let x = stands-split (35 ∷ []) s g in
       with-digits (drop 1 s) (x .1 ∙ ap (λ (t : List ℕ). 35 ∷ t) (sym (ap (drop 1) (x .1)))) (numbered-sound false (p + 2) c n (drop 1 s) e)
   by false false f g d =
-      name-sound p c n s e (named-which s (closed-is (runOf (ofKind 1) (p + 1) s) (namedOf s) c n (restOf (ofKind 1) s) d .good))
+      let g = closed-is (runOf (ofKind 1) (p + 1) s) (namedOf s) c n (restOf (ofKind 1) s) d .good in
+      name-sound p c n s e (named-which s λ z. no-zero (rw z at g))
 
 -- REFERENCE: it says c up to n exactly when what follows the & up to n is one of the five names, or a number of a legal character
 pub reference-exactly : (p c n : ℕ) (s : List ℕ) → (referenceOf p s ≡ Is c n) ↔ Referred s p c n

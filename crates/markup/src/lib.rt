@@ -1,8 +1,10 @@
 // White space, names, references, comments and gaps, byte by byte. The text ends where the characters do (utf::first_bad); `bad` says
 // that a bad character cuts it there, and not the file's end.
 ghost use mathlib.Core.Path.{_≡_};
+ghost use mathlib.Core.Bool.{cond};
 ghost use mathlib.Core.List.{[], _∷_};
 ghost use Prim.Native.Nat.{_+_, _-_, _≤_, _<_};
+ghost use lib.Dec.{leb, eqb};
 ghost use lib.ListN.{length, drop};
 ghost use Rattle.markup.specs.rule.Bytes.{isWhite, isDigit, isHex, startsName, isName, ofKind, runOf, stands, endFault};
 ghost use Rattle.markup.specs.rule.Reference.{digitOf, pushOf, capped, figureOf, closedOf, namedOf, numberedOf, referenceOf};
@@ -204,6 +206,16 @@ fn named(d: &[u8], at: usize) -> u64
     0
 }
 
+// How long the name of such a character is, with its semicolon.
+fn name_long(code: u64) -> usize
+    ensures { λ r. ⌜ r ≡ cond (leb 60 code) 3 (cond (eqb code 38) 4 5) ⌝ }
+{
+    if 60 <= code {
+        return 3;
+    }
+    if code == 38 { 4 } else { 5 }
+}
+
 fn numbered(hex: bool, d: &[u8], n: usize) -> Char
     requires { ⌜ n ≤ length (now d) ⌝ }
     ensures { λ r. ⌜ r ≡ numberedOf hex n (drop n (now (d .entry))) ⌝ }
@@ -224,9 +236,13 @@ pub fn reference(d: &[u8], at: usize) -> Char
     if is_there(d, from, b"#") {
         return numbered(false, d, at + 2);
     }
-    let n = run(1, d, from);
+    // a name that is none of the five says no character, whatever ends it
     let code = named(d, from);
-    closed(d, n, code)
+    if code == 0 {
+        return Char::Bad;
+    }
+    let next = from + name_long(code);
+    Char::Is { code, next }
 }
 
 // The place after what was skipped; or the place that is faulted with 50.

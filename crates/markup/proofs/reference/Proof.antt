@@ -5,9 +5,8 @@ use lib.Seq.{drop-drop}
 use borrow.Author.Needs.{needs}
 use native.Mathlib.Omega.{arith}
 use Rattle.markup.specs.rule.Reference.{referenceOf}
-use Rattle.markup.specs.rule.Bytes.{ofKind}
-use Rattle.markup.proofs.Runs.{rest-at}
 use Rattle.markup.proofs.Gaps.{stands-long}
+use Rattle.markup.proofs.References.{name-reference, name-bad, named-fits}
 use Rattle.markup.proofs.reference.Statement.{statement}
 use Rattle.markup.proofs.reference.Tie as tie
 
@@ -67,18 +66,26 @@ returns-2 c =
     ) (c .numbered2 .ensures)
 
 returns-3 : tie.Need-returns-3
-unfolding referenceOf
 returns-3 c =
+    let a = c .before .before .before .before .before .before .before .before .before .args in
+    sym (name-bad (a .at) (drop (a .at + 1) (a .d .now))
+    (sym (c .before .before .before .before .before .before .is-there .ensures) ∙ c .before .before .before .before .before .if1 .left)
+    (sym (c .before .before .before .is-there2 .ensures) ∙ c .before .before .if2 .left)
+    (sym (c .before .named .ensures) ∙ c .if3 .taken))
+
+returns-4 : tie.Need-returns-4
+returns-4 c =
     let a = c .before .before .before .before .before .before .before .before .before .before .args in
-    rw (
-      sym (c .before .before .before .before .before .before .before .is-there .ensures)
-          ∙ c .before .before .before .before .before .before .if1 .left,
-      sym (c .before .before .before .before .is-there2 .ensures) ∙ c .before .before .before .if2 .left,
-      ← (c .before .named .ensures),
-    )
-    (c .closed .ensures ∙ rw (c .before .before .run .ensures .0, rest-at (ofKind 1) (a .d .now) (a .at + 1)))
+    sym (name-reference (a .at) (drop (a .at + 1) (a .d .now)) (λ z. c .before .if3 .left (c .before .before .named .ensures ∙ z))
+    ∙ rw (c .name-long .ensures, c .before .before .named .ensures))
 
 pub reference-spec : {M : Type 1} → statement M
 reference-spec = tie.close (tie.spec (λ c. search needs) (λ c. search needs) (λ c κs. search needs) add-numbered numbered-requires returns
-    (λ c. search needs) (λ c κs. search needs) add-numbered-2 numbered-requires-2 returns-2 (λ c κs. search needs) (λ c κs. search needs)
-    (λ c κs. search needs) returns-3)
+    (λ c. search needs) (λ c κs. search needs) add-numbered-2 numbered-requires-2 returns-2 (λ c κs. search needs) returns-3
+    (λ c κs. search needs)
+    -- the name and its semicolon lie within the text
+    (λ c.
+    let a = c .before .before .before .before .before .before .before .before .before .before .args in
+    let e : c .name-long .result ≤ length (drop (a .at + 1) (a .d .now)) = rw (c .name-long .ensures, c .before .before .named .ensures)
+    (named-fits (drop (a .at + 1) (a .d .now)) λ z. c .before .if3 .left (c .before .before .named .ensures ∙ z)) in
+    omega (arith, e, length-drop (a .at + 1) (a .d .now))) returns-4)
