@@ -1,5 +1,6 @@
 // Whether a row allows a number: its range first, then its lines. Above it stand the readings and the writes of fields.
 ghost use mathlib.Core.Path.{_≡_};
+ghost use mathlib.Core.Bool.{true};
 ghost use Prim.Native.Nat.{_+_};
 ghost use Rattle.fields.specs.rule.Legal.{inRange, onLine, legal};
 ghost use Rattle.fields.specs.Facts.{LineFacts};
@@ -33,11 +34,27 @@ pub fn on_line(t: &[i64], rows: usize, row: Row, z: i64) -> bool
     false
 }
 
+// Whether the number stands on the line that it stands on where the lines count from 1, as most do.
+fn on_own_line(t: &[i64], rows: usize, row: Row, z: i64) -> bool
+    requires { ⌜ LineFacts (now t) rows row ⌝ }
+    ensures { λ r. ⌜ (r ≡ true → onLine (now (t .entry)) rows row z ≡ true) ⌝ }
+{
+    let c = cells::count_of(z);
+    if (0 < c) & (c <= row.lines) {
+        let at = Line::base(rows, row.before + (c - 1));
+        return cells::same(t[at], z);
+    }
+    false
+}
+
 pub fn is_legal(t: &[i64], rows: usize, row: Row, z: i64) -> bool
     requires { ⌜ LineFacts (now t) rows row ⌝ }
     ensures { λ r. ⌜ r ≡ legal (now (t .entry)) rows row z ⌝ }
 {
     if in_range(row, z) {
+        return true;
+    }
+    if on_own_line(t, rows, row, z) {
         return true;
     }
     on_line(t, rows, row, z)
