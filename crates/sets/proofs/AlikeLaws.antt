@@ -194,12 +194,17 @@ module _ (x y : ℕ) (r : List ℕ) (at : ℕ) where
             (within (first + k) (omega arith) (omega arith)
             ∙ and-true _ _ (le-leb first (first + k) (omega arith)) (le-leb (first + k) last (omega arith)))))
 
+-- ---- where all bytes of the position are alike, those of the categories are
+pub any-alike : (x y : ℕ) (r : List ℕ) (at w : ℕ) (ok : ℤ → Bool) → allBelow w (λ k. oneOf x y (getD r (at + k) 0)) ≡ true
+    → allAt x y r at w ok ≡ true
+any-alike x y r at w ok e = all x y r at w ok (λ d l m g. all-at (λ k. oneOf x y (getD r (at + k) 0)) w (d - 1) (omega arith) e)
+
 -- ---- where every category from 1 to w is allowed, the bytes stand side by side
 pub each-alike : (x y : ℕ) (r : List ℕ) (at w : ℕ) (ok : ℤ → Bool) → ((c : ℕ) → 1 ≤ c → c ≤ w → ok (pos c) ≡ true)
     → allBelow w (λ k. oneOf x y (getD r (at + k) 0)) ≡ allAt x y r at w ok
 each-alike x y r at w ok h =
     same-bool _ _
-    (λ e. all x y r at w ok (λ d l m g. all-at (λ k. oneOf x y (getD r (at + k) 0)) w (d - 1) (omega arith) e))
+    (any-alike x y r at w ok)
     (λ e. all-of (λ k. oneOf x y (getD r (at + k) 0)) w (λ k l.
     let q : k + 1 - 1 ≡ k = omega arith in
     rw q at (each x y r at w ok e (k + 1) (omega arith) (omega arith) (h (k + 1) (omega arith) (omega arith)))))

@@ -1,6 +1,6 @@
 -- A set's answer and the list after it, by what was found; and a field of either form by the tests on it.
 -- Assumes nothing.
-use mathlib.Core.Path.{_≡_, subst}
+use mathlib.Core.Path.{_≡_, refl, subst}
 use mathlib.Core.Bool.{Bool, true, false, not}
 use mathlib.Core.List.{List}
 use Prim.Native.Nat.{ℕ, _-_, _≤_, _<_}
@@ -65,6 +65,14 @@ module _ (cs s : List ℕ) where
     pub bits-wrong : allBits s ≡ false → bitsField cs s ≡ illegal
     unfolding bitsField
     bits-wrong e = rw (some, e)
+
+  -- bytes that are all `0` and `1` are legal, be there any or none
+  pub bits-fine : allBits s ≡ true → false ≡ isIllegal (bitsField cs s)
+  bits-fine e = go (allSpaces s) refl
+    where
+      go : (b : Bool) → allSpaces s ≡ b → false ≡ isIllegal (bitsField cs s)
+      go true p = legal-not _ _ (bits-missing p)
+      go false p = legal-not _ _ (bits-members p e)
 
 -- ---- a spread
 module _ (ok : ℤ → Bool) (w n : ℕ) (s : List ℕ) where

@@ -1,8 +1,9 @@
-// A bitstring: byte c of the position for each category c that the row allows, each `0` or `1`. No other byte is looked at.
+// A bitstring: byte c of the position for each category c that the row allows, each `0` or `1`. No other byte counts.
 ghost use mathlib.Core.Path.{_≡_};
-ghost use mathlib.Core.Bool.{cond};
+ghost use mathlib.Core.Bool.{Bool, true, false, cond};
 ghost use lib.Dec.{eqb};
 ghost use Prim.Native.Nat.{_+_, _≤_};
+ghost use lib.IntN.{ℤ};
 ghost use lib.ListN.{length};
 ghost use Rattle.fields.specs.rule.Legal.{legal};
 ghost use Rattle.fields.specs.rule.Field.{holds, members};
@@ -116,12 +117,30 @@ fn fill_each(bytes: &[u8], at: usize, w: usize, list: &mut [i64])
     }
 }
 
+// Whether all bytes of the position are `0` and `1`, or all spaces: then the bitstring is legal, whatever its categories are. Many are
+// looked at together, so that this is worth a try unless there are few lines.
+fn position_alike(bytes: &[u8], at: usize, w: usize, lines: usize) -> bool
+    requires { ⌜ BitsRoom at w (length (now bytes)) ⌝ }
+    ensures { λ r. ⌜ (r ≡ true → (ok : ℤ → Bool) → false ≡ isIllegal (bitsFieldAt (defined ok 1 w) at (now (bytes .entry)))) ⌝ }
+{
+    if lines < w / 16 {
+        return false;
+    }
+    if run_is(bytes, at, w, 48, 49) {
+        return true;
+    }
+    run_is(bytes, at, w, 32, 32)
+}
+
 // Whether the bitstring is illegal.
 pub fn judge(t: &[i64], rows: usize, row: Row, bytes: &[u8], at: usize, w: usize) -> bool
     requires { ⌜ LineFacts (now t) rows row ⌝ }
     requires { ⌜ BitsRoom at w (length (now bytes)) ⌝ }
     ensures { λ r. ⌜ r ≡ isIllegal (bitsFieldAt (codesTo (now (t .entry)) rows row w) at (now (bytes .entry))) ⌝ }
 {
+    if position_alike(bytes, at, w, row.lines) {
+        return false;
+    }
     if all_are(t, rows, row, bytes, at, w, 32, 32) {
         return false;
     }
