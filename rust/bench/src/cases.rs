@@ -314,6 +314,8 @@ fn judged_files(cases: &mut Vec<Maker>) {
             let bytes = if length > 27 { 1 << 20 } else { 1 << 18 } / if rows > 5 && length < 100 { 8 } else { 1 };
             for flaw in Flaw::ALL {
                 let name = format!("{rows} rows, {size}, {}", flaw.name());
+                // Only a quantity has a point.
+                let table = if rows == 1 && flaw.number() == 243 { measured } else { table };
                 let data = move || flawed(&table(), length, bytes / length, flaw);
                 add(cases, &format!("judged whole: {name}"), move || judge_data(table(), data(), flaw, whole_file));
                 add(cases, &format!("judged by record: {name}"), move || {

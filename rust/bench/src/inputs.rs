@@ -128,6 +128,11 @@ pub fn single() -> Vec<i64> {
     Survey { variables: 1, text: 4, ..small() }.table()
 }
 
+/// One row with a point.
+pub fn measured() -> Vec<i64> {
+    table(&one_variable("QUANTITY POSITION 1 TO 7 VALUES -99.50 TO 999.99"))
+}
+
 /// 512 rows in 27 bytes: those of `short`, one behind the other at the same places again and again.
 pub fn crowded() -> Vec<i64> {
     let five = short();
@@ -158,6 +163,10 @@ pub enum Flaw {
     LowByte(bool),
     /// 241 in the last row: its last byte can't stand there.
     Field(bool),
+    /// 242 in the last SINGLE: no line has 9.
+    Value(bool),
+    /// 243 in the last QUANTITY: a digit where its point must stand.
+    Point(bool),
     /// 31: one byte more.
     Length(bool),
     /// 30: no terminator at all, or none behind the last record.
@@ -165,18 +174,27 @@ pub enum Flaw {
 }
 
 impl Flaw {
-    pub const ALL: [Flaw; 10] = [
+    pub const ALL: [Flaw; 14] = [
         Flaw::None,
         Flaw::Short,
         Flaw::LowByte(true),
         Flaw::LowByte(false),
         Flaw::Field(true),
         Flaw::Field(false),
+        Flaw::Value(true),
+        Flaw::Value(false),
+        Flaw::Point(true),
+        Flaw::Point(false),
         Flaw::Length(true),
         Flaw::Length(false),
         Flaw::Open(true),
         Flaw::Open(false),
     ];
+
+    /// Whether it is a row's fault.
+    fn in_a_row(self) -> bool {
+        matches!(self, Flaw::Field(_) | Flaw::Value(_) | Flaw::Point(_))
+    }
 
     pub fn number(self) -> u64 {
         match self {
@@ -184,6 +202,8 @@ impl Flaw {
             Flaw::Short => 22,
             Flaw::LowByte(_) => 23,
             Flaw::Field(_) => 241,
+            Flaw::Value(_) => 242,
+            Flaw::Point(_) => 243,
             Flaw::Length(_) => 31,
             Flaw::Open(_) => 30,
         }
@@ -195,10 +215,24 @@ impl Flaw {
             Flaw::Short => "22 in record 1".to_string(),
             Flaw::Length(true) => "31 in record 2".to_string(),
             Flaw::Open(true) => "30, no terminator".to_string(),
-            Flaw::LowByte(true) | Flaw::Field(true) => format!("{} in record 1", self.number()),
+            Flaw::LowByte(true) | Flaw::Field(true) | Flaw::Value(true) | Flaw::Point(true) => {
+                format!("{} in record 1", self.number())
+            }
             _ => format!("{} at the end", self.number()),
         }
     }
+}
+
+/// The place of the byte that a 241, 242 or 243 is about, in the last row that can have it.
+fn flawed_place(table: &[i64], flaw: Flaw) -> usize {
+    let rows = (0..table[1] as usize).map(|i| &table[row_at(i)..][..ROW]);
+    let kind = match flaw {
+        Flaw::Value(_) => 1,
+        Flaw::Point(_) => 3,
+        _ => return table[row_at(table[1] as usize - 1) + 3] as usize - 1,
+    };
+    let cells = rows.rev().find(|cells| cells[1] == kind).expect("a row of this type");
+    cells[3] as usize - 1 - if kind == 3 { cells[5] as usize } else { 0 }
 }
 
 /// A file of so many records of this length, CR LF, with a flaw.
@@ -211,7 +245,7 @@ pub fn flawed(table: &[i64], length: usize, count: usize, flaw: Flaw) -> Vec<u8>
             record
         })
         .collect();
-    let finish = table[row_at(table[1] as usize - 1) + 3] as usize;
+    let place = if flaw.in_a_row() { flawed_place(table, flaw) } else { 0 };
     let mut data = Vec::with_capacity(count * (length + 2) + 1);
     for i in 0..count {
         let start = data.len();
@@ -219,7 +253,9 @@ pub fn flawed(table: &[i64], length: usize, count: usize, flaw: Flaw) -> Vec<u8>
         let (first, second, last) = (i == 0, i == 1, i == count - 1);
         match flaw {
             Flaw::LowByte(early) if if early { first } else { last } => data[start + length - 1] = 1,
-            Flaw::Field(early) if if early { first } else { last } => data[start + finish - 1] = b'?',
+            Flaw::Field(early) if if early { first } else { last } => data[start + place] = b'?',
+            Flaw::Value(early) if if early { first } else { last } => data[start + place] = b'9',
+            Flaw::Point(early) if if early { first } else { last } => data[start + place] = b'5',
             Flaw::Length(early) if if early { second } else { last } => data.push(b'y'),
             _ => {}
         }
