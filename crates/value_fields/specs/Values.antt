@@ -3,6 +3,7 @@ use mathlib.Core.Path.{_≡_, refl, sym, ap, _∙_}
 use mathlib.Core.Bool.{Bool, true, false, cond}
 use mathlib.Core.List.{List, [], _∷_, _++_}
 use Prim.Native.Nat.{ℕ, zero, suc, _+_, _-_, _/_, _^_, _≤_, _<_}
+use native.Mathlib.Nat.{div-one}
 use native.Mathlib.Numerals.{add-one}
 use native.Mathlib.Omega.{arith}
 use borrow.Author.Tests.{eq-eqb, ne-eqb}
@@ -56,6 +57,12 @@ amount-whole k n e = rw (eq-eqb k 0 e) (sym (append-none (numeral (n / 10 ^ k)))
     append-none [] = refl
     append-none (b ∷ s) = ap (λ (l : List ℕ). b ∷ l) (append-none s)
 
+count-amount : (n : ℕ) → numeral n ≡ amountText 0 n
+count-amount n = sym (sym (amount-whole 0 n refl) ∙ ap numeral (div-one n))
+
+pub amount-none : (k n : ℕ) → k ≡ 0 → numeral n ≡ amountText k n
+amount-none k n e = count-amount n ∙ ap (λ (j : ℕ). amountText j n) (sym e)
+
 pub amount-parts : (k n : ℕ) → (k ≡ 0 → ⊥) → numeral (n / 10 ^ k) ++ ((46 ∷ []) ++ padded k n) ≡ amountText k n
 unfolding amountText
 amount-parts k n e = rw (ne-eqb k 0 e)
@@ -69,6 +76,10 @@ module _ (k : ℕ) (z : ℤ) (s : Signed) (e : s ≡ signedOf z) where
   pub number-amount : s .minus ≡ false → amountText k (s .size) ≡ numberText k z
   unfolding numberText
   number-amount m = rw (← e, m)
+
+-- a code has neither minus nor decimals
+pub code-count : (z : ℤ) (s : Signed) → s ≡ signedOf z → signedOf z .minus ≡ false → numeral (s .size) ≡ numberText 0 z
+code-count z s e m = count-amount (s .size) ∙ number-amount 0 z s e (ap (λ (x : Signed). x .minus) e ∙ m)
 
 -- the codes of a list one by one
 module _ (list : List ℤ) (n j : ℕ) (h : j < n) (l : n ≤ length list) where

@@ -2,7 +2,7 @@
 // it
 // stands the export of a file.
 ghost use mathlib.Core.Path.{_≡_};
-ghost use mathlib.Core.Bool.{cond};
+ghost use mathlib.Core.Bool.{false, cond};
 ghost use Prim.Native.Nat.{_+_, _^_, _≤_, _<_};
 ghost use lib.ListN.{length, take, drop};
 ghost use Rattle.ascii.specs.rule.Tens.{Tens};
@@ -69,11 +69,11 @@ fn send_amount(
     requires { ⌜ (n < 10 ^ 16) × (k ≤ 9) ⌝ }
     ensures { λ r. ⌜ Sent bound (now (out .entry)) at (amountText k n) (now (out .exit)) r ⌝ }
 {
+    if k == 0 {
+        return send_count(powers, bound, out, at, n);
+    }
     let whole = n / ascii::power(powers, k);
     let end = send_count(powers, bound, out, at, whole);
-    if k == 0 {
-        return end;
-    }
     let point = sink::send_byte(bound, out, end, 46);
     send_digits(powers, bound, out, point, k, n)
 }
@@ -100,6 +100,16 @@ pub fn send_number(
     send_amount(powers, bound, out, at, k, n)
 }
 
+// A code: it has neither minus nor decimals.
+fn send_code(powers: &[u64; 16], bound: usize, out: &mut [u8], at: usize, z: i64) -> usize
+    requires { ⌜ Tens (now powers) ⌝ }
+    requires { ⌜ (signedOf z .size < 10 ^ 16) × (signedOf z .minus ≡ false) ⌝ }
+    ensures { λ r. ⌜ Sent bound (now (out .entry)) at (numberText 0 z) (now (out .exit)) r ⌝ }
+{
+    let s = cells::signed_of(z);
+    send_count(powers, bound, out, at, s.size)
+}
+
 // Behind the first of n codes of a list, the others, each with its semicolon.
 fn send_others(
     powers: &[u64; 16],
@@ -117,7 +127,7 @@ fn send_others(
     let mut j: usize = 1;
     while j < n {
         end = sink::send_byte(bound, out, end, 59);
-        end = send_number(powers, bound, out, end, 0, cells::number(list, j));
+        end = send_code(powers, bound, out, end, cells::number(list, j));
         j += 1;
     }
     end
@@ -139,7 +149,7 @@ pub fn send_set(
     if n == 0 {
         return sink::send_bytes(bound, out, at, b"none");
     }
-    let end = send_number(powers, bound, out, at, 0, cells::number(list, 0));
+    let end = send_code(powers, bound, out, at, cells::number(list, 0));
     send_others(powers, bound, out, end, list, n)
 }
 

@@ -22,15 +22,18 @@ abbrev μ-loop : tie.MeasureT-loop
 loop-holds : tie.Need-loop-holds Inv-loop μ-loop
 loop-holds c = (omega arith, c .before .pre .1 .1, all-owed _ _ _ refl)
 
-send-number-requires : tie.Need-send-number-requires Inv-loop μ-loop
-send-number-requires c κs = (
+send-code-requires : tie.Need-send-code-requires Inv-loop μ-loop
+send-code-requires c κs = (
   c .before .before .before .before .before .before .before .before .before .pre .0,
   (
     rw (toZ-ofZ (sfits-of (c .number .ok)), c .number .ensures)
         (let f = c .before .before .before .before .before .before .before .before .before .pre .1 .0 .few
         (c .before .before .before .before .before .before .before .loop .j)
         (c .before .before .before .before .before .before .loop-test .taken) in omega arith),
-    omega arith,
+    rw (toZ-ofZ (sfits-of (c .number .ok)), c .number .ensures)
+        (c .before .before .before .before .before .before .before .before .before .pre .1 .0 .plain
+        (c .before .before .before .before .before .before .before .loop .j)
+        (c .before .before .before .before .before .before .loop-test .taken)),
   ),
 )
 
@@ -48,7 +51,7 @@ loop-again c = (
       (codes-next _ _ _ (c .before .before .before .before .before .before .before .before .before .loop-test .taken)
       (c .before .before .before .before .before .before .before .before .before .before .before .before .pre .1 .0 .many))
       (c .before .before .before .before .before .before .before .send-byte .ensures)) refl
-      (sent-as (c .before .before .send-number .ensures)
+      (sent-as (c .before .before .send-code .ensures)
       (ap (numberText 0) (toZ-ofZ (sfits-of (c .before .before .before .number .ok)) ∙ c .before .before .before .number .ensures))),
 )
 
@@ -67,7 +70,7 @@ send-others-spec =
     loop-holds
     (λ c κs. search needs)
     (λ c κs. search needs)
-    send-number-requires
+    send-code-requires
     add-j
     loop-less
     loop-again

@@ -14,13 +14,14 @@ use Rattle.value_fields.proofs.send_set.Tie as tie
 returns : tie.Need-returns
 returns c = sent-as (c .before .before .send-bytes .ensures) (codes-none _ _ (c .before .before .before .before .before .if1 .taken))
 
-send-number-requires : tie.Need-send-number-requires
-send-number-requires c κs = (
+send-code-requires : tie.Need-send-code-requires
+send-code-requires c κs = (
   c .before .before .before .before .pre .0,
   (
     rw (toZ-ofZ (sfits-of (c .number .ok)), c .number .ensures)
         (let f = c .before .before .before .before .pre .1 .few 0 (some-of _ (c .before .before .if1 .left)) in omega arith),
-    omega arith,
+    rw (toZ-ofZ (sfits-of (c .number .ok)), c .number .ensures)
+        (c .before .before .before .before .pre .1 .plain 0 (some-of _ (c .before .before .if1 .left))),
   ),
 )
 
@@ -34,7 +35,7 @@ send-others-requires c κs = (
 )
 
 returns-2 : tie.Need-returns-2
-returns-2 c = sent-as (then (sent-as (c .before .before .before .before .before .before .send-number .ensures)
+returns-2 c = sent-as (then (sent-as (c .before .before .before .before .before .before .send-code .ensures)
     (ap (numberText 0) (toZ-ofZ (sfits-of (c .before .before .before .before .before .before .before .number .ok))
     ∙ c .before .before .before .before .before .before .before .number .ensures))) (c .before .before .send-others .ensures))
     (codes-first _ _ (some-of _ (c .before .before .before .before .before .before .before .before .before .if1 .left))
@@ -49,7 +50,7 @@ send-set-spec =
     (λ c. search needs)
     returns
     (λ c κs. search needs)
-    send-number-requires
+    send-code-requires
     send-others-requires
     (λ c. search needs)
     returns-2)
