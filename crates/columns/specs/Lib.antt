@@ -5,3 +5,4 @@ pub mod Stretch
 pub mod Members
 pub mod Columns
 pub mod Room
+pub mod Ones

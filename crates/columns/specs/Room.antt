@@ -48,6 +48,18 @@ put-none {flags} {values} out e = put-as (sym e) (record { count = refl; leaves 
 pub room-as : {flags values size n m : ℕ} → n ≡ m → Room flags values size n → Room flags values size m
 room-as e r = let b = r .behind in let i = r .inside in record { behind = omega arith; inside = omega arith }
 
+pub room-on : {flags values size size′ n : ℕ} → size′ ≡ size → Room flags values size n → Room flags values size′ n
+room-on e r = let i = r .inside in record { behind = r .behind; inside = omega arith }
+
+pub room-less : {flags values size n m : ℕ} → m ≤ n → Room flags values size n → Room flags values size m
+room-less h r = let b = r .behind in let i = r .inside in record { behind = omega arith; inside = omega arith }
+
+pub room-behind : {flags values size n : ℕ} (k m : ℕ) → n ≡ k + m → Room flags values size n → Room (flags + k) (values + 8 * k) size m
+room-behind k m e r = let b = r .behind in let i = r .inside in record { behind = omega arith; inside = omega arith }
+
+pub marks-few : {n m : ℕ} → m ≡ n → 1 ≤ n → n ≤ 10000 → (1 ≤ m) × (m ≤ 10000)
+marks-few e a b = (omega arith, omega arith)
+
 -- an entry put, and those behind it
 pub entry-then : (r : List ℕ) (f v : ℕ) (e : Entry) (ys : List Entry) → f + (1 + length ys) ≤ v
     → putEntries (putEntries r f v (e ∷ [])) (f + 1) (v + 8) ys ≡ putEntries r f v (e ∷ ys)

@@ -2,7 +2,7 @@
 // stands the matrix of a file.
 ghost use mathlib.Core.Path.{_≡_};
 ghost use mathlib.Core.Bool.{true};
-ghost use Prim.Native.Nat.{_+_, _^_, _≤_, _<_};
+ghost use Prim.Native.Nat.{_+_, _-_, _^_, _≤_, _<_};
 ghost use mathlib.Core.List.{[], _∷_};
 ghost use lib.ListN.{length};
 ghost use Rattle.below.specs.rule.Below.{anyBelow};
@@ -20,6 +20,7 @@ ghost use Rattle.columns.specs.Reach.{shapeOf, digitsReach, bitsReach, r
 ghost use Rattle.columns.specs.Marked.{answerEntry, isSet, markedEntry, markedEntries, memberEntries};
 ghost use Rattle.columns.specs.Stretch.{Starts, Ends, markAmong, Unmarked, Alike};
 ghost use Rattle.columns.specs.Room.{Room, PutAs, Ready};
+ghost use Rattle.columns.specs.Ones.{Marked, RangeTo, markedLeft, inList, stretchFrom, OneMore, OnesMore};
 use layout::Header;
 use layout::Kind;
 use layout::Row;
@@ -203,24 +204,24 @@ fn are_alike(allowed: &[u8], present: &[u8], wait: usize, c: usize) -> bool
     matrix::all_are(allowed, c, 16, 1)
 }
 
-// The entries of the categories that are marked as legal, and how many they are. Sixteen that are alike are written together: most sets
-// hold
-// few of many.
-fn put_members(
+// The entries of the categories from `from` on that are marked as legal, and how many they are. Sixteen that are alike are written
+// together: most sets hold few of many.
+fn put_rest(
     allowed: &[u8],
     present: &[u8],
     there: bool,
+    from: usize,
     out: &mut [u8],
     flags: usize,
     values: usize,
 ) -> usize
     requires { ⌜ length (now allowed) ≤ length (now present) ⌝ }
-    requires { ⌜ Room flags values (length (now out)) (length (markedEntries there (now allowed) (now present))) ⌝ }
-    ensures { λ r. ⌜ PutAs (markedEntries there (now (allowed .entry)) (now (present .entry))) flags values (now (out .entry))
+    requires { ⌜ Room flags values (length (now out)) (length (markedLeft there (now allowed) (now present) from)) ⌝ }
+    ensures { λ r. ⌜ PutAs (markedLeft there (now (allowed .entry)) (now (present .entry)) from) flags values (now (out .entry))
         (now (out .exit)) r ⌝ }
 {
     let mut k: usize = 0;
-    let mut c: usize = 1;
+    let mut c = from;
     let mut wait: usize = 0;
     while c < allowed.len() {
         let b = c;
@@ -241,6 +242,117 @@ fn put_members(
         }
     }
     k
+}
+
+// A place from `from` on with every mark set before it: sixteen at a time, so that fewer than sixteen more may be set.
+fn pass_sixteens(marks: &[u8], from: usize) -> usize
+    requires { ⌜ from ≤ length (now marks) ⌝ }
+    ensures { λ r. ⌜ Marked (now (marks .entry)) from r ⌝ }
+{
+    let n = marks.len();
+    let mut i = from;
+    while n - i >= 16 {
+        if !matrix::all_are(marks, i, 16, 1) {
+            return i;
+        }
+        i += 16;
+    }
+    i
+}
+
+// The same, up to the first mark that is not set.
+fn pass_marked(marks: &[u8], from: usize) -> usize
+    requires { ⌜ from ≤ length (now marks) ⌝ }
+    ensures { λ r. ⌜ Marked (now (marks .entry)) from r ⌝ }
+{
+    let n = marks.len();
+    let mut i = pass_sixteens(marks, from);
+    while i < n {
+        if marks[i] == 1 {
+            i += 1;
+        } else {
+            return i;
+        }
+    }
+    i
+}
+
+// The entry of category z set to 1, if it is one of those before `past`, which stand there.
+fn put_one(out: &mut [u8], z: i64, past: usize, flags: usize, values: usize)
+    requires { ⌜ (past ≤ 10000) × Room flags values (length (now out)) (past - 1) ⌝ }
+    ensures { λ _. ⌜ OneMore flags values (past - 1) z (now (out .entry)) (now (out .exit)) ⌝ }
+{
+    let c = cells::count_of(z);
+    if c == 0 {
+        return;
+    }
+    if past <= c {
+        return;
+    }
+    matrix::put_entry(
+        out,
+        flags + (c - 1),
+        values + 8 * (c - 1),
+        Entry::Scaled(1, 1),
+    );
+}
+
+// The same of the list's first n numbers.
+fn put_ones(list: &[i64], n: usize, out: &mut [u8], past: usize, flags: usize, values: usize)
+    requires { ⌜ (n ≤ length (now list)) × (past ≤ 10000) × Room flags values (length (now out)) (past - 1) ⌝ }
+    ensures { λ _. ⌜ OnesMore flags values (past - 1) (now (list .entry)) n (now (out .entry)) (now (out .exit)) ⌝ }
+{
+    let mut k: usize = 0;
+    while k < n {
+        put_one(out, list[k], past, flags, values);
+        k += 1;
+    }
+}
+
+// The entries of the categories before `past`, which are all legal: zeros at once, and the ones set among them.
+fn put_stretch(
+    list: &[i64],
+    n: usize,
+    past: usize,
+    there: bool,
+    out: &mut [u8],
+    flags: usize,
+    values: usize,
+)
+    requires { ⌜ (n ≤ length (now list)) × (1 ≤ past) × (past ≤ 10000) × Room flags values (length (now out)) (past - 1) ⌝ }
+    ensures { λ _. ⌜ now (out .exit) ≡ putEntries (now (out .entry)) flags values
+        (stretchFrom there (inList (now (list .entry)) n) 1 (past - 1)) ⌝ }
+{
+    matrix::put_many(out, flags, values, past - 1, there);
+    if !there {
+        return;
+    }
+    put_ones(list, n, out, past, flags, values);
+}
+
+// The entries of the categories that are marked as legal, and how many they are: those before the first gap by what the list holds, the
+// others by their marks. All before `past` are legal.
+fn put_members(
+    list: &[i64],
+    n: usize,
+    past: usize,
+    allowed: &[u8],
+    present: &[u8],
+    there: bool,
+    out: &mut [u8],
+    flags: usize,
+    values: usize,
+) -> usize
+    requires { ⌜ (n ≤ length (now list)) × (length (now present) ≡ length (now allowed)) × (length (now allowed) ≤ 10000) ⌝ }
+    requires { ⌜ Marked (now allowed) 1 past × Marks (λ z. anyBelow n (λ j. eqZ (cell (now list) j) z)) (now present) ⌝ }
+    requires { ⌜ Room flags values (length (now out)) (length (markedEntries there (now allowed) (now present))) ⌝ }
+    ensures { λ r. ⌜ PutAs (markedEntries there (now (allowed .entry)) (now (present .entry))) flags values (now (out .entry))
+        (now (out .exit)) r ⌝ }
+{
+    let gap = pass_marked(allowed, past);
+    let k = gap - 1;
+    put_stretch(list, n, gap, there, out, flags, values);
+    k + put_rest(allowed, present, there, gap, out, flags + k, values + 8 * k)
 }
 
 // How many of the first n numbers lie below z.
@@ -302,6 +414,26 @@ fn mark_legal(t: &[i64], rows: usize, row: Row, marks: &mut [u8])
     sets::marks::mark_lines(t, rows, row, marks);
 }
 
+// A place before which every number from 1 on is in the row's range: behind the range, or 1.
+fn range_past(row: Row, n: usize) -> usize
+    requires { ⌜ (1 ≤ n) × (n ≤ 10000) ⌝ }
+    ensures { λ r. ⌜ RangeTo row n r ⌝ }
+{
+    let from = row.from;
+    let to = row.to;
+    if !row.range {
+        return 1;
+    }
+    if !cells::not_above(from, 1) {
+        return 1;
+    }
+    let past = end_of(to, n);
+    if past == 0 {
+        return 1;
+    }
+    past
+}
+
 // The entries of a multiple's categories, and how many they are. The marks reach every category of the row.
 fn put_multiple(
     t: &[i64],
@@ -324,8 +456,20 @@ fn put_multiple(
     let a = readings::read_row(t, rows, row, bytes, list);
     mark_legal(t, rows, row, allowed);
     sets::marks::clear(present);
-    mark_members(list, members_in(a), present);
-    put_members(allowed, present, is_set(a), out, flags, values)
+    let n = members_in(a);
+    mark_members(list, n, present);
+    let past = range_past(row, allowed.len());
+    put_members(
+        list,
+        n,
+        past,
+        allowed,
+        present,
+        is_set(a),
+        out,
+        flags,
+        values,
+    )
 }
 
 // How many columns a row of a kind has: 0 none, 1 one, 2 one for each category.

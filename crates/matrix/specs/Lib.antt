@@ -4,6 +4,7 @@ pub mod Entry
 pub mod Bytes
 pub mod Column
 pub mod Stride
+pub mod Over
 pub mod Noughts
 pub mod Ones
 pub mod Counts

@@ -8,14 +8,14 @@ use native.Mathlib.Omega.{arith}
 use borrow.Author.Tests.{eqb-true}
 use lib.Dec.{eqb}
 use lib.IntN.{pos}
-use lib.ListN.{length, getD}
+use lib.ListN.{length, getD, set}
 use lib.Ieee.{binary64, div, ofInt, toBits}
 use Rattle.below.specs.rule.Below.{allBelow}
 use Rattle.below.specs.Below.{all-none, all-next, all-at}
 use Rattle.quotient.specs.rule.Value.{valueOf}
 use Rattle.little.specs.rule.Bytes.{bytesOf, putAt}
 use Rattle.little.specs.Bytes.{bytes-count}
-use Rattle.little.specs.Runs.{put-next}
+use Rattle.little.specs.Runs.{put-next, put-more}
 use Rattle.matrix.specs.declared.Entry.{Entry}
 use Rattle.matrix.specs.declared.Entry.the-variants.{Absent, Scaled}
 use Rattle.matrix.specs.rule.Entry.{presenceOf, floatOf, flagsOf, valueBytes}
@@ -28,6 +28,10 @@ allAre s i n b = allBelow n (λ k. eqb (getD s (i + k) 0) b)
 -- eight presence bytes
 unfoldable pub presences : Bool → ℕ
 presences there = cond there 72340172838076673 0
+
+-- an entry's presence byte
+unfoldable pub presenceByte : Bool → ℕ
+presenceByte there = cond there 1 0
 
 -- n entries of value zero, present or not
 unfoldable pub noughts : Bool → ℕ → List Entry
@@ -70,3 +74,37 @@ noughts-put r f v there =
     ap (λ (x : List ℕ). putAt x v (bytesOf 128 0)) (put-next r f p (f + 8) p (ap (λ (n : ℕ). f + n) (bytes-count 8 (presences there))))
     ∙ ap (λ (x : List ℕ). putAt (putAt r f x) v (bytesOf 128 0)) (flags-are there)
     ∙ ap (λ (x : List ℕ). putAt (putAt r f (flagsOf (noughts there 16))) v x) (values-are there)
+
+-- ---- n of them, byte by byte
+flags-on : (there : Bool) (n : ℕ) → flagsOf (noughts there (suc n)) ≡ presenceByte there ∷ flagsOf (noughts there n)
+unfolding flagsOf noughts presenceOf presenceByte
+flags-on true n = refl
+flags-on false n = refl
+
+pub flags-next : (r : List ℕ) (f i n : ℕ) (there : Bool) → i < n
+    → putAt (set r (f + i) (presenceByte there)) (f + (i + 1)) (flagsOf (noughts there (n - (i + 1))))
+    ≡ putAt r (f + i) (flagsOf (noughts there (n - i)))
+flags-next r f i n there h =
+    let d : n - i ≡ suc (n - (i + 1)) = omega arith in
+    let w : f + (i + 1) ≡ f + i + 1 = omega arith in
+    rw (d, w, flags-on there (n - (i + 1))) (put-more r (f + i) (presenceByte there) (flagsOf (noughts there (n - (i + 1)))))
+
+pub flags-end : (r : List ℕ) (f i n : ℕ) (there : Bool) → n ≤ i → putAt r f (flagsOf (noughts there (n - i))) ≡ r
+unfolding flagsOf noughts putAt
+flags-end r f i n there h = let d : n - i ≡ 0 = omega arith in rw d
+
+pub zeros-are : (there : Bool) (n : ℕ) → bytesOf (8 * n) 0 ≡ valueBytes (noughts there n)
+unfolding bytesOf valueBytes noughts floatOf valueOf div ofInt toBits
+zeros-are there zero = refl
+zeros-are there (suc n) =
+    let d : 8 * suc n ≡ suc (suc (suc (suc (suc (suc (suc (suc (8 * n)))))))) = omega arith in
+    rw d (go there (zeros-are there n))
+  where
+    go : (b : Bool) → bytesOf (8 * n) 0 ≡ valueBytes (noughts b n)
+        → bytesOf (suc (suc (suc (suc (suc (suc (suc (suc (8 * n))))))))) 0 ≡ valueBytes (noughts b (suc n))
+    go true e = ap (λ (l : List ℕ). 0 ∷ 0 ∷ 0 ∷ 0 ∷ 0 ∷ 0 ∷ 0 ∷ 0 ∷ l) e
+    go false e = ap (λ (l : List ℕ). 0 ∷ 0 ∷ 0 ∷ 0 ∷ 0 ∷ 0 ∷ 0 ∷ 0 ∷ l) e
+
+pub many-put : (r : List ℕ) (f v n : ℕ) (there : Bool)
+    → putAt (putAt r f (flagsOf (noughts there n))) v (bytesOf (8 * n) 0) ≡ putEntries r f v (noughts there n)
+many-put r f v n there = ap (λ (x : List ℕ). putAt (putAt r f (flagsOf (noughts there n))) v x) (zeros-are there n)

@@ -10,10 +10,11 @@ ghost use lib.Ieee.{isNan};
 ghost use Rattle.little.specs.rule.Bytes.{putAt};
 ghost use Rattle.summary.specs.rule.Summary.{summaryOf};
 ghost use Rattle.matrix.specs.Put.{putEntries};
+ghost use Rattle.matrix.specs.rule.Entry.{flagsOf};
 ghost use Rattle.matrix.specs.rule.Bytes.{totalOf, headerBytes, summaryBytes};
 ghost use Rattle.matrix.specs.Entry.{EntryGood, cellOf};
 ghost use Rattle.matrix.specs.Column.{ColumnThere, columnIn};
-ghost use Rattle.matrix.specs.Noughts.{allAre, presences, noughts};
+ghost use Rattle.matrix.specs.Noughts.{allAre, presences, presenceByte, noughts};
 ghost use Rattle.matrix.specs.Ones.{AllThere, AllFew, AllCounted, AllTold, toldOf};
 
 // The bits of 1.0.
@@ -88,6 +89,35 @@ pub fn put_noughts(out: &mut [u8], flags: usize, values: usize, there: bool)
     little::put_u64(out, flags, present);
     little::put_u64(out, flags + 8, present);
     little::put_number(out, values, 0, 128);
+}
+
+// An entry's presence byte.
+fn presence_byte(there: bool) -> u8
+    ensures { λ r. ⌜ r ≡ presenceByte there ⌝ }
+{
+    if there { 1 } else { 0 }
+}
+
+// The presence bytes of n entries that are alike.
+fn put_presence(out: &mut [u8], flags: usize, n: usize, there: bool)
+    requires { ⌜ flags + n ≤ length (now out) ⌝ }
+    ensures { λ _. ⌜ now (out .exit) ≡ putAt (now (out .entry)) flags (flagsOf (noughts there n)) ⌝ }
+{
+    let b = presence_byte(there);
+    let mut i: usize = 0;
+    while i < n {
+        out[flags + i] = b;
+        i += 1;
+    }
+}
+
+// Many entries of value zero, present or not.
+pub fn put_many(out: &mut [u8], flags: usize, values: usize, n: usize, there: bool)
+    requires { ⌜ (flags + n ≤ values) × (values + 8 * n ≤ length (now out)) ⌝ }
+    ensures { λ _. ⌜ now (out .exit) ≡ putEntries (now (out .entry)) flags values (noughts there n) ⌝ }
+{
+    put_presence(out, flags, n, there);
+    little::put_number(out, values, 0, 8 * n);
 }
 
 // The six numbers of a matrix of so many records and columns.

@@ -1,269 +1,98 @@
--- `columns::put_members` meets its contract. The invariant: the entries that are left, put from here, give the whole.
+-- `columns::put_members` meets its contract: the stretch before the first gap, and the rest behind it.
 -- Assumes nothing.
-use mathlib.Core.Path.{_≡_, refl, sym, ap, _∙_}
-use mathlib.Core.List.{List}
-use Prim.Native.Nat.{_+_, _-_, _*_, _≤_}
-use native.Mathlib.Nat.{add-zero}
+use mathlib.Core.Path.{_≡_, sym, ap, _∙_}
 use native.Mathlib.Omega.{arith}
 use borrow.Author.Needs.{needs}
-use lib.ListN.{length, getD}
-use Rattle.matrix.specs.declared.Entry.{Entry}
-use Rattle.matrix.specs.Put.{putEntries}
-use Rattle.matrix.specs.Entry.{entries-none}
-use Rattle.columns.specs.Marked.{markedEntry, markedFrom, markedEntries, marked-on, marked-off, marked-none, marked-good}
-use Rattle.columns.specs.Stretch.{unmarked-same, alike-next, alike-count}
-use Rattle.columns.specs.Room.{entry-then, noughts-then}
+use Prim.Native.Nat.{_+_, _-_}
+use lib.ListN.{length}
+use Rattle.columns.specs.Marked.{markedEntries}
+use Rattle.columns.specs.Room.{room-on, room-less, room-behind}
+use Rattle.columns.specs.Ones.{markedLeft, inList, stretchFrom, marked-then, length-stretch, gap-made, gap-count, put-then}
 use Rattle.columns.proofs.put_members.Statement.{statement}
 use Rattle.columns.proofs.put_members.Tie as tie
 
-abbrev Inv-loop : tie.InvT-loop
-Inv-loop allowed present there out₀ flags values k₀ c₀ wait₀ out k c wait =
-    (k + length (markedFrom there allowed present c (length allowed - c)) ≡ length (markedEntries there allowed present))
-    × (length out ≡ length out₀)
-    × (putEntries out (flags + k) (values + 8 * k) (markedFrom there allowed present c (length allowed - c))
-    ≡ putEntries out₀ flags values (markedEntries there allowed present))
+pass-marked-requires : tie.Need-pass-marked-requires
+pass-marked-requires c κs = c .before .before .before .pre .1 .0 .0 .within
 
-abbrev μ-loop : tie.MeasureT-loop
-μ-loop allowed present there out₀ flags values k₀ c₀ wait₀ out k c wait = length allowed - c
-
-loop-holds : tie.Need-loop-holds Inv-loop μ-loop
-loop-holds c = (omega arith, refl, simp add-zero)
-
-add-c : tie.Need-add-c Inv-loop μ-loop
-add-c c = omega arith
-
-are-alike-requires : tie.Need-are-alike-requires Inv-loop μ-loop
-are-alike-requires c κs = (omega (arith, c .before .loop-test .taken), c .before .before .before .before .before .before .pre .0)
-
--- there is room for sixteen entries more
-module _ (c : tie.After-put-noughts-arg Inv-loop μ-loop) where
-  sixteen : length (markedFrom (c .before .before .before .before .before .before .before .before .before .args .there)
-      (c .before .before .before .before .before .before .before .before .before .args .allowed .now)
-      (c .before .before .before .before .before .before .before .before .before .args .present .now)
-      (c .before .before .before .before .before .loop .c)
-      (length (c .before .before .before .before .before .before .before .before .before .args .allowed .now) -
-      c .before .before .before .before .before .loop .c))
-      ≡ 16 + length (markedFrom (c .before .before .before .before .before .before .before .before .before .args .there)
-      (c .before .before .before .before .before .before .before .before .before .args .allowed .now)
-      (c .before .before .before .before .before .before .before .before .before .args .present .now)
-      (c .before .before .before .before .before .loop .c + 16)
-      (length (c .before .before .before .before .before .before .before .before .before .args .allowed .now) -
-      (c .before .before .before .before .before .loop .c + 16)))
-  sixteen = alike-count (c .before .before .before .before .before .before .before .before .before .args .there)
-      (c .before .before .are-alike .ensures) (c .before .if1 .taken)
-
-add-put-noughts : tie.Need-add-put-noughts Inv-loop μ-loop
-add-put-noughts c = let p = c .before .before .before .before .before .before .before .before .before .pre .1 in
-    omega (arith, sixteen c, c .before .before .before .before .before .loop .inv .0, p .behind, p .inside)
-
-mul-put-noughts : tie.Need-mul-put-noughts Inv-loop μ-loop
-mul-put-noughts c = let p = c .before .before .before .before .before .before .before .before .before .pre .1 in
-    omega (arith, sixteen c, c .before .before .before .before .before .loop .inv .0, p .behind, p .inside)
-
-add-put-noughts-2 : tie.Need-add-put-noughts-2 Inv-loop μ-loop
-add-put-noughts-2 c = let p = c .before .before .before .before .before .before .before .before .before .pre .1 in
-    omega (arith, sixteen c, c .before .before .before .before .before .loop .inv .0, p .behind, p .inside)
-
-put-noughts-requires : tie.Need-put-noughts-requires Inv-loop μ-loop
-put-noughts-requires c κs =
-    let l = c .before .before .before .before .before .loop in
-    let p = c .before .before .before .before .before .before .before .before .before .pre .1 in
-    (omega (arith, sixteen c, l .inv .0, p .behind), omega (arith, sixteen c, l .inv .0, l .inv .1, p .inside))
-
-add-k : tie.Need-add-k Inv-loop μ-loop
-add-k c = let p = c .before .before .before .before .before .before .before .before .before .before .before .before .pre .1 in
-    omega (
-      arith,
-      sixteen (c .before .before .before),
-      c .before .before .before .before .before .before .before .before .loop .inv .0,
-      p .behind,
-      p .inside,
-    )
-
-add-c-2 : tie.Need-add-c-2 Inv-loop μ-loop
-add-c-2 c = omega (
-  arith,
-  c .before .before .before .before .before .are-alike .ensures .inside
-      (c .before .before .before .before .if1 .taken),
-)
-
-loop-less : tie.Need-loop-less Inv-loop μ-loop
-loop-less c = omega (arith, c .before .before .before .before .before .before .before .loop-test .taken)
-
-loop-again : tie.Need-loop-again Inv-loop μ-loop
-loop-again c =
-    let l = c .before .before .before .before .before .before .before .before .loop in
-    let a = c .before .before .before .before .before .before .before .before .before .before .before .before .args in
-    let p = c .before .before .before .before .before .before .before .before .before .before .before .before .pre .1 in
-    let rest = markedFrom (a .there) (a .allowed .now) (a .present .now) (l .c + 16) (length (a .allowed .now) - (l .c + 16)) in
-    let e = alike-next (a .there) (c .before .before .before .before .before .are-alike .ensures)
-    (c .before .before .before .before .if1 .taken) in
-    let d : l .c + 1 + 15 ≡ l .c + 16 = omega arith in
-    let f : a .flags + (l .k + 16) ≡ a .flags + l .k + 16 = omega arith in
-    let v : a .values + 8 * (l .k + 16) ≡ a .values + 8 * l .k + 128 = omega arith in
-    rw d (
-      omega (arith, sixteen (c .before .before .before), l .inv .0),
-      c .before .before .put-noughts .kept .0 ∙ l .inv .1,
-      rw (c .before .before .put-noughts .ensures, f, v)
-          (noughts-then (l .out) (a .flags + l .k) (a .values + 8 * l .k) (a .there) rest
-          (omega (arith, sixteen (c .before .before .before), l .inv .0, p .behind))
-          ∙ ap (λ (es : List Entry). putEntries (l .out) (a .flags + l .k) (a .values + 8 * l .k) es) (sym e) ∙ l .inv .2),
-    )
-
-shared-slice-read-if2 : tie.Need-shared-slice-read-if2 Inv-loop μ-loop
-shared-slice-read-if2 c = c .before .before .before .before .loop-test .taken
-
-shared-slice-read-member-entry : tie.Need-shared-slice-read-member-entry Inv-loop μ-loop
-shared-slice-read-member-entry c = omega (
-  arith,
-  c .before .before .before .before .before .before .loop-test .taken,
-  c .before .before .before .before .before .before .before .before .before .before .before .pre .0,
-)
-
--- there is room for one entry more
-module _ (c : tie.After-put-entry-arg Inv-loop μ-loop) where
-  one : length
-      (markedFrom (c .before .before .before .before .before .before .before .before .before .before .before .before .before .args .there)
-      (c .before .before .before .before .before .before .before .before .before .before .before .before .before .args .allowed .now)
-      (c .before .before .before .before .before .before .before .before .before .before .before .before .before .args .present .now)
-      (c .before .before .before .before .before .before .before .before .before .loop .c)
-      (length (c .before .before .before .before .before .before .before .before .before .before .before .before .before .args .allowed
-      .now) - c .before .before .before .before .before .before .before .before .before .loop .c))
-      ≡ 1 + length
-      (markedFrom (c .before .before .before .before .before .before .before .before .before .before .before .before .before .args .there)
-      (c .before .before .before .before .before .before .before .before .before .before .before .before .before .args .allowed .now)
-      (c .before .before .before .before .before .before .before .before .before .before .before .before .before .args .present .now)
-      (c .before .before .before .before .before .before .before .before .before .loop .c + 1)
-      (length (c .before .before .before .before .before .before .before .before .before .before .before .before .before .args .allowed
-      .now) - (c .before .before .before .before .before .before .before .before .before .loop .c + 1)))
-  one = ap (λ (es : List Entry). length es) (marked-on
-      (c .before .before .before .before .before .before .before .before .before .before .before .before .before .args .there)
-      (c .before .before .before .before .before .before .before .before .before .before .before .before .before .args .allowed .now)
-      (c .before .before .before .before .before .before .before .before .before .before .before .before .before .args .present .now)
-      (c .before .before .before .before .before .before .before .before .before .loop .c)
-      (c .before .before .before .before .before .before .before .before .loop-test .taken) (c .before .before .before .if2 .taken))
-      ∙ omega arith
-
-add-put-entry : tie.Need-add-put-entry Inv-loop μ-loop
-add-put-entry
-    c = let p = c .before .before .before .before .before .before .before .before .before .before .before .before .before .pre .1 in
-    omega (arith, one c, c .before .before .before .before .before .before .before .before .before .loop .inv .0, p .behind, p .inside)
-
-mul-put-entry : tie.Need-mul-put-entry Inv-loop μ-loop
-mul-put-entry
-    c = let p = c .before .before .before .before .before .before .before .before .before .before .before .before .before .pre .1 in
-    omega (arith, one c, c .before .before .before .before .before .before .before .before .before .loop .inv .0, p .behind, p .inside)
-
-add-put-entry-2 : tie.Need-add-put-entry-2 Inv-loop μ-loop
-add-put-entry-2
-    c = let p = c .before .before .before .before .before .before .before .before .before .before .before .before .before .pre .1 in
-    omega (arith, one c, c .before .before .before .before .before .before .before .before .before .loop .inv .0, p .behind, p .inside)
-
-put-entry-requires : tie.Need-put-entry-requires Inv-loop μ-loop
-put-entry-requires c κs =
-    let l = c .before .before .before .before .before .before .before .before .before .loop in
-    let p = c .before .before .before .before .before .before .before .before .before .before .before .before .before .pre .1 in (
-      rw (c .before .member-entry .ensures) (marked-good
-          (c .before .before .before .before .before .before .before .before .before .before .before .before .before .args .there) _),
-      (omega (arith, one c, l .inv .0, p .behind), omega (arith, one c, l .inv .0, l .inv .1, p .inside)),
-    )
-
-add-k-2 : tie.Need-add-k-2 Inv-loop μ-loop
-add-k-2 c = let p = c .before .before .before .before .before .before .before .before .before .before .before .before .before .before
-    .before .before .pre .1 in omega (
-      arith,
-      one (c .before .before .before),
-      c .before .before .before .before .before .before .before .before .before .before .before .before .loop .inv .0,
-      p .behind,
-      p .inside,
-    )
-
-loop-less-2 : tie.Need-loop-less-2 Inv-loop μ-loop
-loop-less-2 c = omega (arith, c .before .before .before .before .before .before .before .before .before .before .before .loop-test .taken)
-
-loop-again-2 : tie.Need-loop-again-2 Inv-loop μ-loop
-loop-again-2 c =
-    let l = c .before .before .before .before .before .before .before .before .before .before .before .before .loop in
-    let a = c .before .before .before .before .before .before .before .before .before .before .before .before .before .before .before
-    .before .args in
-    let p = c .before .before .before .before .before .before .before .before .before .before .before .before .before .before .before
-    .before .pre .1 in
-    let rest = markedFrom (a .there) (a .allowed .now) (a .present .now) (l .c + 1) (length (a .allowed .now) - (l .c + 1)) in
-    let e = marked-on (a .there) (a .allowed .now) (a .present .now) (l .c)
-    (c .before .before .before .before .before .before .before .before .before .before .before .loop-test .taken)
-    (c .before .before .before .before .before .before .if2 .taken) in
-    let f : a .flags + (l .k + 1) ≡ a .flags + l .k + 1 = omega arith in
-    let v : a .values + 8 * (l .k + 1) ≡ a .values + 8 * l .k + 8 = omega arith in (
-      omega (arith, one (c .before .before .before), l .inv .0),
-      c .before .before .put-entry .kept .0 ∙ l .inv .1,
-      rw (c .before .before .put-entry .ensures, c .before .before .before .before .member-entry .ensures, f, v)
-          (entry-then (l .out) (a .flags + l .k) (a .values + 8 * l .k) (markedEntry (a .there) (getD (a .present .now) (l .c) 0)) rest
-          (omega (arith, one (c .before .before .before), l .inv .0, p .behind))
-          ∙ ap (λ (es : List Entry). putEntries (l .out) (a .flags + l .k) (a .values + 8 * l .k) es) (sym e) ∙ l .inv .2),
-    )
-
-pass-unmarked-requires : tie.Need-pass-unmarked-requires Inv-loop μ-loop
-pass-unmarked-requires c κs = omega (arith, c .before .before .before .before .before .loop-test .taken)
-
-loop-less-3 : tie.Need-loop-less-3 Inv-loop μ-loop
-loop-less-3 c = omega (arith, c .before .before .before .before .before .before .loop-test .taken, c .pass-unmarked .ensures .on)
-
-loop-again-3 : tie.Need-loop-again-3 Inv-loop μ-loop
-loop-again-3 c =
-    let l = c .before .before .before .before .before .before .before .loop in
-    let a = c .before .before .before .before .before .before .before .before .before .before .before .args in
-    let e = marked-off (a .there) (a .allowed .now) (a .present .now) (l .c)
-    (c .before .before .before .before .before .before .loop-test .taken) (c .before .if2 .left)
-    ∙ unmarked-same (a .there) (a .allowed .now) (a .present .now) (l .c + 1) (c .pass-unmarked .result) (c .pass-unmarked .ensures) in (
-      omega (arith, ap (λ (es : List Entry). length es) e, l .inv .0),
-      l .inv .1,
-      ap (λ (es : List Entry). putEntries (l .out) (a .flags + l .k) (a .values + 8 * l .k) es) (sym e) ∙ l .inv .2,
-    )
-
-same-length : tie.Need-same-length Inv-loop μ-loop
-same-length c = c .before .loop .inv .1
-
-returns : tie.Need-returns Inv-loop μ-loop
-returns c =
-    let l = c .before .loop in
+put-stretch-requires : tie.Need-put-stretch-requires
+put-stretch-requires c κs =
+    let p = c .before .before .before .before .before .pre in
     let a = c .before .before .before .before .before .args in
-    let e = marked-none (a .there) (a .allowed .now) (a .present .now) (l .c) (c .loop-test .left) in
-    record {
-      count = omega (arith, ap (λ (es : List Entry). length es) e, l .inv .0);
-      leaves = sym (entries-none (l .out) (a .flags + l .k) (a .values + 8 * l .k))
-          ∙ ap (λ (es : List Entry). putEntries (l .out) (a .flags + l .k) (a .values + 8 * l .k) es) (sym e) ∙ l .inv .2;
-    }
+    let m = marked-then (p .1 .0 .0) (c .before .pass-marked .ensures) in
+    let g = gap-count (a .there) (a .allowed .now) (a .present .now) (a .list .now) (a .n) (c .before .pass-marked .result) m (p .0 .1)
+    (p .1 .0 .1)
+    in (p .0 .0, m .on, omega (arith, m .within, p .0 .2), room-less (omega (arith, g)) (p .1 .1))
+
+-- how many stand before the gap, and behind it
+gap : (c : tie.After-put-rest-arg) → length (markedEntries
+    (c .before .before .before .before .before .before .before .before .before .args .there)
+    (c .before .before .before .before .before .before .before .before .before .args .allowed .now)
+    (c .before .before .before .before .before .before .before .before .before .args .present .now))
+    ≡ (c .before .before .before .before .before .pass-marked .result - 1)
+    + length (markedLeft (c .before .before .before .before .before .before .before .before .before .args .there)
+    (c .before .before .before .before .before .before .before .before .before .args .allowed .now)
+    (c .before .before .before .before .before .before .before .before .before .args .present .now)
+    (c .before .before .before .before .before .pass-marked .result))
+gap c =
+    let p = c .before .before .before .before .before .before .before .before .before .pre in
+    let a = c .before .before .before .before .before .before .before .before .before .args in
+    gap-count (a .there) (a .allowed .now) (a .present .now) (a .list .now) (a .n)
+    (c .before .before .before .before .before .pass-marked .result)
+    (marked-then (p .1 .0 .0) (c .before .before .before .before .before .pass-marked .ensures)) (p .0 .1) (p .1 .0 .1)
+
+add-put-rest : tie.Need-add-put-rest
+add-put-rest c = omega (
+  arith,
+  gap c,
+  c .before .before .before .before .before .before .before .before .before .pre .1 .1 .behind,
+  c .before .before .before .before .before .before .before .before .before .pre .1 .1 .inside,
+)
+
+mul-put-rest : tie.Need-mul-put-rest
+mul-put-rest c = omega (
+  arith,
+  gap c,
+  c .before .before .before .before .before .before .before .before .before .pre .1 .1 .behind,
+  c .before .before .before .before .before .before .before .before .before .pre .1 .1 .inside,
+)
+
+add-put-rest-2 : tie.Need-add-put-rest-2
+add-put-rest-2 c = omega (
+  arith,
+  gap c,
+  c .before .before .before .before .before .before .before .before .before .pre .1 .1 .behind,
+  c .before .before .before .before .before .before .before .before .before .pre .1 .1 .inside,
+)
+
+put-rest-requires : tie.Need-put-rest-requires
+put-rest-requires c κs =
+    let p = c .before .before .before .before .before .before .before .before .before .pre in (
+      omega (arith, p .0 .1),
+      room-on (c .before .before .before .put-stretch .kept .1 .1 .1 .1 .0) (room-behind _ _ (gap c) (p .1 .1)),
+    )
+
+returns : tie.Need-returns
+returns c =
+    let p = c .before .before .before .before .before .before .before .before .before .before .before .before .pre in
+    let a = c .before .before .before .before .before .before .before .before .before .before .before .before .args in
+    let e = c .before .before .before .before .before .before .before .before .pass-marked .result in
+    let m = marked-then (p .1 .0 .0) (c .before .before .before .before .before .before .before .before .pass-marked .ensures) in
+    put-then (markedEntries (a .there) (a .allowed .now) (a .present .now))
+    (stretchFrom (a .there) (inList (a .list .now) (a .n)) 1 (e - 1))
+    (markedLeft (a .there) (a .allowed .now) (a .present .now) e) (a .out .now) _ _ (a .flags) (a .values) (e - 1) _
+    (gap-made (a .there) (a .allowed .now) (a .present .now) (a .list .now) (a .n) e m (p .0 .1) (p .1 .0 .1))
+    (length-stretch (a .there) (inList (a .list .now) (a .n)) 1 (e - 1)) (omega (arith, gap (c .before .before .before), p .1 .1 .behind))
+    (c .before .before .before .before .before .before .put-stretch .ensures) (c .before .before .put-rest .ensures)
 
 pub put-members-spec : {M : Type 1} → statement M
-put-members-spec =
-    tie.close
-    (tie.spec
-    Inv-loop
-    μ-loop
-    loop-holds
-    add-c
-    (λ c κs. search needs)
-    are-alike-requires
-    add-put-noughts
-    mul-put-noughts
-    add-put-noughts-2
-    put-noughts-requires
-    add-k
-    add-c-2
-    loop-less
-    loop-again
-    shared-slice-read-if2
-    shared-slice-read-member-entry
-    (λ c κs. search needs)
-    add-put-entry
-    mul-put-entry
-    add-put-entry-2
-    put-entry-requires
-    add-k-2
-    loop-less-2
-    loop-again-2
-    pass-unmarked-requires
-    loop-less-3
-    loop-again-3
-    same-length
-    returns)
+put-members-spec = tie.close (tie.spec pass-marked-requires
+    (λ c. omega (arith, c .pass-marked .ensures .on, c .before .before .before .before .pre .1 .0 .0 .on)) put-stretch-requires add-put-rest
+    mul-put-rest add-put-rest-2
+    put-rest-requires (λ c. omega (
+      arith,
+      gap (c .before .before .before),
+      c .before .before .put-rest .ensures .count,
+      c .before .before .before .before .before .before .before .before .before .before .before .before .pre .1 .1 .behind,
+      c .before .before .before .before .before .before .before .before .before .before .before .before .pre .1 .1 .inside,
+    ))
+    (λ c. search needs) returns)

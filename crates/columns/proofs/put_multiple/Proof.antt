@@ -14,7 +14,10 @@ use Rattle.matrix.specs.declared.Entry.{Entry}
 use Rattle.columns.specs.Reach.{readable-ready}
 use Rattle.columns.specs.Members.{multiple-made}
 use Rattle.columns.specs.Columns.{length-members}
-use Rattle.columns.specs.Room.{put-as, room-as}
+use Rattle.columns.specs.Room.{put-as, room-as, marks-few}
+use Rattle.columns.specs.Ones.{range-marked}
+use Rattle.sets.proofs.MarkLaws.{marks-besides}
+use mathlib.Core.Bool.{false}
 use Rattle.columns.proofs.put_multiple.Statement.{statement}
 use Rattle.columns.proofs.put_multiple.Tie as tie
 
@@ -45,7 +48,7 @@ mark-members-requires c κs =
     (room (c .before .before .before .before .before .before .before .before .before .before .before .before)) in (
       omega (
         arith,
-        c .before .members-in .ensures,
+        c .before .before .members-in .ensures,
         n,
         room (c .before .before .before .before .before .before .before .before .before .before .before .before),
         c .before .before .before .before .before .before .before .before .before .before .before .before .read-row .kept .1 .1 .1 .1 .0,
@@ -60,60 +63,102 @@ mark-members-requires c κs =
       ),
     )
 
+range-past-requires : tie.Need-range-past-requires
+range-past-requires c κs =
+    marks-few
+    (c .before .before .before .before .before .before .before .before .before .before .before .before .mark-legal .kept .1 .1 .1 .0)
+    (c .before .before .before .before .before .before .before .before .before .before .before .before .before .before .before .before
+    .before .before .before .before .before .pre .1 .0 .0 .some)
+    (c .before .before .before .before .before .before .before .before .before .before .before .before .before .before .before .before
+    .before .before .before .before .before .pre .1 .0 .0 .few)
+
 put-members-requires : tie.Need-put-members-requires
 put-members-requires c κs =
+    let a = c .before .before .before .before .before .before .before .before .before .before .before .before .before .before .before
+    .before .before .before .before .before .before .before .before .before .before .before .before .args in
+    let l = c .before .before .before .before .before .before .before .before .before .before .before .before .before .before .before
+    .before .before .before .mark-legal .kept .1 .1 .1 .0 in
     let made = multiple-made
     (c .before .before .before .before .before .before .before .before .before .before .before .before .before .before .before .before
-    .before .before .before .before .before .before .before .before .before .pre .1 .0 .0)
+    .before .before .before .before .before .before .before .before .before .before .before .pre .1 .0 .0)
     (c .before .before .before .before .before .before .before .before .before .before .before .before .before .before .before .before
-    .before .before .before .read-row .ensures) (room
+    .before .before .before .before .before .read-row .ensures)
+    (room (c .before .before .before .before .before .before .before .before .before .before .before .before .before .before .before .before
+    .before .before .before .before .before))
     (c .before .before .before .before .before .before .before .before .before .before .before .before .before .before .before .before
-    .before .before .before))
+    .before .before .mark-legal .kept .1 .1 .1 .0)
     (c .before .before .before .before .before .before .before .before .before .before .before .before .before .before .before .before
-    .mark-legal .kept .1 .1 .1 .0)
-    (c .before .before .before .before .before .before .before .before .before .before .before .before .before .before .before .before
-    .mark-legal .ensures)
-    (c .before .before .before .before .before .before .before .before .before .before .before .before .clear .ensures)
-    (c .before .before .before .before .before .before .mark-members .kept .1 .1 .0)
-    (c .before .before .before .before .before .before .before .before .before .before .before .before .clear .kept .0
+    .before .before .mark-legal .ensures)
+    (c .before .before .before .before .before .before .before .before .before .before .before .before .before .before .clear .ensures)
+    (c .before .before .before .before .before .before .before .before .mark-members .kept .1 .1 .0)
+    (c .before .before .before .before .before .before .before .before .before .before .before .before .before .before .clear .kept .0
     ∙ c .before .before .before .before .before .before .before .before .before .before .before .before .before .before .before .before
-    .before .before .before .before .before .before .before .before .before .pre .1 .0 .1)
-    (c .before .before .before .before .before .before .before .before .members-in .ensures)
-    (c .before .before .before .before .before .before .mark-members .ensures) (c .before .is-set .ensures) in (
-      omega (
-        arith,
-        c .before .before .before .before .before .before .before .before .before .before .before .before .before .before .before .before
-            .mark-legal .kept .1 .1 .1 .0,
-        c .before .before .before .before .before .before .before .before .before .before .before .before .clear .kept .0,
-        c .before .before .before .before .before .before .mark-members .kept .1 .1 .0,
-        c .before .before .before .before .before .before .before .before .before .before .before .before .before .before .before .before
-            .before .before .before .before .before .before .before .before .before .pre .1 .0 .1,
+    .before .before .before .before .before .before .before .before .before .before .before .pre .1 .0 .1)
+    (c .before .before .before .before .before .before .before .before .before .before .before .members-in .ensures)
+    (c .before .before .before .before .before .before .before .before .mark-members .ensures)
+    (c .before .is-set .ensures) in
+    let n = read-members
+    (c .before .before .before .before .before .before .before .before .before .before .before .before .before .before .before .before
+    .before .before .before .before .before .read-row .ensures)
+    (room (c .before .before .before .before .before .before .before .before .before .before .before .before .before .before .before .before
+    .before .before .before .before .before)) in (
+      (
+        omega (
+          arith,
+          c .before .before .before .before .before .before .before .before .before .before .before .members-in .ensures,
+          n,
+          room (c .before .before .before .before .before .before .before .before .before .before .before .before .before .before .before
+              .before .before .before .before .before .before),
+          c .before .before .before .before .before .before .before .before .before .before .before .before .before .before .before .before
+              .before .before .before .before .before .read-row .kept .1 .1 .1 .1 .0,
+        ),
+        c .before .before .before .before .before .before .before .before .mark-members .kept .1 .1 .0
+            ∙ c .before .before .before .before .before .before .before .before .before .before .before .before .before .before .clear .kept
+            .0 ∙ c .before .before .before .before .before .before .before .before .before .before .before .before .before .before .before
+            .before .before .before .before .before .before .before .before .before .before .before .before .pre .1 .0 .1 ∙ sym l,
+        marks-few l
+            (c .before .before .before .before .before .before .before .before .before .before .before .before .before .before .before
+            .before .before .before .before .before .before .before .before .before .before .before .before .pre .1 .0 .0 .some)
+            (c .before .before .before .before .before .before .before .before .before .before .before .before .before .before .before
+            .before .before .before .before .before .before .before .before .before .before .before .before .pre .1 .0 .0 .few) .1,
       ),
-      room-as (sym (ap (λ (es : List Entry). length es) made ∙ length-members _ _))
-          (c .before .before .before .before .before .before .before .before .before .before .before .before .before .before .before .before
-          .before .before .before .before .before .before .before .before .before .pre .1 .1),
+      (
+        (
+          range-marked (a .t .now) (a .rows) (a .row) _
+              (c .before .before .before .before .before .before .before .before .before .before .before .before .before .before .before
+              .before .before .before .mark-legal .ensures) (c .before .before .before .before .before .range-past .ensures),
+          marks-besides (λ x. false) _ _ _ (c .before .before .before .before .before .before .before .before .mark-members .kept .1 .1 .0)
+              (c .before .before .before .before .before .before .before .before .before .before .before .before .before .before .clear
+              .ensures) (c .before .before .before .before .before .before .before .before .mark-members .ensures),
+        ),
+        room-as (sym (ap (λ (es : List Entry). length es) made ∙ length-members _ _))
+            (c .before .before .before .before .before .before .before .before .before .before .before .before .before .before .before
+            .before .before .before .before .before .before .before .before .before .before .before .before .pre .1 .1),
+      ),
     )
 
 returns : tie.Need-returns
 returns c = put-as
     (multiple-made
     (c .before .before .before .before .before .before .before .before .before .before .before .before .before .before .before .before
-    .before .before .before .before .before .before .before .before .before .before .before .before .pre .1 .0 .0)
+    .before .before .before .before .before .before .before .before .before .before .before .before .before .before .pre .1 .0 .0)
     (c .before .before .before .before .before .before .before .before .before .before .before .before .before .before .before .before
-    .before .before .before .before .before .before .read-row .ensures)
+    .before .before .before .before .before .before .before .before .read-row .ensures)
     (room (c .before .before .before .before .before .before .before .before .before .before .before .before .before .before .before .before
-    .before .before .before .before .before .before))
+    .before .before .before .before .before .before .before .before))
     (c .before .before .before .before .before .before .before .before .before .before .before .before .before .before .before .before
-    .before .before .before .mark-legal .kept .1 .1 .1 .0)
+    .before .before .before .before .before .mark-legal .kept .1 .1 .1 .0)
     (c .before .before .before .before .before .before .before .before .before .before .before .before .before .before .before .before
-    .before .before .before .mark-legal .ensures)
-    (c .before .before .before .before .before .before .before .before .before .before .before .before .before .before .before .clear
-    .ensures) (c .before .before .before .before .before .before .before .before .before .mark-members .kept .1 .1 .0)
-    (c .before .before .before .before .before .before .before .before .before .before .before .before .before .before .before .clear .kept
-    .0 ∙ c .before .before .before .before .before .before .before .before .before .before .before .before .before .before .before .before
-    .before .before .before .before .before .before .before .before .before .before .before .before .pre .1 .0 .1)
-    (c .before .before .before .before .before .before .before .before .before .before .before .members-in .ensures)
-    (c .before .before .before .before .before .before .before .before .before .mark-members .ensures)
+    .before .before .before .before .before .mark-legal .ensures)
+    (c .before .before .before .before .before .before .before .before .before .before .before .before .before .before .before .before
+    .before .clear .ensures)
+    (c .before .before .before .before .before .before .before .before .before .before .before .mark-members .kept .1 .1 .0)
+    (c .before .before .before .before .before .before .before .before .before .before .before .before .before .before .before .before
+    .before .clear .kept .0
+    ∙ c .before .before .before .before .before .before .before .before .before .before .before .before .before .before .before .before
+    .before .before .before .before .before .before .before .before .before .before .before .before .before .before .pre .1 .0 .1)
+    (c .before .before .before .before .before .before .before .before .before .before .before .before .before .before .members-in .ensures)
+    (c .before .before .before .before .before .before .before .before .before .before .before .mark-members .ensures)
     (c .before .before .before .before .is-set .ensures)) (c .before .before .put-members .ensures)
 
 pub put-multiple-spec : {M : Type 1} → statement M
@@ -125,6 +170,7 @@ put-multiple-spec =
     (λ c κs. search needs)
     (λ c κs. search needs)
     mark-members-requires
+    range-past-requires
     (λ c κs. search needs)
     put-members-requires
     (λ c. search needs)
