@@ -17,7 +17,7 @@
 
 enum { COUNT = 0x7a61, LIST = 1000000, ROOM = 40000000, MANY = 100 };
 static int ends[2];
-static uint8_t def[2000000], data[4000000], mail[8000000], record[20000], out[ROOM];
+static uint8_t def[2000000], data[4000000], mail[8000000], record[20000], out[ROOM], csv[ROOM];
 static int64_t table[ZARFOLIN_MAX_TABLE], own[ZARFOLIN_MAX_TABLE], answer[8], list[LIST], values[ZARFOLIN_ANSWER * ZARFOLIN_MAX_VARIABLES];
 static struct zarfolin_correction corrections[MANY];
 
@@ -102,5 +102,9 @@ int main(int n, char **words) {
     MEASURE("mend", , zarfolin_mend(table, most, data, data_len, out, ROOM, list, LIST, answer));
     MEASURE("mend_damaged", , zarfolin_mend(table, most, mail, mail_len, out, ROOM, list, LIST, answer));
     MEASURE("matrix", , zarfolin_matrix(table, most, data, short_len, out, ROOM, answer));
+    MEASURE("export", , zarfolin_export(def, def_len, table, most, data, data_len, csv, sizeof csv, answer));
+    size_t csv_len = (size_t)answer[4];
+    MEASURE("import", , zarfolin_import(def, def_len, table, most, csv, csv_len, out, ROOM, answer));
+    if (answer[0] != 0) return 1;
     return 0;
 }
