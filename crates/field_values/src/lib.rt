@@ -244,7 +244,7 @@ fn take_number(
     if !left_of(k, &room[..n], f) {
         return false;
     }
-    is_done(writes::write_row(powers, t, rows, row, Value::Number(z), t, f, bytes))
+    is_done(writes::plain::write_number(powers, t, rows, row, z, bytes))
 }
 
 // The members that a field may have, at the start of the list, and how many; 10,000 where there are too many.
@@ -389,7 +389,7 @@ fn take_truth(
     if !left_of(0, &text, f) {
         return false;
     }
-    is_done(writes::write_row(powers, t, rows, row, Value::Truth(one), t, f, bytes))
+    is_done(writes::plain::write_truth(t, rows, row, one, bytes))
 }
 
 // THE VALUE that a field is, written to the row; else the record is kept. The list and the room are for sets.
@@ -409,23 +409,14 @@ pub fn take_field(
     ensures { λ r. ⌜ Took (now (t .entry)) rows row (now (f .entry)) (now (bytes .entry)) (now (bytes .exit)) r ⌝ }
 {
     if f.len() == 0 {
-        return is_done(writes::write_row(powers, t, rows, row, Value::Missing, t, f, bytes));
+        return is_done(writes::plain::blank_row(t, rows, row, bytes));
     }
     let kind = row.kind;
     match kind {
         Kind::Single => take_number(powers, t, rows, row, 0, f, bytes),
         Kind::Multiple(_) => take_set(powers, t, rows, row, f, list, room, bytes),
         Kind::Quantity(q) => take_number(powers, t, rows, row, q.decimals, f, bytes),
-        Kind::Character => is_done(writes::write_row(
-            powers,
-            t,
-            rows,
-            row,
-            Value::Text,
-            t,
-            f,
-            bytes,
-        )),
+        Kind::Character => is_done(writes::plain::write_text(t, rows, row, f, bytes)),
         Kind::Logical => take_truth(powers, t, rows, row, f, bytes),
     }
 }

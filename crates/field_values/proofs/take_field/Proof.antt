@@ -21,7 +21,7 @@ returns c = wrote (guess-none _ ((c .before .before .before .before .before .bef
     ((c .before .before .before .before .before .if1) .taken))
     (left-empty ((c .before .before .before .before .before .before .before .before .before .args) .row)
     ((c .before .before .before .before .before .before .before .before .before .args) .f .now)
-    ((c .before .before .before .before .before .if1) .taken)) ((c .before .before .before .write-row) .ensures) ((c .is-done) .ensures)
+    ((c .before .before .before .before .before .if1) .taken)) ((c .before .before .before .blank-row) .ensures) ((c .is-done) .ensures)
 
 take-number-requires : tie.Need-take-number-requires
 take-number-requires c κs = let k = single-number ((c .before .before .before .before .before .before .before .args) .row)
@@ -75,7 +75,7 @@ returns-5 c = wrote (text-is ((c .before .before .before .before .before .before
     (text-left-is ((c .before .before .before .before .before .before .before .before .before .before .before .args) .row)
     ((c .before .before .before .before .before .before .before .before .before .before .before .args) .f .now)
     ((c .before .before .before .before .before .before .before .if1) .left)
-    ((c .before .before .before .before .before .enum-told3) .given .1)) ((c .before .before .before .write-row2) .ensures)
+    ((c .before .before .before .before .before .enum-told3) .given .1)) ((c .before .before .before .write-text) .ensures)
     ((c .is-done2) .ensures)
 
 pub take-field-spec : {M : Type 1} → statement M

@@ -83,7 +83,7 @@ returns-2 c =
     ∙ (c .before .before .before .before .before .before .before .before .before .before .before .guess-number) .ensures) (s .1)
     (sym (not-false _ ((c .before .before .before .before .before .if1) .left))
     ∙ (c .before .before .before .before .before .before .left-of) .ensures))
-    ((c .before .before .before .write-row) .ensures) ((c .is-done) .ensures)
+    ((c .before .before .before .write-number) .ensures) ((c .is-done) .ensures)
 
 pub take-number-spec : {M : Type 1} → statement M
 take-number-spec =

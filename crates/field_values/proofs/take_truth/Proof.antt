@@ -39,7 +39,7 @@ returns-2 c =
     (rw ((c .before .before .before .before .before .before .before .before .bit-of) .ensures))
     (sym (not-false _ ((c .before .before .before .before .before .if1) .left))
     ∙ (c .before .before .before .before .before .before .left-of) .ensures))
-    ((c .before .before .before .write-row) .ensures) ((c .is-done) .ensures)
+    ((c .before .before .before .write-truth) .ensures) ((c .is-done) .ensures)
 
 pub take-truth-spec : {M : Type 1} → statement M
 take-truth-spec =
