@@ -1,9 +1,10 @@
 -- What the writers of sets ask for.
 use Prim.Native.Nat.{ℕ, _+_, _-_, _*_, _^_, _≤_, _<_}
-use mathlib.Core.Bool.{Bool, false}
+use mathlib.Core.Bool.{Bool, false, _&&_}
 use mathlib.Core.List.{List, [], _∷_}
 use lib.IntN.{ℤ, pos}
 use lib.ListN.{getD, set}
+use lib.Signed.{leZ}
 use Rattle.cells.specs.rule.Cell.{countOf, eqZ}
 use Rattle.widths.specs.rule.Width.{sizeOf}
 
@@ -31,3 +32,7 @@ headIs (m ∷ ms) c = eqZ m c
 unfoldable pub withMembers : List ℕ → ℕ → List ℤ → List ℕ
 withMembers r at [] = r
 withMembers r at (m ∷ ms) = withMembers (set r (at + (countOf m - 1)) 49) at ms
+
+-- whether a number lies between two
+unfoldable pub within : ℤ → ℤ → ℤ → Bool
+within a b z = leZ a z && leZ z b

@@ -12,7 +12,7 @@ ghost use Rattle.fields.specs.rule.Row.{defined, bitPlaces};
 ghost use Rattle.fields.specs.Facts.{LineFacts};
 ghost use Rattle.fieldlaws.specs.RisingLaws.{Rising};
 ghost use Rattle.sets.specs.Marks.{Marks};
-ghost use Rattle.sets.specs.Full.{hasAll, always};
+ghost use Rattle.sets.specs.Full.{hasAll, always, EachLegal};
 ghost use Rattle.setbytes.specs.Sets.{headIs, withMembers, Bitstring};
 use layout::Row;
 use sets::marks::allows;
@@ -122,7 +122,7 @@ fn set_members(bytes: &mut [u8], at: usize, w: usize, list: &[i64])
     }
 }
 
-// What `put_bits` does, for a row whose range has every category.
+// What `put_bits` does, for a row that allows every category.
 pub fn put_all(
     t: &[i64],
     rows: usize,
@@ -132,7 +132,7 @@ pub fn put_all(
     w: usize,
     list: &[i64],
 )
-    requires { ⌜ hasAll row w ≡ true ⌝ }
+    requires { ⌜ EachLegal (now t) rows row w ⌝ }
     requires { ⌜ Bitstring at w (length (now bytes)) × Rising 1 w (now list) ⌝ }
     ensures { λ _. ⌜ now (bytes .exit) ≡ put (now (bytes .entry)) (bitPlaces at (defined (legal (now (t .entry)) rows row) 1 w))
         (bitBytes (now (list .entry)) (defined (legal (now (t .entry)) rows row) 1 w)) ⌝ }

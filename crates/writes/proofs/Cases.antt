@@ -7,7 +7,7 @@ use native.Mathlib.Omega.{arith}
 use borrow.Author.Tests.{leb-true}
 use lib.IntN.{ℤ, pos, negsuc}
 use lib.Signed.{leZ}
-use Rattle.below.specs.Below.{holds-not}
+use Rattle.below.specs.Below.{holds-not, and-left, and-right, and-true}
 use Rattle.cells.specs.rule.Cell.{signedOf}
 use Rattle.widths.specs.rule.Width.{sizeOf, lowest, highest, need, quantityWidth}
 use Rattle.fields.specs.rule.Legal.{legal}
@@ -21,10 +21,10 @@ use Rattle.places.specs.rule.Places.{put, run}
 use Rattle.places.specs.Laws.{length-run}
 use Rattle.layout.specs.declared.Kind.{Kind}
 use Rattle.layout.specs.declared.Row.{Row}
-use Rattle.fields.specs.rule.Field.{number, spaces, allLegal, setFits}
+use Rattle.fields.specs.rule.Field.{number, spaces, risingFrom, allLegal, setFits}
 use Rattle.fieldlaws.specs.BackLaws.{Limits, bits-members, quantity-few}
 use Rattle.fieldlaws.specs.RisingLaws.{Rising, legal-of, legal-here, legal-next}
-use Rattle.setbytes.specs.Sets.{Small}
+use Rattle.setbytes.specs.Sets.{Small, within}
 use Rattle.fields.specs.rule.Row.{fits, otherType, notLegal, tooMany, legalFit, fitsBy, bytesBy, placesBy, defined, bitPlaces}
 use Rattle.sets.specs.Full.{EachLegal, always, each-defined}
 use Rattle.writes.specs.declared.Wrote.the-variants.{Done, OtherType, NotLegal, TooMany}
@@ -32,7 +32,7 @@ use Rattle.writes.specs.declared.Value.{Value}
 use Rattle.writes.specs.declared.Value.the-variants.{Missing, Number}
 use Rattle.writes.specs.declared.Wrote.{Wrote}
 use Rattle.writes.specs.rule.Write.{valueOf}
-use Rattle.writes.specs.Write.{WrittenBy, Ready, takesNumbers, answerBy, leftBy}
+use Rattle.writes.specs.Write.{WrittenBy, Ready, EachFits, takesNumbers, answerBy, leftBy}
 
 module _ {k : Kind} {t : List ℤ} {v : ℕ} {r : Row} {value : Value} {list : List ℤ} {text : List ℕ} {old : List ℕ} where
   pub accepted : {new : List ℕ} → fitsBy k t v r (valueOf value list text) ≡ fits
@@ -204,3 +204,29 @@ pub each-blank : (t : List ℤ) (v : ℕ) (r : Row) (w : ℕ) → EachLegal t v 
     → put bytes (run at w) (spaces w)
     ≡ put bytes (bitPlaces at (defined (legal t v r) 1 w)) (spaces (length (bitPlaces at (defined (legal t v r) 1 w))))
 each-blank t v r w h at bytes = rw (each-defined t v r w h, each-places at 1 w at (omega arith) (omega arith), length-run)
+
+-- ---- a set that rises between two numbers, where each number between them is legal
+module _ (ok ok′ : ℤ → Bool) (more : (z : ℤ) → ok z ≡ true → ok′ z ≡ true) where
+  legal-more : (ms : List ℤ) → allLegal ok ms ≡ true → allLegal ok′ ms ≡ true
+  unfolding allLegal
+  legal-more [] e = refl
+  legal-more (m ∷ ms) e =
+      and-true (ok′ m) (allLegal ok′ ms) (more m (and-left (ok m) (allLegal ok ms) e)) (legal-more ms (and-right (ok m) (allLegal ok ms) e))
+
+  pub fits-more : (ms : List ℤ) → setFits ok ms ≡ true → setFits ok′ ms ≡ true
+  unfolding setFits
+  fits-more [] e = refl
+  fits-more (m ∷ ms) e =
+      and-true (risingFrom m ms) (allLegal ok′ (m ∷ ms)) (and-left (risingFrom m ms) (allLegal ok (m ∷ ms)) e)
+      (legal-more (m ∷ ms) (and-right (risingFrom m ms) (allLegal ok (m ∷ ms)) e))
+
+each-within : (t : List ℤ) (v : ℕ) (r : Row) (w : ℕ) → EachLegal t v r w → (z : ℤ) → within (pos 1) (pos w) z ≡ true → legal t v r z ≡ true
+unfolding within
+each-within t v r w h (pos c) e =
+    h c (leb-true 1 c (and-left (leZ (pos 1) (pos c)) (leZ (pos c) (pos w)) e))
+    (leb-true c w (and-right (leZ (pos 1) (pos c)) (leZ (pos c) (pos w)) e))
+each-within t v r w h (negsuc c) e = holds-not (and-left (leZ (pos 1) (negsuc c)) (leZ (negsuc c) (pos w)) e) refl
+
+pub each-fits : (t : List ℤ) (v : ℕ) (r : Row) (w : ℕ) (ms : List ℤ) → EachLegal t v r w → setFits (within (pos 1) (pos w)) ms ≡ true
+    → EachFits t v r w ms
+each-fits t v r w ms h e = record { each = h; fits = fits-more (within (pos 1) (pos w)) (legal t v r) (each-within t v r w h) ms e }

@@ -13,7 +13,9 @@ use Rattle.layout.specs.declared.Row.{Row}
 use Rattle.widths.specs.rule.Width.{need, lowest, highest}
 use Rattle.fields.specs.rule.Legal.{legal}
 use Rattle.fields.specs.rule.Row.{Fit, fits, otherType, notLegal, tooMany, fitsBy, bytesBy, placesBy}
+use Rattle.fields.specs.rule.Field.{setFits}
 use Rattle.fields.specs.Facts.{LineFacts, KindFacts, RowFacts}
+use Rattle.sets.specs.Full.{EachLegal}
 use Rattle.writes.specs.declared.Value.{Value}
 use Rattle.writes.specs.declared.Value.the-variants.{Missing, Set}
 use Rattle.writes.specs.declared.Wrote.{Wrote}
@@ -80,3 +82,8 @@ ready n f h = record {
   most = f .most;
   room = f .fits;
 }
+
+-- each category from 1 to w is legal, and the set may be written
+pub record EachFits (t : List ℤ) (v : ℕ) (r : Row) (w : ℕ) (ms : List ℤ) : Type 0 where
+  pub each : EachLegal t v r w
+  pub fits : setFits (legal t v r) ms ≡ true

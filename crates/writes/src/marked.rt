@@ -7,7 +7,7 @@ ghost use Rattle.ascii.specs.rule.Tens.{Tens};
 ghost use Rattle.layout.specs.declared.Kind.the-variants as kind;
 ghost use Rattle.layout.specs.declared.Spread.the-variants as spread;
 ghost use Rattle.writes.specs.declared.Value.the-variants as given;
-ghost use Rattle.writes.specs.Write.{WrittenBy, Ready, setOr};
+ghost use Rattle.writes.specs.Write.{WrittenBy, Ready, EachFits, setOr};
 use super::Wrote;
 use layout::Kind;
 use layout::Row;
@@ -83,6 +83,31 @@ fn bits_blanked(t: &[i64], rows: usize, row: Row, bytes: &mut [u8]) -> Wrote
     bits_missing(t, rows, row, &mut marks[..k], bytes)
 }
 
+// Whether the row's lines are its categories, as they mostly are, and the set is some of them: then no marks are needed.
+fn each_fits(t: &[i64], rows: usize, row: Row, w: usize, list: &[i64]) -> bool
+    requires { ⌜ LineFacts (now t) rows row ⌝ }
+    requires { ⌜ w ≤ 9999 ⌝ }
+    ensures { λ r. ⌜ (r ≡ true → EachFits (now (t .entry)) rows row w (now (list .entry))) ⌝ }
+{
+    if !lines_count(t, rows, row, w) {
+        return false;
+    }
+    setbytes::judge::fits_in(1, cells::cell_of(w), list)
+}
+
+// A set of a row that allows every category.
+fn bits_full(t: &[i64], rows: usize, row: Row, list: &[i64], bytes: &mut [u8]) -> Wrote
+    requires { ⌜ Ready (kind.Multiple spread.Bits) (now t) rows (length (now bytes)) row ⌝ }
+    requires { ⌜ EachFits (now t) rows row (row .width) (now list) ⌝ }
+    ensures { λ r. ⌜ WrittenBy (kind.Multiple spread.Bits) (now (t .entry)) rows row given.Set (now (list .entry)) [] (now (bytes .entry))
+        (now (bytes .exit)) r ⌝ }
+{
+    let w = row.width;
+    let at = row.start - 1;
+    setbytes::bits::put_all(t, rows, row, bytes, at, w, list);
+    Wrote::Done
+}
+
 // The same for a set.
 fn bits_written(t: &[i64], rows: usize, row: Row, list: &[i64], bytes: &mut [u8]) -> Wrote
     requires { ⌜ Ready (kind.Multiple spread.Bits) (now t) rows (length (now bytes)) row ⌝ }
@@ -90,6 +115,9 @@ fn bits_written(t: &[i64], rows: usize, row: Row, list: &[i64], bytes: &mut [u8]
         (now (bytes .exit)) r ⌝ }
 {
     let w = row.width;
+    if each_fits(t, rows, row, w, list) {
+        return bits_full(t, rows, row, list, bytes);
+    }
     if sets::marks::range_has(row, w) {
         let mut none = [0; 1];
         return bits_set(t, rows, row, list, &mut none, bytes);

@@ -4,7 +4,7 @@ use mathlib.Core.List.{List}
 use Prim.Native.Nat.{ℕ}
 use native.Mathlib.Omega.{arith}
 use borrow.Author.Needs.{needs}
-use Rattle.sets.specs.Full.{all-defined}
+use Rattle.sets.specs.Full.{each-defined}
 use Rattle.setbytes.specs.Sets.{withMembers}
 use Rattle.setbytes.proofs.AllSteps.{members-put}
 use Rattle.setbytes.proofs.bits.put_all.Statement.{statement}
@@ -21,7 +21,7 @@ returns : tie.Need-returns
 returns c =
     let s = c .before .before .before .before .before .before .before .before .before in
     let a = s .args in
-    rw (all-defined (a .t .now) (a .rows) (a .row) (a .w) (s .pre .0))
+    rw (each-defined (a .t .now) (a .rows) (a .row) (a .w) (s .pre .0))
     (c .before .before .set-members .ensures ∙ ap (λ (r : List ℕ). withMembers r (a .at) (a .list .now))
     (c .before .before .before .before .before .before .clear-each .ensures)
     ∙ members-put (a .at) (s .pre .1 .1) (omega arith) (a .bytes .now))

@@ -5,6 +5,7 @@ use native.Mathlib.Omega.{arith}
 use borrow.Author.Needs.{needs}
 use borrow.Author.Tests.{not-true, not-false}
 use Rattle.fields.specs.rule.Row.{fitsBy, bytesBy, placesBy}
+use Rattle.sets.specs.Full.{each-legal}
 use Rattle.writes.specs.rule.Write.{valueOf}
 use Rattle.writes.proofs.Cases.{accepted, illegal, legal-fits, legal-not, bits-rising}
 use Rattle.writes.proofs.marked.bits_set.Statement.{statement}
@@ -23,7 +24,7 @@ returns c = illegal (legal-not (sym (c .before .set-fits .ensures) ∙ not-true 
 put-all-requires : tie.Need-put-all-requires
 put-all-requires c κs =
     let s = c .before .before .before .before .before .before .before .before .before .before .before .before .before in (
-      sym (c .before .before .range-has .ensures) ∙ c .before .if2 .taken,
+      each-legal _ _ _ _ (sym (c .before .before .range-has .ensures) ∙ c .before .if2 .taken),
       (
         record { few = s .pre .0 .kind .few; inside = omega arith },
         bits-rising (s .pre .0) _ (sym (c .before .before .before .before .set-fits .ensures)
