@@ -60,7 +60,8 @@ fn lies_in(from: i64, to: i64, z: i64) -> bool
 // Whether the member at k lies between two numbers and above the one before it.
 fn next_in(from: i64, to: i64, list: &[i64], k: usize) -> bool
     requires { ⌜ 1 ≤ k ⌝ }
-    ensures { λ r. ⌜ r ≡ (ltZ (cell (now (list .entry)) (k - 1)) (cell (now (list .entry)) k) && within from to (cell (now (list .entry)) k)) ⌝ }
+    ensures { λ r. ⌜ r ≡ (ltZ (cell (now (list .entry)) (k - 1)) (cell (now (list .entry)) k)
+        && within from to (cell (now (list .entry)) k)) ⌝ }
 {
     let x = cells::number(list, k);
     if cells::not_above(x, cells::number(list, k - 1)) {

@@ -108,7 +108,7 @@ fn bits_full(t: &[i64], rows: usize, row: Row, list: &[i64], bytes: &mut [u8]) -
     Wrote::Done
 }
 
-// The same for a set.
+// The same for a set; nor are marks needed where the row's lines are its categories.
 fn bits_written(t: &[i64], rows: usize, row: Row, list: &[i64], bytes: &mut [u8]) -> Wrote
     requires { ⌜ Ready (kind.Multiple spread.Bits) (now t) rows (length (now bytes)) row ⌝ }
     ensures { λ r. ⌜ WrittenBy (kind.Multiple spread.Bits) (now (t .entry)) rows row given.Set (now (list .entry)) [] (now (bytes .entry))
