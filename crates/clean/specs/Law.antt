@@ -3,7 +3,7 @@ use mathlib.Core.Path.{_≡_, refl, sym, ap, _∙_}
 use mathlib.Core.Logic.{_⊎_, inl, inr}
 use mathlib.Core.Bool.{Bool, true, false, cond}
 use mathlib.Core.List.{List, _++_}
-use Prim.Native.Nat.{ℕ, _+_, _≤_, _<_}
+use Prim.Native.Nat.{ℕ, _+_, _*_, _≤_, _<_}
 use native.Mathlib.Omega.{arith}
 use lib.Dec.{ltb}
 use lib.IntN.{ℤ}
@@ -22,7 +22,7 @@ use Rattle.definition.specs.declared.Against.the-variants.{Same, Other, Refused
 use Rattle.definition.specs.rule.Definition.{Outcome, Built, Refusal, outcomeOf}
 use Rattle.definition.specs.rule.Against.{held, againstOf}
 use Rattle.grammar_laws.specs.Outcome.{Settles, read, too-long, stopped, misnamed, no-room, outcome-exactly}
-use Rattle.grammar_laws.specs.Whole.{survey-is}
+use Rattle.grammar_laws.specs.Whole.{survey-is, definition-exactly}
 use Rattle.sink.specs.rule.Sent.{Sent}
 use Rattle.sink.specs.Sent.{sets-front}
 use Rattle.clean_text.specs.rule.Clean.{cleanOf}
@@ -32,6 +32,7 @@ use Rattle.clean.specs.declared.Written.{Written}
 use Rattle.clean.specs.declared.Written.the-variants as written
 use Rattle.clean.specs.rule.Written.{Writing, Text, fitted, cleaned, writtenOf, outAfter}
 use Rattle.clean.specs.rule.Written as rule
+use Rattle.clean.specs.Most.{clean-most}
 
 -- how long a text is, up to one byte more than it may have
 pub record Measured (s : List ℕ) (r : ℕ) : Type 0 where
@@ -80,6 +81,15 @@ pub stored : {bound : ℕ} {s out out′ : List ℕ} {r n : ℕ} → Sent bound 
     → out′ ≡ s ++ drop (length s) out
 stored {s = s} {out = out} a b e h = a .stored (omega arith) (omega arith) ∙ sets-front out s (omega arith)
 
+-- the same without measuring, where m bytes are enough for the text, are no 41 and have room
+pub ample-stored : (s : List ℕ) {out out′ : List ℕ} {m r : ℕ} → Sent (m + 1) out 0 s out′ r → length s ≤ m → m ≤ 1048576 → m ≤ length out
+    → (fitted (length out) s ≡ Text s) × (r ≡ length s) × (out′ ≡ s ++ drop (length s) out)
+ample-stored s {out = out} a h l g = (
+  fits s (length out) (length s) (record { within = λ i. refl; beyond = λ i. i }) (omega arith) (omega arith) .0,
+  (let e = a .within (omega arith) in omega (arith, e)),
+  a .stored (omega arith) (omega arith) ∙ sets-front out s (omega arith),
+)
+
 -- ---- a table that is the definition's own: it was read, and its clean text is what is sent
 read-survey : (d : List ℕ) (n : ℕ) {l : List Variable} {A : Type 0} → outcomeOf d n ≡ Built l
     → ((s : Survey) (m : ℕ) → surveyOf d ≡ Is s m → l ≡ s .variables → A) → A
@@ -98,4 +108,13 @@ same-clean d t n e = by (outcomeOf d (lineBase mostRows mostLines)) refl e where
   by (Built l) i j =
       read-survey d (lineBase mostRows mostLines) i λ s m q k.
       rw (q, read-clean d (lineBase mostRows mostLines) q (i ∙ ap Built k))
+  by (Refusal k p) i j = never cc
+
+pub same-most : (d : List ℕ) (t : List ℤ) → againstOf d t ≡ Same → length (wholeText d) ≤ 3 * length d
+unfolding againstOf
+same-most d t e = by (outcomeOf d (lineBase mostRows mostLines)) refl e where
+  by : (o : Outcome) → outcomeOf d (lineBase mostRows mostLines) ≡ o → held o t ≡ Same → length (wholeText d) ≤ 3 * length d
+  by (Built l) i j =
+      read-survey d (lineBase mostRows mostLines) i λ s m q k.
+      rw (read-clean d (lineBase mostRows mostLines) q (i ∙ ap Built k)) (clean-most d (definition-exactly d s m .0 q .0))
   by (Refusal k p) i j = never cc

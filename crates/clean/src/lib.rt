@@ -2,6 +2,8 @@
 // measures the clean text, and the same walk writes it. Above it stands the face.
 use definition::Against;
 ghost use mathlib.Core.Path.{_≡_};
+ghost use mathlib.Core.Bool.{true};
+ghost use Prim.Native.Nat.{_*_, _≤_};
 ghost use Rattle.ascii.specs.Class.{Classes};
 ghost use Rattle.ascii.specs.rule.Tens.{Tens};
 ghost use lib.ListN.{length};
@@ -49,12 +51,48 @@ fn write_clean(d: &[u8], out: &mut [u8]) -> Written
     Written::Done(n)
 }
 
+// Whether an output has room for any clean text of a definition of so many bytes, and none of these passes the limit: three bytes for each.
+fn ample(bytes: usize, room: usize) -> bool
+    ensures { λ r. ⌜ (r ≡ true → (3 * bytes ≤ 1048576) × (3 * bytes ≤ room)) ⌝ }
+{
+    if 349_525 < bytes {
+        return false;
+    }
+    3 * bytes <= room
+}
+
+// The clean text of a definition that was read, where the output is ample: nothing is measured.
+fn write_once(d: &[u8], out: &mut [u8]) -> Written
+    requires { ⌜ length (wholeText (now d)) ≤ 3 * length (now d) ⌝ }
+    requires { ⌜ (3 * length (now d) ≤ 1048576) × (3 * length (now d) ≤ length (now out)) ⌝ }
+    ensures { λ r. ⌜ r ≡ writtenOf (fitted (length (now (out .entry))) (wholeText (now (d .entry)))) ⌝ }
+    ensures { λ r. ⌜ now (out .exit) ≡ outAfter (fitted (length (now (out .entry))) (wholeText (now (d .entry)))) (now (out .entry)) ⌝ }
+{
+    let classes = ascii::classes();
+    let powers = ascii::powers();
+    let most = 3 * d.len();
+    let n = fronts::send_clean(&classes, &powers, d, most + 1, out, 0);
+    Written::Done(n)
+}
+
+// The clean text, measured first where the output may be too short for it.
+fn write_read(d: &[u8], out: &mut [u8]) -> Written
+    requires { ⌜ length (wholeText (now d)) ≤ 3 * length (now d) ⌝ }
+    ensures { λ r. ⌜ r ≡ writtenOf (fitted (length (now (out .entry))) (wholeText (now (d .entry)))) ⌝ }
+    ensures { λ r. ⌜ now (out .exit) ≡ outAfter (fitted (length (now (out .entry))) (wholeText (now (d .entry)))) (now (out .entry)) ⌝ }
+{
+    if ample(d.len(), out.len()) {
+        return write_once(d, out);
+    }
+    write_clean(d, out)
+}
+
 // Writes the clean text of a definition, whose table is lent too. The output is filled from its start, or kept whole.
 pub fn write_definition(d: &[u8], t: &[i64], out: &mut [u8]) -> Written
     ensures { λ r. ⌜ DefinitionWritten (now (d .entry)) (now (t .entry)) (now (out .entry)) (now (out .exit)) r ⌝ }
 {
     match definition::judge_against(d, t) {
-        Against::Same => write_clean(d, out),
+        Against::Same => write_read(d, out),
         Against::Other => Written::Refused {
             number: 40,
             place: 0,

@@ -5,9 +5,14 @@ use lib.ListN.{length}
 use Rattle.definition.specs.declared.Against.the-variants.{Same}
 use Rattle.definition.specs.rule.Against.{againstOf}
 use Rattle.clean.specs.rule.Written.{writingOf, writtenOf, outAfter}
-use Rattle.clean.specs.Law.{same-clean}
+use Rattle.clean.specs.Law.{same-clean, same-most}
 use Rattle.clean.proofs.write_definition.Statement.{statement}
 use Rattle.clean.proofs.write_definition.Tie as tie
+
+write-read-requires : tie.Need-write-read-requires
+write-read-requires c κs =
+    let a = c .before .before .before .before .before .before .args in
+    same-most (a .d .now) (a .t .now) (sym (c .before .before .before .judge-against .ensures) ∙ c .before .enum-told .given .1)
 
 returns : tie.Need-returns
 unfolding writingOf
@@ -17,9 +22,9 @@ returns c =
     ∙ c .before .before .before .before .enum-told .given .1 in
     let f = same-clean (a .d .now) (a .t .now) (length (a .out .now)) e in
     record {
-      says = rw (e, f) (c .before .before .write-clean .ensures .0);
+      says = rw (e, f) (c .before .before .write-read .ensures .0);
       leaves = rw (e, f)
-          (c .before .before .write-clean .ensures .1);
+          (c .before .before .write-read .ensures .1);
     }
 
 returns-2 : tie.Need-returns-2
@@ -40,7 +45,7 @@ write-definition-spec =
     (tie.spec
     (λ c κs. search needs)
     (λ c. search needs)
-    (λ c κs. search needs)
+    write-read-requires
     (λ c. search needs)
     (λ c. search needs)
     (λ c. search needs)
