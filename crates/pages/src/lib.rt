@@ -5,7 +5,7 @@ use scan::Step;
 use steps::Found;
 use steps::Span;
 ghost use mathlib.Core.Path.{_≡_};
-ghost use mathlib.Core.Bool.{cond};
+ghost use mathlib.Core.Bool.{true, cond};
 ghost use mathlib.Core.List.{[], _∷_, _++_};
 ghost use Prim.Native.Nat.{_+_, _^_, _≤_, _<_};
 ghost use lib.ListN.{length};
@@ -17,6 +17,7 @@ ghost use Rattle.statements.specs.rule.Words.{VALUES, END};
 ghost use Rattle.steps.specs.Step.{statementFound, keywordPast};
 ghost use Rattle.clean_text.specs.rule.Span.{spanOf};
 ghost use Rattle.clean_text.specs.rule.Clean.{plainDigits};
+ghost use Rattle.pages.specs.Plain.{Plain};
 ghost use Rattle.pages.specs.Page.{Paged, framed, numberPage, phrasePage, typeAt, typeText, positionAt, positionText, roomOf};
 ghost use Rattle.pages.specs.Page.{spreadAt, evenOf, spreadText};
 ghost use Rattle.pages.specs.Page.{lineAt, lineText, linesPage, rangeAt, rangeText, blockPage, valuesPage, restPage, endPage};
@@ -30,8 +31,21 @@ pub struct Walked {
 }
 
 // ---- bytes
-// The kept bytes of a stretch.
-pub fn send_span(
+// Whether no byte of a stretch is dropped: then its kept bytes are all of them, as they stand.
+fn plain(d: &[u8], from: usize, end: usize) -> bool
+    ensures { λ r. ⌜ (r ≡ true → Plain (now (d .entry)) from end) ⌝ }
+{
+    if end < from {
+        return false;
+    }
+    if d.len() < end {
+        return false;
+    }
+    lows::all_plain(&d[from..end])
+}
+
+// The kept bytes of a stretch, one by one.
+fn send_kept(
     classes: &[u8; 256],
     d: &[u8],
     bound: usize,
@@ -61,6 +75,25 @@ pub fn send_span(
     }
 }
 
+// The kept bytes of a stretch. Most have no dropped byte among them, and are sent at once.
+pub fn send_span(
+    classes: &[u8; 256],
+    d: &[u8],
+    bound: usize,
+    out: &mut [u8],
+    at: usize,
+    from: usize,
+    end: usize,
+) -> usize
+    requires { ⌜ Classes (now classes) ⌝ }
+    ensures { λ r. ⌜ Sent bound (now (out .entry)) at (spanOf (now (d .entry)) from end) (now (out .exit)) r ⌝ }
+{
+    if plain(d, from, end) {
+        return sink::send_bytes(bound, out, at, &d[from..end]);
+    }
+    send_kept(classes, d, bound, out, at, from, end)
+}
+
 // A stretch between two literals.
 pub fn send_framed(
     classes: &[u8; 256],
@@ -79,6 +112,23 @@ pub fn send_framed(
     let a = sink::send_bytes(bound, out, at, pre);
     let b = send_span(classes, d, bound, out, a, s.from, s.end);
     sink::send_bytes(bound, out, b, post)
+}
+
+// A stretch before a literal.
+fn send_closed(
+    classes: &[u8; 256],
+    d: &[u8],
+    bound: usize,
+    out: &mut [u8],
+    at: usize,
+    s: Span,
+    post: &[u8],
+) -> usize
+    requires { ⌜ Classes (now classes) ⌝ }
+    ensures { λ r. ⌜ Sent bound (now (out .entry)) at (framed (now (d .entry)) [] s (now (post .entry))) (now (out .exit)) r ⌝ }
+{
+    let a = send_span(classes, d, bound, out, at, s.from, s.end);
+    sink::send_bytes(bound, out, a, post)
 }
 
 // The last w digits of n.
@@ -124,7 +174,8 @@ pub fn send_number(
     ensures { λ r. ⌜ Paged bound (now (out .entry)) at (now (out .exit)) r
         (numberPage (now (d .entry)) n (now (w .entry)) (now (pre .entry))) ⌝ }
 {
-    let a = steps::past_statement(classes, d, n, w);
+    let g = steps::past_notes(classes, d, n);
+    let a = steps::past_word(classes, d, g, w);
     let x = steps::number_span(classes, d, a);
     let end = send_framed(classes, d, bound, out, at, pre, x, b"\r\n");
     Walked {
@@ -147,7 +198,8 @@ pub fn send_phrase(
     ensures { λ r. ⌜ Paged bound (now (out .entry)) at (now (out .exit)) r
         (phrasePage (now (d .entry)) n (now (w .entry)) (now (pre .entry))) ⌝ }
 {
-    let a = steps::past_statement(classes, d, n, w);
+    let g = steps::past_notes(classes, d, n);
+    let a = steps::past_word(classes, d, g, w);
     let x = steps::string_span(classes, d, a);
     let end = send_framed(classes, d, bound, out, at, pre, x, b"\"\r\n");
     Walked {
@@ -189,35 +241,36 @@ fn type_at(classes: &[u8; 256], d: &[u8], n: usize) -> Sort
     ensures { λ r. ⌜ r ≡ typeAt (now (d .entry)) n ⌝ }
 {
     let a = steps::past_statement(classes, d, n, b"TYPE");
-    let one = steps::find_word(classes, d, a, b"SINGLE");
+    let g = steps::past_gap(classes, d, a);
+    let one = steps::find_here(classes, d, g, b"SINGLE");
     if one.there {
         return Sort {
             kind: 1,
             next: one.next,
         };
     }
-    let two = steps::find_word(classes, d, a, b"MULTIPLE");
+    let two = steps::find_here(classes, d, g, b"MULTIPLE");
     if two.there {
         return Sort {
             kind: 2,
             next: two.next,
         };
     }
-    let three = steps::find_word(classes, d, a, b"QUANTITY");
+    let three = steps::find_here(classes, d, g, b"QUANTITY");
     if three.there {
         return Sort {
             kind: 3,
             next: three.next,
         };
     }
-    let four = steps::find_word(classes, d, a, b"CHARACTER");
+    let four = steps::find_here(classes, d, g, b"CHARACTER");
     if four.there {
         return Sort {
             kind: 4,
             next: four.next,
         };
     }
-    let next = steps::past_keyword(classes, d, a, b"LOGICAL");
+    let next = steps::past_word(classes, d, g, b"LOGICAL");
     Sort { kind: 5, next }
 }
 
@@ -282,7 +335,7 @@ fn send_position(
     let start = p.start;
     let finish = p.finish;
     let a = send_framed(classes, d, bound, out, at, b"POSITION ", start, b" TO ");
-    send_framed(classes, d, bound, out, a, b"", finish, b"\r\n")
+    send_closed(classes, d, bound, out, a, finish, b"\r\n")
 }
 
 // How many positions a variable has.
@@ -371,7 +424,7 @@ fn send_spread(
     let width = p.width;
     let a = send_framed(classes, d, bound, out, at, b"SPREAD ", count, b" OF ");
     if p.of {
-        return send_framed(classes, d, bound, out, a, b"", width, b"\r\n");
+        return send_closed(classes, d, bound, out, a, width, b"\r\n");
     }
     let b = send_count(powers, bound, out, a, even_of(room, count.size));
     sink::send_bytes(bound, out, b, b"\r\n")
@@ -392,7 +445,8 @@ fn line_at(classes: &[u8; 256], d: &[u8], n: usize) -> LineParts
     let g = steps::past_notes(classes, d, n);
     let value = steps::value_span(classes, d, g);
     let text = steps::string_span(classes, d, value.next);
-    let s = steps::find_word(classes, d, text.next, b"SPECIAL");
+    let h = steps::past_gap(classes, d, text.next);
+    let s = steps::find_here(classes, d, h, b"SPECIAL");
     LineParts {
         value,
         text,
@@ -414,11 +468,11 @@ fn send_line(
 {
     let value = l.value;
     let text = l.text;
-    let a = send_framed(classes, d, bound, out, at, b"", value, b" \"");
+    let a = send_closed(classes, d, bound, out, at, value, b" \"");
     if l.special {
-        return send_framed(classes, d, bound, out, a, b"", text, b"\" SPECIAL\r\n");
+        return send_closed(classes, d, bound, out, a, text, b"\" SPECIAL\r\n");
     }
-    send_framed(classes, d, bound, out, a, b"", text, b"\"\r\n")
+    send_closed(classes, d, bound, out, a, text, b"\"\r\n")
 }
 
 // Whether END stands behind the notes. In a function of its own: a literal in a loop would be one more thing that the loop keeps.
@@ -426,7 +480,8 @@ fn find_end(classes: &[u8; 256], d: &[u8], n: usize) -> Found
     requires { ⌜ Classes (now classes) ⌝ }
     ensures { λ r. ⌜ r ≡ statementFound (now (d .entry)) n END ⌝ }
 {
-    steps::find_statement(classes, d, n, b"END")
+    let g = steps::past_notes(classes, d, n);
+    steps::find_here(classes, d, g, b"END")
 }
 
 fn past_values(classes: &[u8; 256], d: &[u8], n: usize) -> usize
@@ -517,11 +572,11 @@ fn send_range(
     }
     let from = r.from;
     let to = r.to;
-    let a = send_framed(classes, d, bound, out, at, b"", from, b" TO ");
+    let a = send_closed(classes, d, bound, out, at, from, b" TO ");
     if r.with {
-        return send_framed(classes, d, bound, out, a, b"", to, b" WITH\r\n");
+        return send_closed(classes, d, bound, out, a, to, b" WITH\r\n");
     }
-    send_framed(classes, d, bound, out, a, b"", to, b"\r\n")
+    send_closed(classes, d, bound, out, a, to, b"\r\n")
 }
 
 // What stands behind the range, or behind VALUES, up to END VALUES.

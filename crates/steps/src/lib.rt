@@ -7,8 +7,10 @@ use tokens::Number;
 use tokens::Phrase;
 use tokens::Reading;
 ghost use mathlib.Core.Path.{_≡_};
-ghost use Prim.Native.Nat.{_-_};
+ghost use mathlib.Core.Bool.{true};
+ghost use Prim.Native.Nat.{_-_, _<_};
 ghost use Rattle.ascii.specs.Class.{Classes};
+ghost use Rattle.ascii.specs.rule.Class.{upperOf};
 ghost use Rattle.scan.specs.rule.Word.{wordAt};
 ghost use Rattle.tokens.specs.Token.{numberOn, stringOn};
 ghost use Rattle.steps.specs.Step.{placeIn, gapPast, wordPast, notesPast, statementPast, keywordPast, foundIn, wordFound};
@@ -46,10 +48,39 @@ pub fn past_gap(classes: &[u8; 256], d: &[u8], n: usize) -> usize
     place_in(n, t)
 }
 
+// Whether a byte begins neither a gap nor a note.
+fn begins_other(b: u8) -> bool
+    ensures { λ r. ⌜ (r ≡ true → (32 < b) × (b ≡ 60 → ⊥) × (upperOf b ≡ 78 → ⊥)) ⌝ }
+{
+    if b == 60 {
+        return false;
+    }
+    if b == 78 {
+        return false;
+    }
+    if b == 110 {
+        return false;
+    }
+    32 < b
+}
+
+// Whether nothing is to be passed here: mostly so where a word was looked for before, as its gap is passed by then.
+fn passed(d: &[u8], n: usize) -> bool
+    ensures { λ r. ⌜ (r ≡ true → notesPast (now (d .entry)) n ≡ n) ⌝ }
+{
+    if d.len() <= n {
+        return false;
+    }
+    begins_other(d[n])
+}
+
 pub fn past_notes(classes: &[u8; 256], d: &[u8], n: usize) -> usize
     requires { ⌜ Classes (now classes) ⌝ }
     ensures { λ r. ⌜ r ≡ notesPast (now (d .entry)) n ⌝ }
 {
+    if passed(d, n) {
+        return n;
+    }
     let t = statements::notes_on(classes, d, Reading::At(n));
     place_in(n, t)
 }
@@ -69,13 +100,21 @@ fn found_in(n: usize, w: Word) -> Found
     }
 }
 
+// Whether a word stands right here.
+pub fn find_here(classes: &[u8; 256], d: &[u8], n: usize, w: &[u8]) -> Found
+    requires { ⌜ Classes (now classes) ⌝ }
+    ensures { λ r. ⌜ r ≡ foundIn n (wordAt (now (d .entry)) n (now (w .entry))) ⌝ }
+{
+    let k = scan::keyword(classes, d, n, w);
+    found_in(n, k)
+}
+
 // A word right here.
 pub fn past_word(classes: &[u8; 256], d: &[u8], n: usize, w: &[u8]) -> usize
     requires { ⌜ Classes (now classes) ⌝ }
     ensures { λ r. ⌜ r ≡ wordPast (now (d .entry)) n (now (w .entry)) ⌝ }
 {
-    let k = scan::keyword(classes, d, n, w);
-    let f = found_in(n, k);
+    let f = find_here(classes, d, n, w);
     f.next
 }
 
@@ -103,8 +142,7 @@ pub fn find_word(classes: &[u8; 256], d: &[u8], n: usize, w: &[u8]) -> Found
     ensures { λ r. ⌜ r ≡ wordFound (now (d .entry)) n (now (w .entry)) ⌝ }
 {
     let g = past_gap(classes, d, n);
-    let k = scan::keyword(classes, d, g, w);
-    found_in(g, k)
+    find_here(classes, d, g, w)
 }
 
 // Whether a statement begins with this word, behind notes; where it does not, the notes are passed.
@@ -113,8 +151,7 @@ pub fn find_statement(classes: &[u8; 256], d: &[u8], n: usize, w: &[u8]) -> Foun
     ensures { λ r. ⌜ r ≡ statementFound (now (d .entry)) n (now (w .entry)) ⌝ }
 {
     let g = past_notes(classes, d, n);
-    let k = scan::keyword(classes, d, g, w);
-    found_in(g, k)
+    find_here(classes, d, g, w)
 }
 
 fn number_in(n: Number) -> Span

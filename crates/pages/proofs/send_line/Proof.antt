@@ -8,28 +8,25 @@ use Rattle.pages.proofs.send_line.Tie as tie
 
 returns : tie.Need-returns
 unfolding lineText
-returns c = sent-as (then (c .before .before .before .before .before .before .before .before .before .send-framed .ensures)
-    (c .before .before .send-framed2 .ensures)) (rw (c .before .before .before .before .before .before .if1 .taken))
+returns c = sent-as (then (c .before .before .before .before .before .before .before .before .send-closed .ensures)
+    (c .before .before .send-closed2 .ensures)) (rw (c .before .before .before .before .before .if1 .taken))
 
 returns-2 : tie.Need-returns-2
 unfolding lineText
-returns-2 c = sent-as (then (c .before .before .before .before .before .before .before .before .before .send-framed .ensures)
-    (c .before .before .send-framed3 .ensures)) (rw (c .before .before .before .before .before .before .if1 .left))
+returns-2 c = sent-as (then (c .before .before .before .before .before .before .before .before .send-closed .ensures)
+    (c .before .before .send-closed3 .ensures)) (rw (c .before .before .before .before .before .if1 .left))
 
 pub send-line-spec : {M : Type 1} → statement M
 send-line-spec =
     tie.close
     (tie.spec
     (λ c. search needs)
+    (λ c κs. c .before .before .before .before .before .before .pre)
     (λ c. search needs)
-    (λ c κs. c .before .before .before .before .before .before .before .pre)
-    (λ c. search needs)
-    (λ c. search needs)
-    (λ c κs. c .before .before .before .before .before .before .before .before .before .before .before .before .before .before .pre)
+    (λ c κs. c .before .before .before .before .before .before .before .before .before .before .before .before .pre)
     (λ c. search needs)
     returns
     (λ c. search needs)
-    (λ c. search needs)
-    (λ c κs. c .before .before .before .before .before .before .before .before .before .before .before .before .before .before .pre)
+    (λ c κs. c .before .before .before .before .before .before .before .before .before .before .before .before .pre)
     (λ c. search needs)
     returns-2)

@@ -8,8 +8,7 @@ use Rattle.pages.proofs.send_position.Tie as tie
 
 returns : tie.Need-returns
 unfolding positionText
-returns c = then (c .before .before .before .before .before .before .before .before .send-framed .ensures)
-    (c .before .before .send-framed2 .ensures)
+returns c = then (c .before .before .before .before .before .before .before .send-framed .ensures) (c .before .before .send-closed .ensures)
 
 pub send-position-spec : {M : Type 1} → statement M
 send-position-spec =
@@ -19,7 +18,6 @@ send-position-spec =
     (λ c. search needs)
     (λ c κs. c .before .before .before .before .before .before .before .pre)
     (λ c. search needs)
-    (λ c. search needs)
-    (λ c κs. c .before .before .before .before .before .before .before .before .before .before .before .before .before .pre)
+    (λ c κs. c .before .before .before .before .before .before .before .before .before .before .before .before .pre)
     (λ c. search needs)
     returns)

@@ -13,26 +13,24 @@ returns c = rw (not-true (c .before .before .before .before .args .r .there) (c 
 
 returns-2 : tie.Need-returns-2
 unfolding rangeText
-returns-2 c = sent-as (then (c .before .before .before .before .before .before .before .before .before .send-framed .ensures)
-    (c .before .before .send-framed2 .ensures)) (rw (
+returns-2 c = sent-as (then (c .before .before .before .before .before .before .before .before .send-closed .ensures)
+    (c .before .before .send-closed2 .ensures)) (rw (
       not-false
           (c .before .before .before .before .before .before .before .before .before .before .before .before .before .before .before .before
-          .before .before .before .args .r .there)
-          (c .before .before .before .before .before .before .before .before .before .before .before .before .before .before .before .if1
-          .left),
-      c .before .before .before .before .before .before .if2 .taken,
+          .before .args .r .there)
+          (c .before .before .before .before .before .before .before .before .before .before .before .before .before .if1 .left),
+      c .before .before .before .before .before .if2 .taken,
     ))
 
 returns-3 : tie.Need-returns-3
 unfolding rangeText
-returns-3 c = sent-as (then (c .before .before .before .before .before .before .before .before .before .send-framed .ensures)
-    (c .before .before .send-framed3 .ensures)) (rw (
+returns-3 c = sent-as (then (c .before .before .before .before .before .before .before .before .send-closed .ensures)
+    (c .before .before .send-closed3 .ensures)) (rw (
       not-false
           (c .before .before .before .before .before .before .before .before .before .before .before .before .before .before .before .before
-          .before .before .before .args .r .there)
-          (c .before .before .before .before .before .before .before .before .before .before .before .before .before .before .before .if1
-          .left),
-      c .before .before .before .before .before .before .if2 .left,
+          .before .args .r .there)
+          (c .before .before .before .before .before .before .before .before .before .before .before .before .before .if1 .left),
+      c .before .before .before .before .before .if2 .left,
     ))
 
 pub send-range-spec : {M : Type 1} → statement M
@@ -41,17 +39,12 @@ send-range-spec =
     (tie.spec
     returns
     (λ c. search needs)
+    (λ c κs. c .before .before .before .before .before .before .before .before .pre)
     (λ c. search needs)
-    (λ c κs. c .before .before .before .before .before .before .before .before .before .pre)
-    (λ c. search needs)
-    (λ c. search needs)
-    (λ c κs. c .before .before .before .before .before .before .before .before .before .before .before .before .before .before .before
-    .before .pre)
+    (λ c κs. c .before .before .before .before .before .before .before .before .before .before .before .before .before .before .pre)
     (λ c. search needs)
     returns-2
     (λ c. search needs)
-    (λ c. search needs)
-    (λ c κs. c .before .before .before .before .before .before .before .before .before .before .before .before .before .before .before
-    .before .pre)
+    (λ c κs. c .before .before .before .before .before .before .before .before .before .before .before .before .before .before .pre)
     (λ c. search needs)
     returns-3)

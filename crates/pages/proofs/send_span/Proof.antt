@@ -1,68 +1,37 @@
-use mathlib.Core.Path.{_≡_, refl, sym, ap, _∙_}
+use mathlib.Core.Path.{sym}
 use native.Mathlib.Omega.{arith}
 use borrow.Author.Needs.{needs}
-use Prim.Native.Nat.{_-_}
-use lib.ListN.{length}
-use Rattle.sink.specs.Sent.{Owed, all-owed, less-owed, none-owed}
-use Rattle.scan.specs.rule.Text.{text}
-use Rattle.scan.proofs.Texts.{stepped, ended}
-use Rattle.clean_text.specs.rule.Span.{upTo, spanOf}
-use Rattle.pages.specs.Law.{span-more, span-over, span-end}
+use Rattle.sink.specs.Sent.{sent-as}
 use Rattle.pages.proofs.send_span.Statement.{statement}
 use Rattle.pages.proofs.send_span.Tie as tie
 
-abbrev Inv-loop : tie.InvT-loop
-Inv-loop classes d bound out₀ at from end n₀ p₀ out n p = Owed bound out₀ at (spanOf d from end) out p (upTo end (text d n))
+sub-send-bytes : tie.Need-sub-send-bytes
+sub-send-bytes c = let h = c .before .before .plain .ensures (c .before .if1 .taken) in omega (arith, h .on, h .within)
 
-abbrev μ-loop : tie.MeasureT-loop
-μ-loop classes d bound out₀ at from end n₀ p₀ out n p = length d - n
+part-send-bytes-start : tie.Need-part-send-bytes-start
+part-send-bytes-start c = let h = c .before .before .plain .ensures (c .before .if1 .taken) in omega (arith, h .on, h .within)
 
-loop-holds : tie.Need-loop-holds Inv-loop μ-loop
-unfolding spanOf
-loop-holds c = all-owed _ _ _ refl
+part-send-bytes-end : tie.Need-part-send-bytes-end
+part-send-bytes-end c = let h = c .before .before .plain .ensures (c .before .if1 .taken) in omega (arith, h .on, h .within)
 
-same-length : tie.Need-same-length Inv-loop μ-loop
-same-length c = c .before .before .before .before .before .loop .inv .same-room
+returns : tie.Need-returns
+returns c = sent-as (c .before .before .send-bytes .ensures)
+    (sym (c .before .before .before .before .before .before .plain .ensures (c .before .before .before .before .before .if1 .taken) .bytes))
 
-returns : tie.Need-returns Inv-loop μ-loop
-returns c =
-    let s = stepped _ _ (c .before .before .before .before .next-byte .ensures) (c .before .before .byte .given .1) in
-    none-owed (c .before .before .before .before .before .loop .inv) (span-over _ _ _ _ _ (s .split) (c .if1 .taken))
-
-loop-less : tie.Need-loop-less Inv-loop μ-loop
-loop-less c =
-    let s = stepped _ _ (c .before .before .before .before .before .before .before .before .next-byte .ensures)
-    (c .before .before .before .before .before .before .byte .given .1) in
-    omega (arith, s .next, s .from, s .within)
-
-loop-again : tie.Need-loop-again Inv-loop μ-loop
-loop-again c =
-    let s = stepped _ _ (c .before .before .before .before .before .before .before .before .next-byte .ensures)
-    (c .before .before .before .before .before .before .byte .given .1) in
-    less-owed (c .before .before .before .before .before .before .before .before .before .loop .inv)
-    (span-more _ _ _ _ _ (s .split) (c .before .before .before .before .if1 .left)) (c .before .before .send-byte .ensures)
-
-same-length-2 : tie.Need-same-length-2 Inv-loop μ-loop
-same-length-2 c = c .before .before .before .loop .inv .same-room
-
-returns-2 : tie.Need-returns-2 Inv-loop μ-loop
-returns-2 c = none-owed (c .before .before .before .loop .inv)
-    (span-end _ _ _ (ended _ _ (c .before .before .next-byte .ensures) (c .enum-told .given .1)))
+returns-2 : tie.Need-returns-2
+returns-2 c = c .before .before .send-kept .ensures
 
 pub send-span-spec : {M : Type 1} → statement M
 send-span-spec =
     tie.close
     (tie.spec
-    Inv-loop
-    μ-loop
-    loop-holds
+    (λ c κs. search needs)
+    sub-send-bytes
+    part-send-bytes-start
+    part-send-bytes-end
     (λ c κs. search needs)
     (λ c. search needs)
-    same-length
     returns
     (λ c κs. search needs)
-    loop-less
-    loop-again
     (λ c. search needs)
-    same-length-2
     returns-2)

@@ -13,14 +13,13 @@ returns c = rw (not-true (c .before .before .before .before .args .p .there) (c 
 
 returns-2 : tie.Need-returns-2
 unfolding spreadText
-returns-2 c = sent-as (then (c .before .before .before .before .before .before .before .before .before .send-framed .ensures)
-    (c .before .before .send-framed2 .ensures)) (rw (
+returns-2 c = sent-as (then (c .before .before .before .before .before .before .before .before .send-framed .ensures)
+    (c .before .before .send-closed .ensures)) (rw (
       not-false
           (c .before .before .before .before .before .before .before .before .before .before .before .before .before .before .before .before
-          .before .before .before .args .p .there)
-          (c .before .before .before .before .before .before .before .before .before .before .before .before .before .before .before .if1
-          .left),
-      c .before .before .before .before .before .before .if2 .taken,
+          .before .before .args .p .there)
+          (c .before .before .before .before .before .before .before .before .before .before .before .before .before .before .if1 .left),
+      c .before .before .before .before .before .if2 .taken,
     ))
 
 send-count-requires : tie.Need-send-count-requires
@@ -57,9 +56,8 @@ send-spread-spec =
     (λ c. search needs)
     (λ c κs. c .before .before .before .before .before .before .before .before .before .pre .0)
     (λ c. search needs)
-    (λ c. search needs)
-    (λ c κs. c .before .before .before .before .before .before .before .before .before .before .before .before .before .before .before
-    .before .pre .0)
+    (λ c κs. c .before .before .before .before .before .before .before .before .before .before .before .before .before .before .before .pre
+    .0)
     (λ c. search needs)
     returns-2
     (λ c κs. search needs)

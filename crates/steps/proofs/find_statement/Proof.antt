@@ -5,8 +5,8 @@ use Rattle.steps.proofs.find_statement.Tie as tie
 
 returns : tie.Need-returns
 unfolding statementFound
-returns c = rw (c .found-in .ensures, c .before .keyword .ensures, c .before .before .past-notes .ensures)
+returns c = rw (c .find-here .ensures, c .before .past-notes .ensures)
 
 pub find-statement-spec : {M : Type 1} → statement M
 find-statement-spec =
-    tie.close (tie.spec (λ c κs. search needs) (λ c κs. search needs) (λ c κs. search needs) returns)
+    tie.close (tie.spec (λ c κs. search needs) (λ c κs. search needs) returns)

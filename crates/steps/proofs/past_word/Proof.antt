@@ -5,8 +5,8 @@ use Rattle.steps.proofs.past_word.Tie as tie
 
 returns : tie.Need-returns
 unfolding wordPast
-returns c = rw (c .found-in .ensures, c .before .keyword .ensures)
+returns c = rw (c .find-here .ensures)
 
 pub past-word-spec : {M : Type 1} → statement M
 past-word-spec =
-    tie.close (tie.spec (λ c κs. search needs) (λ c κs. search needs) returns)
+    tie.close (tie.spec (λ c κs. search needs) returns)

@@ -1,0 +1,18 @@
+use mathlib.Core.Path.{refl}
+use Rattle.below.specs.Below.{holds-not}
+use borrow.Author.Needs.{needs}
+use native.Mathlib.Omega.{arith}
+use Rattle.steps.proofs.Quiet.{nothing-passed}
+use Rattle.steps.proofs.passed.Statement.{statement}
+use Rattle.steps.proofs.passed.Tie as tie
+
+returns : tie.Need-returns
+returns c e = holds-not e refl
+
+returns-2 : tie.Need-returns-2
+returns-2 c e =
+    let u = c .begins-other .ensures e in
+    nothing-passed _ _ (u .0) (omega arith) (u .1) (u .2)
+
+pub passed-spec : {M : Type 1} → statement M
+passed-spec = tie.close (tie.spec returns (λ c. omega arith) (λ c κs. search needs) returns-2)
