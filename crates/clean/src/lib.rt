@@ -1,5 +1,5 @@
 // Clean definitions written into a lent buffer: the public call. The definition is read and held against the table; then one walk over it
-// measures the clean text, and the same walk writes it. Above it stands the face.
+// writes the clean text, and where the buffer may be too short for it the same walk measures it before. Above it stands the face.
 use definition::Against;
 ghost use mathlib.Core.Path.{_≡_};
 ghost use mathlib.Core.Bool.{true};
