@@ -18,10 +18,10 @@ use Rattle.xml_reading.specs.rule.Word.{VALUE, RANGE, CODE, FROM, TO}
 use Rattle.xml_reading.specs.rule.Open.{unknownAt, onTag, nothing}
 use Rattle.xml_reading.specs.rule.Element.{Body, amountIn, body}
 use Rattle.xml_reading.specs.rule.Block.{rich, pairCharges, range, line}
-use Rattle.blocks.specs.Code.{Slot}
+use Rattle.elements.specs.Code.{Slot}
 use Rattle.blocks.specs.Lines.{Wording, lineFrom, wording}
 use Rattle.blocks.proofs.Charges.{Late, judged-clear}
-use Rattle.blocks.proofs.Tags.{tag-tells, first-there, both-there}
+use Rattle.elements.proofs.Tags.{tag-tells, first-there, both-there}
 use Rattle.blocks.proofs.Bodies.{nothing-passes, body-lies}
 use Rattle.blocks.proofs.Steps.{line-is}
 
@@ -61,7 +61,7 @@ module _ (bad : Bool) (d : List ℕ) where
     on : (h : Held) (empty : Bool) (q m : ℕ) (r : Result Body) → tagOf bad d p e CODE [] [] 2 0 0 1 ≡ tag.Read h empty q m
         → body bad d VALUE (rich languages) empty m ≡ r → bind r (λ t n. Is (wordOf h t) n) ≡ Is w n → Worded w n
     on h empty q m (Is t k) i j f =
-        let s = tag-tells d 2 0 0 bad p e CODE [] [] 1 l i in
+        let s = tag-tells d 2 0 0 bad p e CODE [] [] 1 i in
         let b = body-lies bad d (rich languages) empty m (s .next) j in
         let x : wordOf h t ≡ w = cc in
         let y : k ≡ n = cc in
@@ -129,7 +129,7 @@ module _ (bad : Bool) (d : List ℕ) where
     on : (h : Held) (empty : Bool) (q m : ℕ) (s : Result (List Charge)) → tagOf bad d p e FROM TO [] 2 2 0 2 ≡ tag.Read h empty q m
         → nothing bad d RANGE empty m ≡ s → bind s (λ l. judged (all h l) (made h)) ≡ Is r n → RangeTold quantity r n
     on h empty q m (Is c k) i j f =
-        let s = tag-tells d 2 2 0 bad p e FROM TO [] 2 l i in
+        let s = tag-tells d 2 2 0 bad p e FROM TO [] 2 i in
         let b = nothing-passes bad d RANGE empty m (s .next) j in
         let t = both-there d 2 2 0 s in
         let y = judged-clear (all h c) (made h) k f in

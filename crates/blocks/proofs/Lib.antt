@@ -2,7 +2,6 @@ pub mod Numbers
 pub mod Charges
 pub mod Ranges
 pub mod Told
-pub mod Tags
 pub mod Bodies
 pub mod Steps
 pub mod Heard

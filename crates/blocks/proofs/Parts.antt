@@ -38,14 +38,14 @@ use Rattle.bridge.specs.Lowest.{never, Clear, clear, fine, faulty, judged-view}
 use Rattle.elements.specs.declared.Body as held
 use Rattle.elements.specs.declared.Passed.the-variants as passed
 use Rattle.elements.specs.declared.Bodied.the-variants as bodied
-use Rattle.elements.specs.Code.{foundOf, ruled, Numbered, passedOf, bodiedOf}
+use Rattle.elements.specs.Code.{Slot, foundOf, ruled, Numbered, passedOf, bodiedOf}
 use Rattle.elements.proofs.Ranking.{found-behind, judged-ruled}
 use Rattle.elements.proofs.Bodies.{passed-is, passed-refused, nothing-numbered, body-is, body-refused, body-numbered}
 use Rattle.xml_reading.specs.rule.Word.{VALUE, RANGE, CODE, FROM, TO}
 use Rattle.xml_reading.specs.rule.Open.{unknownAt, onTag, nothing}
 use Rattle.xml_reading.specs.rule.Element.{Body, amountIn, body}
 use Rattle.xml_reading.specs.rule.Block.{rich, pairCharges, range, line, lined}
-use Rattle.blocks.specs.Code.{heldAs, Slot, Below, pairOf, blockOf, rangeBlock, judgedOf, rangedOf, settledOf, wordOf, placedOf}
+use Rattle.blocks.specs.Code.{heldAs, Below, pairOf, blockOf, rangeBlock, judgedOf, rangedOf, settledOf, wordOf, placedOf}
 use Rattle.blocks.specs.Lines.{Wording, lineFrom, saidFor, wording, wordedOf, rangeRead, linedOf, Lines, Went}
 use Rattle.blocks.specs.declared.Lined.{Lined}
 use Rattle.blocks.specs.declared.Lined.the-variants as lining
@@ -53,7 +53,7 @@ use Rattle.blocks.specs.declared.Worded.the-variants as worded
 use Rattle.blocks.proofs.Numbers.{below-true}
 use Rattle.blocks.proofs.Charges.{Late, judged-split}
 use Rattle.blocks.proofs.Ranges.{pair-judged}
-use Rattle.blocks.proofs.Tags.{tag-tells, first-there, both-there}
+use Rattle.elements.proofs.Tags.{tag-tells, first-there, both-there}
 use Rattle.blocks.proofs.Bodies.{nothing-passes}
 use Rattle.blocks.proofs.Heard.{word-told}
 use Rattle.blocks.proofs.Steps.{line-is, line-went}
@@ -120,10 +120,10 @@ module _ (d : List ℕ) (quantity : Bool) (h : Held) where
 module _ (bad : Bool) (d : List ℕ) (quantity : Bool) (p e : ℕ) (l : e ≤ length d) where
   module _ {h : Held} {em : Bool} {q m : ℕ} (t : tagOf bad d p e FROM TO [] 2 2 0 2 ≡ tag.Read h em q m) where
     pub range-slots : Slot d 2 (h .a) (h .ae) × Slot d 2 (h .b) (h .be)
-    range-slots = both-there d 2 2 0 (tag-tells d 2 2 0 bad p e FROM TO [] 2 l t)
+    range-slots = both-there d 2 2 0 (tag-tells d 2 2 0 bad p e FROM TO [] 2 t)
 
     pub range-next : m ≤ length d
-    range-next = tag-tells d 2 2 0 bad p e FROM TO [] 2 l t .next
+    range-next = tag-tells d 2 2 0 bad p e FROM TO [] 2 t .next
 
     pub range-found : {x : Found} {n : ℕ} → passedOf (nothing bad d RANGE em m) ≡ passed.Is x n
         → settledOf d quantity h x n ≡ linedOf (rangeRead bad d quantity p e)
@@ -147,10 +147,10 @@ module _ (bad : Bool) (d : List ℕ) (quantity : Bool) (p e : ℕ) (l : e ≤ le
 module _ (bad : Bool) (d : List ℕ) (languages : Bool) (p e : ℕ) (l : e ≤ length d) where
   module _ {h : Held} {em : Bool} {q m : ℕ} (t : tagOf bad d p e CODE [] [] 2 0 0 1 ≡ tag.Read h em q m) where
     pub value-slot : Slot d 2 (h .a) (h .ae)
-    value-slot = first-there d 2 0 0 (tag-tells d 2 0 0 bad p e CODE [] [] 1 l t)
+    value-slot = first-there d 2 0 0 (tag-tells d 2 0 0 bad p e CODE [] [] 1 t)
 
     pub value-next : m ≤ length d
-    value-next = tag-tells d 2 0 0 bad p e CODE [] [] 1 l t .next
+    value-next = tag-tells d 2 0 0 bad p e CODE [] [] 1 t .next
 
     pub value-found : {b : held.Body} → bodiedOf (body bad d VALUE (rich languages) em m) ≡ bodied.Is b
         → wordOf d h b ≡ wordedOf (wording bad d languages p e)

@@ -48,7 +48,7 @@ use Rattle.blocks.specs.declared.Lined.{Lined}
 use Rattle.blocks.specs.declared.Lined.the-variants as lining
 use Rattle.blocks.proofs.Ranges.{range-kept}
 use Rattle.blocks.proofs.Told.{told-count, told-cells}
-use Rattle.blocks.proofs.Tags.{tag-tells}
+use Rattle.elements.proofs.Tags.{tag-tells}
 use Rattle.blocks.proofs.Heard.{range-told}
 use Rattle.blocks.proofs.Steps.{kept-is, none-lines}
 
@@ -384,7 +384,7 @@ opened-standing {first = first} o = record { start = first; block = o .block; li
 module _ (bad : Bool) (d : List ℕ) (languages quantity : Bool) (before p e : ℕ) where
   module _ {h : Held} {em : Bool} {q n : ℕ} (t : bareOf bad d p e ≡ tag.Read h em q n) where
     pub bare-next : e ≤ length d → n ≤ length d
-    bare-next l = tag-tells d 0 0 0 bad p e [] [] [] 0 l t .next
+    bare-next l = tag-tells d 0 0 0 bad p e [] [] [] 0 t .next
 
     pub values-unknown : (h .unknown ≡ 0 → ⊥) → block.values bad d languages quantity before p e ≡ Not (fault 51 (h .unknown))
     unfolding block.values judged named least lower

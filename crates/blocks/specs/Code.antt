@@ -4,7 +4,7 @@ use mathlib.Core.Path.{_≡_}
 use mathlib.Core.Bool.{Bool, true, false, cond, not, _&&_}
 use mathlib.Core.List.{List, [], _∷_}
 use mathlib.Core.Option.{Option, none, some}
-use Prim.Native.Nat.{ℕ, _+_, _*_, _-_, _≤_}
+use Prim.Native.Nat.{ℕ, _+_, _*_, _-_}
 use lib.Dec.{eqb, ltb}
 use lib.IntN.{ℤ}
 use lib.ListN.{length, take, drop}
@@ -13,7 +13,6 @@ use Rattle.cells.specs.rule.Cell.{numberOf, pasted}
 use Rattle.layout.specs.rule.Layout.{lineSize}
 use Rattle.spans.specs.rule.Heard.{heard, All}
 use Rattle.amounts.specs.rule.Said.{trueIn}
-use Rattle.tags.specs.rule.Tag.{stretchFits}
 use Rattle.tokens.specs.declared.Fault.{Fault}
 use Rattle.tokens.specs.declared.Value.{Value}
 use Rattle.tokens.specs.rule.Gap.{fault}
@@ -54,12 +53,6 @@ heldAs a = written a (a .place) (a .end) (a .end)
 -- the bytes of d from v to e
 abbrev pub stretch : List ℕ → ℕ → ℕ → List ℕ
 stretch d v e = take (e - v) (drop v d)
-
--- a value of a form that lies inside d
-pub record Slot (d : List ℕ) (form v e : ℕ) : Type 0 where
-  pub ends : v ≤ e
-  pub within : e ≤ length d
-  pub fits : stretchFits form d v e ≡ true
 
 -- b lies below a, by what their digits say in full
 abbrev pub Below : List ℕ → Value → Value → Bool → Type 0

@@ -34,7 +34,8 @@ ghost use Rattle.xml_reading.specs.rule.Open.{due};
 ghost use Rattle.xml_reading.specs.rule.Element.{amountIn};
 ghost use Rattle.xml_reading.specs.rule.Block as block;
 ghost use Rattle.xml_reading.specs.rule.Block.{rich, lined, another, values};
-ghost use Rattle.blocks.specs.Code.{heldAs, Slot, Below, turned, pairOf, unlessOf, placedOf, settledOf, wordOf, countedOf};
+ghost use Rattle.elements.specs.Code.{Slot};
+ghost use Rattle.blocks.specs.Code.{heldAs, Below, turned, pairOf, unlessOf, placedOf, settledOf, wordOf, countedOf};
 ghost use Rattle.blocks.specs.Lines.{rangeRead, wording, wordedOf, linedOf, firstTag, blockRead, Lines, Standing, Went, Begun};
 ghost use Rattle.blocks.specs.Lines.{Closed};
 

@@ -273,7 +273,7 @@ pub fn item(classes: &[u8; 256], d: &[u8], byte: u8, place: usize, level: usize)
 }
 
 // The value of a hex digit.
-fn hex_value(classes: &[u8; 256], b: u8) -> u8
+pub fn hex_value(classes: &[u8; 256], b: u8) -> u8
     requires { ⌜ Classes (now classes) ⌝ }
     requires { ⌜ isHex b ≡ true ⌝ }
     ensures { λ r. ⌜ (r ≡ hexOf b) × (r ≤ 15) ⌝ }

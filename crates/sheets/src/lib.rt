@@ -1,6 +1,5 @@
-// A definition in XML read into rooms for rows and lines: a variable, all variables, the whole file. Above it stands the call for both
-// kinds of
-// a definition.
+// A variable of a definition in XML, from behind the name of its start tag on: its columns into a room for rows, its value lines into one
+// for lines. Above it stands the definition as a whole (`xml_files`).
 use elements::Due;
 use elements::Open;
 use entries::Stood;

@@ -16,8 +16,6 @@ ghost use Rattle.scan.specs.rule.Text.{text};
 ghost use Rattle.marks.specs.rule.Spelling.{decodeOf};
 ghost use Rattle.texts.specs.rule.Decode.{numbersOf, TextDecoded};
 ghost use mathlib.Core.Bool.{true};
-ghost use Rattle.marks.specs.rule.Marks.{isHex};
-ghost use Rattle.marks.specs.rule.Spelling.{hexOf};
 ghost use Rattle.texts.specs.Measured.{isMark, completes, endedIn, measureFrom, Passed, Paced, Copied, formSign, Form, FormEnd};
 
 // A run of bytes passed at once: the place after it, and how many signs were said before that.
@@ -51,18 +49,6 @@ fn marked(b: u8) -> bool
     ensures { λ r. ⌜ r ≡ isMark b ⌝ }
 {
     (b == 34) | (b == 123)
-}
-
-// The value of a hex digit.
-fn hex_of(classes: &[u8; 256], b: u8) -> u8
-    requires { ⌜ Classes (now classes) ⌝ }
-    requires { ⌜ isHex b ≡ true ⌝ }
-    ensures { λ r. ⌜ (r ≡ hexOf b) × (r ≤ 15) ⌝ }
-{
-    if ascii::class_of(classes, b) == ascii::DIGIT {
-        return b - 48;
-    }
-    ascii::upper(b) - 55
 }
 
 // The place behind a brace form of one sign whose bytes stand side by side; or the place itself, where none is told at once.
@@ -107,8 +93,8 @@ fn form_sign(classes: &[u8; 256], s: &[u8], n: usize, m: usize) -> Sign
     if marked(b) {
         return Sign::Byte(b);
     }
-    let high = hex_of(classes, b);
-    Sign::Byte(high * 16 + hex_of(classes, s[n + 2]))
+    let high = marks::hex_value(classes, b);
+    Sign::Byte(high * 16 + marks::hex_value(classes, s[n + 2]))
 }
 
 // Passes plain bytes, and brace forms that are told at once.
@@ -323,8 +309,10 @@ fn copy_pairs(classes: &[u8; 256], s: &[u8], n: usize, o: usize, list: &mut [i64
         if !marks::is_hex(classes, b) {
             return Run { next: i, count: m };
         }
-        let high = hex_of(classes, a);
-        list[m] = cells::cell_of(signs::number_of(Sign::Byte(high * 16 + hex_of(classes, b))));
+        let high = marks::hex_value(classes, a);
+        list[m] = cells::cell_of(signs::number_of(Sign::Byte(
+            high * 16 + marks::hex_value(classes, b),
+        )));
         m += 1;
         i += 2;
     }

@@ -1,9 +1,12 @@
 // Rows of sets: bitstrings and spreads. The numbers that the row allows are marked once where that pays, so that its lines are not
 // searched for each category or member.
+ghost use mathlib.Core.Path.{_≡_};
+ghost use mathlib.Core.Bool.{true};
 ghost use mathlib.Core.List.{[]};
 ghost use Prim.Native.Nat.{_≤_};
 ghost use lib.ListN.{length};
 ghost use Rattle.ascii.specs.rule.Tens.{Tens};
+ghost use Rattle.fields.specs.Facts.{LineFacts};
 ghost use Rattle.layout.specs.declared.Kind.the-variants as kind;
 ghost use Rattle.layout.specs.declared.Spread.the-variants as spread;
 ghost use Rattle.writes.specs.declared.Value.the-variants as given;
@@ -89,7 +92,7 @@ fn each_fits(t: &[i64], rows: usize, row: Row, w: usize, list: &[i64]) -> bool
     requires { ⌜ w ≤ 9999 ⌝ }
     ensures { λ r. ⌜ (r ≡ true → EachFits (now (t .entry)) rows row w (now (list .entry))) ⌝ }
 {
-    if !lines_count(t, rows, row, w) {
+    if !sets::alike::lines_count(t, rows, row, w) {
         return false;
     }
     setbytes::judge::fits_in(1, cells::cell_of(w), list)

@@ -42,7 +42,7 @@ use Rattle.xml_files.specs.declared.Run.{Run}
 use Rattle.xml_files.specs.declared.Run.the-variants as run
 use Rattle.sheets.specs.Code.{tallyOf, Before, Sofar}
 use Rattle.xml_files.specs.Code.{Fails, Added, Over, OneMore, Turned, runOf, Laid}
-use Rattle.xml_files.proofs.Few.{few}
+use Rattle.sheets.proofs.Few.{few}
 use Rattle.xml_files.proofs.Turns.{another-more, another-over}
 use Rattle.xml_files.proofs.Lists.{ident-few, variables-with, lines-with, highest-with, cells-with, cells-long, some-with}
 use Rattle.xml_files.proofs.Lists.{take-pasted}

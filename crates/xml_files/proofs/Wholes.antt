@@ -46,7 +46,7 @@ use Rattle.xml_files.specs.declared.Run.{Run}
 use Rattle.xml_files.specs.declared.Run.the-variants as run
 use Rattle.sheets.specs.Code.{tallyOf}
 use Rattle.xml_files.specs.Code.{runOf, Laid, NamesSettled, Standing, RoomsRead, bodyOf}
-use Rattle.xml_files.proofs.Few.{few}
+use Rattle.sheets.proofs.Few.{few}
 use Rattle.xml_files.proofs.Lists.{highest-low}
 use Rattle.xml_files.proofs.Rans.{moved-rows}
 use Rattle.xml_files.proofs.Settles.{lying-here}

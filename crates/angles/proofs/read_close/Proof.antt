@@ -17,12 +17,14 @@ returns c = rw (
 
 returns-2 : tie.Need-returns-2
 unfolding closeOf
-returns-2 c = rw (
-  lt-leb (length (c .before .before .before .before .before .before .args .d .now))
-      (c .before .before .before .before .before .before .args .at + 2) (omega arith),
-  sym (c .before .before .starts-name .ensures) ∙ c .before .if2 .taken,
-  c .run .ensures .0,
-)
+returns-2 c =
+    let at-starts-name = c .before .before in
+    let args = at-starts-name .before .before .before .before .args in
+    rw (
+      lt-leb (length (args .d .now)) (args .at + 2) (omega arith),
+      sym (at-starts-name .starts-name .ensures) ∙ c .before .if2 .taken,
+      c .run .ensures .0,
+    )
 
 returns-3 : tie.Need-returns-3
 unfolding closeOf

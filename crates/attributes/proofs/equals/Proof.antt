@@ -17,12 +17,14 @@ returns c = rw (
 
 returns-2 : tie.Need-returns-2
 unfolding equalsOf
-returns-2 c = rw (
-  lt-leb (length (c .before .before .before .before .before .before .args .d .now))
-      (c .before .before .before .before .before .before .args .m) (omega arith),
-  eq-eqb _ 61 (c .before .before .if2 .taken),
-  ← (c .before .run .ensures .0),
-) (c .valued .ensures)
+returns-2 c =
+    let at-if2 = c .before .before in
+    let args = at-if2 .before .before .before .before .args in
+    rw (
+      lt-leb (length (args .d .now)) (args .m) (omega arith),
+      eq-eqb _ 61 (at-if2 .if2 .taken),
+      ← (c .before .run .ensures .0),
+    ) (c .valued .ensures)
 
 returns-3 : tie.Need-returns-3
 unfolding equalsOf

@@ -50,28 +50,28 @@ returns-4 c =
 returns-5 : tie.Need-returns-5
 unfolding attributeOf behindOf
 returns-5 c =
+    let at-if4 = c .before .before .before in
+    let at-run = at-if4 .before .before .before .before .before in
     rw (
-      ← (c .before .before .before .before .before .before .before .before .run .ensures .0),
-      lt-leb (length (c .before .before .before .before .before .before .before .before .before .before .args .d .now))
-          (c .before .before .before .before .before .before .before .before .run .result) (omega arith),
-      ne-eqb _ 62 (c .before .before .before .before .before .if2 .left),
-      ne-eqb _ 47 (c .before .before .before .before .if3 .left),
-      ne-eqb _ _ (c .before .before .before .if4 .left),
-    )
-    (rw (sym (c .before .before .starts-name .ensures) ∙ c .before .if5 .taken) (c .named .ensures))
+      ← (at-run .run .ensures .0),
+      lt-leb (length (at-run .before .before .args .d .now)) (at-run .run .result) (omega arith),
+      ne-eqb _ 62 (at-if4 .before .before .if2 .left),
+      ne-eqb _ 47 (at-if4 .before .if3 .left),
+      ne-eqb _ _ (at-if4 .if4 .left),
+    ) (rw (sym (c .before .before .starts-name .ensures) ∙ c .before .if5 .taken) (c .named .ensures))
 
 returns-6 : tie.Need-returns-6
 unfolding attributeOf behindOf
 returns-6 c =
+    let at-if4 = c .before .before in
+    let at-run = at-if4 .before .before .before .before .before in
     rw (
-      ← (c .before .before .before .before .before .before .before .run .ensures .0),
-      lt-leb (length (c .before .before .before .before .before .before .before .before .before .args .d .now))
-          (c .before .before .before .before .before .before .before .run .result) (omega arith),
-      ne-eqb _ 62 (c .before .before .before .before .if2 .left),
-      ne-eqb _ 47 (c .before .before .before .if3 .left),
-      ne-eqb _ _ (c .before .before .if4 .left),
-    )
-    (rw (sym (c .before .starts-name .ensures) ∙ c .if5 .left))
+      ← (at-run .run .ensures .0),
+      lt-leb (length (at-run .before .before .args .d .now)) (at-run .run .result) (omega arith),
+      ne-eqb _ 62 (at-if4 .before .before .if2 .left),
+      ne-eqb _ 47 (at-if4 .before .if3 .left),
+      ne-eqb _ _ (at-if4 .if4 .left),
+    ) (rw (sym (c .before .starts-name .ensures) ∙ c .if5 .left))
 
 pub next-attribute-spec : {M : Type 1} → statement M
 next-attribute-spec = tie.close (tie.spec (λ c κs. search needs) (λ c κs. search needs) returns (λ c. search needs) (λ c. search needs)

@@ -27,21 +27,25 @@ returns c = rw (
 
 returns-2 : tie.Need-returns-2
 unfolding valuedOf
-returns-2 c = rw (
-  lt-leb (length (c .before .before .before .before .before .before .before .before .args .d .now))
-      (c .before .before .before .before .before .before .before .before .args .v) (omega arith),
-  c .before .before .before .before .if2 .taken,
-  sym (c .before .before .before .quoted .ensures) ∙ c .before .k .given .1,
-)
+returns-2 c =
+    let at-quoted = c .before .before .before in
+    let args = at-quoted .before .before .before .before .before .args in
+    rw (
+      lt-leb (length (args .d .now)) (args .v) (omega arith),
+      at-quoted .before .if2 .taken,
+      sym (at-quoted .quoted .ensures) ∙ c .before .k .given .1,
+    )
 
 returns-3 : tie.Need-returns-3
 unfolding valuedOf
-returns-3 c = rw (
-  lt-leb (length (c .before .before .before .before .before .before .before .before .args .d .now))
-      (c .before .before .before .before .before .before .before .before .args .v) (omega arith),
-  c .before .before .before .before .if2 .taken,
-  sym (c .before .before .before .quoted .ensures) ∙ c .before .p .given .1,
-)
+returns-3 c =
+    let at-quoted = c .before .before .before in
+    let args = at-quoted .before .before .before .before .before .args in
+    rw (
+      lt-leb (length (args .d .now)) (args .v) (omega arith),
+      at-quoted .before .if2 .taken,
+      sym (at-quoted .quoted .ensures) ∙ c .before .p .given .1,
+    )
 
 returns-4 : tie.Need-returns-4
 unfolding valuedOf

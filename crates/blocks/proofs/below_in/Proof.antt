@@ -15,9 +15,9 @@ returns-2 c x y h k = less-never (trueIn x) (trueIn y) (c .before .if1 .taken) (
 
 returns-3 : tie.Need-returns-3
 returns-3 c x y h k =
-    less-some (trueIn x) (trueIn y) (c .before .before .before .before .before .before .before .if1 .left)
-    (c .before .before .before .before .before .before .if3 .taken)
-    (rw none-says at (c .before .before .before .less-in2 .ensures _ x none-heard h))
+    let at-less-in2 = c .before .before .before in
+    less-some (trueIn x) (trueIn y) (at-less-in2 .before .before .before .before .if1 .left)
+    (at-less-in2 .before .before .before .if3 .taken) (rw none-says at (at-less-in2 .less-in2 .ensures _ x none-heard h))
     (rw none-says at (c .less-in3 .ensures _ y none-heard k))
 
 returns-4 : tie.Need-returns-4

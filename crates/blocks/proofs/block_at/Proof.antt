@@ -7,18 +7,19 @@ use Rattle.blocks.proofs.block_at.Tie as tie
 
 read-values-requires : tie.Need-read-values-requires
 read-values-requires c κs =
-    let o = begun-is _ (c .before .before .before .before .before .before .before .before .first-at .ensures)
-    (c .before .before .before .block .given .1) in (
-      (o .next, c .before .before .before .before .before .before .before .before .before .before .before .before .before .pre .0 .1),
+    let at-block = c .before .before .before in
+    let at-first-at = at-block .before .before .before .before .before in
+    let o = begun-is _ (at-first-at .first-at .ensures) (at-block .block .given .1) in (
+      (o .next, at-first-at .before .before .before .before .before .pre .0 .1),
       opened-standing o,
     )
 
 returns : tie.Need-returns
 returns c =
-    let o = begun-is _
-    (c .before .before .before .before .before .before .before .before .before .before .before .before .first-at .ensures)
-    (c .before .before .before .before .before .before .before .block .given .1) in
-    rw (o .reads) (c .before .before .before .read-values .ensures (o .block) _ 4097 (o .lines) (omega arith))
+    let at-read-values = c .before .before .before in
+    let at-block = at-read-values .before .before .before .before in
+    let o = begun-is _ (at-block .before .before .before .before .before .first-at .ensures) (at-block .block .given .1) in
+    rw (o .reads) (at-read-values .read-values .ensures (o .block) _ 4097 (o .lines) (omega arith))
 
 returns-2 : tie.Need-returns-2
 returns-2 c = closed-not (rw (begun-refused _ (c .before .before .before .before .before .before .first-at .ensures)

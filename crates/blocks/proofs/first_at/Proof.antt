@@ -12,8 +12,10 @@ first-tag-requires c κs =
 
 returns : tie.Need-returns
 returns c =
-    rw (first-start _ _ _ _ _ _ (sym (c .before .before .before .before .before .before .before .before .before .find-open .ensures .0)
-    ∙ c .before .before .before .before .before .before .before .place .given .1)) (c .before .before .before .first-tag .ensures)
+    let at-first-tag = c .before .before .before in
+    let at-place = at-first-tag .before .before .before .before in
+    rw (first-start _ _ _ _ _ _ (sym (at-place .before .before .find-open .ensures .0)
+    ∙ at-place .place .given .1)) (at-first-tag .first-tag .ensures)
 
 returns-2 : tie.Need-returns-2
 returns-2 c = begun-not (first-shut _ _ _ _ _ _ (sym (c .before .before .before .find-open .ensures .0) ∙ c .before .place2 .given .1))

@@ -18,12 +18,12 @@ returns c =
 
 returns-2 : tie.Need-returns-2
 returns-2 c =
-    let p = c .before .before .before .before .before .before .before .before .before .before .before .before .before .pre in
-    let l = empty-lines _ _ _ _ _ (p .1 .1) (p .1 .0) (p .1 .2)
-    (c .before .before .before .before .before .before .before .empty-block .ensures) in
-    first-line _ _ _ _ _ (sym (c .before .before .before .before .before .before .before .before .before .is-named .ensures)
-    ∙ c .before .before .before .before .before .before .before .before .if1 .left)
-    (c .before .before .before .before .value-tag .ensures _ _ l) (c .listed2 .ensures)
+    let at-value-tag = c .before .before .before .before in
+    let at-if1 = at-value-tag .before .before .before .before in
+    let p = at-if1 .before .before .before .before .before .pre in
+    let l = empty-lines _ _ _ _ _ (p .1 .1) (p .1 .0) (p .1 .2) (at-value-tag .before .before .before .empty-block .ensures) in
+    first-line _ _ _ _ _ (sym (at-if1 .before .is-named .ensures) ∙ at-if1 .if1 .left)
+    (at-value-tag .value-tag .ensures _ _ l) (c .listed2 .ensures)
 
 pub first-tag-spec : {M : Type 1} → statement M
 first-tag-spec =

@@ -16,11 +16,11 @@ place-line-requires c κs =
 
 returns : tie.Need-returns
 returns c k start l =
-    let p = c .before .before .before .before .before .before .before .before .before .before .before .before .pre in
-    let i = word-is _ _ _ _ _ (p .0 .0)
-    (sym (c .before .before .before .before .before .before .before .before .before .read-value .ensures)
-    ∙ c .before .before .before .before .before .before .before .said .given .1) in
-    let e = c .before .before .before .place-line .ensures in
+    let at-place-line = c .before .before .before in
+    let at-said = at-place-line .before .before .before .before in
+    let p = at-said .before .before .before .before .before .pre in
+    let i = word-is _ _ _ _ _ (p .0 .0) (sym (at-said .before .before .read-value .ensures) ∙ at-said .said .given .1) in
+    let e = at-place-line .place-line .ensures in
     line-placed _ _ _ _ _ (p .0 .0) _ l i (e .0) (e .1 .0) (e .1 .1)
 
 returns-2 : tie.Need-returns-2

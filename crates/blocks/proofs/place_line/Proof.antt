@@ -5,16 +5,18 @@ use Rattle.blocks.proofs.place_line.Tie as tie
 
 returns : tie.Need-returns
 returns c =
-    let e = sym (c .before .before .before .before .before .before .before .stand-line .ensures .0)
-    ∙ c .before .before .enum-told .given .1 in (
+    let at-enum-told = c .before .before in
+    let at-stand-line = at-enum-told .before .before .before .before .before in
+    let e = sym (at-stand-line .stand-line .ensures .0) ∙ at-enum-told .enum-told .given .1 in (
       rw e (c .unless .ensures ∙ rw (c .before .grown .ensures)),
-      c .before .before .before .before .before .before .before .stand-line .ensures .1,
+      at-stand-line .stand-line .ensures .1,
     )
 
 returns-2 : tie.Need-returns-2
 returns-2 c =
-    let e = sym (c .before .before .before .before .before .before .stand-line .ensures .0) ∙ c .before .f .given .1 in
-    (rw e, c .before .before .before .before .before .before .stand-line .ensures .1)
+    let at-stand-line = c .before .before .before .before .before .before in
+    let e = sym (at-stand-line .stand-line .ensures .0) ∙ c .before .f .given .1 in
+    (rw e, at-stand-line .stand-line .ensures .1)
 
 pub place-line-spec : {M : Type 1} → statement M
 place-line-spec =

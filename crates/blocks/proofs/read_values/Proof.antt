@@ -18,33 +18,33 @@ loop-holds c = ran-first (c .before .before .pre .1) (c .before .before .pre .0 
 
 value-tag-requires : tie.Need-value-tag-requires Inv-loop μ-loop
 value-tag-requires c κs =
-    let w = rw (c .before .before .before .place .given .1) at (c .before .before .before .before .before .find-open .ensures .1) in (
-      (w .1, w .2, c .before .before .before .before .before .before .before .before .before .before .pre .0 .1),
-      c .before .before .before .before .before .before .before .loop .inv .standing,
+    let at-find-open = c .before .before .before .before .before in
+    let w = rw (c .before .before .before .place .given .1) at (at-find-open .find-open .ensures .1) in (
+      (w .1, w .2, at-find-open .before .before .before .before .before .pre .0 .1),
+      at-find-open .before .before .loop .inv .standing,
     )
 
 loop-less : tie.Need-loop-less Inv-loop μ-loop
 loop-less c =
-    let h = ran-less
-    (c .before .before .before .before .before .before .before .before .before .before .before .before .before .before .loop .inv)
-    (sym (c .before .before .before .before .before .before .before .before .before .before .before .before .find-open .ensures .0)
-    ∙ c .before .before .before .before .before .before .before .before .before .before .place .given .1)
-    (c .before .before .before .before .before .before .value-tag .ensures) (c .before .y .given .1) in
+    let at-value-tag = c .before .before .before .before .before .before in
+    let at-place = at-value-tag .before .before .before .before in
+    let h = ran-less (at-place .before .before .before .before .loop .inv) (sym (at-place .before .before .find-open .ensures .0)
+    ∙ at-place .place .given .1) (at-value-tag .value-tag .ensures) (c .before .y .given .1) in
     omega arith
 
 loop-again : tie.Need-loop-again Inv-loop μ-loop
 loop-again c =
-    ran-more (c .before .before .before .before .before .before .before .before .before .before .before .before .before .before .loop .inv)
-    (sym (c .before .before .before .before .before .before .before .before .before .before .before .before .find-open .ensures .0)
-    ∙ c .before .before .before .before .before .before .before .before .before .before .place .given .1)
-    (c .before .before .before .before .before .before .value-tag .ensures) (c .before .y .given .1)
+    let at-value-tag = c .before .before .before .before .before .before in
+    let at-place = at-value-tag .before .before .before .before in
+    ran-more (at-place .before .before .before .before .loop .inv) (sym (at-place .before .before .find-open .ensures .0)
+    ∙ at-place .place .given .1) (at-value-tag .value-tag .ensures) (c .before .y .given .1)
 
 returns : tie.Need-returns Inv-loop μ-loop
 returns c =
-    ran-not (c .before .before .before .before .before .before .before .before .before .before .before .before .before .before .loop .inv)
-    (sym (c .before .before .before .before .before .before .before .before .before .before .before .before .find-open .ensures .0)
-    ∙ c .before .before .before .before .before .before .before .before .before .before .place .given .1)
-    (c .before .before .before .before .before .before .value-tag .ensures) (c .before .f .given .1)
+    let at-value-tag = c .before .before .before .before .before .before in
+    let at-place = at-value-tag .before .before .before .before in
+    ran-not (at-place .before .before .before .before .loop .inv) (sym (at-place .before .before .find-open .ensures .0)
+    ∙ at-place .place .given .1) (at-value-tag .value-tag .ensures) (c .before .f .given .1)
 
 returns-2 : tie.Need-returns-2 Inv-loop μ-loop
 returns-2 c =
@@ -58,20 +58,18 @@ returns-3 c = ran-none (c .before .before .before .before .before .loop .inv)
 
 same-length : tie.Need-same-length Inv-loop μ-loop
 same-length c =
+    let at-loop = c .before .before .before .before .before .before .before .before .before .before .before .before .before .before in
     let g = c .before .before .before .before .before .lines .given in
-    let h = c .before .before .before .before .before .before .before .before .before .before .before .before .before .before .loop .inv
-    .standing .lines .holds .kept in
-    let k = c .before .before .before .before .before .before .before .before .before .before .before .before .before .before .before
-    .before .before .pre .1 .lines .holds .kept in
+    let h = at-loop .loop .inv .standing .lines .holds .kept in
+    let k = at-loop .before .before .before .pre .1 .lines .holds .kept in
     search needs
 
 same-length-2 : tie.Need-same-length-2 Inv-loop μ-loop
 same-length-2 c =
+    let at-loop = c .before .before .before .before .before .before .before .before .before .before .before .before .before .before in
     let g = c .before .before .before .before .marks .given in
-    let h = c .before .before .before .before .before .before .before .before .before .before .before .before .before .before .loop .inv
-    .standing .lines .holds .slots in
-    let k = c .before .before .before .before .before .before .before .before .before .before .before .before .before .before .before
-    .before .before .pre .1 .lines .holds .slots in
+    let h = at-loop .loop .inv .standing .lines .holds .slots in
+    let k = at-loop .before .before .before .pre .1 .lines .holds .slots in
     search needs
 
 same-length-3 : tie.Need-same-length-3 Inv-loop μ-loop

@@ -15,27 +15,30 @@ below-in-requires c κs =
 returns : tie.Need-returns
 unfolding settledOf
 returns c =
-    let p = c .before .before .before .before .before .before .before .before .before .before .before .pre in
-    let a = c .before .before .before .before .before .before .before .before .before .before .before .args in
+    let at-block = c .before .before .before .before in
+    let at-judge-pair = at-block .before .before in
+    let start = at-judge-pair .before .before .before .before .before in
+    let p = start .pre in
+    let a = start .args in
     let e =
     sym (range-settled (a .d .now) (a .quantity) (a .h) (p .0) (p .1)
-    (c .before .before .before .before .before .before .before .before .before .amount-at .ensures (p .0 .fits))
-    (c .before .before .before .before .before .before .before .before .amount-at2 .ensures (p .1 .fits)) (a .next)
-    (c .before .before .before .before .before .before .before .below-in .ensures))
-    ∙ sym (c .before .before .before .before .before .before .judge-pair .ensures) ∙ c .before .before .before .before .block .given .1 in
+    (at-judge-pair .before .before .before .amount-at .ensures (p .0 .fits))
+    (at-judge-pair .before .before .amount-at2 .ensures (p .1 .fits)) (a .next) (at-judge-pair .before .below-in .ensures))
+    ∙ sym (at-judge-pair .judge-pair .ensures) ∙ at-block .block .given .1 in
     rw e (c .unless .ensures ∙ rw (c .before .lower .ensures, c .before .before .fault-at .ensures))
 
 returns-2 : tie.Need-returns-2
 unfolding settledOf
 returns-2 c =
-    let p = c .before .before .before .before .before .before .before .before .pre in
-    let a = c .before .before .before .before .before .before .before .before .args in
+    let at-judge-pair = c .before .before .before in
+    let start = at-judge-pair .before .before .before .before .before in
+    let p = start .pre in
+    let a = start .args in
     let e =
     sym (range-settled (a .d .now) (a .quantity) (a .h) (p .0) (p .1)
-    (c .before .before .before .before .before .before .amount-at .ensures (p .0 .fits))
-    (c .before .before .before .before .before .amount-at2 .ensures (p .1 .fits)) (a .next)
-    (c .before .before .before .before .below-in .ensures))
-    ∙ sym (c .before .before .before .judge-pair .ensures) ∙ c .before .f .given .1 in
+    (at-judge-pair .before .before .before .amount-at .ensures (p .0 .fits))
+    (at-judge-pair .before .before .amount-at2 .ensures (p .1 .fits)) (a .next) (at-judge-pair .before .below-in .ensures))
+    ∙ sym (at-judge-pair .judge-pair .ensures) ∙ c .before .f .given .1 in
     rw e
 
 pub settle-range-spec : {M : Type 1} → statement M

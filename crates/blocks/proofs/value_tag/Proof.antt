@@ -10,8 +10,10 @@ returns c k start l =
     tag-refused _ _ _ _ _ _ _ _ (sym (c .before .before .is-named .ensures) ∙ not-true _ (c .before .if1 .taken)) (c .misplaced .ensures)
 
 returns-2 : tie.Need-returns-2
-returns-2 c k start l = rw (sym (c .before .before .before .before .before .before .before .is-named .ensures)
-    ∙ not-false _ (c .before .before .before .before .before .before .if1 .left)) (c .before .before .before .line-at .ensures k start l)
+returns-2 c k start l =
+    let at-line-at = c .before .before .before in
+    rw (sym (at-line-at .before .before .before .before .is-named .ensures)
+    ∙ not-false _ (at-line-at .before .before .before .if1 .left)) (at-line-at .line-at .ensures k start l)
 
 pub value-tag-spec : {M : Type 1} → statement M
 value-tag-spec =

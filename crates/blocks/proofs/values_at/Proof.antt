@@ -15,12 +15,13 @@ returns-2 c = closed-not (values-empty _ _ _ _ _ _ _
 
 block-at-requires : tie.Need-block-at-requires
 block-at-requires c κs =
-    let a = c .before .before .before .before .before .before .before .before .before .before .before .args in
-    let p = c .before .before .before .before .before .before .before .before .before .before .before .pre in (
+    let at-held = c .before .before .before .before .before .before in
+    let start = at-held .before .before .before .before .before in
+    let a = start .args in
+    let p = start .pre in (
       (
-        bare-next _ _ (a .languages) (a .quantity) (a .before) _ _
-            (sym (c .before .before .before .before .before .before .before .before .read-bare .ensures)
-            ∙ c .before .before .before .before .before .before .held .given .1) (p .0 .0),
+        bare-next _ _ (a .languages) (a .quantity) (a .before) _ _ (sym (at-held .before .before .read-bare .ensures)
+            ∙ at-held .held .given .1) (p .0 .0),
         p .0 .1,
       ),
       p .1,
@@ -28,11 +29,11 @@ block-at-requires c κs =
 
 returns-3 : tie.Need-returns-3
 returns-3 c =
-    rw (values-open _ _ _ _ _ _ _
-    (sym (c .before .before .before .before .before .before .before .before .before .before .before .before .read-bare .ensures)
-    ∙ c .before .before .before .before .before .before .before .before .before .before .held .given .1)
-    (c .before .before .before .before .before .before .before .if1 .left) (c .before .before .before .before .before .before .if2 .left))
-    (c .before .before .before .block-at .ensures)
+    let at-block-at = c .before .before .before in
+    let at-if1 = at-block-at .before .before .before .before in
+    rw (values-open _ _ _ _ _ _ _ (sym (at-if1 .before .before .before .before .before .read-bare .ensures)
+    ∙ at-if1 .before .before .before .held .given .1) (at-if1 .if1 .left) (at-block-at .before .before .before .if2 .left))
+    (at-block-at .block-at .ensures)
 
 returns-4 : tie.Need-returns-4
 returns-4 c = closed-not (values-fault _ _ _ _ _ _ _ (sym (c .before .before .before .read-bare .ensures) ∙ c .before .number .given .1))

@@ -34,11 +34,12 @@ gap : (c : tie.After-put-rest-arg) → length (markedEntries
     (c .before .before .before .before .before .before .before .before .before .args .present .now)
     (c .before .before .before .before .before .pass-marked .result))
 gap c =
-    let p = c .before .before .before .before .before .before .before .before .before .pre in
-    let a = c .before .before .before .before .before .before .before .before .before .args in
-    gap-count (a .there) (a .allowed .now) (a .present .now) (a .list .now) (a .n)
-    (c .before .before .before .before .before .pass-marked .result)
-    (marked-then (p .1 .0 .0) (c .before .before .before .before .before .pass-marked .ensures)) (p .0 .1) (p .1 .0 .1)
+    let at-pass-marked = c .before .before .before .before .before in
+    let start = at-pass-marked .before .before .before .before in
+    let p = start .pre in
+    let a = start .args in
+    gap-count (a .there) (a .allowed .now) (a .present .now) (a .list .now) (a .n) (at-pass-marked .pass-marked .result)
+    (marked-then (p .1 .0 .0) (at-pass-marked .pass-marked .ensures)) (p .0 .1) (p .1 .0 .1)
 
 add-put-rest : tie.Need-add-put-rest
 add-put-rest c = omega (

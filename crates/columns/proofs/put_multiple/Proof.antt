@@ -25,10 +25,11 @@ read-row-requires : tie.Need-read-row-requires
 read-row-requires c κs = readable-ready (c .before .before .before .before .before .pre .0 .0)
 
 mark-legal-requires : tie.Need-mark-legal-requires
-mark-legal-requires c κs = (
-  c .before .before .before .before .before .before .before .before .pre .0 .0 .facts .lines,
-  c .before .before .before .before .before .before .before .before .pre .1 .0 .0 .few,
-)
+mark-legal-requires c κs =
+    let start = c .before .before .before .before .before .before .before .before in (
+      start .pre .0 .0 .facts .lines,
+      start .pre .1 .0 .0 .few,
+    )
 
 -- the list has room for the set
 room : (c : tie.After-read-row) → let a = c .before .before .before .before .before .before .args in
@@ -65,12 +66,11 @@ mark-members-requires c κs =
 
 range-past-requires : tie.Need-range-past-requires
 range-past-requires c κs =
+    let start = c .before .before .before .before .before .before .before .before .before .before .before .before .before .before .before
+    .before .before .before .before .before .before in
     marks-few
     (c .before .before .before .before .before .before .before .before .before .before .before .before .mark-legal .kept .1 .1 .1 .0)
-    (c .before .before .before .before .before .before .before .before .before .before .before .before .before .before .before .before
-    .before .before .before .before .before .pre .1 .0 .0 .some)
-    (c .before .before .before .before .before .before .before .before .before .before .before .before .before .before .before .before
-    .before .before .before .before .before .pre .1 .0 .0 .few)
+    (start .pre .1 .0 .0 .some) (start .pre .1 .0 .0 .few)
 
 put-members-requires : tie.Need-put-members-requires
 put-members-requires c κs =
@@ -138,28 +138,17 @@ put-members-requires c κs =
     )
 
 returns : tie.Need-returns
-returns c = put-as
-    (multiple-made
-    (c .before .before .before .before .before .before .before .before .before .before .before .before .before .before .before .before
-    .before .before .before .before .before .before .before .before .before .before .before .before .before .before .pre .1 .0 .0)
-    (c .before .before .before .before .before .before .before .before .before .before .before .before .before .before .before .before
-    .before .before .before .before .before .before .before .before .read-row .ensures)
-    (room (c .before .before .before .before .before .before .before .before .before .before .before .before .before .before .before .before
-    .before .before .before .before .before .before .before .before))
-    (c .before .before .before .before .before .before .before .before .before .before .before .before .before .before .before .before
-    .before .before .before .before .before .mark-legal .kept .1 .1 .1 .0)
-    (c .before .before .before .before .before .before .before .before .before .before .before .before .before .before .before .before
-    .before .before .before .before .before .mark-legal .ensures)
-    (c .before .before .before .before .before .before .before .before .before .before .before .before .before .before .before .before
-    .before .clear .ensures)
-    (c .before .before .before .before .before .before .before .before .before .before .before .mark-members .kept .1 .1 .0)
-    (c .before .before .before .before .before .before .before .before .before .before .before .before .before .before .before .before
-    .before .clear .kept .0
-    ∙ c .before .before .before .before .before .before .before .before .before .before .before .before .before .before .before .before
-    .before .before .before .before .before .before .before .before .before .before .before .before .before .before .pre .1 .0 .1)
-    (c .before .before .before .before .before .before .before .before .before .before .before .before .before .before .members-in .ensures)
-    (c .before .before .before .before .before .before .before .before .before .before .before .mark-members .ensures)
-    (c .before .before .before .before .is-set .ensures)) (c .before .before .put-members .ensures)
+returns c =
+    let at-mark-members = c .before .before .before .before .before .before .before .before .before .before .before in
+    let at-members-in = at-mark-members .before .before .before in
+    let at-clear = at-members-in .before .before .before in
+    let at-mark-legal = at-clear .before .before .before .before in
+    let at-read-row = at-mark-legal .before .before .before in
+    let start = at-read-row .before .before .before .before .before .before in
+    put-as (multiple-made (start .pre .1 .0 .0) (at-read-row .read-row .ensures) (room at-read-row)
+    (at-mark-legal .mark-legal .kept .1 .1 .1 .0) (at-mark-legal .mark-legal .ensures) (at-clear .clear .ensures)
+    (at-mark-members .mark-members .kept .1 .1 .0) (at-clear .clear .kept .0 ∙ start .pre .1 .0 .1) (at-members-in .members-in .ensures)
+    (at-mark-members .mark-members .ensures) (c .before .before .before .before .is-set .ensures)) (c .before .before .put-members .ensures)
 
 pub put-multiple-spec : {M : Type 1} → statement M
 put-multiple-spec =

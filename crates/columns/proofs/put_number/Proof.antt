@@ -29,21 +29,19 @@ read-row-requires c κs = readable-ready (c .before .before .before .before .bef
 made : (c : tie.After-number-entry) → let a = c .before .before .before .before .before .before .before .before .before .args in
     c .number-entry .result ≡ numberEntry (10 ^ decimalsBy (a .row .kind)) (readingOf (a .t .now) (a .rows) (a .row) (a .bytes .now))
 made c =
-    let a = c .before .before .before .before .before .before .before .before .before .args in
+    let at-power = c .before .before .before .before .before in
+    let a = at-power .before .before .before .before .args in
     let f = readingOf (a .t .now) (a .rows) (a .row) (a .bytes .now) in
-    c .number-entry .ensures
-    ∙ ap (λ (x : Answer). answerEntry (c .before .before .before .before .before .power .result) x)
+    c .number-entry .ensures ∙ ap (λ (x : Answer). answerEntry (at-power .power .result) x)
     (c .before .before .before .read-row .ensures .answer)
-    ∙ answer-entry (c .before .before .before .before .before .power .result) (a .row .start - 1) (length (a .list .now)) f
-    ∙ ap (λ (p : ℕ). numberEntry p f) (c .before .before .before .before .before .power .ensures
-    ∙ ap (λ (k : ℕ). 10 ^ k) (c .before .before .before .before .before .before .decimals-of .ensures))
+    ∙ answer-entry (at-power .power .result) (a .row .start - 1) (length (a .list .now)) f
+    ∙ ap (λ (p : ℕ). numberEntry p f) (at-power .power .ensures ∙ ap (λ (k : ℕ). 10 ^ k) (at-power .before .decimals-of .ensures))
 
 put-entry-requires : tie.Need-put-entry-requires
 put-entry-requires c κs =
-    let p = c .before .before .before .before .before .before .before .before .before .pre in (
-      rw (made c) (entry-good (p .1 .0) (c .before .before .before .before .before .before .before .before .before .args .bytes .now)
-          (10 ^ decimalsBy (c .before .before .before .before .before .before .before .before .before .args .row .kind))
-          (power-good (p .1 .0) .1)),
+    let start = c .before .before .before .before .before .before .before .before .before in
+    let p = start .pre in (
+      rw (made c) (entry-good (p .1 .0) (start .args .bytes .now) (10 ^ decimalsBy (start .args .row .kind)) (power-good (p .1 .0) .1)),
       p .1 .1,
     )
 

@@ -44,10 +44,11 @@ module _ (c : tie.After-put-row-arg4 Inv-loop μ-loop) where
       (c .before .before .before .before .before .before .loop .i + 1)
       (c .before .before .before .before .before .before .before .before .before .before .before .args .h .rows -
       (c .before .before .before .before .before .before .loop .i + 1)))
-  next = left-count (c .before .before .before .before .before .before .before .before .before .before .before .args .t .now)
-      (c .before .before .before .before .before .before .before .before .before .before .before .args .h .rows)
-      (c .before .before .before .before .before .before .before .before .before .before .before .args .bytes .now)
-      (c .before .before .before .before .before .before .loop .i) (c .before .before .before .before .if1 .taken)
+  next =
+      let at-if1 = c .before .before .before .before in
+      let at-loop = at-if1 .before .before in
+      let args = at-loop .before .before .before .before .before .args in
+      left-count (args .t .now) (args .h .rows) (args .bytes .now) (at-loop .loop .i) (at-if1 .if1 .taken)
 
 add-put-row : tie.Need-add-put-row Inv-loop μ-loop
 add-put-row c = let p = c .before .before .before .before .before .before .before .before .before .before .before .pre .1 .1 in

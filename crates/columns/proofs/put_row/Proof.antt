@@ -55,16 +55,16 @@ put-number-requires c κs =
 
 returns-2 : tie.Need-returns-2
 returns-2 c =
-    let a = c .before .before .before .before .before .before .before .before .before .before .before .before .before .before .args in
+    let at-put-number = c .before .before .before in
+    let at-if2 = at-put-number .before .before .before in
+    let at-read = at-if2 .before .before .before in
+    let a = at-read .before .before .before .before .before .args in
     let e = ap (entriesOf (a .t .now) (a .h .rows) (a .bytes .now))
-    (shape-one (a .t .now) (a .h .rows) (a .i) (sym (shaped (c .before .before .before .before .before .before .before .before))
-    ∙ c .before .before .before .before .before .before .if2 .taken))
+    (shape-one (a .t .now) (a .h .rows) (a .i) (sym (shaped (at-if2 .before .before)) ∙ at-if2 .if2 .taken))
     ∙ entries-one (a .t .now) (a .h .rows) (a .bytes .now) (a .i) in
-    put-as (sym e)
-    (record {
+    put-as (sym e) (record {
       count = refl;
-      leaves = rw (c .before .before .before .before .before .before .before .before .before .read .ensures) at
-          (c .before .before .before .put-number .ensures);
+      leaves = rw (at-read .read .ensures) at (at-put-number .put-number .ensures);
     })
 
 reaches : (c : tie.After-reach-of) → c .reach-of .result ≤ 10000

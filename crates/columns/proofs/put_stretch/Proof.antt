@@ -20,18 +20,21 @@ returns c =
     (c .before .before .before .put-many .ensures)
 
 put-ones-requires : tie.Need-put-ones-requires
-put-ones-requires c κs = (
-  c .before .before .before .before .before .before .before .pre .0,
-  c .before .before .before .before .before .before .before .pre .2,
-  room-on (c .before .before .before .before .put-many .kept .0) (c .before .before .before .before .before .before .before .pre .3),
-)
+put-ones-requires c κs =
+    let at-put-many = c .before .before .before .before in
+    let start = at-put-many .before .before .before in (
+      start .pre .0,
+      start .pre .2,
+      room-on (at-put-many .put-many .kept .0) (start .pre .3),
+    )
 
 returns-2 : tie.Need-returns-2
 returns-2 c =
-    let a = c .before .before .before .before .before .before .before .before .before .before .args in
+    let at-put-ones = c .before .before in
+    let at-put-many = at-put-ones .before .before .before .before .before in
+    let a = at-put-many .before .before .before .args in
     set-made (a .there) (a .out .now) _ _ (a .flags) (a .values) (a .past - 1) (a .list .now) (a .n)
-    (not-false _ (c .before .before .before .before .if1 .left))
-    (c .before .before .before .before .before .before .before .put-many .ensures) (c .before .before .put-ones .ensures)
+    (not-false _ (at-put-ones .before .before .if1 .left)) (at-put-many .put-many .ensures) (at-put-ones .put-ones .ensures)
 
 pub put-stretch-spec : {M : Type 1} → statement M
 put-stretch-spec = tie.close (tie.spec (λ c. omega arith) put-many-requires (λ c. search needs) returns put-ones-requires

@@ -29,40 +29,38 @@ loop-less c =
 
 loop-again : tie.Need-loop-again Inv-loop μ-loop
 loop-again c =
-    let a = c .before .before .before .before .before .before .before .before .args in
-    let e = (sym (c .before .before .before .before .before .step-alone .ensures) ∙ c .before .before .before .going .given .1) in
-    let o = step-on false (a .d .now) 2 [] (c .before .before .before .before .before .before .loop .g) _ _ e in (
-      λ l. c .before .before .before .before .before .before .loop .inv .0 l
-          ∙ pass-silent (a .d .now) (c .before .before .before .before .before .before .loop .g) _ _ e (c .enum-told .given .1) l,
+    let at-going = c .before .before .before in
+    let at-loop = at-going .before .before .before in
+    let a = at-loop .before .before .args in
+    let e = (sym (at-going .before .before .step-alone .ensures) ∙ at-going .going .given .1) in
+    let o = step-on false (a .d .now) 2 [] (at-loop .loop .g) _ _ e in (
+      λ l. at-loop .loop .inv .0 l ∙ pass-silent (a .d .now) (at-loop .loop .g) _ _ e (c .enum-told .given .1) l,
       o .1,
     )
 
 returns : tie.Need-returns Inv-loop μ-loop
 returns c =
-    let a = c .before .before .before .before .before .before .before .before .args in
-    hear-same (a .d .now) (a .at) (c .before .before .before .before .before .before .loop .g) _
-    (c .before .before .before .before .before .before .loop .inv .0)
-    (hear-break (a .d .now) (c .before .before .before .before .before .before .loop .g) _ _
-    (sym (c .before .before .before .before .before .step-alone .ensures) ∙ c .before .before .before .going .given .1)
-    (c .enum-told2 .given .1))
+    let at-going = c .before .before .before in
+    let at-loop = at-going .before .before .before in
+    let a = at-loop .before .before .args in
+    hear-same (a .d .now) (a .at) (at-loop .loop .g) _ (at-loop .loop .inv .0) (hear-break (a .d .now) (at-loop .loop .g) _ _
+    (sym (at-going .before .before .step-alone .ensures) ∙ at-going .going .given .1) (c .enum-told2 .given .1))
 
 returns-2 : tie.Need-returns-2 Inv-loop μ-loop
 returns-2 c =
-    let a = c .before .before .before .before .before .before .before .before .before .args in
-    hear-same (a .d .now) (a .at) (c .before .before .before .before .before .before .before .loop .g) _
-    (c .before .before .before .before .before .before .before .loop .inv .0)
-    (hear-byte (a .d .now) (c .before .before .before .before .before .before .before .loop .g) _ _
-    (sym (c .before .before .before .before .before .before .step-alone .ensures) ∙ c .before .before .before .before .going .given .1) _
-    (c .before .said .given .1))
+    let at-going = c .before .before .before .before in
+    let at-loop = at-going .before .before .before in
+    let a = at-loop .before .before .args in
+    hear-same (a .d .now) (a .at) (at-loop .loop .g) _ (at-loop .loop .inv .0) (hear-byte (a .d .now) (at-loop .loop .g) _ _
+    (sym (at-going .before .before .step-alone .ensures) ∙ at-going .going .given .1) _ (c .before .said .given .1))
 
 returns-3 : tie.Need-returns-3 Inv-loop μ-loop
 returns-3 c =
-    let a = c .before .before .before .before .before .before .before .before .before .args in
-    hear-same (a .d .now) (a .at) (c .before .before .before .before .before .before .before .loop .g) _
-    (c .before .before .before .before .before .before .before .loop .inv .0)
-    (hear-code (a .d .now) (c .before .before .before .before .before .before .before .loop .g) _ _
-    (sym (c .before .before .before .before .before .before .step-alone .ensures) ∙ c .before .before .before .before .going .given .1) _
-    (c .before .said2 .given .1))
+    let at-going = c .before .before .before .before in
+    let at-loop = at-going .before .before .before in
+    let a = at-loop .before .before .args in
+    hear-same (a .d .now) (a .at) (at-loop .loop .g) _ (at-loop .loop .inv .0) (hear-code (a .d .now) (at-loop .loop .g) _ _
+    (sym (at-going .before .before .step-alone .ensures) ∙ at-going .going .given .1) _ (c .before .said2 .given .1))
 
 returns-4 : tie.Need-returns-4 Inv-loop μ-loop
 returns-4 c =

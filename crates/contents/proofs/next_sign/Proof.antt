@@ -29,29 +29,28 @@ say-first-requires c κs = let x = c .before .before .before .next-heard .ensure
 
 returns-2 : tie.Need-returns-2
 returns-2 c =
-    let a = c .before .before .before .before .before .before .before .before .before .args in
+    let at-next-heard = c .before .before .before .before in
+    let a = at-next-heard .before .before .before .before .before .args in
     rw (c .say-whole .ensures) (tell-break (a .latin) (a .d .now) (a .c)
-    (over _ _ _ (c .before .before .before .before .before .before .before .encoded-long .ensures .0)
-    (c .before .before .before .before .before .if1 .left)) _
-    (hear-is (c .before .before .k .given .1) (c .before .before .before .before .next-heard .ensures)))
+    (over _ _ _ (at-next-heard .before .before .before .encoded-long .ensures .0) (at-next-heard .before .if1 .left)) _
+    (hear-is (c .before .before .k .given .1) (at-next-heard .next-heard .ensures)))
 
 returns-3 : tie.Need-returns-3
 returns-3 c =
-    let a = c .before .before .before .before .before .before .before .before .before .args in
+    let at-next-heard = c .before .before .before .before in
+    let a = at-next-heard .before .before .before .before .before .args in
     let b = c .say-byte .ensures .1 in
     rw (c .say-byte .ensures .0) (tell-byte (a .latin) (a .d .now) (a .c)
-    (over _ _ _ (c .before .before .before .before .before .before .before .encoded-long .ensures .0)
-    (c .before .before .before .before .before .if1 .left)) _ _
-    (hear-is (c .before .before .byte .given .1) (c .before .before .before .before .next-heard .ensures))
-    (rw (c .say-byte .ensures .0) at b))
+    (over _ _ _ (at-next-heard .before .before .before .encoded-long .ensures .0) (at-next-heard .before .if1 .left)) _ _
+    (hear-is (c .before .before .byte .given .1) (at-next-heard .next-heard .ensures)) (rw (c .say-byte .ensures .0) at b))
 
 returns-4 : tie.Need-returns-4
 returns-4 c =
-    let a = c .before .before .before .before .before .before .before .before .before .args in
+    let at-next-heard = c .before .before .before .before in
+    let a = at-next-heard .before .before .before .before .before .args in
     rw (c .say-first .ensures) (tell-code (a .latin) (a .d .now) (a .c)
-    (over _ _ _ (c .before .before .before .before .before .before .before .encoded-long .ensures .0)
-    (c .before .before .before .before .before .if1 .left)) _ _
-    (hear-is (c .before .before .code .given .1) (c .before .before .before .before .next-heard .ensures)))
+    (over _ _ _ (at-next-heard .before .before .before .encoded-long .ensures .0) (at-next-heard .before .if1 .left)) _ _
+    (hear-is (c .before .before .code .given .1) (at-next-heard .next-heard .ensures)))
 
 returns-5 : tie.Need-returns-5
 returns-5 c =

@@ -16,9 +16,12 @@ returns c = rw (sym (c .before .before .before .before .before .before .read-bar
     (rw (c .before .if1 .taken, ← (c .before .before .first-of .ensures)) (c .go-on .ensures))
 
 step-pair-requires : tie.Need-step-pair-requires
-step-pair-requires c κs = let a = c .before .before .before .before .before .before .before .args in
-    bare-on (a .bad) (a .d .now) (a .g .next) (a .e) _ _ _ _ (c .before .before .before .before .before .before .before .pre)
-    (sym (c .before .before .before .before .before .read-bare .ensures) ∙ c .before .before .before .held .given .1)
+step-pair-requires c κs =
+    let at-held = c .before .before .before in
+    let start = at-held .before .before .before .before in
+    let a = start .args in
+    bare-on (a .bad) (a .d .now) (a .g .next) (a .e) _ _ _ _ (start .pre)
+    (sym (at-held .before .before .read-bare .ensures) ∙ at-held .held .given .1)
 
 returns-2 : tie.Need-returns-2
 unfolding breakAt

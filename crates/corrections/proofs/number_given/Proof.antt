@@ -29,14 +29,14 @@ write-number-requires c κs =
 
 returns-2 : tie.Need-returns-2
 returns-2 c =
-    let s = c .before .before .before .before .before .before .before .before .before .before .before in
+    let at-write-number = c .before .before .before in
+    let at-read2 = at-write-number .before .before .before .before in
+    let at-read = at-read2 .before .before in
+    let s = at-read .before .before in
     let a = admitted (s .pre) in
-    rw (← toZ-ofZ (s .fits .z), c .number-of .ensures)
-    (row-written (s .args .table .now) (s .args .i) (s .args .bytes .now) (a .formed) _
-    (c .before .before .before .before .before .before .before .before .before .read .ensures)
-    (c .before .before .before .before .before .before .before .before .if1 .left)
-    (rw (c .before .before .before .before .before .before .before .before .before .read .ensures) (a .long)) _
-    (c .before .before .before .before .before .before .before .read2 .ensures) (c .before .before .before .write-number .ensures))
+    rw (← toZ-ofZ (s .fits .z), c .number-of .ensures) (row-written (s .args .table .now) (s .args .i) (s .args .bytes .now) (a .formed) _
+    (at-read .read .ensures) (at-read2 .before .if1 .left) (rw (at-read .read .ensures) (a .long)) _
+    (at-read2 .read2 .ensures) (at-write-number .write-number .ensures))
 
 pub number-given-spec : {M : Type 1} → statement M
 number-given-spec =

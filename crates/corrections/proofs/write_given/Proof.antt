@@ -6,9 +6,11 @@ use Rattle.corrections.proofs.write_given.Statement.{statement}
 use Rattle.corrections.proofs.write_given.Tie as tie
 
 returns : tie.Need-returns
-returns c = given-written _ _ _ (c .before .before .before .before .before .before .before .before .before .before .args .table .now)
-    (0 ∷ []) (rw (c .before .before .before .before .before .before .asked .given .1) at
-    (c .before .before .before .before .before .before .before .before .asked-of .ensures)) (c .before .before .write-asked .ensures)
+returns c =
+    let at-write-asked = c .before .before in
+    let at-asked = at-write-asked .before .before .before .before in
+    given-written _ _ _ (at-asked .before .before .before .before .args .table .now) (0 ∷ []) (rw (at-asked .asked .given .1) at
+    (at-asked .before .before .asked-of .ensures)) (at-write-asked .write-asked .ensures)
 
 returns-2 : tie.Need-returns-2
 returns-2 c = given-no-truth _ _ _ (rw (c .before .enum-told .given .1) at (c .before .before .before .asked-of .ensures))

@@ -31,17 +31,16 @@ add-k c = omega (arith, (c .if1) .left)
 
 returns-2 : tie.Need-returns-2 Inv-loop μ-loop
 returns-2 c =
-    let k = inside-closed ((c .before .before .before .before .before .before .loop) .inv)
-    ((c .before .before .before .before .before .quote-to) .ensures) (omega (arith, (c .before .before .before .before .if1) .left))
+    let at-quote-to = c .before .before .before .before .before in
+    let args = at-quote-to .before .before .before .args in
+    let k = inside-closed ((at-quote-to .before .loop) .inv)
+    ((at-quote-to .quote-to) .ensures) (omega (arith, (c .before .before .before .before .if1) .left))
     (not-quote _ _ (sym ((c .before .before .before .is-quote) .ensures) ∙ not-true _ ((c .before .before .if2) .taken))) in
-    let o : (c .before .before .before .before .before .before .before .before .args) .at
-    ≤ (c .before .before .before .before .before .quote-to) .result + 1 = omega (arith, k .stands .on) in
+    let o : args .at ≤ (at-quote-to .quote-to) .result + 1 = omega (arith, k .stands .on) in
     rw ((c .field-of) .ensures) (
       found-by (k .stands) (k .reads) (omega arith) _ ((c .before .stop-at) .ensures),
-      ahead-by _ ((c .before .before .before .before .before .before .before .before .args) .at)
-          ((c .before .before .before .before .before .quote-to) .result + 1)
-          ((c .before .before .before .before .before .before .before .before .args) .at)
-          ((c .before .before .before .before .before .quote-to) .result) _ o _ ((c .before .stop-at) .ensures),
+      ahead-by _ (args .at) ((at-quote-to .quote-to) .result + 1) (args .at)
+          ((at-quote-to .quote-to) .result) _ o _ ((c .before .stop-at) .ensures),
     )
 
 add-i : tie.Need-add-i Inv-loop μ-loop

@@ -22,24 +22,26 @@ returns-3 c = stop-other ((c .before .before .before .before .before .args) .d .
     (omega (arith, (c .before .before .before .before .if1) .left)) ((c .before .before .if2) .left) ((c .if3) .taken)
 
 returns-4 : tie.Need-returns-4
-returns-4 c = stop-cut ((c .before .before .before .before .before .before .args) .d .now)
-    ((c .before .before .before .before .before .before .args) .i) (omega (arith, (c .before .before .before .before .before .if1) .left))
-    ((c .before .if3) .left) ((c .if4) .taken)
+returns-4 c =
+    let at-if1 = c .before .before .before .before .before in
+    let args = at-if1 .before .args in
+    stop-cut (args .d .now) (args .i) (omega (arith, (at-if1 .if1) .left)) ((c .before .if3) .left) ((c .if4) .taken)
 
 returns-5 : tie.Need-returns-5
-returns-5 c = (
-  stop-last ((c .before .before .before .before .before .before .before .before .args) .d .now)
-      ((c .before .before .before .before .before .before .before .before .args) .i)
-      (omega (arith, (c .before .before .before .before .before .before .before .if1) .left)) ((c .before .before .before .if3) .left)
-      (omega (arith, (c .before .before .if4) .left)) ((c .if5) .taken),
-  omega arith,
-  omega (arith, (c .before .before .if4) .left),
-)
+returns-5 c =
+    let at-if3 = c .before .before .before in
+    let args = at-if3 .before .before .before .before .before .args in (
+      stop-last (args .d .now) (args .i) (omega (arith, (at-if3 .before .before .before .before .if1) .left)) ((at-if3 .if3) .left)
+          (omega (arith, (c .before .before .if4) .left)) ((c .if5) .taken),
+      omega arith,
+      omega (arith, (c .before .before .if4) .left),
+    )
 
 returns-6 : tie.Need-returns-6
-returns-6 c = stop-lone ((c .before .before .before .before .before .before .before .before .args) .d .now)
-    ((c .before .before .before .before .before .before .before .before .args) .i)
-    (omega (arith, (c .before .before .before .before .before .before .before .if1) .left)) ((c .before .before .before .if3) .left)
+returns-6 c =
+    let at-if3 = c .before .before .before in
+    let args = at-if3 .before .before .before .before .before .args in
+    stop-lone (args .d .now) (args .i) (omega (arith, (at-if3 .before .before .before .before .if1) .left)) ((at-if3 .if3) .left)
     (omega (arith, (c .before .before .if4) .left)) ((c .if5) .left)
 
 pub stop-at-spec : {M : Type 1} → statement M

@@ -23,13 +23,14 @@ returns c =
 
 read-in-requires : tie.Need-read-in-requires
 unfolding zeros
-read-in-requires c κs = (
-  c .before .before .before .before .before .before .before .classes .ensures,
-  (
-    c .before .before .before .before .before .before .powers .ensures,
-    (c .before .before .before .before .before .before .before .before .if1 .left, ((refl, refl, refl), refl)),
-  ),
-)
+read-in-requires c κs =
+    let at-powers = c .before .before .before .before .before .before in (
+      at-powers .before .classes .ensures,
+      (
+        at-powers .powers .ensures,
+        (at-powers .before .before .if1 .left, ((refl, refl, refl), refl)),
+      ),
+    )
 
 compare-requires : tie.Need-compare-requires
 compare-requires c κs =
@@ -45,36 +46,26 @@ compare-requires c κs =
 returns-2 : tie.Need-returns-2
 unfolding againstOf outcomeIn
 returns-2 c =
-    let t = c .before .before .before .before .before .before .before .before .before .before .before .before .before .before .before
-    .before .before .before .before .before .before .args .t .now in
-    let e : ltb 1048576
-    (length (c .before .before .before .before .before .before .before .before .before .before .before .before .before .before .before
-    .before .before .before .before .before .before .args .d .now))
-    ≡ false = le-ltb _ _
-    (c .before .before .before .before .before .before .before .before .before .before .before .before .before .before .before .before
-    .before .before .before .if1 .left) in
+    let at-if1 = c .before .before .before .before .before .before .before .before .before .before .before .before .before .before .before
+    .before .before .before .before in
+    let args = at-if1 .before .before .args in
+    let t = args .t .now in
+    let e : ltb 1048576 (length (args .d .now)) ≡ false = le-ltb _ _ (at-if1 .if1 .left) in
     let s = c .before .before .before .before .before .before .before .before .before .before .read-in .ensures .stands
     (c .before .before .before .before .y .given .1) in
-    rw (← against-same
-    (c .before .before .before .before .before .before .before .before .before .before .before .before .before .before .before .before
-    .before .before .before .before .before .args .d .now) (lineBase mostRows mostLines) t)
-    (rw e (c .compare .ensures ∙ held-says _ _ _ _ s t))
+    rw (← against-same (args .d .now) (lineBase mostRows mostLines) t) (rw e (c .compare .ensures ∙ held-says _ _ _ _ s t))
 
 returns-3 : tie.Need-returns-3
 unfolding againstOf outcomeIn heldIn
 returns-3 c =
-    let t = c .before .before .before .before .before .before .before .before .before .before .before .before .before .before .before
-    .before .before .before .args .t .now in
-    let e : ltb 1048576
-    (length (c .before .before .before .before .before .before .before .before .before .before .before .before .before .before .before
-    .before .before .before .args .d .now)) ≡ false = le-ltb _ _
-    (c .before .before .before .before .before .before .before .before .before .before .before .before .before .before .before .before .if1
-    .left) in
+    let at-if1 = c .before .before .before .before .before .before .before .before .before .before .before .before .before .before .before
+    .before in
+    let args = at-if1 .before .before .args in
+    let t = args .t .now in
+    let e : ltb 1048576 (length (args .d .now)) ≡ false = le-ltb _ _ (at-if1 .if1 .left) in
     let q = c .before .before .before .before .before .before .before .read-in .ensures .refuses (c .before .number .given .1)
     (lineBase mostRows mostLines) in
-    rw (← against-same
-    (c .before .before .before .before .before .before .before .before .before .before .before .before .before .before .before .before
-    .before .before .args .d .now) (lineBase mostRows mostLines) t) (rw e (sym (ap (λ (w : Outcome). heldIn w t) q)))
+    rw (← against-same (args .d .now) (lineBase mostRows mostLines) t) (rw e (sym (ap (λ (w : Outcome). heldIn w t) q)))
 
 pub judge-against-spec : {M : Type 1} → statement M
 judge-against-spec =

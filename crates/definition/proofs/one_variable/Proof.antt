@@ -27,9 +27,10 @@ told-here c = told _ _ _ _ _ _ (c .before .before .before .before .before .befor
 
 left : (c : tie.After-put-row-arg)
     → c .before .before .before .before .before .before .before .before .before .before .before .before .before .args .y .rows < 512
-left c = let p = c .before .before .before .before .before .before .before .before .before .before .before .before .before .pre in
-    left-here _ _ _ (c .before .before .before .before .before .before .before .before .before .before .before .before .before .args .y)
-    (p .1 .1 .0) (p .1 .1 .1 .0 .1) _ _ _ (told-here c)
+left c =
+    let start = c .before .before .before .before .before .before .before .before .before .before .before .before .before in
+    let p = start .pre in
+    left-here _ _ _ (start .args .y) (p .1 .1 .0) (p .1 .1 .1 .0 .1) _ _ _ (told-here c)
 
 mul-put-row : tie.Need-mul-put-row
 mul-put-row c = omega (arith, left c)
@@ -47,25 +48,23 @@ tally-with-requires c κs = left (c .before .before)
 
 returns : tie.Need-returns
 returns c =
-    let p = c .before .before .before .before .before .before .before .before .before .before .before .before .before .before .before
-    .before .before .pre in
+    let start = c .before .before .before .before .before .before .before .before .before .before .before .before .before .before .before
+    .before .before in
+    let p = start .pre in
     let k = told-here (c .before .before .before .before) in (
-      turn-here _ _ _
-          (c .before .before .before .before .before .before .before .before .before .before .before .before .before .before .before .before
-          .before .args .y) (p .1 .1 .0) (p .1 .1 .1 .0 .1) _ _ _ k _ _ (c .before .tally-with .ensures) (c .follow .ensures),
+      turn-here _ _ _ (start .args .y) (p .1 .1 .0) (p .1 .1 .1 .0 .1) _ _ _ k _ _ (c .before .tally-with .ensures) (c .follow .ensures),
       (
-        row-here _ _ _
-            (c .before .before .before .before .before .before .before .before .before .before .before .before .before .before .before
-            .before .before .args .y) (p .1 .1 .0) (p .1 .1 .1 .0 .1) _ _ _ k _ _ (c .before .before .before .put-row .ensures),
+        row-here _ _ _ (start .args .y) (p .1 .1 .0) (p .1 .1 .1 .0 .1) _ _ _ k _ _ (c .before .before .before .put-row .ensures),
         c .before .before .before .before .before .before .before .before .before .before .before .variable-on .ensures .1,
       ),
     )
 
 returns-2 : tie.Need-returns-2
 returns-2 c =
-    let e = c .before .before .before .before .before .before .variable-on .ensures .0 in
+    let at-variable-on = c .before .before .before .before .before .before in
+    let e = at-variable-on .variable-on .ensures .0 in
     let f = c .before .f .given .1 in
-    (turn-not _ _ _ _ _ _ e f, (row-not _ _ _ _ _ _ _ e f, c .before .before .before .before .before .before .variable-on .ensures .1))
+    (turn-not _ _ _ _ _ _ e f, (row-not _ _ _ _ _ _ _ e f, at-variable-on .variable-on .ensures .1))
 
 pub one-variable-spec : {M : Type 1} → statement M
 one-variable-spec =

@@ -21,13 +21,14 @@ returns c =
 
 read-in-requires : tie.Need-read-in-requires
 unfolding zeros
-read-in-requires c κs = (
-  c .before .before .before .before .before .before .before .classes .ensures,
-  (
-    c .before .before .before .before .before .before .powers .ensures,
-    (c .before .before .before .before .before .before .before .before .if1 .left, ((refl, refl, refl), refl)),
-  ),
-)
+read-in-requires c κs =
+    let at-powers = c .before .before .before .before .before .before in (
+      at-powers .before .classes .ensures,
+      (
+        at-powers .powers .ensures,
+        (at-powers .before .before .if1 .left, ((refl, refl, refl), refl)),
+      ),
+    )
 
 fill-requires : tie.Need-fill-requires
 fill-requires c κs =
@@ -43,38 +44,31 @@ fill-requires c κs =
 returns-2 : tie.Need-returns-2
 unfolding outcomeIn
 returns-2 c =
-    let t = c .before .before .before .before .before .before .before .before .before .before .before .before .before .before .before
-    .before .before .before .before .before .before .before .before .args .table .now in
-    let e : ltb 1048576
-    (length (c .before .before .before .before .before .before .before .before .before .before .before .before .before .before .before
-    .before .before .before .before .before .before .before .before .args .d .now))
-    ≡ false = le-ltb _ _
-    (c .before .before .before .before .before .before .before .before .before .before .before .before .before .before .before .before
-    .before .before .before .before .before .if1 .left) in
+    let at-if1 = c .before .before .before .before .before .before .before .before .before .before .before .before .before .before .before
+    .before .before .before .before .before .before in
+    let args = at-if1 .before .before .args in
+    let t = args .table .now in
+    let e : ltb 1048576 (length (args .d .now)) ≡ false = le-ltb _ _ (at-if1 .if1 .left) in
     let s = c .before .before .before .before .before .before .before .before .before .before .before .before .read-in .ensures .stands
     (c .before .before .before .before .before .before .y .given .1) in
     let q = c .before .fill .ensures in
     record {
       says = rw (← answer-same _ _) (rw e (q .0 ∙ filled-says _ _ _ _ s t));
-      leaves = rw (← table-same _ _ _)
-          (rw e (q .1 ∙ filled-leaves _ _ _ _ s t));
+      leaves = rw (← table-same _ _ _) (rw e (q .1 ∙ filled-leaves _ _ _ _ s t));
     }
 
 returns-3 : tie.Need-returns-3
 unfolding outcomeIn answerIn tableIn
 returns-3 c =
-    let t = c .before .before .before .before .before .before .before .before .before .before .before .before .before .before .before
-    .before .before .before .args .table .now in
-    let e : ltb 1048576
-    (length (c .before .before .before .before .before .before .before .before .before .before .before .before .before .before .before
-    .before .before .before .args .d .now)) ≡ false = le-ltb _ _
-    (c .before .before .before .before .before .before .before .before .before .before .before .before .before .before .before .before .if1
-    .left) in
+    let at-if1 = c .before .before .before .before .before .before .before .before .before .before .before .before .before .before .before
+    .before in
+    let args = at-if1 .before .before .args in
+    let t = args .table .now in
+    let e : ltb 1048576 (length (args .d .now)) ≡ false = le-ltb _ _ (at-if1 .if1 .left) in
     let q = c .before .before .before .before .before .before .before .read-in .ensures .refuses (c .before .number .given .1) (length t) in
     record {
       says = rw (← answer-same _ _) (rw e (sym (ap answerIn q)));
-      leaves = rw (← table-same _ _ _)
-          (rw e (sym (ap (λ (w : Outcome). tableIn w t) q)));
+      leaves = rw (← table-same _ _ _) (rw e (sym (ap (λ (w : Outcome). tableIn w t) q)));
     }
 
 pub read-definition-spec : {M : Type 1} → statement M

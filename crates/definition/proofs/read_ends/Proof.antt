@@ -7,10 +7,11 @@ use Rattle.definition.proofs.read_ends.Tie as tie
 returns : tie.Need-returns
 unfolding endsOn
 returns c =
+    let at-word-on2 = c .before .before .before .before in
     rw (
-      sym (c .before .before .before .before .before .before .before .before .word-on .ensures),
-      sym (c .before .before .before .before .before .before .statement-on .ensures),
-      sym (c .before .before .before .before .word-on2 .ensures),
+      sym (at-word-on2 .before .before .before .before .word-on .ensures),
+      sym (at-word-on2 .before .before .statement-on .ensures),
+      sym (at-word-on2 .word-on2 .ensures),
       sym (c .before .before .statement-on2 .ensures),
       sym (c .word-on3 .ensures),
     )

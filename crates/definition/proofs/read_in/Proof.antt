@@ -13,89 +13,51 @@ read-variables-requires c κs =
 
 settle-requires : tie.Need-settle-requires
 settle-requires c κs =
-    let p = c .before .before .before .before .before .before .before .before .before .before .before .before .before .before .before
-    .before .before .before .before .before .before .before .before .pre in
-    let k = c .before .before .before .before .before .before .before .before .before .before .before .before .before .read-variables
-    .kept in (
+    let at-read-variables = c .before .before .before .before .before .before .before .before .before .before .before .before .before in
+    let at-read-front = at-read-variables .before .before .before .before .before .before in
+    let start = at-read-front .before .before .before .before in
+    let p = start .pre in
+    let k = at-read-variables .read-variables .kept in (
       p .0,
       (
-        small-here
-            (c .before .before .before .before .before .before .before .before .before .before .before .before .before .before .before
-            .before .before .before .before .before .before .before .before .args .d .now)
-            (c .before .before .before .before .before .before .before .before .before .before .before .before .before .before .before
-            .before .before .before .before .before .before .before .before .pre .1 .1 .0) _
-            (ap (λ (f : Front). f .next)
-            (c .before .before .before .before .before .before .before .before .before .before .before .before .before .before .before
-            .before .before .before .before .read-front .ensures)) _
-            (c .before .before .before .before .before .before .before .before .before .before .before .before .before .before .before
-            .before .before .before .before .before .before .before .before .args .rows .now) _
-            (c .before .before .before .before .before .before .before .before .before .before .before .before .before .before .before
-            .before .before .before .before .before .before .before .before .args .lines .now) _
-            (c .before .before .before .before .before .before .before .before .before .before .before .before .before .read-variables
-            .ensures .0)
-            (c .before .before .before .before .before .before .before .before .before .before .before .before .before .read-variables
-            .ensures .1) _ _ (c .before .before .before .before .before .tally .given .1) .0,
+        small-here (start .args .d .now) (start .pre .1 .1 .0) _ (ap (λ (f : Front). f .next) (at-read-front .read-front .ensures)) _
+            (start .args .rows .now) _ (start .args .lines .now) _ (at-read-variables .read-variables .ensures .0)
+            (at-read-variables .read-variables .ensures .1) _ _ (c .before .before .before .before .before .tally .given .1) .0,
         k .1 .1 .1 .1 .0 ∙ p .1 .1 .1 .0 .0,
       ),
     )
 
 returns : tie.Need-returns
 returns c =
-    rooms-here
-    (c .before .before .before .before .before .before .before .before .before .before .before .before .before .before .before .before
-    .before .before .before .before .before .before .before .before .args .d .now)
-    (c .before .before .before .before .before .before .before .before .before .before .before .before .before .before .before .before
-    .before .before .before .before .before .before .before .before .pre .1 .1 .0) _
-    (ap (λ (f : Front). f .next)
-    (c .before .before .before .before .before .before .before .before .before .before .before .before .before .before .before .before
-    .before .before .before .before .read-front .ensures)) _
-    (c .before .before .before .before .before .before .before .before .before .before .before .before .before .before .before .before
-    .before .before .before .before .before .before .before .before .args .rows .now) _
-    (c .before .before .before .before .before .before .before .before .before .before .before .before .before .before .before .before
-    .before .before .before .before .before .before .before .before .args .lines .now) _
-    (c .before .before .before .before .before .before .before .before .before .before .before .before .before .before .read-variables
-    .ensures .0)
-    (c .before .before .before .before .before .before .before .before .before .before .before .before .before .before .read-variables
-    .ensures .1) _ _ _ _ _ _ (c .before .before .before .before .before .before .tally .given .1)
-    (c .before .before .before .before .read-ends .ensures) (c .before .before .enum-told .given .1)
-    (ap (λ (f : Front). f .heading .standard)
-    (c .before .before .before .before .before .before .before .before .before .before .before .before .before .before .before .before
-    .before .before .before .before .read-front .ensures)) (c .settle .ensures)
+    let at-enum-told = c .before .before in
+    let at-read-variables = at-enum-told .before .before .before .before .before .before .before .before .before .before .before .before in
+    let at-read-front = at-read-variables .before .before .before .before .before .before in
+    let start = at-read-front .before .before .before .before in
+    rooms-here (start .args .d .now) (start .pre .1 .1 .0) _ (ap (λ (f : Front). f .next) (at-read-front .read-front .ensures)) _
+    (start .args .rows .now) _ (start .args .lines .now) _ (at-read-variables .read-variables .ensures .0)
+    (at-read-variables .read-variables .ensures .1) _ _ _ _ _ _ (at-enum-told .before .before .before .before .tally .given .1)
+    (at-enum-told .before .before .read-ends .ensures) (at-enum-told .enum-told .given .1) (ap (λ (f : Front). f .heading .standard)
+    (at-read-front .read-front .ensures)) (c .settle .ensures)
 
 returns-2 : tie.Need-returns-2
 returns-2 c =
-    rooms-ends
-    (c .before .before .before .before .before .before .before .before .before .before .before .before .before .before .before .before
-    .before .before .before .before .before .before .before .args .d .now)
-    (c .before .before .before .before .before .before .before .before .before .before .before .before .before .before .before .before
-    .before .before .before .before .before .before .before .pre .1 .1 .0) _
-    (ap (λ (f : Front). f .next)
-    (c .before .before .before .before .before .before .before .before .before .before .before .before .before .before .before .before
-    .before .before .before .read-front .ensures)) _
-    (c .before .before .before .before .before .before .before .before .before .before .before .before .before .before .before .before
-    .before .before .before .before .before .before .before .args .rows .now) _
-    (c .before .before .before .before .before .before .before .before .before .before .before .before .before .before .before .before
-    .before .before .before .before .before .before .before .args .lines .now) _
-    (c .before .before .before .before .before .before .before .before .before .before .before .before .before .read-variables .ensures .0)
-    (c .before .before .before .before .before .before .before .before .before .before .before .before .before .read-variables .ensures .1)
+    let at-read-variables = c .before .before .before .before .before .before .before .before .before .before .before .before .before in
+    let at-read-front = at-read-variables .before .before .before .before .before .before in
+    let start = at-read-front .before .before .before .before in
+    rooms-ends (start .args .d .now) (start .pre .1 .1 .0) _ (ap (λ (f : Front). f .next) (at-read-front .read-front .ensures)) _
+    (start .args .rows .now) _ (start .args .lines .now) _ (at-read-variables .read-variables .ensures .0)
+    (at-read-variables .read-variables .ensures .1)
     _ _ _ _ (c .before .before .before .before .before .tally .given .1) (c .before .before .before .read-ends .ensures)
     (c .before .f .given .1)
 
 returns-3 : tie.Need-returns-3
 returns-3 c =
-    rooms-not
-    (c .before .before .before .before .before .before .before .before .before .before .before .before .before .before .before .before
-    .before .before .before .args .d .now)
-    (c .before .before .before .before .before .before .before .before .before .before .before .before .before .before .before .before
-    .before .before .before .pre .1 .1 .0) _ (ap (λ (f : Front). f .next)
-    (c .before .before .before .before .before .before .before .before .before .before .before .before .before .before .before .read-front
-    .ensures)) _
-    (c .before .before .before .before .before .before .before .before .before .before .before .before .before .before .before .before
-    .before .before .before .args .rows .now) _
-    (c .before .before .before .before .before .before .before .before .before .before .before .before .before .before .before .before
-    .before .before .before .args .lines .now) _
-    (c .before .before .before .before .before .before .before .before .before .read-variables .ensures .0)
-    (c .before .before .before .before .before .before .before .before .before .read-variables .ensures .1) _ (c .before .f2 .given .1)
+    let at-read-variables = c .before .before .before .before .before .before .before .before .before in
+    let at-read-front = at-read-variables .before .before .before .before .before .before in
+    let start = at-read-front .before .before .before .before in
+    rooms-not (start .args .d .now) (start .pre .1 .1 .0) _ (ap (λ (f : Front). f .next) (at-read-front .read-front .ensures)) _
+    (start .args .rows .now) _ (start .args .lines .now) _ (at-read-variables .read-variables .ensures .0)
+    (at-read-variables .read-variables .ensures .1) _ (c .before .f2 .given .1)
 
 pub read-in-spec : {M : Type 1} → statement M
 read-in-spec =

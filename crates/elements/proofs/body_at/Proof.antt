@@ -17,9 +17,11 @@ returns c = rw (c .before .if1 .taken) (c .lying .ensures)
 
 lying-requires-2 : tie.Need-lying-requires-2
 lying-requires-2 c κs =
-    let a = c .before .before .before .before .before .before .before .args in
-    content-within (a .bad) (a .d .now) (a .mode) (a .w .now) (a .at) _ _ _ (c .before .before .before .before .before .before .before .pre)
-    (sym (c .before .before .before .read-content .ensures) ∙ c .before .end .given .1) .0
+    let at-read-content = c .before .before .before in
+    let start = at-read-content .before .before .before .before in
+    let a = start .args in
+    content-within (a .bad) (a .d .now) (a .mode) (a .w .now) (a .at) _ _ _ (start .pre)
+    (sym (at-read-content .read-content .ensures) ∙ c .before .end .given .1) .0
 
 returns-2 : tie.Need-returns-2
 unfolding body foundOf named

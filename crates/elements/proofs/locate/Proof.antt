@@ -18,11 +18,12 @@ figure-at-requires c κs = (c .before .pre .0 .ends, c .before .pre .0 .within)
 
 returns : tie.Need-returns
 returns c l h i =
-    let a = c .before .before .before .before .before .before .args in
-    let p = c .before .before .before .before .figure-at .ensures (inl (c .before .before .before .before .before .before .pre .0 .fits)) in
+    let at-if1 = c .before .before in
+    let start = at-if1 .before .before .before .before in
+    let a = start .args in
+    let p = at-if1 .before .before .figure-at .ensures (inl (start .pre .0 .fits)) in
     let x = figureOf (a .d .now) (a .h .a) (a .h .ae) in
-    c .located .ensures
-    ∙ rw (eq-eqb (a .h .b) 0 (c .before .before .if1 .taken))
+    c .located .ensures ∙ rw (eq-eqb (a .h .b) 0 (at-if1 .if1 .taken))
     (position-ruled x none (a .next) (a .h .ae) (a .h .ae) p p (sym (le-ltb (x .value) (x .value) (omega arith))) l h i
     (c .before .locations-fault .ensures))
 
@@ -42,16 +43,15 @@ falls-requires c κs = (
 
 returns-2 : tie.Need-returns-2
 returns-2 c l h i =
-    let a = c .before .before .before .before .before .before .before .before .args in
-    let n = ne-eqb (a .h .b) 0 (c .before .before .before .before .if1 .left) in
+    let at-figure-at2 = c .before .before .before in
+    let start = at-figure-at2 .before .before .before .before .before in
+    let a = start .args in
+    let n = ne-eqb (a .h .b) 0 (at-figure-at2 .before .if1 .left) in
     let x = figureOf (a .d .now) (a .h .a) (a .h .ae) in
     let y = figureOf (a .d .now) (a .h .b) (a .h .be) in
-    let p = c .before .before .before .before .before .before .figure-at .ensures
-    (inl (c .before .before .before .before .before .before .before .before .pre .0 .fits)) in
-    let q = c .before .before .before .figure-at2 .ensures
-    (inl (there (a .d .now) 1 1 0 (c .before .before .before .before .before .before .before .before .pre .1) n .fits)) in
-    c .located2 .ensures
-    ∙ rw n (position-ruled x (some y) (a .next) (a .h .ae) (a .h .be) p q (c .before .before .falls .ensures) l h i
+    let p = at-figure-at2 .before .before .before .figure-at .ensures (inl (start .pre .0 .fits)) in
+    let q = at-figure-at2 .figure-at2 .ensures (inl (there (a .d .now) 1 1 0 (start .pre .1) n .fits)) in
+    c .located2 .ensures ∙ rw n (position-ruled x (some y) (a .next) (a .h .ae) (a .h .be) p q (c .before .before .falls .ensures) l h i
     (c .before .locations-fault2 .ensures))
 
 pub locate-spec : {M : Type 1} → statement M

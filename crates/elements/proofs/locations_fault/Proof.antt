@@ -9,13 +9,13 @@ use Rattle.elements.proofs.locations_fault.Tie as tie
 
 returns : tie.Need-returns
 returns c =
+    let at-charge4 = c .before .before .before .before in
     rw (
-      ← (c .before .before .before .before .before .before .before .before .before .charge .ensures),
-      ← (c .before .before .before .before .before .before .before .before .charge2 .ensures),
-      ← (c .before .before .before .before .before .before .charge3 .ensures),
-      ← (c .before .before .before .before .charge4 .ensures),
-    )
-    (rw (← (c .before .before .before .lower .ensures), ← (c .before .before .lower2 .ensures), ← (c .before .lower3 .ensures))
+      ← (at-charge4 .before .before .before .before .before .charge .ensures),
+      ← (at-charge4 .before .before .before .before .charge2 .ensures),
+      ← (at-charge4 .before .before .charge3 .ensures),
+      ← (at-charge4 .charge4 .ensures),
+    ) (rw (← (c .before .before .before .lower .ensures), ← (c .before .before .lower2 .ensures), ← (c .before .lower3 .ensures))
     (c .lower4 .ensures))
 
 pub locations-fault-spec : {M : Type 1} → statement M

@@ -18,7 +18,6 @@ position-held-requires : tie.Need-position-held-requires
 position-held-requires c κs =
     let a = c .before .before .before .before .before .before .before .before .args in
     let t = tag-tells (a .d .now) 1 1 0 (a .bad) (a .place) (a .end) START FINISH [] 1
-    (c .before .before .before .before .before .before .before .before .pre)
     (sym (c .before .before .before .read-tag .ensures) ∙ c .before .held .given .1) in
     ((first-there (a .d .now) 1 1 0 t, t .slots .b), t .next)
 

@@ -30,14 +30,14 @@ figure-at-requires-2 c κs = let t = there (c .before .before .before .before .a
 
 returns-2 : tie.Need-returns-2
 returns-2 c l h i =
-    let a = c .before .before .before .before .before .before .args in
-    let n = ne-eqb (a .h .b) 0 (c .before .before .if1 .left) in
+    let at-if1 = c .before .before in
+    let start = at-if1 .before .before .before .before in
+    let a = start .args in
+    let n = ne-eqb (a .h .b) 0 (at-if1 .if1 .left) in
     rw n
     (c .share-fields .ensures (a .room) (figureOf (a .d .now) (a .h .a) (a .h .ae)) (figureOf (a .d .now) (a .h .b) (a .h .be)) (a .h .ae)
-    (a .h .be) l
-    (c .before .before .before .before .figure-at .ensures (inl (c .before .before .before .before .before .before .pre .0 .0 .fits)))
-    (c .before .figure-at2 .ensures (inl (there (a .d .now) 1 1 0 (c .before .before .before .before .before .before .pre .0 .1) n .fits)))
-    h i)
+    (a .h .be) l (at-if1 .before .before .figure-at .ensures (inl (start .pre .0 .0 .fits)))
+    (c .before .figure-at2 .ensures (inl (there (a .d .now) 1 1 0 (start .pre .0 .1) n .fits))) h i)
 
 pub share-spec : {M : Type 1} → statement M
 share-spec = tie.close (tie.spec figure-at-requires share-even-requires returns figure-at-requires-2 (λ c κs. search needs) returns-2)

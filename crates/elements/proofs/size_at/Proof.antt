@@ -20,36 +20,37 @@ body-at-requires c κs =
 
 size-in-requires : tie.Need-size-in-requires
 size-in-requires c κs =
-    let a = c .before .before .before .before .before .before .before .before .before .before .before .before .args in
-    let h = c .before .before .before .before .before .before .before .before .held .given .0 in
-    let n = tag-within (a .bad) (a .d .now) (a .place) [] [] [] 0 0 0 0 (a .end) _ _ _ _
-    (sym (c .before .before .before .before .before .before .before .before .before .before .read-bare .ensures)
-    ∙ c .before .before .before .before .before .before .before .before .held .given .1) .2 in
-    body-lies (a .bad) (a .d .now) SIZE 0 (h .1 .0) (h .1 .1 .1 .0) n
-    (sym (c .before .before .before .before .before .body-at .ensures) ∙ c .before .before .before .b .given .1)
+    let at-b = c .before .before .before in
+    let at-held = at-b .before .before .before .before .before in
+    let a = at-held .before .before .before .before .args in
+    let h = at-held .held .given .0 in
+    let n = tag-within (a .bad) (a .d .now) (a .place) [] [] [] 0 0 0 0 (a .end) _ _ _ _ (sym (at-held .before .before .read-bare .ensures)
+    ∙ at-held .held .given .1) .2 in
+    body-lies (a .bad) (a .d .now) SIZE 0 (h .1 .0) (h .1 .1 .1 .0) n (sym (at-b .before .before .body-at .ensures) ∙ at-b .b .given .1)
 
 returns : tie.Need-returns
 unfolding size
 returns c =
-    let a = c .before .before .before .before .before .before .before .before .before .before .before .before .before .args in
-    let h = c .before .before .before .before .before .before .before .before .before .held .given .0 in
+    let at-b = c .before .before .before .before in
+    let at-held = at-b .before .before .before .before .before in
+    let a = at-held .before .before .before .before .args in
+    let h = at-held .held .given .0 in
     let t = body-is (body (a .bad) (a .d .now) SIZE 0 (h .1 .0) (h .1 .1 .1 .0))
-    (sym (c .before .before .before .before .before .before .body-at .ensures) ∙ c .before .before .before .before .b .given .1) in
-    rw (sym (c .before .before .before .before .before .before .before .before .before .before .before .read-bare .ensures)
-    ∙ c .before .before .before .before .before .before .before .before .before .held .given .1)
-    (rw (t .reads)
+    (sym (at-b .before .before .body-at .ensures) ∙ at-b .b .given .1) in
+    rw (sym (at-held .before .before .read-bare .ensures) ∙ at-held .held .given .1) (rw (t .reads)
     (c .size-in .ensures (a .bad) (h .0 .unknown) (t .body) (body-tells (a .bad) (a .d .now) SIZE 0 (h .1 .0) (h .1 .1 .1 .0) t)
     (c .before .behind-tag .ensures)))
 
 returns-2 : tie.Need-returns-2
 unfolding size
 returns-2 c =
-    let a = c .before .before .before .before .before .before .before .before .before .before .args in
-    let h = c .before .before .before .before .before .before .held .given .0 in
-    rw (sym (c .before .before .before .before .before .before .before .before .read-bare .ensures)
-    ∙ c .before .before .before .before .before .before .held .given .1)
+    let at-body-at = c .before .before .before in
+    let at-held = at-body-at .before .before .before in
+    let a = at-held .before .before .before .before .args in
+    let h = at-held .held .given .0 in
+    rw (sym (at-held .before .before .read-bare .ensures) ∙ at-held .held .given .1)
     (rw (body-refused (body (a .bad) (a .d .now) SIZE 0 (h .1 .0) (h .1 .1 .1 .0))
-    (sym (c .before .before .before .body-at .ensures) ∙ c .before .f .given .1)))
+    (sym (at-body-at .body-at .ensures) ∙ c .before .f .given .1)))
 
 returns-3 : tie.Need-returns-3
 unfolding size

@@ -16,11 +16,12 @@ read-tag-requires c κs = c .before .before .before .before .pre .0
 
 spread-held-requires : tie.Need-spread-held-requires
 spread-held-requires c κs =
-    let a = c .before .before .before .before .before .before .before .before .args in
+    let at-read-tag = c .before .before .before in
+    let start = at-read-tag .before .before .before .before .before in
+    let a = start .args in
     let t = tag-tells (a .d .now) 1 1 0 (a .bad) (a .place) (a .end) SUBFIELDS WIDTH [] 1
-    (c .before .before .before .before .before .before .before .before .pre .0)
-    (sym (c .before .before .before .read-tag .ensures) ∙ c .before .held .given .1) in
-    ((first-there (a .d .now) 1 1 0 t, t .slots .b), t .next, c .before .before .before .before .before .before .before .before .pre .1)
+    (sym (at-read-tag .read-tag .ensures) ∙ c .before .held .given .1) in
+    ((first-there (a .d .now) 1 1 0 t, t .slots .b), t .next, start .pre .1)
 
 returns : tie.Need-returns
 unfolding spread

@@ -15,10 +15,11 @@ pass-pair-requires : tie.Need-pass-pair-requires
 pass-pair-requires c κs = c .before .before .pre .1
 
 share-requires : tie.Need-share-requires
-share-requires c κs = (
-  c .before .before .before .before .before .before .before .pre .0,
-  c .before .before .before .before .before .before .before .pre .2,
-)
+share-requires c κs =
+    let start = c .before .before .before .before .before .before .before in (
+      start .pre .0,
+      start .pre .2,
+    )
 
 returns : tie.Need-returns
 returns c =

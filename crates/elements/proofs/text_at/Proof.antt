@@ -20,21 +20,20 @@ body-at-requires c κs =
 returns : tie.Need-returns
 unfolding text
 returns c =
-    let a = c .before .before .before .before .before .before .before .before .before .before .before .before .before .args in
-    rw (sym (c .before .before .before .before .before .before .before .before .before .before .read-bare .ensures)
-    ∙ c .before .before .before .before .before .before .before .before .held .given .1)
-    (c .said .ensures
-    ∙ text-said (a .bad) (a .d .now) (a .w .now) (a .mode) _ _ _ _
-    (sym (c .before .before .before .before .before .before .body-at .ensures) ∙ c .before .before .before .before .b .given .1) _
+    let at-b = c .before .before .before .before in
+    let at-held = at-b .before .before .before .before in
+    let a = at-held .before .before .before .before .before .args in
+    rw (sym (at-held .before .before .read-bare .ensures) ∙ at-held .held .given .1) (c .said .ensures
+    ∙ text-said (a .bad) (a .d .now) (a .w .now) (a .mode) _ _ _ _ (sym (at-b .before .before .body-at .ensures) ∙ at-b .b .given .1) _
     (c .before .behind-tag .ensures))
 
 returns-2 : tie.Need-returns-2
 unfolding text
 returns-2 c =
-    let a = c .before .before .before .before .before .before .before .before .before .before .args in
-    let h = c .before .before .before .before .before .held .given .0 in
-    rw (sym (c .before .before .before .before .before .before .before .read-bare .ensures)
-    ∙ c .before .before .before .before .before .held .given .1)
+    let at-held = c .before .before .before .before .before in
+    let a = at-held .before .before .before .before .before .args in
+    let h = at-held .held .given .0 in
+    rw (sym (at-held .before .before .read-bare .ensures) ∙ at-held .held .given .1)
     (rw (body-refused (body (a .bad) (a .d .now) (a .w .now) (a .mode) (h .1 .0) (h .1 .1 .1 .0))
     (sym (c .before .before .before .body-at .ensures) ∙ c .before .f .given .1)))
 

@@ -15,20 +15,19 @@ known-here : (c : tie.After-settle-arg)
     .args .lines .now) (c .before .before .before .before .before .before .before .before .rest-on .last .1 .1 .1 .1 .1 .1 .0)
     (c .before .before .before .r .given .0 .0)
 known-here c =
-    let a = c .before .before .before .before .before .before .before .before .before .before .before .before .before .before .before
-    .args in
-    let p = c .before .before .before .before .before .before .before .before .before .before .before .before .before .before .before
-    .pre in
+    let at-r = c .before .before .before in
+    let at-rest-on = at-r .before .before .before .before .before in
+    let start = at-rest-on .before .before .before .before .before .before .before in
+    let a = start .args in
+    let p = start .pre in
     known (a .d .now) (a .h) (a .before) (p .1 .1 .0) (p .1 .1 .1 .0 .1) (p .1 .1 .1 .1) (a .lines .now) _ (p .1 .1 .1 .0 .0) _ _
-    (c .before .before .before .before .before .before .before .before .rest-on .ensures .0)
-    (c .before .before .before .before .before .before .before .before .rest-on .ensures .1) (c .before .before .before .r .given .1)
+    (at-rest-on .rest-on .ensures .0) (at-rest-on .rest-on .ensures .1) (at-r .r .given .1)
 
 settle-requires : tie.Need-settle-requires
 settle-requires c κs =
-    let a = c .before .before .before .before .before .before .before .before .before .before .before .before .before .before .before
-    .args in
-    let p = c .before .before .before .before .before .before .before .before .before .before .before .before .before .before .before
-    .pre in (
+    let start = c .before .before .before .before .before .before .before .before .before .before .before .before .before .before .before in
+    let a = start .args in
+    let p = start .pre in (
       p .1 .0,
       measure-here (a .d .now) (a .h) (a .before) (p .1 .1 .0) (p .1 .1 .1 .0 .1) (p .1 .1 .1 .1) (a .lines .now) _
           (p .1 .1 .1 .0 .0) _ (known-here c),
@@ -36,10 +35,10 @@ settle-requires c κs =
 
 returns : tie.Need-returns
 returns c =
-    let a = c .before .before .before .before .before .before .before .before .before .before .before .before .before .before .before
-    .before .args in
-    let p = c .before .before .before .before .before .before .before .before .before .before .before .before .before .before .before
-    .before .pre in
+    let start = c .before .before .before .before .before .before .before .before .before .before .before .before .before .before .before
+    .before in
+    let a = start .args in
+    let p = start .pre in
     let k = known-here (c .before) in (
       stood-here (a .d .now) (a .h) (a .before) (p .1 .1 .0) (p .1 .1 .1 .0 .1) (p .1 .1 .1 .1) (a .lines .now) _ (p .1 .1 .1 .0 .0) _ k _ _
           (c .before .before .end-variable .ensures) (c .settle .ensures),
@@ -48,13 +47,15 @@ returns c =
 
 returns-2 : tie.Need-returns-2
 returns-2 c =
-    let a = c .before .before .before .before .before .before .before .before .before .before .before .before .before .args in
-    let p = c .before .before .before .before .before .before .before .before .before .before .before .before .before .pre in (
+    let at-rest-on = c .before .before .before .before .before .before in
+    let start = at-rest-on .before .before .before .before .before .before .before in
+    let a = start .args in
+    let p = start .pre in (
       stood-not (a .d .now) (a .h) (a .before) (p .1 .1 .0) (p .1 .1 .1 .0 .1) (p .1 .1 .1 .1) (a .lines .now)
-          (c .before .before .before .before .before .before .rest-on .last .1 .1 .1 .1 .1 .1 .0) (p .1 .1 .1 .0 .0) _ _
-          (c .before .before .before .before .before .before .rest-on .ensures .0) (c .before .f .given .1),
+          (at-rest-on .rest-on .last .1 .1 .1 .1 .1 .1 .0) (p .1 .1 .1 .0 .0) _ _
+          (at-rest-on .rest-on .ensures .0) (c .before .f .given .1),
       stored-not (a .d .now) (a .h) (a .before) (p .1 .1 .0) (p .1 .1 .1 .0 .1) (p .1 .1 .1 .1) (a .lines .now) _ (p .1 .1 .1 .0 .0) _ _
-          (c .before .before .before .before .before .before .rest-on .ensures .0) (c .before .f .given .1),
+          (at-rest-on .rest-on .ensures .0) (c .before .f .given .1),
     )
 
 pub rest-then-spec : {M : Type 1} → statement M

@@ -24,12 +24,12 @@ rest-then-requires c κs =
 
 returns : tie.Need-returns
 returns c =
-    let e = entry-is _ _ _ _
-    (c .before .before .before .before .before .before .before .before .before .before .before .before .before .before .args .before) _ _
-    (c .before .before .before .before .before .before .before .before .before .before .ident-on .ensures)
-    (c .before .before .before .before .before .before .before .before .before .head-on .ensures) _
-    (c .before .before .before .before .before .before .before .h .given .1) in
-    (rw e (c .before .before .before .rest-then .ensures .0), rw e (c .before .before .before .rest-then .ensures .1))
+    let at-rest-then = c .before .before .before in
+    let at-h = at-rest-then .before .before .before .before in
+    let at-head-on = at-h .before .before in
+    let e = entry-is _ _ _ _ (at-head-on .before .before .before .before .before .args .before) _ _ (at-head-on .before .ident-on .ensures)
+    (at-head-on .head-on .ensures) _ (at-h .h .given .1) in
+    (rw e (at-rest-then .rest-then .ensures .0), rw e (at-rest-then .rest-then .ensures .1))
 
 returns-2 : tie.Need-returns-2
 unfolding stoodOf

@@ -20,19 +20,20 @@ judge-requires c κs = (
 
 fits-requires : tie.Need-fits-requires
 fits-requires c κs =
-    let g : Tested (c .before .before .before .before .before .before .before .before .before .before .before .before .args .t .now)
-    (c .before .before .before .before .before .before .before .before .read .result) = record {
-      good = c .before .before .before .before .before .before .before .before .before .before .before .before .pre;
-      head = c .before .before .before .before .before .before .before .before .read .ensures;
+    let at-powers = c .before .before .before in
+    let at-read = at-powers .before .before .before .before .before in
+    let start = at-read .before .before .before .before in
+    let g : Tested (start .args .t .now) (at-read .read .result) = record {
+      good = start .pre;
+      head = at-read .read .ensures;
     } in (
-      c .before .before .before .before .classes .ensures,
+      at-powers .before .classes .ensures,
       (
-        record { tens = c .before .before .before .powers .ensures; tested = g; list = search needs },
+        record { tens = at-powers .powers .ensures; tested = g; list = search needs },
         (
           (
-            c .before .before .before .before .before .before .before .find-terminator .ensures,
-            told-long _ _ (c .before .before .before .before .before .count-before .ensures)
-                (c .before .before .before .before .before .before .judge .ensures) g,
+            at-powers .before .before .before .before .find-terminator .ensures,
+            told-long _ _ (at-powers .before .before .count-before .ensures) (at-powers .before .before .before .judge .ensures) g,
           ),
           search needs,
         ),
@@ -42,48 +43,35 @@ fits-requires c κs =
 returns : tie.Need-returns
 unfolding exportSaid
 returns c =
-    too-long (c .before .before .before .before .before .before .before .before .before .before .before .before .before .before .before
-    .args .def .now)
-    (c .before .before .before .before .before .before .before .before .before .before .before .before .before .before .before .args .t
-    .now) (c .before .before .before .before .before .before .before .before .before .before .before .before .before .before .before .args
-    .d .now) (c .before .before .before .before .before .before .before .before .before .before .before .before .before .before .before
-    .args .out .now)
-    (rw (told-text _ _ (c .before .before .before .before .before .before .before .before .count-before .ensures)
-    (c .before .before .before .before .before .before .before .before .before .judge .ensures)
-    (c .before .before .before .before .before .before .before .before .before .before .before .before .before .before .before .args .def
-    .now)) at (sym (c .before .before .fits2 .ensures) ∙ not-true _ (c .if1 .taken)))
+    let at-count-before = c .before .before .before .before .before .before .before .before in
+    let args = at-count-before .before .before .before .before .before .before .before .args in
+    too-long (args .def .now) (args .t .now) (args .d .now) (args .out .now) (rw (told-text _ _ (at-count-before .count-before .ensures)
+    (at-count-before .before .judge .ensures) (args .def .now)) at (sym (c .before .before .fits2 .ensures) ∙ not-true _ (c .if1 .taken)))
 
 write-requires : tie.Need-write-requires
 write-requires c κs =
-    let g : Tested
-    (c .before .before .before .before .before .before .before .before .before .before .before .before .before .before .before .before
-    .before .before .before .args .t .now)
-    (c .before .before .before .before .before .before .before .before .before .before .before .before .before .before .before .read
-    .result) = record {
-      good = c .before .before .before .before .before .before .before .before .before .before .before .before .before .before .before
-          .before .before .before .before .pre;
-      head = c .before .before .before .before .before .before .before .before .before .before .before .before .before .before .before .read
-          .ensures;
+    let at-if1 = c .before .before .before .before in
+    let at-fits2 = at-if1 .before .before in
+    let at-powers = at-fits2 .before .before .before .before in
+    let at-read = at-powers .before .before .before .before .before in
+    let start = at-read .before .before .before .before in
+    let g : Tested (start .args .t .now) (at-read .read .result) = record {
+      good = start .pre;
+      head = at-read .read .ensures;
     } in (
-      c .before .before .before .before .before .before .before .before .before .before .before .classes .ensures,
+      at-powers .before .classes .ensures,
       (
         record {
-          tens = c .before .before .before .before .before .before .before .before .before .before .powers .ensures;
+          tens = at-powers .powers .ensures;
           tested = g;
           list = search needs;
         },
         (
           (
-            c .before .before .before .before .before .before .before .before .before .before .before .before .before .before
-                .find-terminator
-                .ensures,
-            told-long _ _
-                (c .before .before .before .before .before .before .before .before .before .before .before .before .count-before .ensures)
-                (c .before .before .before .before .before .before .before .before .before .before .before .before .before .judge .ensures)
-                g,
+            at-powers .before .before .before .before .find-terminator .ensures,
+            told-long _ _ (at-powers .before .before .count-before .ensures) (at-powers .before .before .before .judge .ensures) g,
           ),
-          leb-true _ _ (sym (c .before .before .before .before .before .before .fits2 .ensures)
-              ∙ not-false _ (c .before .before .before .before .if1 .left)),
+          leb-true _ _ (sym (at-fits2 .fits2 .ensures) ∙ not-false _ (at-if1 .if1 .left)),
         ),
       ),
     )
@@ -91,27 +79,15 @@ write-requires c κs =
 returns-2 : tie.Need-returns-2
 unfolding exportSaid
 returns-2 c =
-    let e = told-text _ _
-    (c .before .before .before .before .before .before .before .before .before .before .before .before .before .before .before .before
-    .count-before .ensures)
-    (c .before .before .before .before .before .before .before .before .before .before .before .before .before .before .before .before
-    .before .judge .ensures)
-    (c .before .before .before .before .before .before .before .before .before .before .before .before .before .before .before .before
-    .before .before .before .before .before .before .before .args .def .now) in
-    all-there
-    (c .before .before .before .before .before .before .before .before .before .before .before .before .before .before .before .before
-    .before .before .before .before .before .before .before .args .def .now)
-    (c .before .before .before .before .before .before .before .before .before .before .before .before .before .before .before .before
-    .before .before .before .before .before .before .before .args .t .now)
-    (c .before .before .before .before .before .before .before .before .before .before .before .before .before .before .before .before
-    .before .before .before .before .before .before .before .args .d .now)
-    (c .before .before .before .before .before .before .before .before .before .before .before .before .before .before .before .before
-    .before .before .before .before .before .before .before .args .out .now)
-    (rw e at (sym (c .before .before .before .before .before .before .before .before .before .before .fits2 .ensures)
-    ∙ not-false _ (c .before .before .before .before .before .before .before .before .if1 .left)))
-    (c .before .before .before .before .before .before .before .before .before .before .before .before .before .before .before .before
-    .before .judge .ensures) (rw e at (c .before .before .before .write .ensures .0))
-    (rw e at (c .before .before .before .write .ensures .1))
+    let at-write = c .before .before .before in
+    let at-if1 = at-write .before .before .before .before .before in
+    let at-count-before = at-if1 .before .before .before .before .before .before .before .before in
+    let at-judge = at-count-before .before in
+    let args = at-judge .before .before .before .before .before .before .args in
+    let e = told-text _ _ (at-count-before .count-before .ensures) (at-judge .judge .ensures) (args .def .now) in
+    all-there (args .def .now) (args .t .now) (args .d .now) (args .out .now) (rw e at (sym (at-if1 .before .before .fits2 .ensures)
+    ∙ not-false _ (at-if1 .if1 .left))) (at-judge .judge .ensures) (rw e at (at-write .write .ensures .0))
+    (rw e at (at-write .write .ensures .1))
 
 pub export-tested-spec : {M : Type 1} → statement M
 export-tested-spec =

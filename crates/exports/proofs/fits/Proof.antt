@@ -24,17 +24,21 @@ send-names-requires c κs = let p = c .before .before .before .pre in (p .0, row
 
 returns : tie.Need-returns
 returns c =
-    let p = c .before .before .before .before .before .before .pre in
-    let a = c .before .before .before .before .before .before .args in
-    names-long _ (c .before .before .send-names .ensures) _ (c .if1 .taken)
+    let at-send-names = c .before .before in
+    let start = at-send-names .before .before .before .before in
+    let p = start .pre in
+    let a = start .args in
+    names-long _ (at-send-names .send-names .ensures) _ (c .if1 .taken)
     ∙ ap (λ (s : List ℕ). leb (length s) (a .room)) (names-and (p .1 .0 .tested) (a .def .now) (a .n) (recordsOf (a .d .now)))
 
 returns-2 : tie.Need-returns-2
 returns-2 c =
-    let p = c .before .before .before .before .before .before .before .before .pre in
-    let a = c .before .before .before .before .before .before .before .before .args in
+    let at-send-names = c .before .before .before .before in
+    let start = at-send-names .before .before .before .before in
+    let p = start .pre in
+    let a = start .args in
     let m = c .before .line-most .ensures in
-    room-enough _ (c .before .before .before .before .send-names .ensures) _ (a .n) _ (c .before .before .if1 .left) (m .1) (c .if2 .taken)
+    room-enough _ (at-send-names .send-names .ensures) _ (a .n) _ (c .before .before .if1 .left) (m .1) (c .if2 .taken)
     (rw (m .0) (lines-most (a .t .now) (p .1 .0 .tested .good) (a .n) (recordsOf (a .d .now))))
     ∙ ap (λ (s : List ℕ). leb (length s) (a .room)) (names-and (p .1 .0 .tested) (a .def .now) (a .n) (recordsOf (a .d .now)))
 
@@ -45,9 +49,9 @@ send-lines-requires c κs =
 
 returns-3 : tie.Need-returns-3
 returns-3 c =
-    let p = c .before .before .before .before .before .before .before .before .before .before .before .before .before .pre in
-    measured _
-    (sent-as (then (c .before .before .before .before .before .before .before .before .before .send-names .ensures)
+    let at-send-names = c .before .before .before .before .before .before .before .before .before in
+    let p = at-send-names .before .before .before .before .pre in
+    measured _ (sent-as (then (at-send-names .send-names .ensures)
     (rw (found-records (p .1 .1 .0 .0)) at (c .before .before .send-lines .ensures))) (names-and (p .1 .0 .tested) _ _ _))
 
 pub fits-spec : {M : Type 1} → statement M

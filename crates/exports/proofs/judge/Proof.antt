@@ -14,8 +14,9 @@ judge-records-requires c κs = (
 )
 
 returns : tie.Need-returns
-returns c = c .before .judge-records .ensures ∙ file-found _ (c .before .before .before .before .before .before .pre .0 .good)
-    (c .before .before .before .before .before .before .pre .1)
+returns c =
+    let the-start = c .before .before .before .before .before .before in
+    c .before .judge-records .ensures ∙ file-found _ (the-start .pre .0 .good) (the-start .pre .1)
 
 judge-records-requires-2 : tie.Need-judge-records-requires-2
 judge-records-requires-2 c κs = (
@@ -24,8 +25,9 @@ judge-records-requires-2 c κs = (
 )
 
 returns-2 : tie.Need-returns-2
-returns-2 c = c .before .judge-records2 .ensures ∙ file-found _ (c .before .before .before .before .before .before .pre .0 .good)
-    (c .before .before .before .before .before .before .pre .1)
+returns-2 c =
+    let the-start = c .before .before .before .before .before .before in
+    c .before .judge-records2 .ensures ∙ file-found _ (the-start .pre .0 .good) (the-start .pre .1)
 
 pub judge-spec : {M : Type 1} → statement M
 judge-spec =

@@ -19,9 +19,11 @@ send-lines-requires c κs =
 
 returns : tie.Need-returns
 returns c =
-    let p = c .before .before .before .before .before .before .before .before .before .before .before .before .before .pre in
-    sent-as (then (c .before .before .before .before .before .before .before .before .send-names .ensures)
-    (rw (found-records (p .1 .1 .0)) at (c .before .before .before .send-lines .ensures))) (names-and (p .1 .0 .tested) _ _ _)
+    let at-send-lines = c .before .before .before in
+    let at-send-names = at-send-lines .before .before .before .before .before in
+    let p = at-send-names .before .before .before .before .before .pre in
+    sent-as (then (at-send-names .send-names .ensures)
+    (rw (found-records (p .1 .1 .0)) at (at-send-lines .send-lines .ensures))) (names-and (p .1 .0 .tested) _ _ _)
 
 pub send-all-spec : {M : Type 1} → statement M
 send-all-spec =

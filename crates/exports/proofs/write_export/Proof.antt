@@ -27,13 +27,13 @@ export-tested-requires c κs = sym (c .before .before .before .before .well-form
 returns-3 : tie.Need-returns-3
 unfolding exportVerdict
 returns-3 c =
-    let e = sym (c .before .before .before .before .before .before .before .well-formed .ensures .says)
-    ∙ not-false _ (c .before .before .before .before .before .before .if1 .left) in
-    let f = sym (c .before .before .before .before .before .yields .ensures) ∙ not-false _ (c .before .before .before .before .if2 .left) in
+    let at-export-tested = c .before .before in
+    let e = sym (at-export-tested .before .before .before .before .before .well-formed .ensures .says)
+    ∙ not-false _ (at-export-tested .before .before .before .before .if1 .left) in
+    let f = sym (at-export-tested .before .before .before .yields .ensures) ∙ not-false _ (at-export-tested .before .before .if2 .left) in
     record {
-      says = rw (e, f) (c .before .before .export-tested .ensures .0);
-      leaves = rw (e, f)
-          (c .before .before .export-tested .ensures .1);
+      says = rw (e, f) (at-export-tested .export-tested .ensures .0);
+      leaves = rw (e, f) (at-export-tested .export-tested .ensures .1);
     }
 
 pub write-export-spec : {M : Type 1} → statement M

@@ -27,20 +27,19 @@ asked : (c : tie.After-is-legal Inv-loop μ-loop) → c .is-legal .result
     (c .before .before .before .before .before .before .before .before .before .args .rows)
     (c .before .before .before .before .before .before .before .before .before .args .row)
     (pos (c .before .before .before .before .before .before .loop .i + 1))
-asked c = c .is-legal .ensures ∙ ap (legal (c .before .before .before .before .before .before .before .before .before .args .t .now)
-    (c .before .before .before .before .before .before .before .before .before .args .rows)
-    (c .before .before .before .before .before .before .before .before .before .args .row))
+asked c =
+    let args = c .before .before .before .before .before .before .before .before .before .args in
+    c .is-legal .ensures ∙ ap (legal (args .t .now) (args .rows) (args .row))
     (toZ-ofZ (sfits-of (c .before .cell-of .ok)) ∙ c .before .cell-of .ensures)
 
 returns : tie.Need-returns Inv-loop μ-loop
 returns c =
-    let a = c .before .before .before .before .before .before .before .before .before .before .args in
-    sym (bit-here (a .x) (legal (a .t .now) (a .rows) (a .row)) (a .bytes .now) (a .row .start - 1) (a .row .width)
-    (c .before .before .before .before .before .before .before .loop .i)
-    (c .before .before .before .before .before .before .loop-test .taken)
-    (sym (c .before .before .before .before .byte-passes .ensures) ∙ not-true _ (c .before .before .before .if1 .taken))
-    (sym (asked (c .before)) ∙ c .if2 .taken))
-    ∙ c .before .before .before .before .before .before .before .loop .inv .1
+    let at-if1 = c .before .before .before in
+    let at-loop = at-if1 .before .before .before .before in
+    let a = at-loop .before .before .before .args in
+    sym (bit-here (a .x) (legal (a .t .now) (a .rows) (a .row)) (a .bytes .now) (a .row .start - 1) (a .row .width) (at-loop .loop .i)
+    (at-if1 .before .before .before .loop-test .taken) (sym (at-if1 .before .byte-passes .ensures) ∙ not-true _ (at-if1 .if1 .taken))
+    (sym (asked (c .before)) ∙ c .if2 .taken)) ∙ at-loop .loop .inv .1
 
 loop-again : tie.Need-loop-again Inv-loop μ-loop
 loop-again c =

@@ -25,9 +25,9 @@ asked : (c : tie.After-is-legal) → c .is-legal .result
     ≡ legal (c .before .before .before .before .before .before .args .t .now)
     (c .before .before .before .before .before .before .args .rows) (c .before .before .before .before .before .before .args .row)
     (c .before .before .before .before .said .given .0 .0)
-asked c = c .is-legal .ensures ∙ ap (legal (c .before .before .before .before .before .before .args .t .now)
-    (c .before .before .before .before .before .before .args .rows) (c .before .before .before .before .before .before .args .row))
-    (back (c .before .before .before))
+asked c =
+    let args = c .before .before .before .before .before .before .args in
+    c .is-legal .ensures ∙ ap (legal (args .t .now) (args .rows) (args .row)) (back (c .before .before .before))
 
 returns : tie.Need-returns
 unfolding saidOf

@@ -35,12 +35,13 @@ quantity-requires c κs =
 returns : tie.Need-returns
 unfolding valueBy placesBy numeralFault
 returns c =
-    let a = c .before .before .before .before .before .before .args in
-    let f = single-ready (c .before .before .before .before .before .before .pre) (c .before .before .before .enum-told .given .1) in
-    c .numeral-fault .ensures
-    ∙ ap (valueFault (usable (legal (a .t .now) (a .rows) (a .row))))
+    let at-enum-told = c .before .before .before in
+    let start = at-enum-told .before .before .before in
+    let a = start .args in
+    let f = single-ready (start .pre) (at-enum-told .enum-told .given .1) in
+    c .numeral-fault .ensures ∙ ap (valueFault (usable (legal (a .t .now) (a .rows) (a .row))))
     (c .before .code .ensures ∙ ap codeOf (lent-last (a .bytes .now) (a .row .finish) (a .row .width) (f .reach) (f .inside)))
-    ∙ sym (value-as _ _ _ _ Single (c .before .before .before .enum-told .given .1))
+    ∙ sym (value-as _ _ _ _ Single (at-enum-told .enum-told .given .1))
 
 returns-2 : tie.Need-returns-2
 unfolding valueBy
@@ -56,14 +57,13 @@ returns-3 c = c .spread-value .ensures ∙ sym (value-as _ _ _ _ _
 returns-4 : tie.Need-returns-4
 unfolding valueBy placesBy numeralFault
 returns-4 c =
-    let a = c .before .before .before .before .before .before .before .args in
-    let f = quantity-ready (c .before .before .before .before .before .before .before .pre)
-    (c .before .before .before .before .kind2 .given .1) in
-    c .numeral-fault2 .ensures
-    ∙ ap (valueFault (legal (a .t .now) (a .rows) (a .row)))
-    (c .before .quantity .ensures ∙ ap (quantityOf _)
+    let at-kind2 = c .before .before .before .before in
+    let start = at-kind2 .before .before .before in
+    let a = start .args in
+    let f = quantity-ready (start .pre) (at-kind2 .kind2 .given .1) in
+    c .numeral-fault2 .ensures ∙ ap (valueFault (legal (a .t .now) (a .rows) (a .row))) (c .before .quantity .ensures ∙ ap (quantityOf _)
     (lent-last (a .bytes .now) (a .row .finish) (a .row .width) (f .0 .reach) (f .0 .inside)))
-    ∙ sym (value-as _ _ _ _ _ (c .before .before .before .before .kind2 .given .1))
+    ∙ sym (value-as _ _ _ _ _ (at-kind2 .kind2 .given .1))
 
 returns-5 : tie.Need-returns-5
 unfolding valueBy

@@ -52,11 +52,9 @@ said : (c : tie.After-numeral-fault Inv-loop μ-loop)
     (c .before .before .before .before .before .before .args .w))))
 unfolding numeralFault
 said c =
-    c .numeral-fault .ensures
-    ∙ ap (valueFault (usable (legal (c .before .before .before .before .before .before .args .t .now)
-    (c .before .before .before .before .before .before .args .rows) (c .before .before .before .before .before .before .args .row))))
-    (c .before .code .ensures ∙ ap codeOf (lent (c .before .before .before .before .before .before .args .bytes .now) _ _
-    (here (c .before .before .before))))
+    let args = c .before .before .before .before .before .before .args in
+    c .numeral-fault .ensures ∙ ap (valueFault (usable (legal (args .t .now) (args .rows) (args .row))))
+    (c .before .code .ensures ∙ ap codeOf (lent (args .bytes .now) _ _ (here (c .before .before .before))))
 
 -- its fault, or the rest's
 step : (c : tie.After-numeral-fault Inv-loop μ-loop)
@@ -74,19 +72,13 @@ step : (c : tie.After-numeral-fault Inv-loop μ-loop)
     (spreadPlaces (c .before .before .before .before .before .before .args .at) (c .before .before .before .before .before .before .args .b)
     (c .before .before .before .before .before .before .args .w) (c .before .before .before .before .before .before .args .n))
 step c =
-    ap (λ (x : Fault). orElse x (spreadValue (legal (c .before .before .before .before .before .before .args .t .now)
-    (c .before .before .before .before .before .before .args .rows) (c .before .before .before .before .before .before .args .row))
-    (c .before .before .before .before .before .before .args .w) (c .before .before .before .before .before .before .args .bytes .now)
-    (c .before .before .before .before .loop .k - 1)
-    (spreadPlaces (c .before .before .before .before .loop .q + c .before .before .before .before .before .before .args .b)
-    (c .before .before .before .before .before .before .args .b) (c .before .before .before .before .before .before .args .w)
-    (c .before .before .before .before .loop .k - 1)))) (said c)
-    ∙ sym (value-step (c .before .before .before .before .before .before .args .bytes .now) (c .before .before .before .before .loop .q)
-    (c .before .before .before .before .before .before .args .b) (c .before .before .before .before .before .before .args .w)
-    (c .before .before .before .before .loop .k) (c .before .before .before .before .loop .k - 1) (one (c .before .before .before))
-    (legal (c .before .before .before .before .before .before .args .t .now) (c .before .before .before .before .before .before .args .rows)
-    (c .before .before .before .before .before .before .args .row)))
-    ∙ c .before .before .before .before .loop .inv .1
+    let at-loop = c .before .before .before .before in
+    let args = at-loop .before .before .args in
+    ap (λ (x : Fault). orElse x (spreadValue (legal (args .t .now) (args .rows) (args .row)) (args .w) (args .bytes .now)
+    (at-loop .loop .k - 1) (spreadPlaces (at-loop .loop .q + args .b) (args .b) (args .w) (at-loop .loop .k - 1)))) (said c)
+    ∙ sym (value-step (args .bytes .now) (at-loop .loop .q) (args .b) (args .w)
+    (at-loop .loop .k) (at-loop .loop .k - 1) (one (c .before .before .before)) (legal (args .t .now) (args .rows) (args .row)))
+    ∙ at-loop .loop .inv .1
 
 returns : tie.Need-returns Inv-loop μ-loop
 returns c = sym (else-fault _ _ (sym (c .before .is-fault .ensures) ∙ c .if1 .taken)) ∙ step (c .before .before)

@@ -19,12 +19,12 @@ judge-records-requires c κs = (
 )
 
 returns : tie.Need-returns
-returns c = record {
-  says = c .before .judge-records .ensures
-      ∙ file-found _ (sym (c .before .before .before .before .before .before .before .before .well-formed .ensures .says)
-      ∙ c .before .before .before .before .before .before .before .if1 .taken)
-      (c .before .before .before .before .before .find-terminator .ensures);
-}
+returns c =
+    let at-find-terminator = c .before .before .before .before .before in
+    record {
+      says = c .before .judge-records .ensures ∙ file-found _ (sym (at-find-terminator .before .before .before .well-formed .ensures .says)
+          ∙ at-find-terminator .before .before .if1 .taken) (at-find-terminator .find-terminator .ensures);
+    }
 
 judge-records-requires-2 : tie.Need-judge-records-requires-2
 judge-records-requires-2 c κs = (
@@ -37,12 +37,12 @@ judge-records-requires-2 c κs = (
 )
 
 returns-2 : tie.Need-returns-2
-returns-2 c = record {
-  says = c .before .judge-records2 .ensures
-      ∙ file-found _ (sym (c .before .before .before .before .before .before .before .before .well-formed .ensures .says)
-      ∙ c .before .before .before .before .before .before .before .if1 .taken)
-      (c .before .before .before .before .before .find-terminator .ensures);
-}
+returns-2 c =
+    let at-find-terminator = c .before .before .before .before .before in
+    record {
+      says = c .before .judge-records2 .ensures ∙ file-found _ (sym (at-find-terminator .before .before .before .well-formed .ensures .says)
+          ∙ at-find-terminator .before .before .if1 .taken) (at-find-terminator .find-terminator .ensures);
+    }
 
 returns-3 : tie.Need-returns-3
 unfolding fileVerdict fileSaid

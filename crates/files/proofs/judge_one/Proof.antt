@@ -47,31 +47,24 @@ verdict : (c : tie.After-judge-rows) → judgedAs (c .judge-rows .result)
     (c .before .before .before .before .before .before .before .args .first)
     (c .before .before .before .before .before .before .before .args .bytes .now)
 verdict c =
-    c .judge-rows .ensures
-    ∙ rw (tested-rows (c .before .before .before .before .before .before .before .pre .0))
-    (sym (verdict-rows (c .before .before .before .before .before .before .before .args .t .now)
-    (c .before .before .before .before .before .before .before .args .first)
-    (c .before .before .before .before .before .before .before .args .bytes .now) (c .before .before .before .before .if1 .left)
-    (long (c .before .before))))
+    let at-if1 = c .before .before .before .before in
+    let start = at-if1 .before .before .before in
+    c .judge-rows .ensures ∙ rw (tested-rows (start .pre .0)) (sym (verdict-rows (start .args .t .now) (start .args .first)
+    (start .args .bytes .now) (at-if1 .if1 .left) (long (c .before .before))))
 
 returns-3 : tie.Need-returns-3
 unfolding fileSaid
 returns-3 c =
-    sym (go-sound (recordVerdict (c .before .before .before .before .before .before .before .before .before .before .before .args .t .now)
-    (c .before .before .before .before .before .before .before .before .before .before .before .args .first)
-    (c .before .before .before .before .before .before .before .before .before .before .before .args .bytes .now))
-    (c .before .before .before .before .before .before .before .before .before .before .before .args .n) _
+    let args = c .before .before .before .before .before .before .before .before .before .before .before .args in
+    sym (go-sound (recordVerdict (args .t .now) (args .first) (args .bytes .now)) (args .n) _
     (ap isSound (sym (verdict (c .before .before .before .before))) ∙ sym (c .before .is-sound .ensures) ∙ c .if3 .taken))
 
 returns-4 : tie.Need-returns-4
 unfolding fileSaid
 returns-4 c =
-    rw (verdict (c .before .before .before .before))
-    (sym (go-fault (recordVerdict (c .before .before .before .before .before .before .before .before .before .before .before .args .t .now)
-    (c .before .before .before .before .before .before .before .before .before .before .before .args .first)
-    (c .before .before .before .before .before .before .before .before .before .before .before .args .bytes .now))
-    (c .before .before .before .before .before .before .before .before .before .before .before .args .n) _
-    (ap isSound (sym (verdict (c .before .before .before .before))) ∙ sym (c .before .is-sound .ensures) ∙ c .if3 .left)))
+    let args = c .before .before .before .before .before .before .before .before .before .before .before .args in
+    rw (verdict (c .before .before .before .before)) (sym (go-fault (recordVerdict (args .t .now) (args .first) (args .bytes .now))
+    (args .n) _ (ap isSound (sym (verdict (c .before .before .before .before))) ∙ sym (c .before .is-sound .ensures) ∙ c .if3 .left)))
 
 pub judge-one-spec : {M : Type 1} → statement M
 judge-one-spec =

@@ -35,9 +35,11 @@ ended : (c : tie.After-known-told Inv-loop μ-loop)
     (drop (c .before .before .before .before .before .loop .from)
     (c .before .before .before .before .before .before .before .before .args .d .now))) (c .before .start .given .0 .0)
     (c .before .start .given .0 .1 .0) (c .before .start .given .0 .1 .1 .0)
-ended c = next-ended (c .before .before .before .before .before .before .before .before .args .d .now)
-    (c .before .before .before .before .before .before .before .before .args .w) (c .before .before .before .before .before .loop .from)
-    (sym (c .before .before .before .next-from .ensures) ∙ c .before .start .given .1)
+ended c =
+    let at-next-from = c .before .before .before in
+    let args = at-next-from .before .before .before .before .before .args in
+    next-ended (args .d .now) (args .w) (at-next-from .before .before .loop .from)
+    (sym (at-next-from .next-from .ensures) ∙ c .before .start .given .1)
 
 sub-first-length : tie.Need-sub-first-length Inv-loop μ-loop
 sub-first-length c = omega (arith, ended c .starts, ended c .after)
@@ -76,8 +78,9 @@ first-here : (c : tie.After-first-length Inv-loop μ-loop) → c .first-length .
     (c .before .before .before .before .before .before .loop .first)
     (length (part (c .before .before .before .before .before .before .before .before .before .args .d .now)
     (c .before .before .before .before .before .before .loop .from) (c .before .before .start .given .0 .1 .0)))
-first-here c = c .first-length .ensures ∙ ap (firstLength (c .before .before .before .before .before .before .loop .n)
-    (c .before .before .before .before .before .before .loop .first)) (sym (bytes-length c))
+first-here c =
+    let at-loop = c .before .before .before .before .before .before in
+    c .first-length .ensures ∙ ap (firstLength (at-loop .loop .n) (at-loop .loop .first)) (sym (bytes-length c))
 
 judged : (c : tie.After-judge-one Inv-loop μ-loop) → fileSaid (c .judge-one .result)
     ≡ goOn (recordVerdict (c .before .before .before .before .before .before .before .before .before .before .before .before .args .t .now)
@@ -92,14 +95,12 @@ judged : (c : tie.After-judge-one Inv-loop μ-loop) → fileSaid (c .judge-one .
     (c .before .before .before .before .before .before .before .before .before .loop .n)
     (soundWith (c .before .before .before .before .before .before .before .before .before .loop .n + 1))
 judged c =
-    c .judge-one .ensures
-    ∙ ap₂ (λ (f : ℕ) (r : List ℕ). goOn (recordVerdict
-    (c .before .before .before .before .before .before .before .before .before .before .before .before .args .t .now) f r)
-    (c .before .before .before .before .before .before .before .before .before .loop .n)
-    (soundWith (c .before .before .before .before .before .before .before .before .before .loop .n + 1)))
-    (first-here (c .before .before .before))
-    (ap (λ (a : ℕ). part (c .before .before .before .before .before .before .before .before .before .before .before .before .args .d .now) a
-    (c .before .before .before .before .before .start .given .0 .1 .0)) (ended (c .before .before .before .before) .starts))
+    let at-start = c .before .before .before .before .before in
+    let at-loop = at-start .before .before .before .before in
+    let args = at-loop .before .before .before .args in
+    c .judge-one .ensures ∙ ap₂ (λ (f : ℕ) (r : List ℕ). goOn (recordVerdict (args .t .now) f r) (at-loop .loop .n)
+    (soundWith (at-loop .loop .n + 1))) (first-here (c .before .before .before)) (ap (λ (a : ℕ). part (args .d .now) a
+    (at-start .start .given .0 .1 .0)) (ended (c .before .before .before .before) .starts))
 
 -- the file goes on where the record is sound
 going : (c : tie.After-goes-on Inv-loop μ-loop) → c .goes-on .result
@@ -115,41 +116,24 @@ going : (c : tie.After-goes-on Inv-loop μ-loop) → c .goes-on .result
     (part (c .before .before .before .before .before .before .before .before .before .before .before .before .before .before .before .args
     .d .now) (c .before .before .before .before .before .before .before .before .before .before .before .before .loop .from)
     (c .before .before .before .before .before .before .before .before .start .given .0 .1 .0)))
-going c = c .goes-on .ensures ∙ ap soundSoFar (judged (c .before .before .before))
-    ∙ so-far (recordVerdict
-    (c .before .before .before .before .before .before .before .before .before .before .before .before .before .before .before .args .t
-    .now) (firstLength (c .before .before .before .before .before .before .before .before .before .before .before .before .loop .n)
-    (c .before .before .before .before .before .before .before .before .before .before .before .before .loop .first)
-    (length (part
-    (c .before .before .before .before .before .before .before .before .before .before .before .before .before .before .before .args .d
-    .now) (c .before .before .before .before .before .before .before .before .before .before .before .before .loop .from)
-    (c .before .before .before .before .before .before .before .before .start .given .0 .1 .0))))
-    (part (c .before .before .before .before .before .before .before .before .before .before .before .before .before .before .before .args
-    .d .now) (c .before .before .before .before .before .before .before .before .before .before .before .before .loop .from)
-    (c .before .before .before .before .before .before .before .before .start .given .0 .1 .0)))
-    (c .before .before .before .before .before .before .before .before .before .before .before .before .loop .n)
+going c =
+    let at-start = c .before .before .before .before .before .before .before .before in
+    let at-loop = at-start .before .before .before .before in
+    let args = at-loop .before .before .before .args in
+    c .goes-on .ensures ∙ ap soundSoFar (judged (c .before .before .before)) ∙ so-far (recordVerdict (args .t
+    .now) (firstLength (at-loop .loop .n) (at-loop .loop .first) (length (part (args .d .now) (at-loop .loop .from)
+    (at-start .start .given .0 .1 .0)))) (part (args .d .now) (at-loop .loop .from) (at-start .start .given .0 .1 .0))) (at-loop .loop .n)
 
 returns : tie.Need-returns Inv-loop μ-loop
 returns c =
+    let at-start = c .before .before .before .before .before .before .before .before .before in
+    let at-loop = at-start .before .before .before .before in
+    let args = at-loop .before .before .before .args in
     let e = ended (c .before .before .before .before .before .before .before .before) in
-    judged (c .before .before .before .before)
-    ∙ go-same
-    (recordVerdict
-    (c .before .before .before .before .before .before .before .before .before .before .before .before .before .before .before .before .args
-    .t .now) (firstLength
-    (c .before .before .before .before .before .before .before .before .before .before .before .before .before .loop .n)
-    (c .before .before .before .before .before .before .before .before .before .before .before .before .before .loop .first)
-    (length (part
-    (c .before .before .before .before .before .before .before .before .before .before .before .before .before .before .before .before .args
-    .d .now) (c .before .before .before .before .before .before .before .before .before .before .before .before .before .loop .from)
-    (c .before .before .before .before .before .before .before .before .before .start .given .0 .1 .0))))
-    (part (c .before .before .before .before .before .before .before .before .before .before .before .before .before .before .before .before
-    .args .d .now) (c .before .before .before .before .before .before .before .before .before .before .before .before .before .loop .from)
-    (c .before .before .before .before .before .before .before .before .before .start .given .0 .1 .0)))
-    (c .before .before .before .before .before .before .before .before .before .before .before .before .before .loop .n) _ _
-    (sym (going (c .before)) ∙ not-true _ (c .if1 .taken))
-    ∙ sym (c .before .before .before .before .before .before .before .before .before .before .before .before .before .loop .inv .2
-    ∙ records-next _ _ _ _ (e .records))
+    judged (c .before .before .before .before) ∙ go-same (recordVerdict (args .t .now) (firstLength (at-loop .loop .n)
+    (at-loop .loop .first) (length (part (args .d .now) (at-loop .loop .from) (at-start .start .given .0 .1 .0))))
+    (part (args .d .now) (at-loop .loop .from) (at-start .start .given .0 .1 .0))) (at-loop .loop .n) _ _
+    (sym (going (c .before)) ∙ not-true _ (c .if1 .taken)) ∙ sym (at-loop .loop .inv .2 ∙ records-next _ _ _ _ (e .records))
 
 -- the sound record was long enough, so the first one's length is
 pass-sound-requires : tie.Need-pass-sound-requires Inv-loop μ-loop
@@ -182,66 +166,40 @@ loop-less c =
 
 loop-again : tie.Need-loop-again Inv-loop μ-loop
 loop-again c =
-    let e = ended (c .before .before .before .before .before .before .before .before .before .before .before .before) in
+    let at-if1 = c .before .before .before .before in
+    let at-judge-one = at-if1 .before .before .before .before in
+    let at-start = at-judge-one .before .before .before .before .before in
+    let at-loop = at-start .before .before .before .before in
+    let args = at-loop .before .before .before .args in
+    let e = ended (at-judge-one .before .before .before .before) in
     let p = c .before .before .pass-sound .ensures in
-    let a = c .before .before .before .before .before .before .before .before .before .before .before .before .before .before .before
-    .before .before .before .before .before .args in (
+    let a = args in (
       p .fewer,
-      c .before .before .pass-sound .kept .1 .1 .1 .1 .1 .1 .0
-          ∙ c .before .before .before .before .before .before .before .before .judge-one .kept .1 .1 .1 .1 .1 .0
-          ∙ c .before .before .before .before .before .before .before .before .before .before .before .before .before .before .before
-          .before .before .loop .inv .1,
-      c .before .before .before .before .before .before .before .before .before .before .before .before .before .before .before .before
-          .before .loop .inv .2 ∙ records-next _ _ _ _ (e .records)
-          ∙ go-sound
-          (recordVerdict
-          (c .before .before .before .before .before .before .before .before .before .before .before .before .before .before .before .before
-          .before .before .before .before .args .t .now)
-          (firstLength
-          (c .before .before .before .before .before .before .before .before .before .before .before .before .before .before .before .before
-          .before .loop .n)
-          (c .before .before .before .before .before .before .before .before .before .before .before .before .before .before .before .before
-          .before .loop .first)
-          (length (part
-          (c .before .before .before .before .before .before .before .before .before .before .before .before .before .before .before .before
-          .before .before .before .before .args .d .now)
-          (c .before .before .before .before .before .before .before .before .before .before .before .before .before .before .before .before
-          .before .loop .from)
-          (c .before .before .before .before .before .before .before .before .before .before .before .before .before .start .given .0 .1
-          .0)))) (part
-          (c .before .before .before .before .before .before .before .before .before .before .before .before .before .before .before .before
-          .before .before .before .before .args .d .now)
-          (c .before .before .before .before .before .before .before .before .before .before .before .before .before .before .before .before
-          .before .loop .from)
-          (c .before .before .before .before .before .before .before .before .before .before .before .before .before .start .given .0 .1
-          .0))) (c .before .before .before .before .before .before .before .before .before .before .before .before .before .before .before
-          .before .before .loop .n) _ (sym (going (c .before .before .before .before .before))
-          ∙ not-false _ (c .before .before .before .before .if1 .left))
-          ∙ ap (λ (f : ℕ). recordsVerdict (a .t .now)
-          (c .before .before .before .before .before .before .before .before .before .before .before .before .before .before .before .before
-          .before .loop .n + 1) f (recordsFrom (a .w)
-          (drop (c .before .before .before .before .before .before .before .before .before .before .before .before .before .start .given .0
-          .1 .1 .0) (a .d .now)))) (sym (first-here
-          (c .before .before .before .before .before .before .before .before .before .before .before)))
-          ∙ p .same,
+      c .before .before .pass-sound .kept .1 .1 .1 .1 .1 .1 .0 ∙ at-judge-one .judge-one .kept .1 .1 .1 .1 .1 .0 ∙ at-loop .loop .inv .1,
+      at-loop .loop .inv .2 ∙ records-next _ _ _ _ (e .records) ∙ go-sound (recordVerdict (args .t .now) (firstLength (at-loop .loop .n)
+          (at-loop .loop .first) (length (part (args .d .now) (at-loop .loop .from) (at-start .start .given .0 .1 .0)))) (part
+          (args .d .now) (at-loop .loop .from) (at-start .start .given .0 .1 .0))) (at-loop .loop .n) _ (sym (going (at-if1 .before))
+          ∙ not-false _ (at-if1 .if1 .left)) ∙ ap (λ (f : ℕ). recordsVerdict (a .t .now) (at-loop .loop .n + 1) f (recordsFrom (a .w)
+          (drop (at-start .start .given .0 .1 .1 .0) (a .d .now)))) (sym (first-here (at-judge-one .before .before .before))) ∙ p .same,
     )
 
 returns-2 : tie.Need-returns-2 Inv-loop μ-loop
 unfolding fileSaid
 returns-2 c =
-    let u = next-unended (c .before .before .before .before .before .before .before .args .d .now)
-    (c .before .before .before .before .before .before .before .args .w) (c .before .before .before .before .loop .from)
+    let at-loop = c .before .before .before .before in
+    let args = at-loop .before .before .before .args in
+    let u = next-unended (args .d .now) (args .w) (at-loop .loop .from)
     (sym (c .before .before .next-from .ensures) ∙ c .enum-told .given .1) in
-    sym (c .before .before .before .before .loop .inv .2 ∙ records-unended _ _ _ _ (u .records))
+    sym (at-loop .loop .inv .2 ∙ records-unended _ _ _ _ (u .records))
 
 returns-3 : tie.Need-returns-3 Inv-loop μ-loop
 unfolding fileSaid
 returns-3 c =
-    let d = c .before .before .before .before .before .before .before .args .d .now in
-    let w = c .before .before .before .before .before .before .before .args .w in
-    sym (c .before .before .before .before .loop .inv .2
-    ∙ records-over _ _ _ _ (over-past d w (c .before .before .before .before .loop .from)
-    (next-nothing d w (c .before .before .before .before .loop .from)
+    let at-loop = c .before .before .before .before in
+    let args = at-loop .before .before .before .args in
+    let d = args .d .now in
+    let w = args .w in
+    sym (at-loop .loop .inv .2 ∙ records-over _ _ _ _ (over-past d w (at-loop .loop .from) (next-nothing d w (at-loop .loop .from)
     (sym (c .before .before .next-from .ensures) ∙ c .enum-told2 .given .1))))
 
 returns-4 : tie.Need-returns-4 Inv-loop μ-loop

@@ -29,8 +29,9 @@ plain-sound-requires c κs =
 returns : tie.Need-returns
 unfolding isSound
 returns c e =
-    let a = c .before .before .before .before .before .before .before .before .before .args in
-    let g = c .before .before .before .before .before .before .before .before .before .pre .0 in
+    let start = c .before .before .before .before .before .before .before .before .before in
+    let a = start .args in
+    let g = start .pre .0 in
     let v : rowsVerdict (a .t .now) (rowsOf (a .t .now)) (part (a .d .now) (a .from) (a .from + a .first)) ≡ sound =
     rw (tested-rows (g .0)) at (c .before .before .plain-sound .ensures e) in
     sound-next (a .t .now) (a .d .now) (a .w) (a .first) (a .from) (plain (c .before .before .before .before .before)) (g .1) (sym v) refl

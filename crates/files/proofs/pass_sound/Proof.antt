@@ -39,9 +39,10 @@ sound c = c .before .before .before .next-sound .ensures (not-false _ (c .if1 .l
 
 -- a terminator was passed
 sized : (c : tie.Else1 Inv-loop μ-loop) → 1 ≤ c .before .before .before .before .before .before .before .before .before .args .w .size
-sized c = next-ended (c .before .before .before .before .before .before .before .before .before .args .d .now)
-    (c .before .before .before .before .before .before .before .before .before .args .w)
-    (c .before .before .before .before .before .before .loop .from) (sound c .next .ends) .sized
+sized c =
+    let at-loop = c .before .before .before .before .before .before in
+    let args = at-loop .before .before .before .args in
+    next-ended (args .d .now) (args .w) (at-loop .loop .from) (sound c .next .ends) .sized
 
 loop-again : tie.Need-loop-again Inv-loop μ-loop
 loop-again c =

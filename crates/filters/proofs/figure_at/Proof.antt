@@ -4,9 +4,12 @@ use Rattle.filters.proofs.figure_at.Statement.{statement}
 use Rattle.filters.proofs.figure_at.Tie as tie
 
 returns : tie.Need-returns
-returns c = let a = c .before .before .before .before .before .before .args in
-    figure-good (a .d .now) (a .v) (a .e) (c .before .before .before .before .before .before .pre .2) (a .next)
-    (c .before .before .before .figures-in .result) (c .before .before .before .figures-in .ensures) _ _ (c .before .size .given .1)
+returns c =
+    let at-figures-in = c .before .before .before in
+    let start = at-figures-in .before .before .before in
+    let a = start .args in
+    figure-good (a .d .now) (a .v) (a .e) (start .pre .2) (a .next)
+    (at-figures-in .figures-in .result) (at-figures-in .figures-in .ensures) _ _ (c .before .size .given .1)
 
 returns-2 : tie.Need-returns-2
 returns-2 c = let a = c .before .before .before .before .before .args in

@@ -11,12 +11,13 @@ text-at-requires c κs = c .before .before .pre .1 .1
 
 find-filter-requires : tie.Need-find-filter-requires
 find-filter-requires c κs =
-    let a = c .before .before .before .before .before .before .args in (
-      c .before .before .before .before .before .before .pre .0,
+    let at-text-at = c .before .before .before in
+    let start = at-text-at .before .before .before in
+    let a = start .args in (
+      start .pre .0,
       (
-        c .before .before .before .before .before .before .pre .1 .0,
-        text-is (a .bad) (a .d .now) FILTER 0 (a .place) (a .end) (c .before .before .before .text-at .ensures)
-            (c .before .t .given .1) .inside,
+        start .pre .1 .0,
+        text-is (a .bad) (a .d .now) FILTER 0 (a .place) (a .end) (at-text-at .text-at .ensures) (c .before .t .given .1) .inside,
       ),
     )
 

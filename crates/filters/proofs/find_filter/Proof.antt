@@ -28,10 +28,11 @@ returns-3 c =
     (c .before .count-named .ensures) (c .if3 .taken)
 
 find-logical-requires : tie.Need-find-logical-requires
-find-logical-requires c κs = (
-  c .before .before .before .before .before .before .pre .0,
-  c .before .before .before .before .before .before .pre .1 .1,
-)
+find-logical-requires c κs =
+    let start = c .before .before .before .before .before .before in (
+      start .pre .0,
+      start .pre .1 .1,
+    )
 
 returns-4 : tie.Need-returns-4
 returns-4 c =

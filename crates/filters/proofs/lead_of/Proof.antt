@@ -29,9 +29,11 @@ returns c = let v = c .before .before .loop .inv in
     (v .1) (v .2)
 
 returns-2 : tie.Need-returns-2 Inv-loop μ-loop
-returns-2 c = let v = c .before .before .before .before .before .before .before .loop .inv in
-    lead-shared _ _ _ _ _ _ (c .before .before .before .before .before .before .before .before .before .before .pre .0)
-    (c .before .before .before .before .before .before .before .before .before .before .pre .1) (v .0) (v .1) (v .2)
+returns-2 c =
+    let at-loop = c .before .before .before .before .before .before .before in
+    let start = at-loop .before .before .before in
+    let v = at-loop .loop .inv in
+    lead-shared _ _ _ _ _ _ (start .pre .0) (start .pre .1) (v .0) (v .1) (v .2)
 
 returns-3 : tie.Need-returns-3 Inv-loop μ-loop
 returns-3 c =

@@ -12,27 +12,28 @@ next-sign-requires-2 c κs = let r = c .before .before .before .pre .1 in (r .ne
 
 returns : tie.Need-returns
 returns c =
-    let a = c .before .before .before .before .before .before .before .before .before .before .before .before .args in
-    meets-on (a .latin) (a .standard) (a .s .now) (a .t .now) (a .a) (a .b)
-    (c .before .before .before .before .before .before .before .before .before .next-sign .ensures)
-    (c .before .before .before .before .before .before .before .before .next-sign2 .ensures) _ _ _ _
-    (c .before .before .before .before .before .before .u .given .1) (c .before .before .before .v .given .1)
+    let at-v = c .before .before .before in
+    let at-next-sign2 = at-v .before .before .before .before .before in
+    let a = at-next-sign2 .before .before .before .before .args in
+    meets-on (a .latin) (a .standard) (a .s .now) (a .t .now) (a .a) (a .b) (at-next-sign2 .before .next-sign .ensures)
+    (at-next-sign2 .next-sign2 .ensures) _ _ _ _ (at-v .before .before .before .u .given .1) (at-v .v .given .1)
     (sym (c .before .like .ensures) ∙ c .if1 .taken)
 
 returns-2 : tie.Need-returns-2
 returns-2 c =
-    let a = c .before .before .before .before .before .before .before .before .before .before .before .before .args in
-    meets-apart (a .latin) (a .standard) (a .s .now) (a .t .now) (a .a) (a .b)
-    (c .before .before .before .before .before .before .before .before .before .next-sign .ensures)
-    (c .before .before .before .before .before .before .before .before .next-sign2 .ensures) _ _ _ _
-    (c .before .before .before .before .before .before .u .given .1) (c .before .before .before .v .given .1)
+    let at-v = c .before .before .before in
+    let at-next-sign2 = at-v .before .before .before .before .before in
+    let a = at-next-sign2 .before .before .before .before .args in
+    meets-apart (a .latin) (a .standard) (a .s .now) (a .t .now) (a .a) (a .b) (at-next-sign2 .before .next-sign .ensures)
+    (at-next-sign2 .next-sign2 .ensures) _ _ _ _ (at-v .before .before .before .u .given .1) (at-v .v .given .1)
     (sym (c .before .like .ensures) ∙ c .if1 .left)
 
 returns-3 : tie.Need-returns-3
 returns-3 c =
-    let a = c .before .before .before .before .before .before .before .before .before .args in
+    let at-next-sign2 = c .before .before .before .before .before in
+    let a = at-next-sign2 .before .before .before .before .args in
     meets-first (a .latin) (a .standard) (a .s .now) (a .t .now) (a .a) (a .b)
-    (c .before .before .before .before .before .before .next-sign .ensures) (c .before .before .before .before .before .next-sign2 .ensures)
+    (at-next-sign2 .before .next-sign .ensures) (at-next-sign2 .next-sign2 .ensures)
     _ _ (c .before .before .before .u .given .1) (c .enum-told .given .1)
 
 returns-4 : tie.Need-returns-4

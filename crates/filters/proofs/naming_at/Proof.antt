@@ -7,10 +7,11 @@ use Rattle.filters.proofs.naming_at.Tie as tie
 
 has-served-requires : tie.Need-has-served-requires
 has-served-requires c κs =
-    let a = c .before .before .before .before .before .before .args in (
-      c .before .before .before .before .before .before .pre .0,
-      text-is (a .bad) (a .d .now) NAME 0 (a .place) (a .end) (c .before .before .before .text-at .ensures)
-          (c .before .t .given .1) .inside,
+    let at-text-at = c .before .before .before in
+    let start = at-text-at .before .before .before in
+    let a = start .args in (
+      start .pre .0,
+      text-is (a .bad) (a .d .now) NAME 0 (a .place) (a .end) (at-text-at .text-at .ensures) (c .before .t .given .1) .inside,
     )
 
 returns : tie.Need-returns

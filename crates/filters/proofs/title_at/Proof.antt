@@ -26,32 +26,30 @@ kind-at-requires c κs =
 
 use-at-requires : tie.Need-use-at-requires
 use-at-requires c κs =
-    let a = c .before .before .before .before .before .before .before .before .before .args in
-    λ k. let s = title-held (a .bad) (a .d .now) (a .old) (a .place) (a .end)
-    (c .before .before .before .before .before .before .read-title .ensures)
-    (c .before .before .before .before .held .given .1) .held .third k in (s .ends, s .within)
+    let at-held = c .before .before .before .before in
+    let a = at-held .before .before .before .before .before .args in
+    λ k. let s = title-held (a .bad) (a .d .now) (a .old) (a .place) (a .end) (at-held .before .before .read-title .ensures)
+    (at-held .held .given .1) .held .third k in (s .ends, s .within)
 
 use-wrong-requires : tie.Need-use-wrong-requires
 use-wrong-requires c κs = c .before .before .before .before .before .before .before .before .before .before .pre .1
 
 returns : tie.Need-returns
 returns c =
-    let a = c .before .before .before .before .before .before .before .before .before .before .before .before .args in
-    let s = title-held (a .bad) (a .d .now) (a .old) (a .place) (a .end)
-    (c .before .before .before .before .before .before .before .before .before .read-title .ensures)
-    (c .before .before .before .before .before .before .before .held .given .1) in
+    let at-use-at = c .before .before in
+    let at-held = at-use-at .before .before .before .before .before in
+    let at-read-title = at-held .before .before in
+    let a = at-read-title .before .before .before .args in
+    let s = title-held (a .bad) (a .d .now) (a .old) (a .place) (a .end) (at-read-title .read-title .ensures) (at-held .held .given .1) in
     rw (
       c .judge-title .ensures,
-      c .before .before .before .before .judge-ident .ensures,
-      c .before .before .before .before .before .figure-at .ensures,
-      c .before .before .before .kind-at .ensures,
-      c .before .before .use-at .ensures,
-    )
-    (title-read (a .bad) (a .d .now) (a .old) (a .seen .now) (a .rows .now) (a .count) (a .place) (a .end) _ _ _ _
-    (sym (c .before .before .before .before .before .before .before .before .before .read-title .ensures)
-    ∙ c .before .before .before .before .before .before .before .held .given .1)
-    (s .held .first .fits) (s .next) (c .before .use-wrong .result)
-    (rw (c .before .before .use-at .ensures, c .before .before .before .kind-at .ensures) at (c .before .use-wrong .ensures)))
+      at-use-at .before .before .judge-ident .ensures,
+      at-use-at .before .before .before .figure-at .ensures,
+      at-use-at .before .kind-at .ensures,
+      at-use-at .use-at .ensures,
+    ) (title-read (a .bad) (a .d .now) (a .old) (a .seen .now) (a .rows .now) (a .count) (a .place) (a .end) _ _ _ _
+    (sym (at-read-title .read-title .ensures) ∙ at-held .held .given .1) (s .held .first .fits) (s .next) (c .before .use-wrong .result)
+    (rw (at-use-at .use-at .ensures, at-use-at .before .kind-at .ensures) at (c .before .use-wrong .ensures)))
 
 returns-2 : tie.Need-returns-2
 returns-2 c =

@@ -57,14 +57,16 @@ returns-6 c = rw (
 
 returns-7 : tie.Need-returns-7
 unfolding fitsOf
-returns-7 c = rw (
-  ne-eqb _ 0 (c .before .before .before .before .before .before .before .if1 .left),
-  ne-eqb _ 1 (c .before .before .before .before .before .before .if2 .left),
-  ne-eqb _ 2 (c .before .before .before .before .before .if3 .left),
-  ne-eqb _ 3 (c .before .before .before .before .if4 .left),
-  ne-eqb _ 4 (c .before .before .before .if5 .left),
-  ne-eqb _ 5 (c .before .before .if6 .left),
-) (c .is-word .ensures)
+returns-7 c =
+    let at-if6 = c .before .before in
+    rw (
+      ne-eqb _ 0 (at-if6 .before .before .before .before .before .if1 .left),
+      ne-eqb _ 1 (at-if6 .before .before .before .before .if2 .left),
+      ne-eqb _ 2 (at-if6 .before .before .before .if3 .left),
+      ne-eqb _ 3 (at-if6 .before .before .if4 .left),
+      ne-eqb _ 4 (at-if6 .before .if5 .left),
+      ne-eqb _ 5 (at-if6 .if6 .left),
+    ) (c .is-word .ensures)
 
 pub fits-spec : {M : Type 1} → statement M
 fits-spec = tie.close (tie.spec returns (λ c κs. search needs) returns-2 (λ c κs. search needs) returns-3 (λ c κs. search needs) returns-4

@@ -7,13 +7,15 @@ use Rattle.fronts.proofs.front_at.Tie as tie
 
 returns : tie.Need-returns
 unfolding frontAt
-returns c = rw (
-  ← c .before .before .before .before .before .before .before .before .before .before .past-opening .ensures,
-  ← c .before .before .before .before .before .before .before .before .before .items-of .ensures,
-  ← c .before .before .before .before .before .before .before .past-statement .ensures,
-  ← c .before .before .before .before .before .find-statement .ensures,
-  ← c .before .before .before .before .string-span .ensures,
-) (rw (← c .before .before .before .either-place .ensures, ← c .before .past-statement2 .ensures, ← c .letter-at .ensures) refl)
+returns c =
+    let at-find-statement = c .before .before .before .before .before in
+    rw (
+      ← at-find-statement .before .before .before .before .before .past-opening .ensures,
+      ← at-find-statement .before .before .before .before .items-of .ensures,
+      ← at-find-statement .before .before .past-statement .ensures,
+      ← at-find-statement .find-statement .ensures,
+      ← c .before .before .before .before .string-span .ensures,
+    ) (rw (← c .before .before .before .either-place .ensures, ← c .before .past-statement2 .ensures, ← c .letter-at .ensures) refl)
 
 pub front-at-spec : {M : Type 1} → statement M
 front-at-spec =

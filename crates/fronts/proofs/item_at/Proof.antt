@@ -20,38 +20,44 @@ returns-2 c = rw (
 
 returns-3 : tie.Need-returns-3
 unfolding itemAt
-returns-3 c = rw (
-  ← c .before .before .before .before .before .before .before .find-statement .ensures,
-  c .before .before .before .before .before .before .if1 .left,
-  ← c .before .before .before .before .find-statement2 .ensures,
-  c .before .before .before .if2 .left,
-  ← c .before .find-statement3 .ensures,
-  c .if3 .taken,
-)
+returns-3 c =
+    let at-if2 = c .before .before .before in
+    rw (
+      ← at-if2 .before .before .before .before .find-statement .ensures,
+      at-if2 .before .before .before .if1 .left,
+      ← at-if2 .before .find-statement2 .ensures,
+      at-if2 .if2 .left,
+      ← c .before .find-statement3 .ensures,
+      c .if3 .taken,
+    )
 
 returns-4 : tie.Need-returns-4
 unfolding itemAt
-returns-4 c = rw (
-  ← c .before .before .before .before .before .before .before .before .before .before .find-statement .ensures,
-  c .before .before .before .before .before .before .before .before .before .if1 .left,
-  ← c .before .before .before .before .before .before .before .find-statement2 .ensures,
-  c .before .before .before .before .before .before .if2 .left,
-  ← c .before .before .before .before .find-statement3 .ensures,
-  c .before .before .before .if3 .left,
-) (rw (← c .before .find-statement4 .ensures, c .if4 .taken))
+returns-4 c =
+    let at-find-statement3 = c .before .before .before .before in
+    let at-if2 = at-find-statement3 .before .before in
+    rw (
+      ← at-if2 .before .before .before .before .find-statement .ensures,
+      at-if2 .before .before .before .if1 .left,
+      ← at-if2 .before .find-statement2 .ensures,
+      at-if2 .if2 .left,
+      ← at-find-statement3 .find-statement3 .ensures,
+      c .before .before .before .if3 .left,
+    ) (rw (← c .before .find-statement4 .ensures, c .if4 .taken))
 
 returns-5 : tie.Need-returns-5
 unfolding itemAt
 returns-5
-    c = rw (
-      ←
-          c .before .before .before .before .before .before .before .before .before .before .before .before .before .find-statement
-          .ensures,
-      c .before .before .before .before .before .before .before .before .before .before .before .before .if1 .left,
-      ← c .before .before .before .before .before .before .before .before .before .before .find-statement2 .ensures,
-      c .before .before .before .before .before .before .before .before .before .if2 .left,
-      ← c .before .before .before .before .before .before .before .find-statement3 .ensures,
-      c .before .before .before .before .before .before .if3 .left,
+    c =
+    let at-if3 = c .before .before .before .before .before .before in
+    let at-if2 = at-if3 .before .before .before in
+    rw (
+      ← at-if2 .before .before .before .before .find-statement .ensures,
+      at-if2 .before .before .before .if1 .left,
+      ← at-if2 .before .find-statement2 .ensures,
+      at-if2 .if2 .left,
+      ← at-if3 .before .find-statement3 .ensures,
+      at-if3 .if3 .left,
     ) (rw (
       ← c .before .before .before .before .find-statement4 .ensures,
       c .before .before .before .if4 .left,
@@ -62,15 +68,16 @@ returns-5
 returns-6 : tie.Need-returns-6
 unfolding itemAt
 returns-6
-    c = rw (
-      ←
-          c .before .before .before .before .before .before .before .before .before .before .before .before .before .find-statement
-          .ensures,
-      c .before .before .before .before .before .before .before .before .before .before .before .before .if1 .left,
-      ← c .before .before .before .before .before .before .before .before .before .before .find-statement2 .ensures,
-      c .before .before .before .before .before .before .before .before .before .if2 .left,
-      ← c .before .before .before .before .before .before .before .find-statement3 .ensures,
-      c .before .before .before .before .before .before .if3 .left,
+    c =
+    let at-if3 = c .before .before .before .before .before .before in
+    let at-if2 = at-if3 .before .before .before in
+    rw (
+      ← at-if2 .before .before .before .before .find-statement .ensures,
+      at-if2 .before .before .before .if1 .left,
+      ← at-if2 .before .find-statement2 .ensures,
+      at-if2 .if2 .left,
+      ← at-if3 .before .find-statement3 .ensures,
+      at-if3 .if3 .left,
     ) (rw (
       ← c .before .before .before .before .find-statement4 .ensures,
       c .before .before .before .if4 .left,

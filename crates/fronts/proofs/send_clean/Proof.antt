@@ -11,21 +11,23 @@ send-variables-requires c
     κs = c .before .before .before .before .before .before .before .before .before .before .before .before .before .before .pre
 
 same-length : tie.Need-same-length
-same-length c = c .before .before .send-bytes .ensures .room
-    ∙ c .before .before .before .before .before .before .before .send-variables .ensures .sent .room
-    ∙ c .before .before .before .before .before .before .before .before .before .before .before .send-tail .ensures .room
-    ∙ c .before .before .before .before .before .before .before .before .before .before .before .before .before .before .before .send-head
-    .ensures .room
+same-length c =
+    let at-send-bytes = c .before .before in
+    let at-send-variables = at-send-bytes .before .before .before .before .before in
+    let at-send-tail = at-send-variables .before .before .before .before in
+    at-send-bytes .send-bytes .ensures .room ∙ at-send-variables .send-variables .ensures .sent .room
+    ∙ at-send-tail .send-tail .ensures .room ∙ at-send-tail .before .before .before .before .send-head .ensures .room
 
 returns : tie.Need-returns
 unfolding wholeText
-returns c = rw (←
-    c .before .before .before .before .before .before .before .before .before .before .before .before .before .before .before .before
-    .before .before .before .front-at .ensures) (then
-    (c .before .before .before .before .before .before .before .before .before .before .before .before .before .before .before .send-head
-    .ensures) (then (c .before .before .before .before .before .before .before .before .before .before .before .send-tail .ensures)
-    (then (c .before .before .before .before .before .before .before .send-variables .ensures .sent)
-    (c .before .before .send-bytes .ensures))))
+returns c =
+    let at-send-bytes = c .before .before in
+    let at-send-variables = at-send-bytes .before .before .before .before .before in
+    let at-send-tail = at-send-variables .before .before .before .before in
+    let at-send-head = at-send-tail .before .before .before .before in
+    rw (← at-send-head .before .before .before .before .front-at .ensures) (then (at-send-head .send-head
+    .ensures) (then (at-send-tail .send-tail .ensures) (then (at-send-variables .send-variables .ensures .sent)
+    (at-send-bytes .send-bytes .ensures))))
 
 pub send-clean-spec : {M : Type 1} → statement M
 send-clean-spec =

@@ -7,23 +7,23 @@ use Rattle.fronts.proofs.send_tail.Statement.{statement}
 use Rattle.fronts.proofs.send_tail.Tie as tie
 
 same-length : tie.Need-same-length
-same-length c = c .before .before .send-bytes3 .ensures .room
-    ∙ c .before .before .before .before .before .before .before .send-byte .ensures .room
-    ∙ c .before .before .before .before .before .before .before .before .before .before .before .send-bytes2 .ensures .room
-    ∙ c .before .before .before .before .before .before .before .before .before .before .before .before .before .before .before .before
-    .send-perhaps .ensures .room
-    ∙ c .before .before .before .before .before .before .before .before .before .before .before .before .before .before .before .before
-    .before .before .before .before .before .send-bytes .ensures .room
+same-length c =
+    let at-send-bytes3 = c .before .before in
+    let at-send-byte = at-send-bytes3 .before .before .before .before .before in
+    let at-send-bytes2 = at-send-byte .before .before .before .before in
+    let at-send-perhaps = at-send-bytes2 .before .before .before .before .before in
+    at-send-bytes3 .send-bytes3 .ensures .room ∙ at-send-byte .send-byte .ensures .room ∙ at-send-bytes2 .send-bytes2 .ensures .room
+    ∙ at-send-perhaps .send-perhaps .ensures .room ∙ at-send-perhaps .before .before .before .before .before .send-bytes .ensures .room
 
 returns : tie.Need-returns
 unfolding tailText
-returns c = then
-    (c .before .before .before .before .before .before .before .before .before .before .before .before .before .before .before .before
-    .before .before .before .before .before .send-bytes .ensures)
-    (then (c .before .before .before .before .before .before .before .before .before .before .before .before .before .before .before .before
-    .send-perhaps .ensures)
-    (then (c .before .before .before .before .before .before .before .before .before .before .before .send-bytes2 .ensures)
-    (then (c .before .before .before .before .before .before .before .send-byte .ensures) (c .before .before .send-bytes3 .ensures))))
+returns c =
+    let at-send-bytes3 = c .before .before in
+    let at-send-byte = at-send-bytes3 .before .before .before .before .before in
+    let at-send-bytes2 = at-send-byte .before .before .before .before in
+    let at-send-perhaps = at-send-bytes2 .before .before .before .before .before in
+    then (at-send-perhaps .before .before .before .before .before .send-bytes .ensures) (then (at-send-perhaps .send-perhaps .ensures)
+    (then (at-send-bytes2 .send-bytes2 .ensures) (then (at-send-byte .send-byte .ensures) (at-send-bytes3 .send-bytes3 .ensures))))
 
 pub send-tail-spec : {M : Type 1} → statement M
 send-tail-spec =

@@ -7,16 +7,15 @@ use Rattle.heading.proofs.front_rest.Tie as tie
 returns : tie.Need-returns
 unfolding frontOf
 returns c =
+    let at-m = c .before .before .before .before .before in
     rw (
-      sym (c .before .before .before .before .before .before .before .before .before .before .word-here .ensures),
-      sym (c .before .before .before .before .before .before .before .before .before .notes-on .ensures),
-      sym (c .before .before .before .before .before .before .before .perhaps .ensures)
-          ∙ c .before .before .before .before .before .m .given .1,
+      sym (at-m .before .before .before .before .before .word-here .ensures),
+      sym (at-m .before .before .before .before .notes-on .ensures),
+      sym (at-m .before .before .perhaps .ensures) ∙ at-m .m .given .1,
       sym (c .before .before .before .string-on .ensures),
       sym (c .before .before .kept-text .ensures),
       sym (c .before .past-string .ensures),
-    )
-    (rw (sym (c .record-on .ensures)))
+    ) (rw (sym (c .record-on .ensures)))
 
 returns-2 : tie.Need-returns-2
 unfolding frontOf

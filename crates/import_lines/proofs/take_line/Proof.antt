@@ -90,18 +90,15 @@ loop-less c = let k = cut-comma
 
 loop-again : tie.Need-loop-again Inv-loop μ-loop
 loop-again c =
-    let k = cut-comma
-    ((c .before .before .before .before .before .before .before .before .before .before .before .before .before .before .before .before
-    .before .before .before .before .before .before .args) .d .now)
-    ((c .before .before .before .before .before .before .before .before .before .before .before .before .before .before .before .before
-    .next-field) .result)
-    ((c .before .before .before .before .before .before .before .before .before .before .before .before .before .before .before .before
-    .next-field) .ensures)
-    ((c .before .before .before .before .before .before .before .before .before .before .before .before .before .before .p) .given .1) in
-    let i = (c .before .before .before .before .before .before .before .before .before .before .before .before .before .before .before
-    .before .before .loop) .inv in
-    let l = (c .before .before .before .before .before .before .before .take-one) .kept .1 .1 .1 .1 .1 .1 .1 .1 in (
-      walking-more (i .0) (k .0) ((c .before .before .before .before .before .before .before .take-one) .ensures) (k .1),
+    let at-take-one = c .before .before .before .before .before .before .before in
+    let at-p = at-take-one .before .before .before .before .before .before .before in
+    let at-next-field = at-p .before .before in
+    let at-loop = at-next-field .before in
+    let k = cut-comma ((at-loop .before .before .before .before .before .args) .d .now) ((at-next-field .next-field) .result)
+    ((at-next-field .next-field) .ensures) ((at-p .p) .given .1) in
+    let i = (at-loop .loop) .inv in
+    let l = (at-take-one .take-one) .kept .1 .1 .1 .1 .1 .1 .1 .1 in (
+      walking-more (i .0) (k .0) ((at-take-one .take-one) .ensures) (k .1),
       l .0 ∙ i .1,
       l .1 .0 ∙ i .2,
       l .1 .1 .0 ∙ i .3,
@@ -164,32 +161,32 @@ line-end-requires c
     .before .before .before .before .before .before .pre) .1 .0 .0 .few
 
 same-length : tie.Need-same-length Inv-loop μ-loop
-same-length c = (c .before .before .before .before .before .before .before .before .take-one2) .kept .1 .1 .1 .1 .1 .1 .1 .1 .0
-    ∙ (c .before .before .before .before .before .before .before .before .before .before .before .before .before .before .before .before
-    .before .before .loop) .inv .1
-    ∙ sym ((c .before .before .before .before .before .before .before .before .before .before .before .before .before .before .before
-    .before .before .before .before .before .before .before .before .pre) .1 .1 .1 .0)
+same-length c =
+    let at-loop = c .before .before .before .before .before .before .before .before .before .before .before .before .before .before .before
+    .before .before .before in
+    (c .before .before .before .before .before .before .before .before .take-one2) .kept .1 .1 .1 .1 .1 .1 .1 .1 .0
+    ∙ (at-loop .loop) .inv .1 ∙ sym ((at-loop .before .before .before .before .before .pre) .1 .1 .1 .0)
 
 same-length-2 : tie.Need-same-length-2 Inv-loop μ-loop
-same-length-2 c = (c .before .before .before .before .before .before .before .before .take-one2) .kept .1 .1 .1 .1 .1 .1 .1 .1 .1 .0
-    ∙ (c .before .before .before .before .before .before .before .before .before .before .before .before .before .before .before .before
-    .before .before .loop) .inv .2
-    ∙ sym ((c .before .before .before .before .before .before .before .before .before .before .before .before .before .before .before
-    .before .before .before .before .before .before .before .before .pre) .1 .1 .1 .1)
+same-length-2 c =
+    let at-loop = c .before .before .before .before .before .before .before .before .before .before .before .before .before .before .before
+    .before .before .before in
+    (c .before .before .before .before .before .before .before .before .take-one2) .kept .1 .1 .1 .1 .1 .1 .1 .1 .1 .0
+    ∙ (at-loop .loop) .inv .2 ∙ sym ((at-loop .before .before .before .before .before .pre) .1 .1 .1 .1)
 
 same-length-3 : tie.Need-same-length-3 Inv-loop μ-loop
-same-length-3 c = (c .before .before .before .before .before .before .before .before .take-one2) .kept .1 .1 .1 .1 .1 .1 .1 .1 .1 .1 .0
-    ∙ (c .before .before .before .before .before .before .before .before .before .before .before .before .before .before .before .before
-    .before .before .loop) .inv .3
-    ∙ sym ((c .before .before .before .before .before .before .before .before .before .before .before .before .before .before .before
-    .before .before .before .before .before .before .before .before .pre) .1 .1 .1 .2)
+same-length-3 c =
+    let at-loop = c .before .before .before .before .before .before .before .before .before .before .before .before .before .before .before
+    .before .before .before in
+    (c .before .before .before .before .before .before .before .before .take-one2) .kept .1 .1 .1 .1 .1 .1 .1 .1 .1 .1 .0
+    ∙ (at-loop .loop) .inv .3 ∙ sym ((at-loop .before .before .before .before .before .pre) .1 .1 .1 .2)
 
 same-length-4 : tie.Need-same-length-4 Inv-loop μ-loop
-same-length-4 c = (c .before .before .before .before .before .before .before .before .take-one2) .kept .1 .1 .1 .1 .1 .1 .1 .1 .1 .1 .1 .0
-    ∙ (c .before .before .before .before .before .before .before .before .before .before .before .before .before .before .before .before
-    .before .before .loop) .inv .4 ∙ sym (ap length
-    ((c .before .before .before .before .before .before .before .before .before .before .before .before .before .before .before .before
-    .before .before .before .before .before .before .before .pre) .1 .1 .0 .1) ∙ length-spaces _)
+same-length-4 c =
+    let at-loop = c .before .before .before .before .before .before .before .before .before .before .before .before .before .before .before
+    .before .before .before in
+    (c .before .before .before .before .before .before .before .before .take-one2) .kept .1 .1 .1 .1 .1 .1 .1 .1 .1 .1 .1 .0
+    ∙ (at-loop .loop) .inv .4 ∙ sym (ap length ((at-loop .before .before .before .before .before .pre) .1 .1 .0 .1) ∙ length-spaces _)
 
 returns : tie.Need-returns Inv-loop μ-loop
 returns c =

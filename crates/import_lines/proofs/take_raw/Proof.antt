@@ -15,11 +15,11 @@ use Rattle.import_lines.proofs.take_raw.Statement.{statement}
 use Rattle.import_lines.proofs.take_raw.Tie as tie
 
 returns : tie.Need-returns
-returns c = took-as
-    (raw-bare
-    ((c .before .before .before .before .before .before .before .before .before .before .before .before .before .before .pre) .1 .1 .0)
-    ((c .before .before .before .before .before .before .before .before .before .if1) .taken))
-    ((c .before .before .before .before .before .take-field) .ensures)
+returns c =
+    let at-take-field = c .before .before .before .before .before in
+    let at-if1 = at-take-field .before .before .before .before in
+    took-as (raw-bare ((at-if1 .before .before .before .before .before .pre) .1 .1 .0) ((at-if1 .if1) .taken))
+    ((at-take-field .take-field) .ensures)
 
 returns-2 : tie.Need-returns-2
 returns-2 c = none-taken (long-none _ _ _ (ready-limits
@@ -51,15 +51,14 @@ returns-3 c = took-as
 
 take-field-requires-2 : tie.Need-take-field-requires-2
 take-field-requires-2 c
-    κs = (
-      (c .before .before .before .before .before .before .before .before .before .before .before .before .before .before .pre) .0,
+    κs =
+    let start = c .before .before .before .before .before .before .before .before .before .before .before .before .before .before in (
+      (start .pre) .0,
       (
-        (c .before .before .before .before .before .before .before .before .before .before .before .before .before .before .pre) .1 .0,
+        (start .pre) .1 .0,
         (
-          (c .before .before .before .before .before .before .before .before .before .before .before .before .before .before .pre) .1 .1 .1
-              .0,
-          (c .before .before .before .before .before .before .before .before .before .before .before .before .before .before .pre) .1 .1 .1
-              .1,
+          (start .pre) .1 .1 .1 .0,
+          (start .pre) .1 .1 .1 .1,
         ),
       ),
     )

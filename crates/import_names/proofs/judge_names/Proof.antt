@@ -65,10 +65,10 @@ loop-less c = let k = cut-comma ((c .before .before .before .before .before .bef
 
 loop-again : tie.Need-loop-again Inv-loop μ-loop
 loop-again c =
-    let k = cut-comma ((c .before .before .before .before .before .before .before .before .before .args) .d .now)
-    ((c .before .before .before .before .before .next-field) .result) ((c .before .before .before .before .before .next-field) .ensures)
-    ((c .before .before .before .from) .given .1) in
-    naming-more ((c .before .before .before .before .before .before .loop) .inv) (k .0) ((c .name-one) .ensures) (k .1)
+    let at-next-field = c .before .before .before .before .before in
+    let k = cut-comma ((at-next-field .before .before .before .before .args) .d .now)
+    ((at-next-field .next-field) .result) ((at-next-field .next-field) .ensures) ((c .before .before .before .from) .given .1) in
+    naming-more ((at-next-field .before .loop) .inv) (k .0) ((c .name-one) .ensures) (k .1)
 
 sub-name-one-2 : tie.Need-sub-name-one-2 Inv-loop μ-loop
 sub-name-one-2 c = let k = cut-last ((c .before .before .before .before .before .before .before .args) .d .now)
@@ -111,15 +111,15 @@ names-end-requires c κs = (c .before .before .before .before .before .before .b
 
 returns : tie.Need-returns Inv-loop μ-loop
 returns c =
-    let k = cut-last ((c .before .before .before .before .before .before .before .before .before .before .args) .d .now)
-    ((c .before .before .before .before .before .before .next-field) .result)
-    ((c .before .before .before .before .before .before .next-field) .ensures) ((c .before .before .before .before .from2) .given .1) in
+    let at-from2 = c .before .before .before .before in
+    let at-next-field = at-from2 .before .before in
+    let args = at-next-field .before .before .before .before .args in
+    let k = cut-last (args .d .now) ((at-next-field .next-field) .result)
+    ((at-next-field .next-field) .ensures) ((at-from2 .from2) .given .1) in
     rw (
       (c .names-end) .ensures,
-      names-line ((c .before .before .before .before .before .before .before .before .before .before .args) .def .now)
-          ((c .before .before .before .before .before .before .before .before .before .before .args) .t .now)
-          ((c .before .before .before .before .before .before .before .before .before .before .args) .rows),
-    ) (naming-last ((c .before .before .before .before .before .before .before .loop) .inv) (k .0) ((c .before .name-one2) .ensures))
+      names-line (args .def .now) (args .t .now) (args .rows),
+    ) (naming-last ((at-next-field .before .loop) .inv) (k .0) ((c .before .name-one2) .ensures))
 
 add-t24 : tie.Need-add-t24 Inv-loop μ-loop
 add-t24 c = omega (arith, (c .before .before .before .loop) .inv .on, (c .before .before .before .loop) .inv .within)

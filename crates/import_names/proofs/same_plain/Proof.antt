@@ -38,24 +38,27 @@ returns c =
 
 returns-2 : tie.Need-returns-2 Inv-loop μ-loop
 returns-2 c =
-    let s = part-said _ _ _ _ _ _ ((c .before .before .before .before .before .before .before .next-part) .ensures)
-    ((c .before .before .before .before .before .sign) .given .1) in
-    sym ((c .before .before .before .before .before .before .before .before .loop) .inv .0
-    ∙ name-other (s .split) _ _ ((c .before .before .before .if1) .left) ((c .before .byte-of) .ensures) ((c .if2) .taken))
+    let at-if1 = c .before .before .before in
+    let s = part-said _ _ _ _ _ _ ((at-if1 .before .before .before .before .next-part) .ensures)
+    ((at-if1 .before .before .sign) .given .1) in
+    sym ((at-if1 .before .before .before .before .before .loop) .inv .0
+    ∙ name-other (s .split) _ _ ((at-if1 .if1) .left) ((c .before .byte-of) .ensures) ((c .if2) .taken))
 
 add-i : tie.Need-add-i Inv-loop μ-loop
 add-i c = omega (arith, (c .before .before .before .before .if1) .left, (c .stride-of) .ensures .2)
 
 loop-less : tie.Need-loop-less Inv-loop μ-loop
-loop-less c = shorter (part-said _ _ _ _ _ _ ((c .before .before .before .before .before .before .before .before .next-part) .ensures)
-    ((c .before .before .before .before .before .before .sign) .given .1) .split)
+loop-less c =
+    let at-sign = c .before .before .before .before .before .before in
+    shorter (part-said _ _ _ _ _ _ ((at-sign .before .before .next-part) .ensures) ((at-sign .sign) .given .1) .split)
 
 loop-again : tie.Need-loop-again Inv-loop μ-loop
 loop-again c =
-    let s = part-said _ _ _ _ _ _ ((c .before .before .before .before .before .before .before .before .next-part) .ensures)
-    ((c .before .before .before .before .before .before .sign) .given .1) in (
-      (c .before .before .before .before .before .before .before .before .before .loop) .inv .0
-          ∙ rw ((c .stride-of) .ensures .0) (name-next (s .split) _ _ ((c .before .before .before .before .if1) .left)
+    let at-if1 = c .before .before .before .before in
+    let s = part-said _ _ _ _ _ _ ((at-if1 .before .before .before .before .next-part) .ensures)
+    ((at-if1 .before .before .sign) .given .1) in (
+      (at-if1 .before .before .before .before .before .loop) .inv .0
+          ∙ rw ((c .stride-of) .ensures .0) (name-next (s .split) _ _ ((at-if1 .if1) .left)
           ((c .before .before .byte-of) .ensures) ((c .before .if2) .left)),
       s .rests,
     )

@@ -108,66 +108,62 @@ loop-again c =
     )
 
 same-length : tie.Need-same-length Inv-loop μ-loop
-same-length c = (c .before .before .before .before .before .before .before .before .before .take-record) .kept .1 .1 .1 .1 .1 .1 .0
-    ∙ (c .before .before .before .before .before .before .before .before .before .before .before .before .before .before .before .loop) .inv
-    .4 ∙ sym ((c .before .before .before .before .before .before .before .before .before .before .before .before .before .before .before
-    .before .before .before .before .before .pre) .1 .1 .1 .1 .0)
+same-length c =
+    let at-loop = c .before .before .before .before .before .before .before .before .before .before .before .before .before .before
+    .before in
+    (c .before .before .before .before .before .before .before .before .before .take-record) .kept .1 .1 .1 .1 .1 .1 .0
+    ∙ (at-loop .loop) .inv .4 ∙ sym ((at-loop .before .before .before .before .before .pre) .1 .1 .1 .1 .0)
 
 same-length-2 : tie.Need-same-length-2 Inv-loop μ-loop
-same-length-2 c = (c .before .before .before .before .before .before .before .before .before .take-record) .kept .1 .1 .1 .1 .1 .1 .1 .0
-    ∙ (c .before .before .before .before .before .before .before .before .before .before .before .before .before .before .before .loop) .inv
-    .5 ∙ sym ((c .before .before .before .before .before .before .before .before .before .before .before .before .before .before .before
-    .before .before .before .before .before .pre) .1 .1 .1 .1 .1)
+same-length-2 c =
+    let at-loop = c .before .before .before .before .before .before .before .before .before .before .before .before .before .before
+    .before in
+    (c .before .before .before .before .before .before .before .before .before .take-record) .kept .1 .1 .1 .1 .1 .1 .1 .0
+    ∙ (at-loop .loop) .inv .5 ∙ sym ((at-loop .before .before .before .before .before .pre) .1 .1 .1 .1 .1)
 
 same-length-3 : tie.Need-same-length-3 Inv-loop μ-loop
-same-length-3 c = (c .before .before .before .before .before .before .before .before .before .take-record) .kept .1 .1 .1 .1 .1 .1 .1 .1 .0
-    ∙ (c .before .before .before .before .before .before .before .before .before .before .before .before .before .before .before .loop) .inv
-    .6 ∙ sym ((c .before .before .before .before .before .before .before .before .before .before .before .before .before .before .before
-    .before .before .before .before .before .pre) .1 .1 .1 .1 .2)
+same-length-3 c =
+    let at-loop = c .before .before .before .before .before .before .before .before .before .before .before .before .before .before
+    .before in
+    (c .before .before .before .before .before .before .before .before .before .take-record) .kept .1 .1 .1 .1 .1 .1 .1 .1 .0
+    ∙ (at-loop .loop) .inv .6 ∙ sym ((at-loop .before .before .before .before .before .pre) .1 .1 .1 .1 .2)
 
 same-length-4 : tie.Need-same-length-4 Inv-loop μ-loop
-same-length-4 c = same-len-mid
-    ((c .before .before .before .before .before .before .before .before .before .before .before .before .before .before .before .loop) .k)
-    ((c .before .before .before .before .before .before .before .before .before .before .before .before .before .before .before .loop) .k
-    + ((c .before .before .before .before .before .before .before .before .before .before .before .before .before .before .before .before
-    .before .before .before .before .args) .len + 2) -
-    (c .before .before .before .before .before .before .before .before .before .before .before .before .before .before .before .loop) .k)
-    ((c .before .before .before .before .before .before .before .before .before .before .before .before .before .before .before .loop) .out)
-    ((c .before .before .before .before .before .before .before .before .before .take-record) .last .1 .1 .1 .1 .1 .1 .1 .1 .1 .0)
-    ((c .before .before .before .before .before .before .before .before .before .take-record) .kept .1 .1 .1 .1 .1 .1 .1 .1 .1 .0)
-    ∙ (c .before .before .before .before .before .before .before .before .before .before .before .before .before .before .before .loop) .inv
-    .0 .room
+same-length-4 c =
+    let at-take-record = c .before .before .before .before .before .before .before .before .before in
+    let at-loop = at-take-record .before .before .before .before .before .before in
+    same-len-mid ((at-loop .loop) .k) ((at-loop .loop) .k + ((at-loop .before .before .before .before .before .args) .len + 2) -
+    (at-loop .loop) .k) ((at-loop .loop) .out) ((at-take-record .take-record) .last .1 .1 .1 .1 .1 .1 .1 .1 .1 .0)
+    ((at-take-record .take-record) .kept .1 .1 .1 .1 .1 .1 .1 .1 .1 .0) ∙ (at-loop .loop) .inv .0 .room
 
 same-length-5 : tie.Need-same-length-5 Inv-loop μ-loop
-same-length-5 c = (c .before .before .before .before .before .before .before .before .before .take-record) .kept .1 .1 .1 .1 .1 .1 .0
-    ∙ (c .before .before .before .before .before .before .before .before .before .before .before .before .before .before .before .loop) .inv
-    .4 ∙ sym ((c .before .before .before .before .before .before .before .before .before .before .before .before .before .before .before
-    .before .before .before .before .before .pre) .1 .1 .1 .1 .0)
+same-length-5 c =
+    let at-loop = c .before .before .before .before .before .before .before .before .before .before .before .before .before .before
+    .before in
+    (c .before .before .before .before .before .before .before .before .before .take-record) .kept .1 .1 .1 .1 .1 .1 .0
+    ∙ (at-loop .loop) .inv .4 ∙ sym ((at-loop .before .before .before .before .before .pre) .1 .1 .1 .1 .0)
 
 same-length-6 : tie.Need-same-length-6 Inv-loop μ-loop
-same-length-6 c = (c .before .before .before .before .before .before .before .before .before .take-record) .kept .1 .1 .1 .1 .1 .1 .1 .0
-    ∙ (c .before .before .before .before .before .before .before .before .before .before .before .before .before .before .before .loop) .inv
-    .5 ∙ sym ((c .before .before .before .before .before .before .before .before .before .before .before .before .before .before .before
-    .before .before .before .before .before .pre) .1 .1 .1 .1 .1)
+same-length-6 c =
+    let at-loop = c .before .before .before .before .before .before .before .before .before .before .before .before .before .before
+    .before in
+    (c .before .before .before .before .before .before .before .before .before .take-record) .kept .1 .1 .1 .1 .1 .1 .1 .0
+    ∙ (at-loop .loop) .inv .5 ∙ sym ((at-loop .before .before .before .before .before .pre) .1 .1 .1 .1 .1)
 
 same-length-7 : tie.Need-same-length-7 Inv-loop μ-loop
-same-length-7 c = (c .before .before .before .before .before .before .before .before .before .take-record) .kept .1 .1 .1 .1 .1 .1 .1 .1 .0
-    ∙ (c .before .before .before .before .before .before .before .before .before .before .before .before .before .before .before .loop) .inv
-    .6 ∙ sym ((c .before .before .before .before .before .before .before .before .before .before .before .before .before .before .before
-    .before .before .before .before .before .pre) .1 .1 .1 .1 .2)
+same-length-7 c =
+    let at-loop = c .before .before .before .before .before .before .before .before .before .before .before .before .before .before
+    .before in
+    (c .before .before .before .before .before .before .before .before .before .take-record) .kept .1 .1 .1 .1 .1 .1 .1 .1 .0
+    ∙ (at-loop .loop) .inv .6 ∙ sym ((at-loop .before .before .before .before .before .pre) .1 .1 .1 .1 .2)
 
 same-length-8 : tie.Need-same-length-8 Inv-loop μ-loop
-same-length-8 c = same-len-mid
-    ((c .before .before .before .before .before .before .before .before .before .before .before .before .before .before .before .loop) .k)
-    ((c .before .before .before .before .before .before .before .before .before .before .before .before .before .before .before .loop) .k
-    + ((c .before .before .before .before .before .before .before .before .before .before .before .before .before .before .before .before
-    .before .before .before .before .args) .len + 2) -
-    (c .before .before .before .before .before .before .before .before .before .before .before .before .before .before .before .loop) .k)
-    ((c .before .before .before .before .before .before .before .before .before .before .before .before .before .before .before .loop) .out)
-    ((c .before .before .before .before .before .before .before .before .before .take-record) .last .1 .1 .1 .1 .1 .1 .1 .1 .1 .0)
-    ((c .before .before .before .before .before .before .before .before .before .take-record) .kept .1 .1 .1 .1 .1 .1 .1 .1 .1 .0)
-    ∙ (c .before .before .before .before .before .before .before .before .before .before .before .before .before .before .before .loop) .inv
-    .0 .room
+same-length-8 c =
+    let at-take-record = c .before .before .before .before .before .before .before .before .before in
+    let at-loop = at-take-record .before .before .before .before .before .before in
+    same-len-mid ((at-loop .loop) .k) ((at-loop .loop) .k + ((at-loop .before .before .before .before .before .args) .len + 2) -
+    (at-loop .loop) .k) ((at-loop .loop) .out) ((at-take-record .take-record) .last .1 .1 .1 .1 .1 .1 .1 .1 .1 .0)
+    ((at-take-record .take-record) .kept .1 .1 .1 .1 .1 .1 .1 .1 .1 .0) ∙ (at-loop .loop) .inv .0 .room
 
 same-length-9 : tie.Need-same-length-9 Inv-loop μ-loop
 same-length-9 c = (c .before .loop) .inv .4 ∙ sym ((c .before .before .before .before .before .before .pre) .1 .1 .1 .1 .0)
@@ -182,34 +178,24 @@ same-length-12 : tie.Need-same-length-12 Inv-loop μ-loop
 same-length-12 c = (c .before .loop) .inv .0 .room
 
 returns : tie.Need-returns Inv-loop μ-loop
-returns c = not-faulty
-    ((c .before .before .before .before .before .before .before .before .before .before .before .before .before .before .before .loop) .inv
-    .0) ((c .before .before .before .before .before .before .before .before .before .before .before .before .before .before .before .before
-    .before .before .before .before .pre) .1 .1 .1 .0)
-    ((c .before .before .before .before .before .before .before .before .before .before .before .before .before .before .loop-test) .taken)
-    (ended-faulty
-    ((c .before .before .before .before .before .before .before .before .before .before .before .before .before .before .before .before
-    .before .before .before .before .args) .t .now)
-    ((c .before .before .before .before .before .before .before .before .before .before .before .before .before .before .before .before
-    .before .before .before .before .args) .d .now)
-    ((c .before .before .before .before .before .before .before .before .before .before .before .before .before .before .before .loop) .at)
-    _ ((c .before .before .before .before .before .before .before .before .before .take-record) .result)
-    ((c .before .before .before .before .before .before .before .before .before .take-record) .ensures) ((c .enum-told) .given .1))
+returns c =
+    let at-take-record = c .before .before .before .before .before .before .before .before .before in
+    let at-loop-test = at-take-record .before .before .before .before .before in
+    let at-loop = at-loop-test .before in
+    let start = at-loop .before .before .before .before .before in
+    not-faulty ((at-loop .loop) .inv .0) ((start .pre) .1 .1 .1 .0) ((at-loop-test .loop-test) .taken) (ended-faulty ((start .args) .t .now)
+    ((start .args) .d .now) ((at-loop .loop) .at) _ ((at-take-record .take-record) .result)
+    ((at-take-record .take-record) .ensures) ((c .enum-told) .given .1))
 
 returns-2 : tie.Need-returns-2 Inv-loop μ-loop
-returns-2 c = not-torn
-    ((c .before .before .before .before .before .before .before .before .before .before .before .before .before .before .before .loop) .inv
-    .0) ((c .before .before .before .before .before .before .before .before .before .before .before .before .before .before .before .before
-    .before .before .before .before .pre) .1 .1 .1 .0)
-    ((c .before .before .before .before .before .before .before .before .before .before .before .before .before .before .loop-test) .taken)
-    (ended-torn
-    ((c .before .before .before .before .before .before .before .before .before .before .before .before .before .before .before .before
-    .before .before .before .before .args) .t .now)
-    ((c .before .before .before .before .before .before .before .before .before .before .before .before .before .before .before .before
-    .before .before .before .before .args) .d .now)
-    ((c .before .before .before .before .before .before .before .before .before .before .before .before .before .before .before .loop) .at)
-    _ ((c .before .before .before .before .before .before .before .before .before .take-record) .result)
-    ((c .before .before .before .before .before .before .before .before .before .take-record) .ensures) ((c .enum-told2) .given .1))
+returns-2 c =
+    let at-take-record = c .before .before .before .before .before .before .before .before .before in
+    let at-loop-test = at-take-record .before .before .before .before .before in
+    let at-loop = at-loop-test .before in
+    let start = at-loop .before .before .before .before .before in
+    not-torn ((at-loop .loop) .inv .0) ((start .pre) .1 .1 .1 .0) ((at-loop-test .loop-test) .taken) (ended-torn ((start .args) .t .now)
+    ((start .args) .d .now) ((at-loop .loop) .at) _ ((at-take-record .take-record) .result)
+    ((at-take-record .take-record) .ensures) ((c .enum-told2) .given .1))
 
 returns-3 : tie.Need-returns-3 Inv-loop μ-loop
 returns-3 c = building-all ((c .before .loop) .inv .0) ((c .before .before .before .before .before .before .pre) .1 .1 .1 .0)

@@ -21,10 +21,12 @@ loop-holds c = let p = (c .before .before .before .before .pre) .1 .1 in (judgin
 
 take-record-requires : tie.Need-take-record-requires Inv-loop μ-loop
 take-record-requires c κs =
-    let i = (c .before .before .before .before .before .loop) .inv in (
-      (c .before .before .before .before .before .before .before .before .before .before .pre) .0,
+    let at-loop = c .before .before .before .before .before in
+    let start = at-loop .before .before .before .before .before in
+    let i = (at-loop .loop) .inv in (
+      (start .pre) .0,
       (
-        (c .before .before .before .before .before .before .before .before .before .before .pre) .1 .0,
+        (start .pre) .1 .0,
         ((i .0 .passing .within, i .4), (i .1, i .2, i .3)),
       ),
     )
@@ -58,21 +60,15 @@ loop-less c =
 
 loop-again : tie.Need-loop-again Inv-loop μ-loop
 loop-again c =
-    let i = (c .before .before .before .before .before .before .before .before .before .before .before .before .before .before .before
-    .before .loop) .inv in
-    let k = ended-good
-    ((c .before .before .before .before .before .before .before .before .before .before .before .before .before .before .before .before
-    .before .before .before .before .before .args) .t .now)
-    ((c .before .before .before .before .before .before .before .before .before .before .before .before .before .before .before .before
-    .before .before .before .before .before .args) .d .now)
-    ((c .before .before .before .before .before .before .before .before .before .before .before .before .before .before .before .before
-    .loop) .at) _ ((c .before .before .before .before .before .before .before .before .before .before .take-record) .result)
-    ((c .before .before .before .before .before .before .before .before .before .before .take-record) .ensures)
-    ((c .before .next) .given .1) in
-    let l = (c .before .before .before .before .before .before .before .before .before .before .take-record) .kept .1 .1 .1 .1 .1 .1 in (
-      judging-more (i .0)
-          ((c .before .before .before .before .before .before .before .before .before .before .before .before .before .before .before
-          .loop-test) .taken) k,
+    let at-take-record = c .before .before .before .before .before .before .before .before .before .before in
+    let at-loop-test = at-take-record .before .before .before .before .before in
+    let at-loop = at-loop-test .before in
+    let args = at-loop .before .before .before .before .before .args in
+    let i = (at-loop .loop) .inv in
+    let k = ended-good (args .t .now) (args .d .now) ((at-loop .loop) .at) _ ((at-take-record .take-record) .result)
+    ((at-take-record .take-record) .ensures) ((c .before .next) .given .1) in
+    let l = (at-take-record .take-record) .kept .1 .1 .1 .1 .1 .1 in (
+      judging-more (i .0) ((at-loop-test .loop-test) .taken) k,
       l .0 ∙ i .1,
       l .1 .0 ∙ i .2,
       l .1 .1 .0 ∙ i .3,
@@ -91,11 +87,11 @@ add-t28 c = omega (
 )
 
 same-length : tie.Need-same-length Inv-loop μ-loop
-same-length c = (c .before .before .before .before .before .before .before .before .before .before .take-record) .kept .1 .1 .1 .1 .1 .1 .0
-    ∙ (c .before .before .before .before .before .before .before .before .before .before .before .before .before .before .before .before
-    .loop) .inv .1
-    ∙ sym ((c .before .before .before .before .before .before .before .before .before .before .before .before .before .before .before
-    .before .before .before .before .before .before .pre) .1 .1 .1 .0)
+same-length c =
+    let at-loop = c .before .before .before .before .before .before .before .before .before .before .before .before .before .before .before
+    .before in
+    (c .before .before .before .before .before .before .before .before .before .before .take-record) .kept .1 .1 .1 .1 .1 .1 .0 ∙ (at-loop
+    .loop) .inv .1 ∙ sym ((at-loop .before .before .before .before .before .pre) .1 .1 .1 .0)
 
 same-length-2 : tie.Need-same-length-2 Inv-loop μ-loop
 same-length-2
@@ -122,18 +118,13 @@ same-length-4
     .before .before .before .before .before .before .pre) .1 .1 .0 .1)
 
 returns : tie.Need-returns Inv-loop μ-loop
-returns c = passing-faulty
-    ((c .before .before .before .before .before .before .before .before .before .before .before .before .before .before .before .before
-    .loop) .inv .0 .passing)
-    ((c .before .before .before .before .before .before .before .before .before .before .before .before .before .before .before .loop-test)
-    .taken) (ended-faulty
-    ((c .before .before .before .before .before .before .before .before .before .before .before .before .before .before .before .before
-    .before .before .before .before .before .args) .t .now)
-    ((c .before .before .before .before .before .before .before .before .before .before .before .before .before .before .before .before
-    .before .before .before .before .before .args) .d .now)
-    ((c .before .before .before .before .before .before .before .before .before .before .before .before .before .before .before .before
-    .loop) .at) _ ((c .before .before .before .before .before .before .before .before .before .before .take-record) .result)
-    ((c .before .before .before .before .before .before .before .before .before .before .take-record) .ensures)
+returns c =
+    let at-take-record = c .before .before .before .before .before .before .before .before .before .before in
+    let at-loop-test = at-take-record .before .before .before .before .before in
+    let at-loop = at-loop-test .before in
+    let args = at-loop .before .before .before .before .before .args in
+    passing-faulty ((at-loop .loop) .inv .0 .passing) ((at-loop-test .loop-test) .taken) (ended-faulty (args .t .now) (args .d .now)
+    ((at-loop .loop) .at) _ ((at-take-record .take-record) .result) ((at-take-record .take-record) .ensures)
     ((c .before .number) .given .1))
 
 add-t29 : tie.Need-add-t29 Inv-loop μ-loop
@@ -180,19 +171,13 @@ same-length-8
     .before .before .before .before .before .before .pre) .1 .1 .0 .1)
 
 returns-2 : tie.Need-returns-2 Inv-loop μ-loop
-returns-2 c = passing-torn
-    ((c .before .before .before .before .before .before .before .before .before .before .before .before .before .before .before .before
-    .loop) .inv .0 .passing)
-    ((c .before .before .before .before .before .before .before .before .before .before .before .before .before .before .before .loop-test)
-    .taken) (ended-torn
-    ((c .before .before .before .before .before .before .before .before .before .before .before .before .before .before .before .before
-    .before .before .before .before .before .args) .t .now)
-    ((c .before .before .before .before .before .before .before .before .before .before .before .before .before .before .before .before
-    .before .before .before .before .before .args) .d .now)
-    ((c .before .before .before .before .before .before .before .before .before .before .before .before .before .before .before .before
-    .loop) .at) _ ((c .before .before .before .before .before .before .before .before .before .before .take-record) .result)
-    ((c .before .before .before .before .before .before .before .before .before .before .take-record) .ensures)
-    ((c .before .column) .given .1))
+returns-2 c =
+    let at-take-record = c .before .before .before .before .before .before .before .before .before .before in
+    let at-loop-test = at-take-record .before .before .before .before .before in
+    let at-loop = at-loop-test .before in
+    let args = at-loop .before .before .before .before .before .args in
+    passing-torn ((at-loop .loop) .inv .0 .passing) ((at-loop-test .loop-test) .taken) (ended-torn (args .t .now) (args .d .now) ((at-loop
+    .loop) .at) _ ((at-take-record .take-record) .result) ((at-take-record .take-record) .ensures) ((c .before .column) .given .1))
 
 same-length-9 : tie.Need-same-length-9 Inv-loop μ-loop
 same-length-9 c = (c .before .loop) .inv .1 ∙ sym ((c .before .before .before .before .before .before .pre) .1 .1 .1 .0)

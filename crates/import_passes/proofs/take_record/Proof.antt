@@ -13,17 +13,15 @@ blank-requires : tie.Need-blank-requires
 blank-requires c κs = omega (arith, (c .before .before .before .before .before .pre) .1 .1 .0 .1)
 
 slice-relend-prefix-take-line : tie.Need-slice-relend-prefix-take-line
-slice-relend-prefix-take-line c = blank-long
-    ((c .before .before .before .before .before .before .before .before .before .before .before .args) .slot .now)
-    ((c .before .before .before .before .before .before .before .before .before .before .before .args) .len)
-    ((c .before .before .before .before .before .before .before .before .before .before .before .pre) .1 .1 .0 .1)
+slice-relend-prefix-take-line c =
+    let start = c .before .before .before .before .before .before .before .before .before .before .before in
+    blank-long ((start .args) .slot .now) ((start .args) .len) ((start .pre) .1 .1 .0 .1)
     ((c .before .before .before .before .before .blank) .ensures)
 
 slice-aggregate-take-line : tie.Need-slice-aggregate-take-line
-slice-aggregate-take-line c = sym (length-take-le _ _
-    (blank-long ((c .before .before .before .before .before .before .before .before .before .before .before .before .args) .slot .now)
-    ((c .before .before .before .before .before .before .before .before .before .before .before .before .args) .len)
-    ((c .before .before .before .before .before .before .before .before .before .before .before .before .pre) .1 .1 .0 .1)
+slice-aggregate-take-line c =
+    let start = c .before .before .before .before .before .before .before .before .before .before .before .before in
+    sym (length-take-le _ _ (blank-long ((start .args) .slot .now) ((start .args) .len) ((start .pre) .1 .1 .0 .1)
     ((c .before .before .before .before .before .before .blank) .ensures)))
 
 take-line-requires : tie.Need-take-line-requires
@@ -56,81 +54,35 @@ add-slot c = omega (
 )
 
 slice-write-slot-2 : tie.Need-slice-write-slot-2
-slice-write-slot-2 c = end-inside
-    ((c .before .before .before .before .before .before .before .take-line) .last .1 .1 .1 .1 .1 .1 .1 .1 .1 .0)
-    (drop ((c .before .before .before .before .before .before .before .before .before .before .before .before .before .before .before
-    .before .before .before .before .before .args) .len)
-    ((c .before .before .before .before .before .before .before .before .before .before .before .before .before .before .blank) .last .0)) _
-    ((c .before .before .before .before .before .before .before .take-line) .kept .1 .1 .1 .1 .1 .1 .1 .1 .1 .0
-    ∙ blank-size
-    ((c .before .before .before .before .before .before .before .before .before .before .before .before .before .before .before .before
-    .before .before .before .before .args) .slot .now)
-    ((c .before .before .before .before .before .before .before .before .before .before .before .before .before .before .before .before
-    .before .before .before .before .args) .len)
-    ((c .before .before .before .before .before .before .before .before .before .before .before .before .before .before .before .before
-    .before .before .before .before .pre) .1 .1 .0 .1)
-    ((c .before .before .before .before .before .before .before .before .before .before .before .before .before .before .blank) .ensures))
-    (behind-two
-    ((c .before .before .before .before .before .before .before .before .before .before .before .before .before .before .before .before
-    .before .before .before .before .args) .slot .now)
-    ((c .before .before .before .before .before .before .before .before .before .before .before .before .before .before .before .before
-    .before .before .before .before .args) .len)
-    ((c .before .before .before .before .before .before .before .before .before .before .before .before .before .before .before .before
-    .before .before .before .before .pre) .1 .1 .0 .1)
-    ((c .before .before .before .before .before .before .before .before .before .before .before .before .before .before .blank) .ensures))
+slice-write-slot-2 c =
+    let at-take-line = c .before .before .before .before .before .before .before in
+    let at-blank = at-take-line .before .before .before .before .before .before .before in
+    let start = at-blank .before .before .before .before .before .before in
+    end-inside ((at-take-line .take-line) .last .1 .1 .1 .1 .1 .1 .1 .1 .1 .0) (drop ((start .args) .len) ((at-blank .blank) .last .0)) _
+    ((at-take-line .take-line) .kept .1 .1 .1 .1 .1 .1 .1 .1 .1 .0 ∙ blank-size ((start .args) .slot .now) ((start .args) .len)
+    ((start .pre) .1 .1 .0 .1) ((at-blank .blank) .ensures)) (behind-two ((start .args) .slot .now) ((start .args) .len)
+    ((start .pre) .1 .1 .0 .1) ((at-blank .blank) .ensures))
 
 same-length-4 : tie.Need-same-length-4
-same-length-4 c = end-size ((c .before .before .before .before .before .before .before .take-line) .last .1 .1 .1 .1 .1 .1 .1 .1 .1 .0)
-    (drop ((c .before .before .before .before .before .before .before .before .before .before .before .before .before .before .before
-    .before .before .before .before .before .args) .len)
-    ((c .before .before .before .before .before .before .before .before .before .before .before .before .before .before .blank) .last .0))
-    ((c .before .before .before .before .before .before .before .before .before .before .before .before .before .before .before .before
-    .before .before .before .before .args) .slot .now) _
-    ((c .before .before .before .before .before .before .before .take-line) .kept .1 .1 .1 .1 .1 .1 .1 .1 .1 .0
-    ∙ blank-size
-    ((c .before .before .before .before .before .before .before .before .before .before .before .before .before .before .before .before
-    .before .before .before .before .args) .slot .now)
-    ((c .before .before .before .before .before .before .before .before .before .before .before .before .before .before .before .before
-    .before .before .before .before .args) .len)
-    ((c .before .before .before .before .before .before .before .before .before .before .before .before .before .before .before .before
-    .before .before .before .before .pre) .1 .1 .0 .1)
-    ((c .before .before .before .before .before .before .before .before .before .before .before .before .before .before .blank) .ensures))
-    (behind-two
-    ((c .before .before .before .before .before .before .before .before .before .before .before .before .before .before .before .before
-    .before .before .before .before .args) .slot .now)
-    ((c .before .before .before .before .before .before .before .before .before .before .before .before .before .before .before .before
-    .before .before .before .before .args) .len)
-    ((c .before .before .before .before .before .before .before .before .before .before .before .before .before .before .before .before
-    .before .before .before .before .pre) .1 .1 .0 .1)
-    ((c .before .before .before .before .before .before .before .before .before .before .before .before .before .before .blank) .ensures))
-    ((c .before .before .before .before .before .before .before .before .before .before .before .before .before .before .before .before
-    .before .before .before .before .pre) .1 .1 .0 .1)
+same-length-4 c =
+    let at-take-line = c .before .before .before .before .before .before .before in
+    let at-blank = at-take-line .before .before .before .before .before .before .before in
+    let start = at-blank .before .before .before .before .before .before in
+    end-size ((at-take-line .take-line) .last .1 .1 .1 .1 .1 .1 .1 .1 .1 .0) (drop ((start .args) .len) ((at-blank .blank) .last .0))
+    ((start .args) .slot .now) _ ((at-take-line .take-line) .kept .1 .1 .1 .1 .1 .1 .1 .1 .1 .0 ∙ blank-size ((start .args) .slot .now)
+    ((start .args) .len) ((start .pre) .1 .1 .0 .1) ((at-blank .blank) .ensures)) (behind-two ((start .args) .slot .now)
+    ((start .args) .len) ((start .pre) .1 .1 .0 .1) ((at-blank .blank) .ensures)) ((start .pre) .1 .1 .0 .1)
 
 returns : tie.Need-returns
-returns c = line-ended _ _ _ ((c .before .before .before .before .before .before .before .take-line) .last .1 .1 .1 .1 .1 .1 .1 .1 .1 .0)
-    ((c .before .before .before .before .before .before .before .take-line) .result)
-    ((c .before .before .before .before .before .before .before .take-line) .ensures)
-    (ended-by ((c .before .before .before .before .before .before .before .take-line) .last .1 .1 .1 .1 .1 .1 .1 .1 .1 .0)
-    (drop ((c .before .before .before .before .before .before .before .before .before .before .before .before .before .before .before
-    .before .before .before .before .before .args) .len)
-    ((c .before .before .before .before .before .before .before .before .before .before .before .before .before .before .blank) .last .0)) _
-    ((c .before .before .before .before .before .before .before .take-line) .kept .1 .1 .1 .1 .1 .1 .1 .1 .1 .0
-    ∙ blank-size
-    ((c .before .before .before .before .before .before .before .before .before .before .before .before .before .before .before .before
-    .before .before .before .before .args) .slot .now)
-    ((c .before .before .before .before .before .before .before .before .before .before .before .before .before .before .before .before
-    .before .before .before .before .args) .len)
-    ((c .before .before .before .before .before .before .before .before .before .before .before .before .before .before .before .before
-    .before .before .before .before .pre) .1 .1 .0 .1)
-    ((c .before .before .before .before .before .before .before .before .before .before .before .before .before .before .blank) .ensures))
-    (behind-two
-    ((c .before .before .before .before .before .before .before .before .before .before .before .before .before .before .before .before
-    .before .before .before .before .args) .slot .now)
-    ((c .before .before .before .before .before .before .before .before .before .before .before .before .before .before .before .before
-    .before .before .before .before .args) .len)
-    ((c .before .before .before .before .before .before .before .before .before .before .before .before .before .before .before .before
-    .before .before .before .before .pre) .1 .1 .0 .1)
-    ((c .before .before .before .before .before .before .before .before .before .before .before .before .before .before .blank) .ensures)))
+returns c =
+    let at-take-line = c .before .before .before .before .before .before .before in
+    let at-blank = at-take-line .before .before .before .before .before .before .before in
+    let start = at-blank .before .before .before .before .before .before in
+    line-ended _ _ _ ((at-take-line .take-line) .last .1 .1 .1 .1 .1 .1 .1 .1 .1 .0) ((at-take-line .take-line) .result)
+    ((at-take-line .take-line) .ensures) (ended-by ((at-take-line .take-line) .last .1 .1 .1 .1 .1 .1 .1 .1 .1 .0)
+    (drop ((start .args) .len) ((at-blank .blank) .last .0)) _ ((at-take-line .take-line) .kept .1 .1 .1 .1 .1 .1 .1 .1 .1 .0 ∙ blank-size
+    ((start .args) .slot .now) ((start .args) .len) ((start .pre) .1 .1 .0 .1) ((at-blank .blank) .ensures)) (behind-two
+    ((start .args) .slot .now) ((start .args) .len) ((start .pre) .1 .1 .0 .1) ((at-blank .blank) .ensures)))
 
 pub take-record-spec : {M : Type 1} → statement M
 take-record-spec =

@@ -19,22 +19,22 @@ returns c =
 read-rooms-requires : tie.Need-read-rooms-requires
 unfolding zeros
 read-rooms-requires c κs =
-    let x = c .before .before .before .before .before .before .before .before .before .is-xml .ensures in (
-      c .before .before .before .before .before .before .before .classes .ensures,
+    let at-powers = c .before .before .before .before .before .before in
+    let x = at-powers .before .before .before .is-xml .ensures in (
+      at-powers .before .classes .ensures,
       (
-        c .before .before .before .before .before .before .powers .ensures,
-        ((c .before .before .before .before .before .before .before .before .before .before .if1 .left, x), ((refl, refl, refl), refl)),
+        at-powers .powers .ensures,
+        ((at-powers .before .before .before .before .if1 .left, x), ((refl, refl, refl), refl)),
       ),
     )
 
 compare-requires : tie.Need-compare-requires
 compare-requires c κs =
-    let k = c .before .before .before .before .before .before .before .before .before .read-rooms .kept in (
-      rw (c .before .before .before .before .before .before .before .before .before .before .before .before .before .before .before .before
-          .before .before .mark-of .ensures) (mark-low _),
+    let at-read-rooms = c .before .before .before .before .before .before .before .before .before in
+    let k = at-read-rooms .read-rooms .kept in (
+      rw (at-read-rooms .before .before .before .before .before .before .before .before .before .mark-of .ensures) (mark-low _),
       (
-        c .before .before .before .before .before .before .before .before .before .read-rooms .ensures .stands
-            (c .before .before .before .y .given .1) .few,
+        at-read-rooms .read-rooms .ensures .stands (c .before .before .before .y .given .1) .few,
         (k .1 .1 .1 .1 .0, k .1 .1 .1 .1 .1 .0),
       ),
     )
@@ -42,13 +42,12 @@ compare-requires c κs =
 returns-2 : tie.Need-returns-2
 unfolding againstOf
 returns-2 c =
-    let t = c .before .before .before .before .before .before .before .before .before .before .before .before .before .before .before
-    .before .before .before .before .before .before .before .before .args .t .now in
-    let k = c .before .before .before .before .before .before .before .before .before .before .read-rooms .kept in
-    let s = c .before .before .before .before .before .before .before .before .before .before .read-rooms .ensures .stands
-    (c .before .before .before .before .y .given .1) in
-    let m = c .before .before .before .before .before .before .before .before .before .before .before .before .before .before .before
-    .before .before .before .before .mark-of .ensures in
+    let at-read-rooms = c .before .before .before .before .before .before .before .before .before .before in
+    let at-mark-of = at-read-rooms .before .before .before .before .before .before .before .before .before in
+    let t = at-mark-of .before .before .before .before .args .t .now in
+    let k = at-read-rooms .read-rooms .kept in
+    let s = at-read-rooms .read-rooms .ensures .stands (c .before .before .before .before .y .given .1) in
+    let m = at-mark-of .mark-of .ensures in
     c .compare .ensures ∙ rw m (held-says _ _ _ _ _ s (k .1 .1 .1 .1 .0) (k .1 .1 .1 .1 .1 .0) t)
 
 returns-3 : tie.Need-returns-3

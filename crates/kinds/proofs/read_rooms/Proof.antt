@@ -12,12 +12,13 @@ read-in-requires c κs =
 
 returns : tie.Need-returns
 returns c =
-    let a = c .before .before .before .before .before .before .before .before .before .before .before .before .before .before .before
-    .args in
-    let p = c .before .before .before .before .before .before .before .before .before .before .before .before .before .before .before
-    .pre in
-    let t = c .before .before .before .before .before .before .before .before .before .before .before .if1 .taken in
-    xml-ready (a .d .now) _ _ (a .xml) _ t (sym (p .1 .1 .0 .1) ∙ t) (c .before .before .before .before .before .before .read-in .ensures)
+    let at-read-in = c .before .before .before .before .before .before in
+    let at-if1 = at-read-in .before .before .before .before .before in
+    let start = at-if1 .before .before .before .before in
+    let a = start .args in
+    let p = start .pre in
+    let t = at-if1 .if1 .taken in
+    xml-ready (a .d .now) _ _ (a .xml) _ t (sym (p .1 .1 .0 .1) ∙ t) (at-read-in .read-in .ensures)
 
 -- 1.1
 read-in-requires-2 : tie.Need-read-in-requires-2
@@ -27,13 +28,13 @@ read-in-requires-2 c κs =
 
 returns-2 : tie.Need-returns-2
 returns-2 c =
-    let a = c .before .before .before .before .before .before .before .before .before .before .before .before .before .before .before
-    .args in
-    let p = c .before .before .before .before .before .before .before .before .before .before .before .before .before .before .before
-    .pre in
-    let t = c .before .before .before .before .before .before .before .before .before .before .before .if1 .left in
-    plain-ready (a .d .now) (p .1 .1 .0 .0) (sym (p .1 .1 .0 .1) ∙ t) _ _ (a .xml) _ t
-    (c .before .before .before .before .before .before .read-in2 .ensures)
+    let at-read-in2 = c .before .before .before .before .before .before in
+    let at-if1 = at-read-in2 .before .before .before .before .before in
+    let start = at-if1 .before .before .before .before in
+    let a = start .args in
+    let p = start .pre in
+    let t = at-if1 .if1 .left in
+    plain-ready (a .d .now) (p .1 .1 .0 .0) (sym (p .1 .1 .0 .1) ∙ t) _ _ (a .xml) _ t (at-read-in2 .read-in2 .ensures)
 
 pub read-rooms-spec : {M : Type 1} → statement M
 read-rooms-spec =

@@ -23,9 +23,10 @@ slice-aggregate-paste : tie.Need-slice-aggregate-paste
 slice-aggregate-paste c = sym (length-take-le _ (c .before .before .before .before .before .before .before .args .rows .now) (omega arith))
 
 paste-requires : tie.Need-paste-requires
-paste-requires c κs = rw (length-take-le (rowSize * c .before .before .before .before .before .before .before .args .y .rows)
-    (c .before .before .before .before .before .before .before .args .rows .now) (omega arith))
-    (omega (arith, c .before .before .before .before .put-header .kept))
+paste-requires c κs =
+    let at-put-header = c .before .before .before .before in
+    let args = at-put-header .before .before .before .args in
+    rw (length-take-le (rowSize * args .y .rows) (args .rows .now) (omega arith)) (omega (arith, at-put-header .put-header .kept))
 
 base-requires : tie.Need-base-requires
 base-requires c κs = search needs
@@ -39,33 +40,32 @@ slice-aggregate-paste-2 c = sym (length-take-le _
     (omega arith))
 
 paste-requires-2 : tie.Need-paste-requires-2
-paste-requires-2 c κs = rw (
-  length-take-le (lineSize *
-      c .before .before .before .before .before .before .before .before .before .before .before .before .before .args .y .lines)
-      (c .before .before .before .before .before .before .before .before .before .before .before .before .before .args .lines .now)
-      (omega arith),
-  c .before .before .base .ensures,
-) (omega (
-  arith,
-  c .before .before .before .before .before .before .before .before .before .before .put-header .kept,
-  c .before .before .before .before .before .paste .kept,
-))
+paste-requires-2 c κs =
+    let args = c .before .before .before .before .before .before .before .before .before .before .before .before .before .args in
+    rw (
+      length-take-le (lineSize * args .y .lines) (args .lines .now) (omega arith),
+      c .before .before .base .ensures,
+    ) (omega (
+      arith,
+      c .before .before .before .before .before .before .before .before .before .before .put-header .kept,
+      c .before .before .before .before .before .paste .kept,
+    ))
 
 same-length : tie.Need-same-length
 same-length c = search needs
 
 returns : tie.Need-returns
 returns c =
-    let a = c .before .before .before .before .before .before .before .before .before .before .before .before .before .before .before
-    .args in
-    c .before .paste2 .ensures
-    ∙ rw (
-      c .before .before .before .before .before .before .before .paste .ensures,
-      c .before .before .before .before .before .before .before .before .before .before .before .before .put-header .ensures,
-      c .before .before .before .before .base .ensures,
-      c .before .before .before .before .before .before .before .before .before .before .before .before .before .header-by .ensures,
-    )
-    (laid-over (a .mark) (a .y) (a .rows .now) (a .lines .now) (omega arith) (a .table .now) (omega arith))
+    let at-base = c .before .before .before .before in
+    let at-paste = at-base .before .before .before in
+    let at-put-header = at-paste .before .before .before .before .before in
+    let a = at-put-header .before .before .before .args in
+    c .before .paste2 .ensures ∙ rw (
+      at-paste .paste .ensures,
+      at-put-header .put-header .ensures,
+      at-base .base .ensures,
+      at-put-header .before .header-by .ensures,
+    ) (laid-over (a .mark) (a .y) (a .rows .now) (a .lines .now) (omega arith) (a .table .now) (omega arith))
 
 pub lay-spec : {M : Type 1} → statement M
 lay-spec =

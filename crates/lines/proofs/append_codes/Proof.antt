@@ -24,33 +24,37 @@ append-number-requires c κs =
 
 append-others-requires : tie.Need-append-others-requires
 append-others-requires c κs =
-    let s = c .before .before .before .before .before .before .before .before .pre in
+    let at-number = c .before .before .before .before in
+    let at-if1 = at-number .before .before in
+    let start = at-if1 .before .before in
+    let s = start .pre in
     let b = c .before .before .before .append-number .ensures in
-    let e = toZ-ofZ (sfits-of (c .before .before .before .before .number .ok)) ∙ c .before .before .before .before .number .ensures in
-    let h : 0 < c .before .before .before .before .before .before .before .before .args .n = omega
-    (arith, c .before .before .before .before .before .before .if1 .left) in
+    let e = toZ-ofZ (sfits-of (at-number .number .ok)) ∙ at-number .number .ensures in
+    let h : 0 < start .args .n = omega (arith, at-if1 .if1 .left) in
     let k = code-ends (s .1 .0) h e b in (
       s .0,
       (
         s .1 .0,
-        omega (arith, c .before .before .before .before .before .before .if1 .left),
+        omega (arith, at-if1 .if1 .left),
         omega (arith, s .1 .1, b .ends, keeps-room b),
       ),
     )
 
 returns-2 : tie.Need-returns-2
 returns-2 c =
-    let s = c .before .before .before .before .before .before .before .before .before .before .before .pre in
-    let a = c .before .before .before .before .before .before .before .before .before .before .before .args in
-    let b = c .before .before .before .before .before .before .append-number .ensures in
-    let o = c .before .before .append-others .ensures in
-    let e = toZ-ofZ (sfits-of (c .before .before .before .before .before .before .before .number .ok))
-    ∙ c .before .before .before .before .before .before .before .number .ensures in
-    let h : 0 < a .n = omega (arith, c .before .before .before .before .before .before .before .before .before .if1 .left) in
+    let at-append-others = c .before .before in
+    let at-number = at-append-others .before .before .before .before .before in
+    let at-if1 = at-number .before .before in
+    let start = at-if1 .before .before in
+    let s = start .pre in
+    let a = start .args in
+    let b = at-append-others .before .before .before .before .append-number .ensures in
+    let o = at-append-others .append-others .ensures in
+    let e = toZ-ofZ (sfits-of (at-number .number .ok)) ∙ at-number .number .ensures in
+    let h : 0 < a .n = omega (arith, at-if1 .if1 .left) in
     let k = code-ends (s .1 .0) h e b in (
-      as-text (then (as-text b (ap numberText e)) (o .0))
-          (sym (codes-first (a .list .now) (a .n)
-          (omega (arith, c .before .before .before .before .before .before .before .before .before .if1 .left)) (s .1 .0 .many))),
+      as-text (then (as-text b (ap numberText e)) (o .0)) (sym (codes-first (a .list .now) (a .n)
+          (omega (arith, at-if1 .if1 .left)) (s .1 .0 .many))),
       omega (arith, o .1, b .ends),
     )
 

@@ -22,16 +22,17 @@ add-result c =
 
 returns : tie.Need-returns
 returns c =
-    let a = c .before .before .before .before .before .before .args in
-    let room : a .at + c .before .before .before .before .digit-count .result ≤ length (a .out .now) =
+    let at-digit-count = c .before .before .before .before in
+    let start = at-digit-count .before .before in
+    let a = start .args in
+    let room : a .at + at-digit-count .digit-count .result ≤ length (a .out .now) =
     omega (
       arith,
       digits-few (a .n),
-      c .before .before .before .before .digit-count .ensures,
-      c .before .before .before .before .before .before .pre .1 .1,
+      at-digit-count .digit-count .ensures,
+      start .pre .1 .1,
     ) in
-    count-laid (a .out .now) (a .at) (a .n) _ room (c .before .before .before .before .digit-count .ensures)
-    (c .before .before .put-digits .ensures)
+    count-laid (a .out .now) (a .at) (a .n) _ room (at-digit-count .digit-count .ensures) (c .before .before .put-digits .ensures)
 
 pub append-count-spec : {M : Type 1} → statement M
 append-count-spec = tie.close (tie.spec (λ c κs. search needs) put-digits-requires add-result (λ c. search needs) returns)

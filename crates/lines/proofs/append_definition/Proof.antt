@@ -12,27 +12,32 @@ append-count-requires c κs = let s = c .before .before .before .before .before 
 
 append-spaced-requires : tie.Need-append-spaced-requires
 append-spaced-requires c κs =
-    let s = c .before .before .before .before .before .before .before .before .before .before .before .pre in
-    let r = room-after (c .before .before .before .before .before .before .before .append-text .ensures) 11 50053 (omega arith) (s .1 .2) in
-    let q = room-count _ (c .before .before .before .append-count .ensures) 50037 r in
+    let at-append-count = c .before .before .before in
+    let at-append-text = at-append-count .before .before .before .before in
+    let s = at-append-text .before .before .before .before .pre in
+    let r = room-after (at-append-text .append-text .ensures) 11 50053 (omega arith) (s .1 .2) in
+    let q = room-count _ (at-append-count .append-count .ensures) 50037 r in
     (s .0, (s .1 .1, omega arith))
 
 append-byte-requires : tie.Need-append-byte-requires
 append-byte-requires c κs =
-    let r = room-after (c .before .before .before .before .before .before .before .before .before .before .before .append-text .ensures) 11
-    50053 (omega arith)
-    (c .before .before .before .before .before .before .before .before .before .before .before .before .before .before .before .pre .1
+    let at-append-spaced = c .before .before .before in
+    let at-append-count = at-append-spaced .before .before .before .before in
+    let at-append-text = at-append-count .before .before .before .before in
+    let r = room-after (at-append-text .append-text .ensures) 11 50053 (omega arith) (at-append-text .before .before .before .before .pre .1
     .2) in
-    let q = room-count _ (c .before .before .before .before .before .before .before .append-count .ensures) 50037 r in
-    let p = room-spaced _ (c .before .before .before .append-spaced .ensures) 50020 q in
+    let q = room-count _ (at-append-count .append-count .ensures) 50037 r in
+    let p = room-spaced _ (at-append-spaced .append-spaced .ensures) 50020 q in
     omega arith
 
 returns : tie.Need-returns
 unfolding definitionText
-returns c = then
-    (c .before .before .before .before .before .before .before .before .before .before .before .before .before .before .append-text
-    .ensures) (then (c .before .before .before .before .before .before .before .before .before .before .append-count .ensures)
-    (then (c .before .before .before .before .before .before .append-spaced .ensures) (c .before .before .append-byte .ensures)))
+returns c =
+    let at-append-byte = c .before .before in
+    let at-append-spaced = at-append-byte .before .before .before .before in
+    let at-append-count = at-append-spaced .before .before .before .before in
+    then (at-append-count .before .before .before .before .append-text .ensures) (then (at-append-count .append-count .ensures)
+    (then (at-append-spaced .append-spaced .ensures) (at-append-byte .append-byte .ensures)))
 
 pub append-definition-spec : {M : Type 1} → statement M
 append-definition-spec =

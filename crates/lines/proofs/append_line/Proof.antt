@@ -14,27 +14,32 @@ append-spaced-requires c κs =
 
 append-value-requires : tie.Need-append-value-requires
 append-value-requires c κs =
-    let s = c .before .before .before .before .before .before .before .before .before .before .before .pre in
-    let r = room-count _ (c .before .before .before .before .before .before .before .append-count .ensures) 50048 (s .1 .1 .1) in
-    let q = room-spaced _ (c .before .before .before .append-spaced .ensures) 50031 r in
+    let at-append-spaced = c .before .before .before in
+    let at-append-count = at-append-spaced .before .before .before .before in
+    let s = at-append-count .before .before .before .before .pre in
+    let r = room-count _ (at-append-count .append-count .ensures) 50048 (s .1 .1 .1) in
+    let q = room-spaced _ (at-append-spaced .append-spaced .ensures) 50031 r in
     (s .0, (s .1 .1 .0, omega arith))
 
 append-byte-requires : tie.Need-append-byte-requires
 append-byte-requires c κs =
-    let s = c .before .before .before .before .before .before .before .before .before .before .before .before .before .before .before
-    .pre in
-    let r = room-count _ (c .before .before .before .before .before .before .before .before .before .before .before .append-count .ensures)
-    50048 (s .1 .1 .1) in
-    let q = room-spaced _ (c .before .before .before .before .before .before .before .append-spaced .ensures) 50031 r in
-    let v = c .before .before .before .append-value .ensures in
+    let at-append-value = c .before .before .before in
+    let at-append-spaced = at-append-value .before .before .before .before in
+    let at-append-count = at-append-spaced .before .before .before .before in
+    let s = at-append-count .before .before .before .before .pre in
+    let r = room-count _ (at-append-count .append-count .ensures) 50048 (s .1 .1 .1) in
+    let q = room-spaced _ (at-append-spaced .append-spaced .ensures) 50031 r in
+    let v = at-append-value .append-value .ensures in
     omega (arith, q, v .1, keeps-room (v .0))
 
 returns : tie.Need-returns
 unfolding lineText
-returns c = then
-    (c .before .before .before .before .before .before .before .before .before .before .before .before .before .before .append-count
-    .ensures) (then (c .before .before .before .before .before .before .before .before .before .before .append-spaced .ensures)
-    (then (c .before .before .before .before .before .before .append-value .ensures .0) (c .before .before .append-byte .ensures)))
+returns c =
+    let at-append-byte = c .before .before in
+    let at-append-value = at-append-byte .before .before .before .before in
+    let at-append-spaced = at-append-value .before .before .before .before in
+    then (at-append-spaced .before .before .before .before .append-count .ensures) (then (at-append-spaced .append-spaced .ensures)
+    (then (at-append-value .append-value .ensures .0) (at-append-byte .append-byte .ensures)))
 
 pub append-line-spec : {M : Type 1} → statement M
 append-line-spec =

@@ -14,20 +14,22 @@ split c = c .signed-of .ensures ∙ ap signedOf (toZ-ofZ (c .before .before .fit
 
 append-count-requires : tie.Need-append-count-requires
 append-count-requires c κs =
-    let s = c .before .before .before .before .before .before .before .before in
-    let b = c .before .before .before .append-byte .ensures in (
+    let at-append-byte = c .before .before .before in
+    let s = at-append-byte .before .before .before .before .before in
+    let b = at-append-byte .append-byte .ensures in (
       s .pre .0,
       (
-        rw (split (c .before .before .before .before .before .before)) (s .pre .1 .0),
+        rw (split (at-append-byte .before .before .before)) (s .pre .1 .0),
         omega (arith, s .pre .1 .1, keeps-room b, b .ends),
       ),
     )
 
 returns : tie.Need-returns
-returns c = as-text (then (c .before .before .before .before .before .before .append-byte .ensures)
-    (c .before .before .append-count .ensures)) (number-minus _ _
-    (split (c .before .before .before .before .before .before .before .before .before))
-    (c .before .before .before .before .before .before .before .before .if1 .taken))
+returns c =
+    let at-append-count = c .before .before in
+    let at-append-byte = at-append-count .before .before .before .before in
+    as-text (then (at-append-byte .append-byte .ensures) (at-append-count .append-count .ensures)) (number-minus _ _
+    (split (at-append-byte .before .before .before)) (at-append-byte .before .before .if1 .taken))
 
 append-count-requires-2 : tie.Need-append-count-requires-2
 append-count-requires-2 c κs =

@@ -12,15 +12,20 @@ append-count-requires c κs = let s = c .before .before .before .before .before 
 
 append-byte-requires : tie.Need-append-byte-requires
 append-byte-requires c κs =
-    let r = room-after (c .before .before .before .before .before .before .before .append-text .ensures) 3 50061 (omega arith)
-    (c .before .before .before .before .before .before .before .before .before .before .before .pre .1 .1) in
-    let q = room-count _ (c .before .before .before .append-count .ensures) 50045 r in
+    let at-append-count = c .before .before .before in
+    let at-append-text = at-append-count .before .before .before .before in
+    let r = room-after (at-append-text .append-text .ensures) 3 50061 (omega arith)
+    (at-append-text .before .before .before .before .pre .1 .1) in
+    let q = room-count _ (at-append-count .append-count .ensures) 50045 r in
     omega arith
 
 returns : tie.Need-returns
 unfolding okText
-returns c = then (c .before .before .before .before .before .before .before .before .before .before .append-text .ensures)
-    (then (c .before .before .before .before .before .before .append-count .ensures) (c .before .before .append-byte .ensures))
+returns c =
+    let at-append-byte = c .before .before in
+    let at-append-count = at-append-byte .before .before .before .before in
+    then (at-append-count .before .before .before .before .append-text .ensures)
+    (then (at-append-count .append-count .ensures) (at-append-byte .append-byte .ensures))
 
 pub append-ok-spec : {M : Type 1} → statement M
 append-ok-spec =

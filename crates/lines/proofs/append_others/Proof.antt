@@ -33,11 +33,13 @@ append-byte-requires c κs = let l = c .before .before .loop .inv in
 
 append-number-requires : tie.Need-append-number-requires Inv-loop μ-loop
 append-number-requires c κs =
-    let s = c .before .before .before .before .before .before .before .before .before .pre in
-    let l = c .before .before .before .before .before .before .before .loop .inv in
-    let b = c .before .before .before .before .append-byte .ensures in
-    let t = c .before .before .before .before .before .before .loop-test .taken in
-    let f = s .1 .0 .few (c .before .before .before .before .before .before .before .loop .j) t in (
+    let at-append-byte = c .before .before .before .before in
+    let at-loop = at-append-byte .before .before .before in
+    let s = at-loop .before .before .pre in
+    let l = at-loop .loop .inv in
+    let b = at-append-byte .append-byte .ensures in
+    let t = at-append-byte .before .before .loop-test .taken in
+    let f = s .1 .0 .few (at-loop .loop .j) t in (
       s .0,
       (
         rw (toZ-ofZ (sfits-of (c .number .ok)), c .number .ensures) (omega arith),
@@ -47,12 +49,14 @@ append-number-requires c κs =
 
 loop-again : tie.Need-loop-again Inv-loop μ-loop
 loop-again c =
-    let s = c .before .before .before .before .before .before .before .before .before .before .before .before .pre in
-    let l = c .before .before .before .before .before .before .before .before .before .before .loop .inv in
-    let b = c .before .before .before .before .before .before .before .append-byte .ensures in
+    let at-number = c .before .before .before in
+    let at-append-byte = at-number .before .before .before .before in
+    let s = at-append-byte .before .before .before .before .before .pre in
+    let l = at-append-byte .before .before .before .loop .inv in
+    let b = at-append-byte .append-byte .ensures in
     let m = c .before .before .append-number .ensures in
-    let t = c .before .before .before .before .before .before .before .before .before .loop-test .taken in
-    let e = toZ-ofZ (sfits-of (c .before .before .before .number .ok)) ∙ c .before .before .before .number .ensures in (
+    let t = at-append-byte .before .before .loop-test .taken in
+    let e = toZ-ofZ (sfits-of (at-number .number .ok)) ∙ at-number .number .ensures in (
       omega arith,
       omega (arith, t),
       keeps-room m ∙ keeps-room b ∙ l .2,

@@ -5,9 +5,11 @@ use Rattle.lines.proofs.append_text.Statement.{statement}
 use Rattle.lines.proofs.append_text.Tie as tie
 
 returns : tie.Need-returns
-returns c = let a = c .before .before .before .before .before .before .before .args in
-    copied-text (a .out .now) (a .at) (a .bytes .now) (a .p) (a .n) (c .before .before .before .before .before .before .before .pre .0)
-    (c .before .before .before .before .before .before .before .pre .1) (c .before .before .copy-in .ensures)
+returns c =
+    let at-copy-in = c .before .before in
+    let start = at-copy-in .before .before .before .before .before in
+    let a = start .args in
+    copied-text (a .out .now) (a .at) (a .bytes .now) (a .p) (a .n) (start .pre .0) (start .pre .1) (at-copy-in .copy-in .ensures)
 
 pub append-text-spec : {M : Type 1} → statement M
 append-text-spec =

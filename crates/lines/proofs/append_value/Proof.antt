@@ -20,32 +20,37 @@ back c = search needs
 
 append-number-requires : tie.Need-append-number-requires
 append-number-requires c κs =
-    let s = c .before .before .before .before .before .before .before .before .before .before .pre in
-    let b = c .before .before .before .append-between .ensures in (
+    let at-append-between = c .before .before .before in
+    let at-a = at-append-between .before .before .before in
+    let s = at-a .before .before .before .before .pre in
+    let b = at-append-between .append-between .ensures in (
       s .0,
       (
-        rw (back (c .before .before .before .before .before))
-            (number-listed _ _ (s .1 .0) (c .before .before .before .before .before .before .a .given .1)),
+        rw (back (at-append-between .before .before)) (number-listed _ _ (s .1 .0) (at-a .a .given .1)),
         omega (arith, s .1 .1, b .ends, keeps-room b),
       ),
     )
 
 append-codes-requires : tie.Need-append-codes-requires
 append-codes-requires c κs =
-    let s = c .before .before .before .before .before .before .before .before .before .before .pre in
-    let b = c .before .before .before .append-between2 .ensures in (
+    let at-append-between2 = c .before .before .before in
+    let at-a2 = at-append-between2 .before .before .before in
+    let s = at-a2 .before .before .before .before .pre in
+    let b = at-append-between2 .append-between2 .ensures in (
       s .0,
       (
-        set-listed _ _ (s .1 .0) (c .before .before .before .before .before .before .a2 .given .1),
+        set-listed _ _ (s .1 .0) (at-a2 .a2 .given .1),
         omega (arith, s .1 .1, b .ends, keeps-room b),
       ),
     )
 
 append-text-requires : tie.Need-append-text-requires
 append-text-requires c κs =
-    let s = c .before .before .before .before .before .before .before .before .before .before .pre in
-    let b = c .before .before .before .append-between3 .ensures in
-    let l = text-listed _ _ (s .1 .0) (c .before .before .before .before .before .before .a3 .given .1) in
+    let at-append-between3 = c .before .before .before in
+    let at-a3 = at-append-between3 .before .before .before in
+    let s = at-a3 .before .before .before .before .pre in
+    let b = at-append-between3 .append-between3 .ensures in
+    let l = text-listed _ _ (s .1 .0) (at-a3 .a3 .given .1) in
     (l .1, omega (arith, l .0, s .1 .1, b .ends, keeps-room b))
 
 returns : tie.Need-returns
@@ -55,44 +60,50 @@ returns c =
 
 returns-2 : tie.Need-returns-2
 returns-2 c =
-    let b = c .before .before .before .before .before .before .append-between .ensures in
-    let m = as-text (c .before .before .append-number .ensures)
-    (ap numberText (back (c .before .before .before .before .before .before .before .before))) in (
-      as-text (then b m) (number-text _ _ _ (c .before .before .before .before .before .before .before .before .before .a .given .1)),
+    let at-append-number = c .before .before in
+    let at-append-between = at-append-number .before .before .before .before in
+    let at-a = at-append-between .before .before .before in
+    let b = at-append-between .append-between .ensures in
+    let m = as-text (at-append-number .append-number .ensures) (ap numberText (back (at-append-between .before .before))) in (
+      as-text (then b m) (number-text _ _ _ (at-a .a .given .1)),
       omega (
         arith,
         b .ends,
         m .ends,
-        number-few (c .before .before .before .before .before .before .before .before .before .a .given .0 .0),
+        number-few (at-a .a .given .0 .0),
       ),
     )
 
 returns-3 : tie.Need-returns-3
 returns-3 c =
-    let b = c .before .before .before .before .before .before .append-between2 .ensures in
-    let m = c .before .before .append-codes .ensures in (
-      as-text (then b (m .0)) (set-text _ _ _ (c .before .before .before .before .before .before .before .before .before .a2 .given .1)),
+    let at-append-codes = c .before .before in
+    let at-append-between2 = at-append-codes .before .before .before .before in
+    let b = at-append-between2 .append-between2 .ensures in
+    let m = at-append-codes .append-codes .ensures in (
+      as-text (then b (m .0)) (set-text _ _ _ (at-append-between2 .before .before .before .a2 .given .1)),
       omega (arith, b .ends, m .1),
     )
 
 returns-4 : tie.Need-returns-4
 returns-4 c =
-    let b = c .before .before .before .before .before .before .append-between3 .ensures in
-    let m = c .before .before .append-text .ensures in
-    let e = c .before .before .before .before .before .before .before .before .before .a3 .given .1 in
-    let l = text-listed _ _
-    (c .before .before .before .before .before .before .before .before .before .before .before .before .before .pre .1 .0) e in
-    let n = length-take (c .before .before .before .before .before .before .before .before .before .a3 .given .0 .1 .0)
-    (drop (c .before .before .before .before .before .before .before .before .before .a3 .given .0 .0)
-    (c .before .before .before .before .before .before .before .before .before .before .before .before .before .args .bytes .now)) in
+    let at-append-text = c .before .before in
+    let at-append-between3 = at-append-text .before .before .before .before in
+    let at-a3 = at-append-between3 .before .before .before in
+    let start = at-a3 .before .before .before .before in
+    let b = at-append-between3 .append-between3 .ensures in
+    let m = at-append-text .append-text .ensures in
+    let e = at-a3 .a3 .given .1 in
+    let l = text-listed _ _ (start .pre .1 .0) e in
+    let n = length-take (at-a3 .a3 .given .0 .1 .0) (drop (at-a3 .a3 .given .0 .0) (start .args .bytes .now)) in
     (as-text (then b m) (text-text _ _ _ e), omega (arith, b .ends, m .ends, l .0))
 
 returns-5 : tie.Need-returns-5
 returns-5 c =
-    let b = c .before .before .before .before .before .before .before .append-between4 .ensures in
-    let m = as-text (c .before .before .append-byte .ensures) (ap (λ (x : ℕ). x ∷ []) (c .before .before .before .bit-of .ensures)) in (
-      as-text (then b m)
-          (truth-text _ _ _ (c .before .before .before .before .before .before .before .before .before .before .a4 .given .1)),
+    let at-append-byte = c .before .before in
+    let at-append-between4 = at-append-byte .before .before .before .before .before in
+    let b = at-append-between4 .append-between4 .ensures in
+    let m = as-text (at-append-byte .append-byte .ensures) (ap (λ (x : ℕ). x ∷ []) (at-append-byte .before .bit-of .ensures)) in (
+      as-text (then b m) (truth-text _ _ _ (at-append-between4 .before .before .before .a4 .given .1)),
       omega (arith, b .ends, m .ends),
     )
 

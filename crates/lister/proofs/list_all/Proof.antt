@@ -44,16 +44,15 @@ make-space-requires c κs =
 
 loop-again : tie.Need-loop-again Inv-loop μ-loop
 loop-again c =
-    let l = c .before .before .before .before .before .before .before .before .before .before .before .before .before .before .before
-    .before .before .loop .inv in
-    let e = c .before .before .before .before .before .before .before .before .before .before .before .before .before .list-on .ensures in (
-      c .before .before .before .before .before .before .before .before .before .before .before .before .before .list-on .kept .1 .1 .1 .1
-          .1 .1 .0 ∙ l .0,
-      c .before .before .before .before .before .before .before .before .before .before .before .before .before .list-on .kept .1 .1 .1 .1
-          .1 .1 .1 .0 ∙ l .1,
+    let at-make-space = c .before .before .before in
+    let at-list-on = at-make-space .before .before .before .before .before .before .before .before .before .before in
+    let l = at-list-on .before .before .before .before .loop .inv in
+    let e = at-list-on .list-on .ensures in (
+      at-list-on .list-on .kept .1 .1 .1 .1 .1 .1 .0 ∙ l .0,
+      at-list-on .list-on .kept .1 .1 .1 .1 .1 .1 .1 .0 ∙ l .1,
       turn-room e ∙ l .2,
-      spacious-from _ (c .before .before .before .make-space .ensures) (c .before .free .given .1),
-      on-good e (c .before .before .before .before .before .before .place .given .1),
+      spacious-from _ (at-make-space .make-space .ensures) (c .before .free .given .1),
+      on-good e (at-make-space .before .before .before .place .given .1),
     )
 
 slice-reshare-prefix-write : tie.Need-slice-reshare-prefix-write Inv-loop μ-loop
@@ -81,24 +80,29 @@ list-all-spec =
     (c .before .before .before .before .before .before .place .given .1))
     loop-again
     (λ c. search needs)
-    (λ c. c .before .before .before .before .before .before .before .before .before .before .before .before .list-on .kept .1 .1 .1 .1 .1 .1
-    .0 ∙ c .before .before .before .before .before .before .before .before .before .before .before .before .before .before .before .before
+    (λ c. let at-list-on = c .before .before .before .before .before .before .before .before .before .before .before .before in
+    at-list-on .list-on .kept .1 .1 .1 .1 .1 .1
+    .0 ∙ at-list-on .before .before .before .before
     .loop .inv .0)
-    (λ c. c .before .before .before .before .before .before .before .before .before .before .before .before .list-on .kept .1 .1 .1 .1 .1 .1
-    .1 .0 ∙ c .before .before .before .before .before .before .before .before .before .before .before .before .before .before .before
-    .before .loop .inv .1)
-    (λ c. turn-room (c .before .before .before .before .before .before .before .before .before .before .before .before .list-on .ensures)
-    ∙ c .before .before .before .before .before .before .before .before .before .before .before .before .before .before .before .before
+    (λ c. let at-list-on = c .before .before .before .before .before .before .before .before .before .before .before .before in
+    at-list-on .list-on .kept .1 .1 .1 .1 .1 .1
+    .1 .0 ∙ at-list-on .before .before .before .before .loop .inv .1)
+    (λ c. let at-list-on = c .before .before .before .before .before .before .before .before .before .before .before .before in
+    turn-room (at-list-on .list-on .ensures)
+    ∙ at-list-on .before .before .before .before
     .loop .inv .2)
     (λ c. tt)
     (λ c. search needs)
     slice-reshare-prefix-write
     slice-aggregate-write
     (λ c κs. search needs)
-    (λ c. c .before .before .before .before .before .before .before .before .before .before .list-on .kept .1 .1 .1 .1 .1 .1 .0
-    ∙ c .before .before .before .before .before .before .before .before .before .before .before .before .before .before .loop .inv .0)
-    (λ c. c .before .before .before .before .before .before .before .before .before .before .list-on .kept .1 .1 .1 .1 .1 .1 .1 .0
-    ∙ c .before .before .before .before .before .before .before .before .before .before .before .before .before .before .loop .inv .1)
-    (λ c. turn-room (c .before .before .before .before .before .before .before .before .before .before .list-on .ensures)
-    ∙ c .before .before .before .before .before .before .before .before .before .before .before .before .before .before .loop .inv .2)
+    (λ c. let at-list-on = c .before .before .before .before .before .before .before .before .before .before in
+    at-list-on .list-on .kept .1 .1 .1 .1 .1 .1 .0
+    ∙ at-list-on .before .before .before .before .loop .inv .0)
+    (λ c. let at-list-on = c .before .before .before .before .before .before .before .before .before .before in
+    at-list-on .list-on .kept .1 .1 .1 .1 .1 .1 .1 .0
+    ∙ at-list-on .before .before .before .before .loop .inv .1)
+    (λ c. let at-list-on = c .before .before .before .before .before .before .before .before .before .before in
+    turn-room (at-list-on .list-on .ensures)
+    ∙ at-list-on .before .before .before .before .loop .inv .2)
     (λ c. tt))

@@ -6,19 +6,20 @@ use Rattle.lister.proofs.list_by.Statement.{statement}
 use Rattle.lister.proofs.list_by.Tie as tie
 
 list-all-requires : tie.Need-list-all-requires
-list-all-requires c κs = let p = c .before .before .before .before .before .before .before .before .before .pre in (
-  (
-    p .0,
-    record {
-      good = sym (c .before .before .before .before .before .before .well-formed .ensures .says)
-          ∙ c .before .before .before .before .before .if1 .taken;
-      head = c .before .before .before .before .read .ensures;
-    },
-    c .before .before .before .find-terminator .ensures,
-    p .1,
-  ),
-  (refl, refl, p .2),
-)
+list-all-requires c κs =
+    let at-read = c .before .before .before .before in
+    let p = at-read .before .before .before .before .before .pre in (
+      (
+        p .0,
+        record {
+          good = sym (at-read .before .before .well-formed .ensures .says) ∙ at-read .before .if1 .taken;
+          head = at-read .read .ensures;
+        },
+        c .before .before .before .find-terminator .ensures,
+        p .1,
+      ),
+      (refl, refl, p .2),
+    )
 
 slice-aggregate-write : tie.Need-slice-aggregate-write
 slice-aggregate-write c = sym (length-take-le _ _ (c .before .before .before .append-fault .ensures .inside))

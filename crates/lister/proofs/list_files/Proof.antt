@@ -7,11 +7,12 @@ use Rattle.lister.proofs.list_files.Statement.{statement}
 use Rattle.lister.proofs.list_files.Tie as tie
 
 list-by-requires : tie.Need-list-by-requires
-list-by-requires c κs = (
-  c .before .before .before .before .before .before .before .before .powers .ensures,
-  c .before .before .before .before .before .before .before .before .before .before .before .pre .1,
-  lit≤ tt,
-)
+list-by-requires c κs =
+    let at-powers = c .before .before .before .before .before .before .before .before in (
+      at-powers .powers .ensures,
+      at-powers .before .before .before .pre .1,
+      lit≤ tt,
+    )
 
 append-definition-requires : tie.Need-append-definition-requires
 append-definition-requires c κs = (

@@ -24,13 +24,14 @@ returns c =
 
 append-line-requires : tie.Need-append-line-requires
 append-line-requires c κs =
-    let p = c .before .before .before .before .before .before .before .before .before .before .pre in
-    let e = c .before .before .before .before .before .before .before .read .ensures in (
+    let at-read-row = c .before .before .before .before .before in
+    let p = at-read-row .before .before .before .before .before .pre in
+    let e = at-read-row .before .before .read .ensures in (
       p .0 .tens,
       (
         (p .1 .0, rw e (ident-few (p .0 .tested) (p .1 .1))),
         (
-          row-listable (p .0 .tested) (p .1 .1) e _ (p .1 .2) (c .before .before .before .before .before .read-row .ensures) (p .0 .list)
+          row-listable (p .0 .tested) (p .1 .1) e _ (p .1 .2) (at-read-row .read-row .ensures) (p .0 .list)
               (sym (c .before .before .before .is-illegal .ensures) ∙ c .before .before .if1 .left),
           p .1 .3,
         ),
@@ -39,12 +40,12 @@ append-line-requires c κs =
 
 returns-2 : tie.Need-returns-2
 returns-2 c =
-    let p = c .before .before .before .before .before .before .before .before .before .before .before .before .before .pre in
-    let e = c .before .before .before .before .before .before .before .before .before .before .read .ensures in
-    as-text (c .before .before .append-line .ensures)
-    (row-line (p .0 .tested) (p .1 .1) e _ (p .1 .2) (c .before .before .before .before .before .before .before .before .read-row .ensures)
-    _ (p .0 .list) (sym (c .before .before .before .before .before .before .is-illegal .ensures)
-    ∙ c .before .before .before .before .before .if1 .left))
+    let at-if1 = c .before .before .before .before .before in
+    let at-read-row = at-if1 .before .before .before in
+    let p = at-read-row .before .before .before .before .before .pre in
+    let e = at-read-row .before .before .read .ensures in
+    as-text (c .before .before .append-line .ensures) (row-line (p .0 .tested) (p .1 .1) e _ (p .1 .2) (at-read-row .read-row .ensures)
+    _ (p .0 .list) (sym (at-if1 .before .is-illegal .ensures) ∙ at-if1 .if1 .left))
 
 pub list-row-spec : {M : Type 1} → statement M
 list-row-spec =

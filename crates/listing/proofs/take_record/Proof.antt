@@ -23,48 +23,48 @@ going c =
 
 take-rows-requires : tie.Need-take-rows-requires
 take-rows-requires c κs =
-    let p = c .before .before .before .before .before .before .before .before .before .before .before .before .before .pre in
-    let a = c .before .before .before .before .before .before .before .before .before .before .before .before .before .args in
+    let at-first-length = c .before .before .before .before .before .before .before .before in
+    let start = at-first-length .before .before .before .before .before in
+    let p = start .pre in
+    let a = start .args in
     let e = sym (going (c .before .before .before)) ∙ c .before .before .if2 .taken in (
       p .0 .0,
       (
         p .1 .0,
-        rw (tested-length (p .0 .0 .tested))
-            (sound-long (a .t .now) (c .before .before .before .before .before .before .before .before .first-length .result)
-            (a .bytes .now) e),
+        rw (tested-length (p .0 .0 .tested)) (sound-long (a .t .now) (at-first-length .first-length .result) (a .bytes .now) e),
         p .1 .1,
       ),
     )
 
 returns : tie.Need-returns
 returns c =
-    let a = c .before .before .before .before .before .before .before .before .before .before .before .before .before .before .before
-    .before .before .args in
-    taken-first (a .t .now) (a .n) (a .first) (a .bytes .now)
-    (c .before .before .before .before .before .before .before .before .before .before .before .before .first-length .ensures)
-    (c .before .before .before .before .before .before .before .before .before .before .before .before .before .if1 .taken)
-    (sym (going (c .before .before .before .before .before .before .before))
-    ∙ c .before .before .before .before .before .before .if2 .taken) (c .before .before .before .take-rows .ensures)
+    let at-take-rows = c .before .before .before in
+    let at-first-length = at-take-rows .before .before .before .before .before .before .before .before .before in
+    let a = at-first-length .before .before .before .before .before .args in
+    taken-first (a .t .now) (a .n) (a .first) (a .bytes .now) (at-first-length .first-length .ensures) (at-first-length .before .if1 .taken)
+    (sym (going (at-take-rows .before .before .before .before))
+    ∙ at-take-rows .before .before .before .if2 .taken) (at-take-rows .take-rows .ensures)
 
 append-last-requires : tie.Need-append-last-requires
 append-last-requires c κs =
-    let p = c .before .before .before .before .before .before .before .before .before .before .before .before .pre in
-    let a = c .before .before .before .before .before .before .before .before .before .before .before .before .args in
-    let e = ap countIn (c .before .before .before .before .before .judge-one .ensures)
-    ∙ count-on (recordVerdict (a .t .now) (c .before .before .before .before .before .before .before .first-length .result) (a .bytes .now))
-    (a .n) in
+    let at-judge-one = c .before .before .before .before .before in
+    let at-first-length = at-judge-one .before .before in
+    let start = at-first-length .before .before .before .before .before in
+    let p = start .pre in
+    let a = start .args in
+    let e = ap countIn (at-judge-one .judge-one .ensures)
+    ∙ count-on (recordVerdict (a .t .now) (at-first-length .first-length .result) (a .bytes .now)) (a .n) in
     ((p .0 .0 .tens, p .0 .0 .tested), (rw e (p .1 .0), p .1 .1))
 
 returns-2 : tie.Need-returns-2
 returns-2 c =
-    let a = c .before .before .before .before .before .before .before .before .before .before .before .before .before .before .before
-    .args in
-    taken-fault (a .t .now) (a .n) (a .first) (a .bytes .now)
-    (c .before .before .before .before .before .before .before .before .before .before .first-length .ensures)
-    (c .before .before .before .before .before .before .before .before .before .before .before .if1 .taken)
-    (sym (going (c .before .before .before .before .before)) ∙ c .before .before .before .before .if2 .left)
-    (as-text (c .before .before .append-last .ensures)
-    (ap (lastText (a .t .now)) (c .before .before .before .before .before .before .before .before .judge-one .ensures)))
+    let at-if2 = c .before .before .before .before in
+    let at-judge-one = at-if2 .before .before .before .before in
+    let at-first-length = at-judge-one .before .before in
+    let a = at-first-length .before .before .before .before .before .args in
+    taken-fault (a .t .now) (a .n) (a .first) (a .bytes .now) (at-first-length .first-length .ensures) (at-first-length .before .if1 .taken)
+    (sym (going (at-if2 .before)) ∙ at-if2 .if2 .left) (as-text (c .before .before .append-last .ensures)
+    (ap (lastText (a .t .now)) (at-judge-one .judge-one .ensures)))
 
 returns-3 : tie.Need-returns-3
 returns-3 c =
@@ -81,11 +81,13 @@ take-rows-requires-2 c κs = let p = c .before .before .before .before .before .
 
 returns-4 : tie.Need-returns-4
 returns-4 c =
-    let p = c .before .before .before .before .before .before .before .before .before .before .before .before .pre in
-    let a = c .before .before .before .before .before .before .before .before .before .before .before .before .args in
-    taken-more (a .t .now) (a .n) (a .first) (a .bytes .now) (c .before .before .before .before .before .before .before .before .if1 .left)
-    (rw (tested-length (p .0 .0 .tested)) at (c .before .before .before .before .before .before .if3 .left))
-    (c .before .before .before .take-rows2 .ensures)
+    let at-take-rows2 = c .before .before .before in
+    let at-if1 = at-take-rows2 .before .before .before .before .before in
+    let start = at-if1 .before .before .before .before in
+    let p = start .pre in
+    let a = start .args in
+    taken-more (a .t .now) (a .n) (a .first) (a .bytes .now) (at-if1 .if1 .left)
+    (rw (tested-length (p .0 .0 .tested)) at (at-take-rows2 .before .before .before .if3 .left)) (at-take-rows2 .take-rows2 .ensures)
 
 pub take-record-spec : {M : Type 1} → statement M
 take-record-spec =

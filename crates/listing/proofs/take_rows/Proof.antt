@@ -7,15 +7,17 @@ use Rattle.listing.proofs.take_rows.Tie as tie
 
 returns : tie.Need-returns
 returns c =
-    let p = c .before .before .before .before .before .before .before .before .before .before .before .pre in
+    let at-list-rows = c .before .before .before .before .before .before in
+    let p = at-list-rows .before .before .before .before .before .pre in
     take-part _ _ _ _ _ (rw (tested-length (p .0 .tested)) at (p .1 .1))
-    (c .before .before .before .before .before .before .list-rows .ensures) (rw (tested-rows (p .0 .tested)) at (c .if1 .taken))
+    (at-list-rows .list-rows .ensures) (rw (tested-rows (p .0 .tested)) at (c .if1 .taken))
 
 returns-2 : tie.Need-returns-2
 returns-2 c =
-    let p = c .before .before .before .before .before .before .before .before .before .before .before .pre in
+    let at-list-rows = c .before .before .before .before .before .before in
+    let p = at-list-rows .before .before .before .before .before .pre in
     take-whole _ _ _ _ _ (rw (tested-length (p .0 .tested)) at (p .1 .1))
-    (c .before .before .before .before .before .before .list-rows .ensures) (rw (tested-rows (p .0 .tested)) at (c .if1 .left))
+    (at-list-rows .list-rows .ensures) (rw (tested-rows (p .0 .tested)) at (c .if1 .left))
 
 pub take-rows-spec : {M : Type 1} → statement M
 take-rows-spec =

@@ -22,52 +22,55 @@ loop-holds : tie.Need-loop-holds Inv-loop μ-loop
 loop-holds c = (refl, idle-half _ _ (c .before .pre .1))
 
 completed-requires : tie.Need-completed-requires Inv-loop μ-loop
-completed-requires c κs = (
-  c .before .before .before .before .before .before .before .before .before .before .pre .0,
-  go-ready _ _ _ _ (c .before .before .before .before .before .before .before .before .loop .inv .1)
-      (sym (c .before .before .before .move-inside .ensures) ∙ c .before .t .given .1),
-)
+completed-requires c κs =
+    let at-move-inside = c .before .before .before in
+    let at-loop = at-move-inside .before .before .before .before .before in (
+      at-loop .before .before .pre .0,
+      go-ready _ _ _ _ (at-loop .loop .inv .1) (sym (at-move-inside .move-inside .ensures) ∙ c .before .t .given .1),
+    )
 
 returns : tie.Need-returns Inv-loop μ-loop
 returns c =
-    let s = stepped _ _ (c .before .before .before .before .before .before .before .before .before .before .before .next-byte .ensures)
-    (c .before .before .before .before .before .before .before .before .before .byte .given .1) in
-    sym (c .before .before .before .before .before .before .before .before .before .before .before .before .loop .inv .0
-    ∙ part-gives _ _ (s .split) (c .before .before .before .before .before .before .before .move-inside .ensures)
-    (c .before .before .before .before .before .t .given .1)
-    (sym (c .before .before .before .completed .ensures) ∙ ap givenList (c .before .x .given .1)) ∙ rw (s .next))
+    let at-completed = c .before .before .before in
+    let at-move-inside = at-completed .before .before .before .before in
+    let s = stepped _ _ (at-move-inside .before .before .before .before .next-byte .ensures)
+    (at-move-inside .before .before .byte .given .1) in
+    sym (at-move-inside .before .before .before .before .before .loop .inv .0
+    ∙ part-gives _ _ (s .split) (at-move-inside .move-inside .ensures) (at-completed .before .before .t .given .1)
+    (sym (at-completed .completed .ensures) ∙ ap givenList (c .before .x .given .1)) ∙ rw (s .next))
 
 loop-less : tie.Need-loop-less Inv-loop μ-loop
 loop-less c =
-    let s = stepped _ _ (c .before .before .before .before .before .before .before .before .before .before .next-byte .ensures)
-    (c .before .before .before .before .before .before .before .before .byte .given .1) in
+    let at-byte = c .before .before .before .before .before .before .before .before in
+    let s = stepped _ _ (at-byte .before .before .next-byte .ensures) (at-byte .byte .given .1) in
     omega arith
 
 loop-again : tie.Need-loop-again Inv-loop μ-loop
 loop-again c =
-    let s = stepped _ _ (c .before .before .before .before .before .before .before .before .before .before .next-byte .ensures)
-    (c .before .before .before .before .before .before .before .before .byte .given .1) in (
-      c .before .before .before .before .before .before .before .before .before .before .before .loop .inv .0
-          ∙ part-on _ _ (s .split) (c .before .before .before .before .before .before .move-inside .ensures)
-          (c .before .before .before .before .t .given .1)
-          (sym (c .before .before .completed .ensures) ∙ ap givenList (c .enum-told .given .1)),
-      go-half _ _ _ (sym (c .before .before .before .before .before .before .move-inside .ensures)
-          ∙ c .before .before .before .before .t .given .1),
+    let at-t = c .before .before .before .before in
+    let at-move-inside = at-t .before .before in
+    let s = stepped _ _ (at-move-inside .before .before .before .before .next-byte .ensures)
+    (at-move-inside .before .before .byte .given .1) in (
+      at-move-inside .before .before .before .before .before .loop .inv .0 ∙ part-on _ _ (s .split) (at-move-inside .move-inside .ensures)
+          (at-t .t .given .1) (sym (c .before .before .completed .ensures) ∙ ap givenList (c .enum-told .given .1)),
+      go-half _ _ _ (sym (at-move-inside .move-inside .ensures) ∙ at-t .t .given .1),
     )
 
 returns-2 : tie.Need-returns-2 Inv-loop μ-loop
 returns-2 c =
-    let s = stepped _ _ (c .before .before .before .before .before .before .next-byte .ensures)
-    (c .before .before .before .before .byte .given .1) in
-    sym (c .before .before .before .before .before .before .before .loop .inv .0
-    ∙ part-closed _ _ (s .split) (c .before .before .move-inside .ensures) (c .enum-told2 .given .1))
+    let at-move-inside = c .before .before in
+    let s = stepped _ _ (at-move-inside .before .before .before .before .next-byte .ensures)
+    (at-move-inside .before .before .byte .given .1) in
+    sym (at-move-inside .before .before .before .before .before .loop .inv .0
+    ∙ part-closed _ _ (s .split) (at-move-inside .move-inside .ensures) (c .enum-told2 .given .1))
 
 returns-3 : tie.Need-returns-3 Inv-loop μ-loop
 returns-3 c =
-    let s = stepped _ _ (c .before .before .before .before .before .before .next-byte .ensures)
-    (c .before .before .before .before .byte .given .1) in
-    sym (c .before .before .before .before .before .before .before .loop .inv .0
-    ∙ part-wrong _ _ (s .split) (c .before .before .move-inside .ensures) (c .enum-told3 .given .1))
+    let at-move-inside = c .before .before in
+    let s = stepped _ _ (at-move-inside .before .before .before .before .next-byte .ensures)
+    (at-move-inside .before .before .byte .given .1) in
+    sym (at-move-inside .before .before .before .before .before .loop .inv .0
+    ∙ part-wrong _ _ (s .split) (at-move-inside .move-inside .ensures) (c .enum-told3 .given .1))
 
 returns-4 : tie.Need-returns-4 Inv-loop μ-loop
 returns-4 c = sym (c .before .before .before .loop .inv .0

@@ -22,31 +22,33 @@ loop-holds c = refl
 
 loop-less : tie.Need-loop-less Inv-loop μ-loop
 loop-less c =
-    let s = stepped _ _ (c .before .before .before .before .before .before .before .before .next-byte .ensures)
-    (c .before .before .before .before .before .before .byte .given .1) in
+    let at-byte = c .before .before .before .before .before .before in
+    let s = stepped _ _ (at-byte .before .before .next-byte .ensures) (at-byte .byte .given .1) in
     omega (arith, c .onward .ensures .0)
 
 loop-again : tie.Need-loop-again Inv-loop μ-loop
 loop-again c =
-    let s = stepped _ _ (c .before .before .before .before .before .before .before .before .next-byte .ensures)
-    (c .before .before .before .before .before .before .byte .given .1) in
-    c .before .before .before .before .before .before .before .before .before .loop .inv
-    ∙ string-next _ (s .split) (c .before .before .before .before .move-inside .ensures)
+    let at-move-inside = c .before .before .before .before in
+    let s = stepped _ _ (at-move-inside .before .before .before .before .next-byte .ensures)
+    (at-move-inside .before .before .byte .given .1) in
+    at-move-inside .before .before .before .before .before .loop .inv ∙ string-next _ (s .split) (at-move-inside .move-inside .ensures)
     ∙ rw (c .before .before .t .given .1) (c .onward .ensures .1)
 
 returns : tie.Need-returns Inv-loop μ-loop
 returns c =
-    let s = stepped _ _ (c .before .before .before .before .before .before .next-byte .ensures)
-    (c .before .before .before .before .byte .given .1) in
-    sym (c .before .before .before .before .before .before .before .loop .inv
-    ∙ string-next _ (s .split) (c .before .before .move-inside .ensures) ∙ rw (c .enum-told .given .1, s .next))
+    let at-move-inside = c .before .before in
+    let s = stepped _ _ (at-move-inside .before .before .before .before .next-byte .ensures)
+    (at-move-inside .before .before .byte .given .1) in
+    sym (at-move-inside .before .before .before .before .before .loop .inv
+    ∙ string-next _ (s .split) (at-move-inside .move-inside .ensures) ∙ rw (c .enum-told .given .1, s .next))
 
 returns-2 : tie.Need-returns-2 Inv-loop μ-loop
 returns-2 c =
-    let s = stepped _ _ (c .before .before .before .before .before .before .before .next-byte .ensures)
-    (c .before .before .before .before .before .byte .given .1) in
-    sym (c .before .before .before .before .before .before .before .before .loop .inv
-    ∙ string-next _ (s .split) (c .before .before .before .move-inside .ensures) ∙ rw (c .before .o .given .1))
+    let at-move-inside = c .before .before .before in
+    let s = stepped _ _ (at-move-inside .before .before .before .before .next-byte .ensures)
+    (at-move-inside .before .before .byte .given .1) in
+    sym (at-move-inside .before .before .before .before .before .loop .inv
+    ∙ string-next _ (s .split) (at-move-inside .move-inside .ensures) ∙ rw (c .before .o .given .1))
 
 returns-3 : tie.Need-returns-3 Inv-loop μ-loop
 returns-3 c = sym (c .before .before .before .loop .inv

@@ -15,23 +15,27 @@ returns c = rw (drop-of-length-le (c .before .before .args .d .now) (c .if1 .tak
 
 returns-2 : tie.Need-returns-2
 unfolding closedOf
-returns-2 c = rw (
-  drop-1 (c .before .before .before .before .before .before .args .d .now)
-      (c .before .before .before .before .before .before .args .n) (omega arith),
-  eq-eqb _ 59 (c .before .before .if2 .taken),
-  ← (c .before .is-legal .ensures),
-  c .if3 .taken,
-)
+returns-2 c =
+    let at-if2 = c .before .before in
+    let args = at-if2 .before .before .before .before .args in
+    rw (
+      drop-1 (args .d .now) (args .n) (omega arith),
+      eq-eqb _ 59 (at-if2 .if2 .taken),
+      ← (c .before .is-legal .ensures),
+      c .if3 .taken,
+    )
 
 returns-3 : tie.Need-returns-3
 unfolding closedOf
-returns-3 c = rw (
-  drop-1 (c .before .before .before .before .before .before .args .d .now)
-      (c .before .before .before .before .before .before .args .n) (omega arith),
-  eq-eqb _ 59 (c .before .before .if2 .taken),
-  ← (c .before .is-legal .ensures),
-  c .if3 .left,
-)
+returns-3 c =
+    let at-if2 = c .before .before in
+    let args = at-if2 .before .before .before .before .args in
+    rw (
+      drop-1 (args .d .now) (args .n) (omega arith),
+      eq-eqb _ 59 (at-if2 .if2 .taken),
+      ← (c .before .is-legal .ensures),
+      c .if3 .left,
+    )
 
 returns-4 : tie.Need-returns-4
 unfolding closedOf

@@ -27,21 +27,21 @@ comment-requires c κs =
 
 returns-3 : tie.Need-returns-3
 returns-3 c =
-    let a = c .before .before .before .before .before .before .before .before .before .before .before .before .args in
-    sym (move-note (a .bad) (a .d .now) (a .at) (omega arith)
-    (sym (c .before .before .before .before .before .before .before .before .is-white .ensures)
-    ∙ c .before .before .before .before .before .before .before .if2 .left)
-    (sym (c .before .before .before .before .before .is-there .ensures) ∙ c .before .before .before .before .if3 .taken)
-    ∙ ap onSkip (sym (c .before .before .before .comment .ensures) ∙ c .before .n .given .1))
+    let at-comment = c .before .before .before in
+    let at-if2 = at-comment .before .before .before .before in
+    let a = at-if2 .before .before .before .before .before .args in
+    sym (move-note (a .bad) (a .d .now) (a .at) (omega arith) (sym (at-if2 .before .is-white .ensures) ∙ at-if2 .if2 .left)
+    (sym (at-comment .before .before .is-there .ensures) ∙ at-comment .before .if3 .taken)
+    ∙ ap onSkip (sym (at-comment .comment .ensures) ∙ c .before .n .given .1))
 
 returns-4 : tie.Need-returns-4
 returns-4 c =
-    let a = c .before .before .before .before .before .before .before .before .before .before .before .before .args in
-    sym (move-note (a .bad) (a .d .now) (a .at) (omega arith)
-    (sym (c .before .before .before .before .before .before .before .before .is-white .ensures)
-    ∙ c .before .before .before .before .before .before .before .if2 .left)
-    (sym (c .before .before .before .before .before .is-there .ensures) ∙ c .before .before .before .before .if3 .taken)
-    ∙ ap onSkip (sym (c .before .before .before .comment .ensures) ∙ c .before .p .given .1))
+    let at-comment = c .before .before .before in
+    let at-if2 = at-comment .before .before .before .before in
+    let a = at-if2 .before .before .before .before .before .args in
+    sym (move-note (a .bad) (a .d .now) (a .at) (omega arith) (sym (at-if2 .before .is-white .ensures) ∙ at-if2 .if2 .left)
+    (sym (at-comment .before .before .is-there .ensures) ∙ at-comment .before .if3 .taken)
+    ∙ ap onSkip (sym (at-comment .comment .ensures) ∙ c .before .p .given .1))
 
 returns-5 : tie.Need-returns-5
 returns-5 c =

@@ -20,50 +20,48 @@ returns-2 c =
 returns-3 : tie.Need-returns-3
 unfolding namedOf
 returns-3 c =
+    let at-if2 = c .before .before .before in
     rw (
-      sym (c .before .before .before .before .before .before .before .is-there .ensures)
-          ∙ c .before .before .before .before .before .before .if1 .left,
-      sym (c .before .before .before .before .is-there2 .ensures) ∙ c .before .before .before .if2 .left,
+      sym (at-if2 .before .before .before .before .is-there .ensures) ∙ at-if2 .before .before .before .if1 .left,
+      sym (at-if2 .before .is-there2 .ensures) ∙ at-if2 .if2 .left,
       sym (c .before .is-there3 .ensures) ∙ c .if3 .taken,
     )
 
 returns-4 : tie.Need-returns-4
 unfolding namedOf
 returns-4 c =
+    let at-is-there3 = c .before .before .before .before in
+    let at-if2 = at-is-there3 .before .before in
     rw (
-      sym (c .before .before .before .before .before .before .before .before .before .before .is-there .ensures)
-          ∙ c .before .before .before .before .before .before .before .before .before .if1 .left,
-      sym (c .before .before .before .before .before .before .before .is-there2 .ensures)
-          ∙ c .before .before .before .before .before .before .if2 .left,
-      sym (c .before .before .before .before .is-there3 .ensures) ∙ c .before .before .before .if3 .left,
+      sym (at-if2 .before .before .before .before .is-there .ensures) ∙ at-if2 .before .before .before .if1 .left,
+      sym (at-if2 .before .is-there2 .ensures) ∙ at-if2 .if2 .left,
+      sym (at-is-there3 .is-there3 .ensures) ∙ c .before .before .before .if3 .left,
       sym (c .before .is-there4 .ensures) ∙ c .if4 .taken,
     )
 
 returns-5 : tie.Need-returns-5
 unfolding namedOf
 returns-5 c =
+    let at-is-there4 = c .before .before .before .before in
+    let at-if2 = at-is-there4 .before .before .before .before .before in
     rw (
-      sym (c .before .before .before .before .before .before .before .before .before .before .before .before .before .is-there .ensures)
-          ∙ c .before .before .before .before .before .before .before .before .before .before .before .before .if1 .left,
-      sym (c .before .before .before .before .before .before .before .before .before .before .is-there2 .ensures)
-          ∙ c .before .before .before .before .before .before .before .before .before .if2 .left,
-      sym (c .before .before .before .before .before .before .before .is-there3 .ensures)
-          ∙ c .before .before .before .before .before .before .if3 .left,
-      sym (c .before .before .before .before .is-there4 .ensures) ∙ c .before .before .before .if4 .left,
+      sym (at-if2 .before .before .before .before .is-there .ensures) ∙ at-if2 .before .before .before .if1 .left,
+      sym (at-if2 .before .is-there2 .ensures) ∙ at-if2 .if2 .left,
+      sym (at-is-there4 .before .before .before .is-there3 .ensures) ∙ at-is-there4 .before .before .if3 .left,
+      sym (at-is-there4 .is-there4 .ensures) ∙ c .before .before .before .if4 .left,
       sym (c .before .is-there5 .ensures) ∙ c .if5 .taken,
     )
 
 returns-6 : tie.Need-returns-6
 unfolding namedOf
 returns-6 c =
+    let at-is-there4 = c .before .before .before .before in
+    let at-if2 = at-is-there4 .before .before .before .before .before in
     rw (
-      sym (c .before .before .before .before .before .before .before .before .before .before .before .before .before .is-there .ensures)
-          ∙ c .before .before .before .before .before .before .before .before .before .before .before .before .if1 .left,
-      sym (c .before .before .before .before .before .before .before .before .before .before .is-there2 .ensures)
-          ∙ c .before .before .before .before .before .before .before .before .before .if2 .left,
-      sym (c .before .before .before .before .before .before .before .is-there3 .ensures)
-          ∙ c .before .before .before .before .before .before .if3 .left,
-      sym (c .before .before .before .before .is-there4 .ensures) ∙ c .before .before .before .if4 .left,
+      sym (at-if2 .before .before .before .before .is-there .ensures) ∙ at-if2 .before .before .before .if1 .left,
+      sym (at-if2 .before .is-there2 .ensures) ∙ at-if2 .if2 .left,
+      sym (at-is-there4 .before .before .before .is-there3 .ensures) ∙ at-is-there4 .before .before .if3 .left,
+      sym (at-is-there4 .is-there4 .ensures) ∙ c .before .before .before .if4 .left,
       sym (c .before .is-there5 .ensures) ∙ c .if5 .left,
     )
 

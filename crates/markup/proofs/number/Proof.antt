@@ -21,10 +21,12 @@ loop-holds c = (refl, omega arith, omega arith, c .digit-kind .ensures)
 
 loop-again : tie.Need-loop-again Inv-loop μ-loop
 loop-again c =
-    let l = c .before .before .before .before .before .before .loop in
-    let a = c .before .before .before .before .before .before .before .before .before .args in
+    let at-if1 = c .before .before in
+    let at-loop = at-if1 .before .before .before .before in
+    let l = at-loop .loop in
+    let a = at-loop .before .before .before .args in
     let k = l .inv .3 in
-    let e = rw k at (sym (c .before .before .before .of-kind .ensures) ∙ c .before .before .if1 .taken) in (
+    let e = rw k at (sym (at-if1 .before .of-kind .ensures) ∙ at-if1 .if1 .taken) in (
       l .inv .0 ∙ figure-next (a .hex) (l .v) (a .d .now) (l .i) (omega arith) e
           ∙ rw (← (c .before .push .ensures .0), ← (c .hold .ensures .0)),
       omega arith,

@@ -67,11 +67,10 @@ returns-2 c =
 
 returns-3 : tie.Need-returns-3
 returns-3 c =
-    let a = c .before .before .before .before .before .before .before .before .before .args in
-    sym (name-bad (a .at) (drop (a .at + 1) (a .d .now))
-    (sym (c .before .before .before .before .before .before .is-there .ensures) ∙ c .before .before .before .before .before .if1 .left)
-    (sym (c .before .before .before .is-there2 .ensures) ∙ c .before .before .if2 .left)
-    (sym (c .before .named .ensures) ∙ c .if3 .taken))
+    let at-if1 = c .before .before .before .before .before in
+    let a = at-if1 .before .before .before .before .args in
+    sym (name-bad (a .at) (drop (a .at + 1) (a .d .now)) (sym (at-if1 .before .is-there .ensures) ∙ at-if1 .if1 .left)
+    (sym (c .before .before .before .is-there2 .ensures) ∙ c .before .before .if2 .left) (sym (c .before .named .ensures) ∙ c .if3 .taken))
 
 returns-4 : tie.Need-returns-4
 returns-4 c =

@@ -79,19 +79,13 @@ put-summaries-requires c κs =
 
 returns : tie.Need-returns
 returns c =
-    let p = c .before .before .before .before .before .before .before .before .before .before .before .before .before .before .before
-    .before .before .before .before .before .before .before .pre in
-    filled (p .0 .0)
-    (c .before .before .before .before .before .before .before .before .before .before .before .before .before .before .before .before
-    .before .before .before .before .before .before .args .d .now)
-    (c .before .before .before .before .before .before .before .before .before .before .before .before .before .before .before .before
-    .before .before .before .before .before .before .args .out .now)
-    (c .before .before .before .before .before .before .before .before .before .before .before .before .before .before .before .before
-    .before .before .before .before .before .before .args .records)
-    (c .before .before .before .before .before .before .before .before .before .before .before .before .before .before .before .before
-    .before .before .before .before .before .before .args .columns) (p .0 .1) (p .1 .0) (p .1 .3)
-    (c .before .before .before .before .before .before .before .before .before .before .before .before .before .before .before .before
-    .before .put-header .ensures) (c .before .before .before .before .before .before .before .before .before .put-records .ensures)
+    let at-put-header = c .before .before .before .before .before .before .before .before .before .before .before .before .before .before
+    .before .before .before in
+    let start = at-put-header .before .before .before .before .before in
+    let p = start .pre in
+    filled (p .0 .0) (start .args .d .now) (start .args .out .now) (start .args .records)
+    (start .args .columns) (p .0 .1) (p .1 .0) (p .1 .3)
+    (at-put-header .put-header .ensures) (c .before .before .before .before .before .before .before .before .before .put-records .ensures)
     (c .before .before .put-summaries .ensures)
 
 pub fill-spec : {M : Type 1} → statement M

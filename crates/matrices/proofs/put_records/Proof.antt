@@ -46,9 +46,12 @@ module _ (c : tie.After-known-told Inv-loop μ-loop) where
       (drop (c .before .before .before .before .before .loop .from)
       (c .before .before .before .before .before .before .before .before .before .before .before .args .d .now)))
       (c .before .start .given .0 .0) (c .before .start .given .0 .1 .0) (c .before .start .given .0 .1 .1 .0)
-  ended = next-ended (c .before .before .before .before .before .before .before .before .before .before .before .args .d .now)
-      (c .before .before .before .before .before .before .find-terminator .result) (c .before .before .before .before .before .loop .from)
-      (sym (c .before .before .before .next-from .ensures) ∙ c .before .start .given .1)
+  ended =
+      let at-next-from = c .before .before .before in
+      let at-find-terminator = at-next-from .before .before .before in
+      next-ended (at-find-terminator .before .before .before .before .before .args .d .now)
+      (at-find-terminator .find-terminator .result) (at-next-from .before .before .loop .from)
+      (sym (at-next-from .next-from .ensures) ∙ c .before .start .given .1)
 
   next : recordsFrom (c .before .before .before .before .before .before .find-terminator .result)
       (drop (c .before .before .before .before .before .loop .from)
@@ -58,11 +61,12 @@ module _ (c : tie.After-known-told Inv-loop μ-loop) where
       (recordsFrom (c .before .before .before .before .before .before .find-terminator .result)
       (drop (c .before .start .given .0 .1 .1 .0)
       (c .before .before .before .before .before .before .before .before .before .before .before .args .d .now)))
-  next = ended .records ∙ ap (λ (x : ℕ). record-and
-      (part (c .before .before .before .before .before .before .before .before .before .before .before .args .d .now) x
-      (c .before .start .given .0 .1 .0)) (recordsFrom (c .before .before .before .before .before .before .find-terminator .result)
-      (drop (c .before .start .given .0 .1 .1 .0)
-      (c .before .before .before .before .before .before .before .before .before .before .before .args .d .now)))) (sym (ended .starts))
+  next =
+      let at-find-terminator = c .before .before .before .before .before .before in
+      let args = at-find-terminator .before .before .before .before .before .args in
+      ended .records ∙ ap (λ (x : ℕ). record-and (part (args .d .now) x
+      (c .before .start .given .0 .1 .0)) (recordsFrom (at-find-terminator .find-terminator .result)
+      (drop (c .before .start .given .0 .1 .1 .0) (args .d .now)))) (sym (ended .starts))
 
   -- how many entries it has, and those behind it
   many : let a = c .before .before .before .before .before .before .before .before .before .before .before .args in let v = a .h .rows in
@@ -74,12 +78,12 @@ module _ (c : tie.After-known-told Inv-loop μ-loop) where
       (endedOf (recordsFrom (c .before .before .before .before .before .before .find-terminator .result)
       (drop (c .before .start .given .0 .1 .1 .0) (a .d .now)))))
   many =
-      let a = c .before .before .before .before .before .before .before .before .before .before .before .args in
+      let at-find-terminator = c .before .before .before .before .before .before in
+      let a = at-find-terminator .before .before .before .before .before .args in
       let v = a .h .rows in
       let cs = columnsFrom (a .t .now) v 0 v in
       let r = part (a .d .now) (c .before .start .given .0 .0) (c .before .start .given .0 .1 .0) in
-      let rest = allEntries (a .t .now) v cs (endedOf
-      (recordsFrom (c .before .before .before .before .before .before .find-terminator .result)
+      let rest = allEntries (a .t .now) v cs (endedOf (recordsFrom (at-find-terminator .find-terminator .result)
       (drop (c .before .start .given .0 .1 .1 .0) (a .d .now)))) in
       ap (λ (es : List Entry). length es) (left-next next (a .t .now) v cs) ∙ length-append (entriesOf (a .t .now) v r cs) rest
       ∙ ap (λ (x : ℕ). x + length rest) (length-entries (a .t .now) v r cs)

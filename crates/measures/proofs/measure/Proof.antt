@@ -30,19 +30,21 @@ room-good-requires c κs =
 
 returns : tie.Need-returns
 returns c =
-    let d = c .before .before .before in
-    let a = c .before .before .before .before .before .before .before .args in
+    let at-of2 = c .before .before in
+    let d = at-of2 .before in
+    let a = at-of2 .before .before .before .before .before .args in
     measured-yes _ (a .h) (a .r) (a .before) _ _ _
-    (c .before .before .before .before .before .before .plain-columns .ensures) (width-here d) (d .with-width .ensures)
-    (rw (c .before .before .of2 .ensures) at (sym (c .before .room-good .ensures) ∙ c .if1 .taken))
+    (at-of2 .before .before .before .before .plain-columns .ensures) (width-here d) (d .with-width .ensures)
+    (rw (at-of2 .of2 .ensures) at (sym (c .before .room-good .ensures) ∙ c .if1 .taken))
 
 returns-2 : tie.Need-returns-2
 returns-2 c =
-    let d = c .before .before .before in
-    let a = c .before .before .before .before .before .before .before .args in
+    let at-of2 = c .before .before in
+    let d = at-of2 .before in
+    let a = at-of2 .before .before .before .before .before .args in
     measured-not _ (a .h) (a .r) (a .before) _ _ _
-    (c .before .before .before .before .before .before .plain-columns .ensures) (width-here d) (d .with-width .ensures)
-    (rw (c .before .before .of2 .ensures) at (sym (c .before .room-good .ensures) ∙ c .if1 .left))
+    (at-of2 .before .before .before .before .plain-columns .ensures) (width-here d) (d .with-width .ensures)
+    (rw (at-of2 .of2 .ensures) at (sym (c .before .room-good .ensures) ∙ c .if1 .left))
 
 pub measure-spec : {M : Type 1} → statement M
 measure-spec =

@@ -29,10 +29,11 @@ next-part-requires c κs = (c .before .before .pre, c .loop .inv .1)
 
 returns : tie.Need-returns Inv-loop μ-loop
 returns c =
-    let s = part-said _ _ _ _ _ _ (c .before .before .before .before .before .before .next-part .ensures)
-    (c .before .before .before .before .sign .given .1) in
-    sym (c .before .before .before .before .before .before .before .loop .inv .0
-    ∙ special-next (s .split) (c .before .before .byte-of .ensures) ∙ rw (sym (c .before .special .ensures), c .if1 .taken))
+    let at-byte-of = c .before .before in
+    let s = part-said _ _ _ _ _ _ (at-byte-of .before .before .before .before .next-part .ensures)
+    (at-byte-of .before .before .sign .given .1) in
+    sym (at-byte-of .before .before .before .before .before .loop .inv .0
+    ∙ special-next (s .split) (at-byte-of .byte-of .ensures) ∙ rw (sym (c .before .special .ensures), c .if1 .taken))
 
 loop-less : tie.Need-loop-less Inv-loop μ-loop
 loop-less c = let s = part-said _ _ _ _ _ _ (c .before .before .before .before .before .before .next-part .ensures)
@@ -40,10 +41,10 @@ loop-less c = let s = part-said _ _ _ _ _ _ (c .before .before .before .before .
 
 loop-again : tie.Need-loop-again Inv-loop μ-loop
 loop-again c =
-    let s = part-said _ _ _ _ _ _ (c .before .before .before .before .before .before .next-part .ensures)
-    (c .before .before .before .before .sign .given .1) in (
-      c .before .before .before .before .before .before .before .loop .inv .0
-          ∙ special-next (s .split) (c .before .before .byte-of .ensures)
+    let at-byte-of = c .before .before in
+    let s = part-said _ _ _ _ _ _ (at-byte-of .before .before .before .before .next-part .ensures)
+    (at-byte-of .before .before .sign .given .1) in (
+      at-byte-of .before .before .before .before .before .loop .inv .0 ∙ special-next (s .split) (at-byte-of .byte-of .ensures)
           ∙ rw (sym (c .before .special .ensures), c .if1 .left),
       s .rests,
     )

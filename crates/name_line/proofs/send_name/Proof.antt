@@ -11,21 +11,21 @@ use Rattle.name_line.proofs.send_name.Tie as tie
 
 returns : tie.Need-returns
 returns c =
-    let a = c .before .before .before .before .before .before .before .args in
-    let e = c .before .before .before .before .before .before .before .pre .1 in
-    sent-as (c .before .before .send-xml .ensures)
-    (ap fieldBytes
-    (ap (λ (s : Script). xmlText (s .latin) (a .d .now) (a .place) (a .long)) e
-    ∙ sym (name-xml (a .d .now) (a .place) (a .long)
-    (sym (ap (λ (s : Script). s .xml) e) ∙ c .before .before .before .before .if1 .taken))))
+    let at-send-xml = c .before .before in
+    let start = at-send-xml .before .before .before .before .before in
+    let a = start .args in
+    let e = start .pre .1 in
+    sent-as (at-send-xml .send-xml .ensures) (ap fieldBytes (ap (λ (s : Script). xmlText (s .latin) (a .d .now) (a .place) (a .long)) e
+    ∙ sym (name-xml (a .d .now) (a .place) (a .long) (sym (ap (λ (s : Script). s .xml) e) ∙ at-send-xml .before .before .if1 .taken))))
 
 returns-2 : tie.Need-returns-2
 returns-2 c =
-    let a = c .before .before .before .before .before .before .before .args in
-    let e = c .before .before .before .before .before .before .before .pre .1 in
-    sent-as (c .before .before .send-plain .ensures)
-    (ap fieldBytes (sym (name-plain (a .d .now) (a .place) (a .long)
-    (sym (ap (λ (s : Script). s .xml) e) ∙ c .before .before .before .before .if1 .left))))
+    let at-send-plain = c .before .before in
+    let start = at-send-plain .before .before .before .before .before in
+    let a = start .args in
+    let e = start .pre .1 in
+    sent-as (at-send-plain .send-plain .ensures) (ap fieldBytes (sym (name-plain (a .d .now) (a .place) (a .long)
+    (sym (ap (λ (s : Script). s .xml) e) ∙ at-send-plain .before .before .if1 .left))))
 
 pub send-name-spec : {M : Type 1} → statement M
 send-name-spec =

@@ -50,10 +50,11 @@ long-at-requires c κs = (
 )
 
 send-name-requires : tie.Need-send-name-requires Inv-loop μ-loop
-send-name-requires c κs = (
-  c .before .before .before .before .before .before .before .before .before .before .before .before .pre .0,
-  c .before .before .before .before .before .before .before .before .before .script-of .ensures,
-)
+send-name-requires c κs =
+    let at-script-of = c .before .before .before .before .before .before .before .before .before in (
+      at-script-of .before .before .before .pre .0,
+      at-script-of .script-of .ensures,
+    )
 
 add-i : tie.Need-add-i Inv-loop μ-loop
 add-i c = omega (arith, c .before .before .before .before .before .before .before .before .before .before .loop-test .taken)

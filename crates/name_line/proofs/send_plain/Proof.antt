@@ -15,11 +15,12 @@ returns c =
 
 returns-2 : tie.Need-returns-2
 returns-2 c =
-    sent-as (then (c .before .before .before .before .before .before .before .before .before .before .send-byte .ensures)
-    (then (c .before .before .before .before .before .before .send-signs2 .ensures) (c .before .before .send-byte2 .ensures)))
-    (field-quoted _
-    (sym (c .before .before .before .before .before .before .before .before .before .before .before .before .before .needs-quotes .ensures)
-    ∙ not-false _ (c .before .before .before .before .before .before .before .before .before .before .before .before .if1 .left)))
+    let at-send-byte2 = c .before .before in
+    let at-send-signs2 = at-send-byte2 .before .before .before .before in
+    let at-send-byte = at-send-signs2 .before .before .before .before in
+    sent-as (then (at-send-byte .send-byte .ensures) (then (at-send-signs2 .send-signs2 .ensures) (at-send-byte2 .send-byte2 .ensures)))
+    (field-quoted _ (sym (at-send-byte .before .before .before .needs-quotes .ensures)
+    ∙ not-false _ (at-send-byte .before .before .if1 .left)))
 
 pub send-plain-spec : {M : Type 1} → statement M
 send-plain-spec =

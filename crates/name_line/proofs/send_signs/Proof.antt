@@ -30,15 +30,17 @@ next-part-requires : tie.Need-next-part-requires Inv-loop μ-loop
 next-part-requires c κs = (c .before .before .before .pre, c .loop .inv .1)
 
 loop-less : tie.Need-loop-less Inv-loop μ-loop
-loop-less c = shorter (part-said _ _ _ _ _ _ (c .before .before .before .before .before .before .before .before .next-part .ensures)
-    (c .before .before .before .before .before .before .sign .given .1) .split)
+loop-less c =
+    let at-sign = c .before .before .before .before .before .before in
+    shorter (part-said _ _ _ _ _ _ (at-sign .before .before .next-part .ensures) (at-sign .sign .given .1) .split)
 
 loop-again : tie.Need-loop-again Inv-loop μ-loop
 loop-again c =
-    let s = part-said _ _ _ _ _ _ (c .before .before .before .before .before .before .before .before .next-part .ensures)
-    (c .before .before .before .before .before .before .sign .given .1) in (
-      less-owed (c .before .before .before .before .before .before .before .before .before .loop .inv .0)
-          (doubled-next (s .split) (c .before .before .before .byte-of .ensures)) (c .before .before .send-doubled .ensures),
+    let at-byte-of = c .before .before .before in
+    let at-sign = at-byte-of .before .before .before in
+    let s = part-said _ _ _ _ _ _ (at-sign .before .before .next-part .ensures) (at-sign .sign .given .1) in (
+      less-owed (at-sign .before .before .before .loop .inv .0)
+          (doubled-next (s .split) (at-byte-of .byte-of .ensures)) (c .before .before .send-doubled .ensures),
       s .rests,
     )
 

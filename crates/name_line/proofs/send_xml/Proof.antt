@@ -26,13 +26,13 @@ xml-send-rest-requires c κs = omega (
 
 returns : tie.Need-returns
 returns c =
-    let a = c .before .before .before .before .before .before .before .before .before .args in
-    sent-as (c .before .before .xml-send-rest .ensures)
-    (ap fieldBytes
-    (ap (λ (q : ℕ). restText (a .latin) (take (c .before .before .before .before .before .before .end-of .result) (a .d .now)) q)
-    (c .before .before .before .before .before .from-of .ensures .0)
-    ∙ ap (λ (q : ℕ). restText (a .latin) (take q (a .d .now)) (fromOf q (a .place)))
-    (c .before .before .before .before .before .before .end-of .ensures .0)
+    let at-xml-send-rest = c .before .before in
+    let at-end-of = at-xml-send-rest .before .before .before .before in
+    let a = at-end-of .before .before .before .args in
+    sent-as (at-xml-send-rest .xml-send-rest .ensures) (ap fieldBytes
+    (ap (λ (q : ℕ). restText (a .latin) (take (at-end-of .end-of .result) (a .d .now)) q)
+    (at-xml-send-rest .before .before .before .from-of .ensures .0)
+    ∙ ap (λ (q : ℕ). restText (a .latin) (take q (a .d .now)) (fromOf q (a .place))) (at-end-of .end-of .ensures .0)
     ∙ rest-is (a .latin) (a .d .now) (a .place) (a .long)))
 
 pub send-xml-spec : {M : Type 1} → statement M

@@ -28,10 +28,11 @@ next-sign-requires : tie.Need-next-sign-requires Inv-loop μ-loop
 next-sign-requires c κs = (c .loop .inv .1, c .loop .inv .2)
 
 returns : tie.Need-returns Inv-loop μ-loop
-returns c = let o = told-one _ _ (c .before .before .before .before .before .before .next-sign .ensures)
-    (c .before .before .before .before .sign .given .1) in
-    sym (c .before .before .before .before .before .before .before .loop .inv .0
-    ∙ special-next (o .split) (c .before .before .byte-of .ensures) ∙ rw (sym (c .before .special .ensures), c .if1 .taken))
+returns c =
+    let at-byte-of = c .before .before in
+    let o = told-one _ _ (at-byte-of .before .before .before .before .next-sign .ensures) (at-byte-of .before .before .sign .given .1) in
+    sym (at-byte-of .before .before .before .before .before .loop .inv .0
+    ∙ special-next (o .split) (at-byte-of .byte-of .ensures) ∙ rw (sym (c .before .special .ensures), c .if1 .taken))
 
 loop-less : tie.Need-loop-less Inv-loop μ-loop
 loop-less c = let o = told-one _ _ (c .before .before .before .before .before .before .next-sign .ensures)
@@ -39,10 +40,9 @@ loop-less c = let o = told-one _ _ (c .before .before .before .before .before .b
 
 loop-again : tie.Need-loop-again Inv-loop μ-loop
 loop-again c =
-    let o = told-one _ _ (c .before .before .before .before .before .before .next-sign .ensures)
-    (c .before .before .before .before .sign .given .1) in (
-      c .before .before .before .before .before .before .before .loop .inv .0
-          ∙ special-next (o .split) (c .before .before .byte-of .ensures)
+    let at-byte-of = c .before .before in
+    let o = told-one _ _ (at-byte-of .before .before .before .before .next-sign .ensures) (at-byte-of .before .before .sign .given .1) in (
+      at-byte-of .before .before .before .before .before .loop .inv .0 ∙ special-next (o .split) (at-byte-of .byte-of .ensures)
           ∙ rw (sym (c .before .special .ensures), c .if1 .left),
       o .next,
       o .small,

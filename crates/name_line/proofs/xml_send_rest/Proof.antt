@@ -15,11 +15,12 @@ returns c =
 
 returns-2 : tie.Need-returns-2
 returns-2 c =
-    sent-as (then (c .before .before .before .before .before .before .before .before .before .before .send-byte .ensures)
-    (then (c .before .before .before .before .before .before .xml-send-signs2 .ensures) (c .before .before .send-byte2 .ensures)))
-    (field-quoted _
-    (sym (c .before .before .before .before .before .before .before .before .before .before .before .before .before .xml-needs-quotes
-    .ensures) ∙ not-false _ (c .before .before .before .before .before .before .before .before .before .before .before .before .if1 .left)))
+    let at-send-byte2 = c .before .before in
+    let at-xml-send-signs2 = at-send-byte2 .before .before .before .before in
+    let at-send-byte = at-xml-send-signs2 .before .before .before .before in
+    sent-as (then (at-send-byte .send-byte .ensures)
+    (then (at-xml-send-signs2 .xml-send-signs2 .ensures) (at-send-byte2 .send-byte2 .ensures))) (field-quoted _
+    (sym (at-send-byte .before .before .before .xml-needs-quotes .ensures) ∙ not-false _ (at-send-byte .before .before .if1 .left)))
 
 pub xml-send-rest-spec : {M : Type 1} → statement M
 xml-send-rest-spec =

@@ -30,15 +30,17 @@ next-sign-requires : tie.Need-next-sign-requires Inv-loop μ-loop
 next-sign-requires c κs = (c .loop .inv .1, c .loop .inv .2)
 
 loop-less : tie.Need-loop-less Inv-loop μ-loop
-loop-less c = let o = told-one _ _ (c .before .before .before .before .before .before .before .before .next-sign .ensures)
-    (c .before .before .before .before .before .before .sign .given .1) in shorter (o .split)
+loop-less c =
+    let at-sign = c .before .before .before .before .before .before in
+    let o = told-one _ _ (at-sign .before .before .next-sign .ensures) (at-sign .sign .given .1) in shorter (o .split)
 
 loop-again : tie.Need-loop-again Inv-loop μ-loop
 loop-again c =
-    let o = told-one _ _ (c .before .before .before .before .before .before .before .before .next-sign .ensures)
-    (c .before .before .before .before .before .before .sign .given .1) in (
-      less-owed (c .before .before .before .before .before .before .before .before .before .loop .inv .0)
-          (doubled-next (o .split) (c .before .before .before .byte-of .ensures)) (c .before .before .send-doubled .ensures),
+    let at-byte-of = c .before .before .before in
+    let at-sign = at-byte-of .before .before .before in
+    let o = told-one _ _ (at-sign .before .before .next-sign .ensures) (at-sign .sign .given .1) in (
+      less-owed (at-sign .before .before .before .loop .inv .0)
+          (doubled-next (o .split) (at-byte-of .byte-of .ensures)) (c .before .before .send-doubled .ensures),
       o .next,
       o .small,
     )

@@ -76,9 +76,11 @@ returns-2 c = sym (c .before .before .before .rows .inv .0
     ∙ fault-here _ _ _ (c .before .before .rows-test .taken) (wrong-zero _ _ (c .if1 .taken)))
 
 returns-3 : tie.Need-returns-3 Inv-loop μ-loop Inv-rows μ-rows
-returns-3 c = sym (c .before .before .before .before .before .before .before .before .rows .inv .0
-    ∙ fault-here _ _ _ (c .before .before .before .before .before .before .before .rows-test .taken)
-    (wrong-pair _ _ (c .before .before .before .loop .i) (c .before .before .loop-test .taken) (c .if2 .taken)))
+returns-3 c =
+    let at-loop = c .before .before .before in
+    sym (at-loop .before .before .before .before .before .rows .inv .0
+    ∙ fault-here _ _ _ (at-loop .before .before .before .before .rows-test .taken)
+    (wrong-pair _ _ (at-loop .loop .i) (c .before .before .loop-test .taken) (c .if2 .taken)))
 
 pub first-fault-spec : {M : Type 1} → statement M
 first-fault-spec =

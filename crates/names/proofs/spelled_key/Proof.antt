@@ -43,18 +43,18 @@ may-stand-requires c κs = c .before .before .before .before .before .before .be
 
 returns : tie.Need-returns Inv-loop μ-loop
 returns c =
-    let s = part-said _ _ _ _ _ _ (c .before .before .before .before .before .before .before .before .next-part .ensures)
-    (c .before .before .before .before .before .before .sign .given .1) in
-    sym (c .before .before .before .before .before .before .before .before .before .before .loop .inv .0
-    ∙ key-bad _ _ (told (s .split) (c .before .before .before .sign2 .given .1))
+    let at-sign2 = c .before .before .before in
+    let at-sign = at-sign2 .before .before .before in
+    let s = part-said _ _ _ _ _ _ (at-sign .before .before .next-part .ensures) (at-sign .sign .given .1) in
+    sym (at-sign .before .before .before .before .loop .inv .0 ∙ key-bad _ _ (told (s .split) (at-sign2 .sign2 .given .1))
     (sym (c .before .may-stand .ensures) ∙ not-true _ (c .if1 .taken)))
 
 returns-2 : tie.Need-returns-2 Inv-loop μ-loop
 returns-2 c =
-    let s = part-said _ _ _ _ _ _ (c .before .before .before .before .before .before .before .before .before .next-part .ensures)
-    (c .before .before .before .before .before .before .before .sign .given .1) in
-    sym (c .before .before .before .before .before .before .before .before .before .before .before .loop .inv .0
-    ∙ key-long _ _ (told (s .split) (c .before .before .before .before .sign2 .given .1))
+    let at-sign2 = c .before .before .before .before in
+    let at-sign = at-sign2 .before .before .before in
+    let s = part-said _ _ _ _ _ _ (at-sign .before .before .next-part .ensures) (at-sign .sign .given .1) in
+    sym (at-sign .before .before .before .before .loop .inv .0 ∙ key-long _ _ (told (s .split) (at-sign2 .sign2 .given .1))
     (sym (c .before .before .may-stand .ensures) ∙ not-false _ (c .before .if1 .left)) (c .if2 .taken))
 
 mul-key : tie.Need-mul-key Inv-loop μ-loop

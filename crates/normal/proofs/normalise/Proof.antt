@@ -32,21 +32,21 @@ returns-3 c =
 returns-4 : tie.Need-returns-4
 unfolding normalSaid
 returns-4 c =
-    judged-not _ _ (good (c .before .before .before .before .before .before .before)) _
-    (c .before .before .before .before .before .before .before .read .ensures)
-    (c .before .before .before .before .before .before .none-shared .ensures)
-    (not-false _ (c .before .before .before .before .before .if2 .left)) (c .before .before .before .before .if3 .left)
-    (c .before .before .judge .ensures) (c .before .is-sound .ensures) (not-true _ (c .if4 .taken))
+    let at-judge = c .before .before in
+    let at-read = at-judge .before .before .before .before .before in
+    judged-not _ _ (good at-read) _ (at-read .read .ensures) (at-judge .before .before .before .before .none-shared .ensures)
+    (not-false _ (at-judge .before .before .before .if2 .left)) (at-judge .before .before .if3 .left)
+    (at-judge .judge .ensures) (c .before .is-sound .ensures) (not-true _ (c .if4 .taken))
 
 returns-5 : tie.Need-returns-5
 unfolding normalSaid
 returns-5 c =
-    judged-done _ _ (good (c .before .before .before .before .before .before .before .before .before .before .before)) _
-    (c .before .before .before .before .before .before .before .before .before .before .before .read .ensures)
-    (c .before .before .before .before .before .before .before .before .before .before .none-shared .ensures)
-    (not-false _ (c .before .before .before .before .before .before .before .before .before .if2 .left))
-    (c .before .before .before .before .before .before .before .before .if3 .left)
-    (c .before .before .before .before .before .before .judge .ensures) (c .before .before .before .before .before .is-sound .ensures)
+    let at-is-sound = c .before .before .before .before .before in
+    let at-judge = at-is-sound .before in
+    let at-read = at-judge .before .before .before .before .before in
+    judged-done _ _ (good at-read) _ (at-read .read .ensures) (at-judge .before .before .before .before .none-shared .ensures)
+    (not-false _ (at-judge .before .before .before .if2 .left)) (at-judge .before .before .if3 .left)
+    (at-judge .judge .ensures) (at-is-sound .is-sound .ensures)
     (not-false _ (c .before .before .before .before .if4 .left)) (c .before .before .settle-all .ensures)
 
 pub normalise-spec : {M : Type 1} → statement M
@@ -64,10 +64,10 @@ normalise-spec =
     (λ c κs. search needs)
     (λ c. search needs)
     returns-4
-    (λ c κs. (
-      known _ (good (c .before .before .before .before .before .before .before .before)) _
-          (c .before .before .before .before .before .before .before .before .read .ensures) .0,
-      c .before .before .before .before .before .if3 .left,
+    (λ c κs. let at-if3 = c .before .before .before .before .before in let at-read = at-if3 .before .before .before in (
+      known _ (good at-read) _
+          (at-read .read .ensures) .0,
+      at-if3 .if3 .left,
     ))
     (λ c. search needs)
     returns-5)

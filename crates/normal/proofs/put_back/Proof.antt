@@ -25,15 +25,19 @@ returns c = written-back _ _ _ _ _ (held _ _ _ _ _ (c .before .before .before .b
 
 returns-2 : tie.Need-returns-2
 unfolding valueOf
-returns-2 c = written-back _ _ _ _ _ (held _ _ _ _ _ (c .before .before .before .before .before .before .said .given .1)
-    (c .before .before .before .before .before .before .before .before .before .pre .1 .1))
-    (rw (back (c .before .before .before .before .before))) (c .before .before .write-row2 .ensures)
+returns-2 c =
+    let at-write-row2 = c .before .before in
+    let at-said = at-write-row2 .before .before .before .before in
+    written-back _ _ _ _ _ (held _ _ _ _ _ (at-said .said .given .1) (at-said .before .before .before .pre .1 .1))
+    (rw (back (at-write-row2 .before .before .before))) (at-write-row2 .write-row2 .ensures)
 
 returns-3 : tie.Need-returns-3
 unfolding valueOf
-returns-3 c = written-back _ _ _ _ _ (held _ _ _ _ _ (c .before .before .before .before .before .before .before .said2 .given .1)
-    (c .before .before .before .before .before .before .before .before .before .before .pre .1 .1) .1) refl
-    (c .before .before .write-row3 .ensures)
+returns-3 c =
+    let at-write-row3 = c .before .before in
+    let at-said2 = at-write-row3 .before .before .before .before .before in
+    written-back _ _ _ _ _ (held _ _ _ _ _ (at-said2 .said2 .given .1) (at-said2 .before .before .before .pre .1 .1) .1) refl
+    (at-write-row3 .write-row3 .ensures)
 
 pub put-back-spec : {M : Type 1} → statement M
 put-back-spec =

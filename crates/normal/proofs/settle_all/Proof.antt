@@ -9,11 +9,12 @@ use Rattle.normal.proofs.settle_all.Statement.{statement}
 use Rattle.normal.proofs.settle_all.Tie as tie
 
 settle-rows-requires : tie.Need-settle-rows-requires
-settle-rows-requires c κs = (
-  c .before .before .before .before .powers .ensures,
-  table-settles _ _ (c .before .before .before .before .before .before .pre .0) (c .before .before .before .before .before .before .pre .1)
-      (inl (c .before .before .before .if1 .taken)),
-)
+settle-rows-requires c κs =
+    let at-if1 = c .before .before .before in
+    let start = at-if1 .before .before .before in (
+      at-if1 .before .powers .ensures,
+      table-settles _ _ (start .pre .0) (start .pre .1) (inl (at-if1 .if1 .taken)),
+    )
 
 settle-rows-requires-2 : tie.Need-settle-rows-requires-2
 settle-rows-requires-2 c κs =

@@ -11,12 +11,13 @@ returns c = stays-back _ _ _ _ (c .before .stays .ensures) (c .if1 .taken)
 
 put-back-requires : tie.Need-put-back-requires
 put-back-requires c κs =
-    let p = c .before .before .before .before .before .before .before .before .before .pre in (
+    let at-read-row = c .before .before .before in
+    let at-if1 = at-read-row .before .before .before in
+    let p = at-if1 .before .before .before .pre in (
       p .0,
       (
         p .1 .write,
-        held-as _ _ _ _ (p .1) (c .before .before .before .before .before .before .before .stays .ensures)
-            (c .before .before .before .before .before .before .if1 .left) (c .before .before .before .read-row .ensures),
+        held-as _ _ _ _ (p .1) (at-if1 .before .stays .ensures) (at-if1 .if1 .left) (at-read-row .read-row .ensures),
       ),
     )
 

@@ -32,11 +32,13 @@ returns-3 c = let h = c .before .before .before .before .before .before .args .h
 
 returns-4 : tie.Need-returns-4
 unfolding manneredOf judged
-returns-4 c = let h = c .before .before .before .before .before .before .before .before .args .h in
+returns-4 c =
+    let at-if3 = c .before .before .before in
+    let h = at-if3 .before .before .before .before .before .args .h in
     rw (
-      c .before .before .before .before .before .before .if1 .left,
-      eq-eqb (h .unknown) 0 (c .before .before .before .before .if2 .taken),
-      c .before .before .before .if3 .left,
+      at-if3 .before .before .before .if1 .left,
+      eq-eqb (h .unknown) 0 (at-if3 .before .if2 .taken),
+      at-if3 .if3 .left,
       none (h .a) (h .unknown) (h .third),
       c .before .before .if4 .left,
     )

@@ -16,10 +16,11 @@ returns c = let a = c .before .before .args in (rw (c .if1 .taken) (old-names (a
 returns-2 : tie.Need-returns-2
 unfolding titledOf
 returns-2 c =
-    let a = c .before .before .before .before .before .before .before .before .args in
+    let at-perhaps-text = c .before .before .before in
+    let a = at-perhaps-text .before .before .before .before .before .args in
     let p = perhaps (a .bad) (a .d .now) SURVEY in
-    let e = opened-is (bind (readOf (a .o)) (p NAME 0)) (c .before .before .before .perhaps-text .ensures .0) in (
-      rw (c .before .before .before .before .before .before .if1 .left)
+    let e = opened-is (bind (readOf (a .o)) (p NAME 0)) (at-perhaps-text .perhaps-text .ensures .0) in (
+      rw (at-perhaps-text .before .before .before .if1 .left)
           (c .perhaps-text2 .ensures .0 ∙ ap (λ (y : Result Open). openOf (bind y (p VERSION 0))) e
           ∙ ap openOf (bind-bind (readOf (a .o)) (p NAME 0) (p VERSION 0))),
       c .perhaps-text2 .ensures .1,

@@ -16,21 +16,19 @@ perhaps-text-requires c κs = let a = c .before .before .before .before .before 
 returns : tie.Need-returns
 unfolding heading
 returns c =
-    let a = c .before .before .before .before .before .before .before .before .before .before .before .before .before .before .before
-    .args in
+    let at-perhaps-text3 = c .before .before .before in
+    let at-perhaps-text2 = at-perhaps-text3 .before .before .before in
+    let at-perhaps-text = at-perhaps-text2 .before .before .before in
+    let at-find-open = at-perhaps-text .before .before .before in
+    let a = at-find-open .before .before .before .args in
     let b = a .bad in
     let d = a .d .now in
     let x = within b d SSS (a .at) in
-    let e1 = opened-is x
-    (c .before .before .before .before .before .before .before .before .before .before .before .before .find-open .ensures .0) in
-    let e2 = opened-is _ (c .before .before .before .before .before .before .before .before .before .perhaps-text .ensures .0)
-    ∙ ap (λ (y : Result Open). bind y (perhaps b d SSS DATE 0)) e1 in
-    let e3 = opened-is _ (c .before .before .before .before .before .before .perhaps-text2 .ensures .0)
-    ∙ ap (λ (y : Result Open). bind y (perhaps b d SSS TIME 0)) e2 in
-    let e4 = opened-is _ (c .before .before .before .perhaps-text3 .ensures .0)
-    ∙ ap (λ (y : Result Open). bind y (perhaps b d SSS ORIGIN 0)) e3 in (
-      c .perhaps-text4 .ensures .0
-          ∙ ap (λ (y : Result Open). openOf (bind y (perhaps b d SSS USER 0))) e4
+    let e1 = opened-is x (at-find-open .find-open .ensures .0) in
+    let e2 = opened-is _ (at-perhaps-text .perhaps-text .ensures .0) ∙ ap (λ (y : Result Open). bind y (perhaps b d SSS DATE 0)) e1 in
+    let e3 = opened-is _ (at-perhaps-text2 .perhaps-text2 .ensures .0) ∙ ap (λ (y : Result Open). bind y (perhaps b d SSS TIME 0)) e2 in
+    let e4 = opened-is _ (at-perhaps-text3 .perhaps-text3 .ensures .0) ∙ ap (λ (y : Result Open). bind y (perhaps b d SSS ORIGIN 0)) e3 in (
+      c .perhaps-text4 .ensures .0 ∙ ap (λ (y : Result Open). openOf (bind y (perhaps b d SSS USER 0))) e4
           ∙ ap openOf (four x (perhaps b d SSS DATE 0) (perhaps b d SSS TIME 0) (perhaps b d SSS ORIGIN 0) (perhaps b d SSS USER 0)),
       c .perhaps-text4 .ensures .1,
     )

@@ -11,34 +11,32 @@ says-word-requires : tie.Need-says-word-requires
 says-word-requires c κs =
     let a = c .before .before .before .before .before .before .args in
     let t = tag-tells (a .d .now) 0 6 0 (a .bad) (a .opened) (a .at) VERSION OPTIONS LANGUAGES 1
-    (c .before .before .before .before .before .before .pre)
     (sym (c .before .before .before .before .root-tag .ensures) ∙ c .before .before .held .given .1) in
     let s = first-there (a .d .now) 0 6 0 t in
     (s .ends, s .within)
 
 says-word-requires-2 : tie.Need-says-word-requires-2
 says-word-requires-2 c κs =
-    let a = c .before .before .before .before .before .before .before .before .args in
+    let at-held = c .before .before .before .before in
+    let a = at-held .before .before .before .before .args in
     let t = tag-tells (a .d .now) 0 6 0 (a .bad) (a .opened) (a .at) VERSION OPTIONS LANGUAGES 1
-    (c .before .before .before .before .before .before .before .before .pre)
-    (sym (c .before .before .before .before .before .before .root-tag .ensures) ∙ c .before .before .before .before .held .given .1) in
+    (sym (at-held .before .before .root-tag .ensures) ∙ at-held .held .given .1) in
     let s = first-there (a .d .now) 0 6 0 t in
     (s .ends, s .within)
 
 returns : tie.Need-returns
 returns c =
-    let a = c .before .before .before .before .before .before .before .before .before .before .args in
-    let e = sym (c .before .before .before .before .before .before .before .before .root-tag .ensures)
-    ∙ c .before .before .before .before .before .before .held .given .1 in (
+    let at-says-word = c .before .before .before in
+    let at-held = at-says-word .before .before .before in
+    let a = at-held .before .before .before .before .args in
+    let e = sym (at-held .before .before .root-tag .ensures) ∙ at-held .held .given .1 in (
       rw (
         manner-read (a .bad) (a .d .now) (a .latin) (a .opened) (a .at) e,
-        sym (c .before .before .before .says-word .ensures),
+        sym (at-says-word .says-word .ensures),
         sym (c .before .says-word2 .ensures),
-      )
-          (c .judge-manner .ensures),
+      ) (c .judge-manner .ensures),
       rw (c .judge-manner .ensures) (manner-in (a .d .now) _ _ _ _ _ _ _
-          (tag-tells (a .d .now) 0 6 0 (a .bad) (a .opened) (a .at) VERSION OPTIONS LANGUAGES 1
-          (c .before .before .before .before .before .before .before .before .before .before .pre) e .next)),
+          (tag-tells (a .d .now) 0 6 0 (a .bad) (a .opened) (a .at) VERSION OPTIONS LANGUAGES 1 e .next)),
     )
 
 returns-2 : tie.Need-returns-2

@@ -14,10 +14,11 @@ root-at-requires c κs =
 returns : tie.Need-returns
 unfolding root
 returns c =
-    let a = c .before .before .before .before .before .before .args in
-    let e = sym (c .before .before .before .before .read-head .ensures) ∙ c .before .before .next .given .1 in (
-      rw (e, head-in (a .bad) (a .latin) (a .d .now) (a .at) _ _ (c .before .before .before .before .before .before .pre) e .same)
-          (c .root-at .ensures .0),
+    let at-next = c .before .before in
+    let start = at-next .before .before .before .before in
+    let a = start .args in
+    let e = sym (at-next .before .before .read-head .ensures) ∙ at-next .next .given .1 in (
+      rw (e, head-in (a .bad) (a .latin) (a .d .now) (a .at) _ _ (start .pre) e .same) (c .root-at .ensures .0),
       c .root-at .ensures .1,
     )
 

@@ -21,21 +21,25 @@ returns-2 c = rw (
 
 returns-3 : tie.Need-returns-3
 unfolding lowerOf
-returns-3 c = rw (
-  ne-eqb (c .before .before .before .before .before .before .args .a .number) 0
-      (c .before .before .before .before .if1 .left),
-  ne-eqb (c .before .before .before .before .before .before .args .b .number) 0 (c .before .before .if2 .left),
-  sym (c .before .comes-first .ensures) ∙ c .if3 .taken,
-)
+returns-3 c =
+    let at-if2 = c .before .before in
+    let args = at-if2 .before .before .before .before .args in
+    rw (
+      ne-eqb (args .a .number) 0 (at-if2 .before .before .if1 .left),
+      ne-eqb (args .b .number) 0 (at-if2 .if2 .left),
+      sym (c .before .comes-first .ensures) ∙ c .if3 .taken,
+    )
 
 returns-4 : tie.Need-returns-4
 unfolding lowerOf
-returns-4 c = rw (
-  ne-eqb (c .before .before .before .before .before .before .args .a .number) 0
-      (c .before .before .before .before .if1 .left),
-  ne-eqb (c .before .before .before .before .before .before .args .b .number) 0 (c .before .before .if2 .left),
-  sym (c .before .comes-first .ensures) ∙ c .if3 .left,
-)
+returns-4 c =
+    let at-if2 = c .before .before in
+    let args = at-if2 .before .before .before .before .args in
+    rw (
+      ne-eqb (args .a .number) 0 (at-if2 .before .before .if1 .left),
+      ne-eqb (args .b .number) 0 (at-if2 .if2 .left),
+      sym (c .before .comes-first .ensures) ∙ c .if3 .left,
+    )
 
 pub lower-spec : {M : Type 1} → statement M
 lower-spec = tie.close (tie.spec returns returns-2 (λ c κs. search needs) returns-3 returns-4)

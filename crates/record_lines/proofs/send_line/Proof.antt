@@ -26,13 +26,14 @@ loop-holds c = (omega arith, refl, all-owed _ _ _ (line-whole (c .before .before
 
 send-row-requires : tie.Need-send-row-requires Inv-loop μ-loop
 send-row-requires c κs =
-    let p = c .before .before .before .before .before .before .before .before .before .before .before .pre in (
+    let at-if1 = c .before .before .before .before .before .before in
+    let p = at-if1 .before .before .before .before .before .pre in (
       record {
         tens = p .0 .tens;
         tested = p .0 .tested;
-        list = c .before .before .before .before .before .before .before .before .loop .inv .1 ∙ p .0 .list;
+        list = at-if1 .before .before .loop .inv .1 ∙ p .0 .list;
       },
-      (c .before .before .before .before .before .before .if1 .taken, p .1),
+      (at-if1 .if1 .taken, p .1),
     )
 
 add-i : tie.Need-add-i Inv-loop μ-loop

@@ -50,19 +50,19 @@ part-send-line-end c =
 
 send-line-requires : tie.Need-send-line-requires Inv-loop μ-loop
 send-line-requires c κs =
-    let p = c .before .before .before .before .before .before .before .before .before .before .before .pre in
-    let e = next-ended (c .before .before .before .before .before .before .before .before .before .before .before .args .d .now)
-    (c .before .before .before .before .before .before .before .before .before .before .before .args .w)
-    (c .before .before .before .before .before .before .before .before .loop .from)
-    (sym (c .before .before .before .before .before .before .next-from .ensures) ∙ c .before .before .before .before .start .given .1) in (
+    let at-start = c .before .before .before .before in
+    let at-loop = at-start .before .before .before .before in
+    let start = at-loop .before .before .before in
+    let p = start .pre in
+    let e = next-ended (start .args .d .now) (start .args .w) (at-loop .loop .from)
+    (sym (at-start .before .before .next-from .ensures) ∙ at-start .start .given .1) in (
       record {
         tens = p .0 .tens;
         tested = p .0 .tested;
-        list = c .before .before .before .before .before .before .before .before .loop .inv .0 ∙ p .0 .list;
+        list = at-loop .loop .inv .0 ∙ p .0 .list;
       },
-      rw (e .starts) (long-next (c .before .before .before .before .before .before .before .before .loop .k)
-          (c .before .before .before .before .before .before .before .loop-test .taken) (e .records)
-          (c .before .before .before .before .before .before .before .before .loop .inv .1) .0),
+      rw (e .starts) (long-next (at-loop .loop .k) (at-start .before .before .before .loop-test .taken) (e .records)
+          (at-loop .loop .inv .1) .0),
     )
 
 sub-k : tie.Need-sub-k Inv-loop μ-loop
@@ -73,24 +73,19 @@ loop-less c = omega (arith, c .before .before .before .before .before .before .b
 
 loop-again : tie.Need-loop-again Inv-loop μ-loop
 loop-again c =
-    let l = c .before .before .before .before .before .before .before .before .before .before .before .before .loop .inv in
-    let a = c .before .before .before .before .before .before .before .before .before .before .before .before .before .before .before
-    .args in
-    let e = next-ended (a .d .now) (a .w)
-    (c .before .before .before .before .before .before .before .before .before .before .before .before .loop .from)
-    (sym (c .before .before .before .before .before .before .before .before .before .before .next-from .ensures)
-    ∙ c .before .before .before .before .before .before .before .before .start .given .1) in (
-      c .before .before .before .send-line .kept .1 .1 .1 .1 .0 ∙ l .0,
-      long-next (c .before .before .before .before .before .before .before .before .before .before .before .before .loop .k)
-          (c .before .before .before .before .before .before .before .before .before .before .before .loop-test .taken) (e .records)
-          (l .1) .1,
-      less-owed (l .2)
-          (lines-next (c .before .before .before .before .before .before .before .before .before .before .before .before .loop .k)
-          (c .before .before .before .before .before .before .before .before .before .before .before .loop-test .taken) (a .t .now)
-          (e .records))
-          (sent-as (c .before .before .before .send-line .ensures)
-          (ap (λ (x : ℕ). lineBytes (recordLine (a .t .now)
-          (part (a .d .now) x (c .before .before .before .before .before .before .before .before .start .given .0 .1 .0)))) (e .starts))),
+    let at-send-line = c .before .before .before in
+    let at-start = at-send-line .before .before .before .before .before in
+    let at-loop-test = at-start .before .before .before in
+    let at-loop = at-loop-test .before in
+    let l = at-loop .loop .inv in
+    let a = at-loop .before .before .before .args in
+    let e = next-ended (a .d .now) (a .w) (at-loop .loop .from) (sym (at-start .before .before .next-from .ensures)
+    ∙ at-start .start .given .1) in (
+      at-send-line .send-line .kept .1 .1 .1 .1 .0 ∙ l .0,
+      long-next (at-loop .loop .k) (at-loop-test .loop-test .taken) (e .records) (l .1) .1,
+      less-owed (l .2) (lines-next (at-loop .loop .k) (at-loop-test .loop-test .taken) (a .t .now) (e .records))
+          (sent-as (at-send-line .send-line .ensures) (ap (λ (x : ℕ). lineBytes (recordLine (a .t .now)
+          (part (a .d .now) x (at-start .start .given .0 .1 .0)))) (e .starts))),
     )
 
 same-length : tie.Need-same-length Inv-loop μ-loop
@@ -101,12 +96,12 @@ same-length-2 c = c .before .before .before .before .loop .inv .2 .same-room
 
 returns : tie.Need-returns Inv-loop μ-loop
 returns c =
-    let u = next-unended (c .before .before .before .before .before .before .before .args .d .now)
-    (c .before .before .before .before .before .before .before .args .w) (c .before .before .before .before .loop .from)
+    let at-loop = c .before .before .before .before in
+    let args = at-loop .before .before .before .args in
+    let u = next-unended (args .d .now) (args .w) (at-loop .loop .from)
     (sym (c .before .before .next-from .ensures) ∙ c .enum-told .given .1) in
-    none-owed (c .before .before .before .before .loop .inv .2)
-    (lines-unended (c .before .before .before .before .loop .k) (c .before .before .before .loop-test .taken)
-    (c .before .before .before .before .before .before .before .args .t .now) (u .records))
+    none-owed (at-loop .loop .inv .2) (lines-unended (at-loop .loop .k) (c .before .before .before .loop-test .taken)
+    (args .t .now) (u .records))
 
 same-length-3 : tie.Need-same-length-3 Inv-loop μ-loop
 same-length-3 c = c .before .before .before .before .loop .inv .0
@@ -116,14 +111,13 @@ same-length-4 c = c .before .before .before .before .loop .inv .2 .same-room
 
 returns-2 : tie.Need-returns-2 Inv-loop μ-loop
 returns-2 c =
-    let d = c .before .before .before .before .before .before .before .args .d .now in
-    let w = c .before .before .before .before .before .before .before .args .w in
-    let o = over-past d w (c .before .before .before .before .loop .from)
-    (next-nothing d w (c .before .before .before .before .loop .from)
+    let at-loop = c .before .before .before .before in
+    let args = at-loop .before .before .before .args in
+    let d = args .d .now in
+    let w = args .w in
+    let o = over-past d w (at-loop .loop .from) (next-nothing d w (at-loop .loop .from)
     (sym (c .before .before .next-from .ensures) ∙ c .enum-told2 .given .1)) in
-    none-owed (c .before .before .before .before .loop .inv .2)
-    (lines-over (c .before .before .before .before .loop .k) (c .before .before .before .loop-test .taken)
-    (c .before .before .before .before .before .before .before .args .t .now) o)
+    none-owed (at-loop .loop .inv .2) (lines-over (at-loop .loop .k) (c .before .before .before .loop-test .taken) (args .t .now) o)
 
 same-length-5 : tie.Need-same-length-5 Inv-loop μ-loop
 same-length-5 c = c .before .loop .inv .0

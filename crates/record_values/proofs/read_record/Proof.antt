@@ -25,54 +25,48 @@ mul-if3 c =
 
 returns-2 : tie.Need-returns-2
 returns-2 c =
-    let a = c .before .before .before .before .before .before .before .before .args in
-    whole-out (a .t .now) (a .bytes .now) (a .out .now) (a .list .now)
-    (sym (c .before .before .before .before .before .before .well-formed .ensures .says)
-    ∙ c .before .before .before .before .before .if1 .taken) _ (c .before .before .before .before .read .ensures)
-    (c .before .before .if2 .left) (c .if3 .taken)
+    let at-read = c .before .before .before .before in
+    let a = at-read .before .before .before .before .args in
+    whole-out (a .t .now) (a .bytes .now) (a .out .now) (a .list .now) (sym (at-read .before .before .well-formed .ensures .says)
+    ∙ at-read .before .if1 .taken) _ (at-read .read .ensures) (c .before .before .if2 .left) (c .if3 .taken)
 
 sets-fit-requires : tie.Need-sets-fit-requires
 sets-fit-requires c κs =
-    let a = c .before .before .before .before .before .before .before .before .args in
-    rows-ready (a .t .now) (a .bytes .now) (a .out .now) (a .list .now)
-    (sym (c .before .before .before .before .before .before .well-formed .ensures .says)
-    ∙ c .before .before .before .before .before .if1 .taken) _ (c .before .before .before .before .read .ensures)
-    (c .before .before .if2 .left)
+    let at-read = c .before .before .before .before in
+    let a = at-read .before .before .before .before .args in
+    rows-ready (a .t .now) (a .bytes .now) (a .out .now) (a .list .now) (sym (at-read .before .before .well-formed .ensures .says)
+    ∙ at-read .before .if1 .taken) _ (at-read .read .ensures) (c .before .before .if2 .left)
 
 read-rows-requires : tie.Need-read-rows-requires
 read-rows-requires c κs =
-    let a = c .before .before .before .before .before .before .before .before .before .before .before .before .args in (
-      rows-ready (a .t .now) (a .bytes .now) (a .out .now) (a .list .now)
-          (sym (c .before .before .before .before .before .before .before .before .before .before .well-formed .ensures .says)
-          ∙ c .before .before .before .before .before .before .before .before .before .if1 .taken) _
-          (c .before .before .before .before .before .before .before .before .read .ensures)
-          (c .before .before .before .before .before .before .if2 .left),
+    let at-if3 = c .before .before .before .before in
+    let at-read = at-if3 .before .before .before .before in
+    let a = at-read .before .before .before .before .args in (
+      rows-ready (a .t .now) (a .bytes .now) (a .out .now) (a .list .now) (sym (at-read .before .before .well-formed .ensures .says)
+          ∙ at-read .before .if1 .taken) _ (at-read .read .ensures) (at-if3 .before .before .if2 .left),
       (
-        c .before .before .before .before .if3 .left,
+        at-if3 .if3 .left,
         leb-true _ _ (sym (c .before .before .before .sets-fit .ensures) ∙ c .before .before .if4 .taken),
       ),
     )
 
 returns-3 : tie.Need-returns-3
 returns-3 c =
-    let a = c .before .before .before .before .before .before .before .before .before .before .before .before .before .before .before
-    .args in
-    whole-read (a .t .now) (a .bytes .now) (a .out .now) (a .list .now)
-    (sym (c .before .before .before .before .before .before .before .before .before .before .before .before .before .well-formed .ensures
-    .says) ∙ c .before .before .before .before .before .before .before .before .before .before .before .before .if1 .taken) _
-    (c .before .before .before .before .before .before .before .before .before .before .before .read .ensures)
-    (c .before .before .before .before .before .before .before .before .before .if2 .left)
-    (c .before .before .before .before .before .before .before .if3 .left)
-    (sym (c .before .before .before .before .before .if4 .taken) ∙ c .before .before .before .before .before .before .sets-fit .ensures) _ _
-    _ (c .before .before .read-rows .ensures)
+    let at-if4 = c .before .before .before .before .before in
+    let at-if2 = at-if4 .before .before .before .before in
+    let at-read = at-if2 .before .before in
+    let a = at-read .before .before .before .before .args in
+    whole-read (a .t .now) (a .bytes .now) (a .out .now) (a .list .now) (sym (at-read .before .before .well-formed .ensures
+    .says) ∙ at-read .before .if1 .taken) _ (at-read .read .ensures) (at-if2 .if2 .left) (at-if4 .before .before .if3 .left)
+    (sym (at-if4 .if4 .taken) ∙ at-if4 .before .sets-fit .ensures) _ _ _ (c .before .before .read-rows .ensures)
 
 returns-4 : tie.Need-returns-4
 returns-4 c =
-    let a = c .before .before .before .before .before .before .before .before .before .before .args in
-    whole-list (a .t .now) (a .bytes .now) (a .out .now) (a .list .now)
-    (sym (c .before .before .before .before .before .before .before .before .well-formed .ensures .says)
-    ∙ c .before .before .before .before .before .before .before .if1 .taken) _
-    (c .before .before .before .before .before .before .read .ensures) (c .before .before .before .before .if2 .left)
+    let at-if2 = c .before .before .before .before in
+    let at-read = at-if2 .before .before in
+    let a = at-read .before .before .before .before .args in
+    whole-list (a .t .now) (a .bytes .now) (a .out .now) (a .list .now) (sym (at-read .before .before .well-formed .ensures .says)
+    ∙ at-read .before .if1 .taken) _ (at-read .read .ensures) (at-if2 .if2 .left)
     (c .before .before .if3 .left) (sym (c .if4 .left) ∙ c .before .sets-fit .ensures)
 
 returns-5 : tie.Need-returns-5

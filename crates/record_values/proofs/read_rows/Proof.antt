@@ -52,30 +52,33 @@ module _ (c : tie.After-read-row Inv-loop μ-loop) where
       c .before .before .before .before .loop .at + membersIn (c .read-row .result)
       ≡ length (membersBelow (rowReading (a .t .now) (a .rows) (a .bytes .now)) (c .before .before .before .before .loop .i + 1))
   at-next =
-      let a = c .before .before .before .before .before .before .args in
-      let l = c .before .before .before .before .loop in
-      step-at (a .t .now) (a .rows) (a .bytes .now) (l .i) (c .before .before .before .loop-test .taken) (a .list .now) (l .list) (l .at)
-      (l .inv .1) (l .inv .5) (c .before .before .before .before .before .before .pre .1 .1) _ (c .before .before .read .ensures) _ _
-      (c .read-row .ensures)
+      let at-read = c .before .before in
+      let the-start = at-read .before .before .before .before in
+      let a = the-start .args in
+      let l = at-read .before .before .loop in
+      step-at (a .t .now) (a .rows) (a .bytes .now) (l .i) (at-read .before .loop-test .taken) (a .list .now) (l .list) (l .at)
+      (l .inv .1) (l .inv .5) (the-start .pre .1 .1) _ (at-read .read .ensures) _ _ (c .read-row .ensures)
 
   refused-next : let a = c .before .before .before .before .before .before .args in
       c .before .before .before .before .loop .refused + refusalsIn (c .read-row .result)
       ≡ refusedBelow (rowReading (a .t .now) (a .rows) (a .bytes .now)) (c .before .before .before .before .loop .i + 1)
   refused-next =
-      let a = c .before .before .before .before .before .before .args in
-      let l = c .before .before .before .before .loop in
-      step-refused (a .t .now) (a .rows) (a .bytes .now) (l .i) (c .before .before .before .loop-test .taken) (a .list .now) (l .list)
-      (l .at) (l .inv .1) (l .inv .5) (c .before .before .before .before .before .before .pre .1 .1) _ (c .before .before .read .ensures) _
-      _ (c .read-row .ensures) (l .refused) (l .inv .2)
+      let at-read = c .before .before in
+      let the-start = at-read .before .before .before .before in
+      let a = the-start .args in
+      let l = at-read .before .before .loop in
+      step-refused (a .t .now) (a .rows) (a .bytes .now) (l .i) (at-read .before .loop-test .taken) (a .list .now) (l .list)
+      (l .at) (l .inv .1) (l .inv .5) (the-start .pre .1 .1) _ (at-read .read .ensures) _ _ (c .read-row .ensures) (l .refused) (l .inv .2)
 
   at-fits : c .before .before .before .before .loop .at + membersIn (c .read-row .result)
       ≤ length (c .before .before .before .before .loop .list)
   at-fits =
-      let a = c .before .before .before .before .before .before .args in
-      let l = c .before .before .before .before .loop in
-      step-fits (a .t .now) (a .rows) (a .bytes .now) (l .i) (c .before .before .before .loop-test .taken) (a .list .now) (l .list) (l .at)
-      (l .inv .1) (l .inv .5) (c .before .before .before .before .before .before .pre .1 .1) _ (c .before .before .read .ensures) _ _
-      (c .read-row .ensures)
+      let at-read = c .before .before in
+      let the-start = at-read .before .before .before .before in
+      let a = the-start .args in
+      let l = at-read .before .before .loop in
+      step-fits (a .t .now) (a .rows) (a .bytes .now) (l .i) (at-read .before .loop-test .taken) (a .list .now) (l .list) (l .at)
+      (l .inv .1) (l .inv .5) (the-start .pre .1 .1) _ (at-read .read .ensures) _ _ (c .read-row .ensures)
 
 slice-aggregate-paste : tie.Need-slice-aggregate-paste Inv-loop μ-loop
 slice-aggregate-paste c = sym (ap length (c .before .before .row-numbers .ensures) ∙ length-four _ _)

@@ -33,10 +33,11 @@ row-illegal-requires c κs =
     )
 
 returns : tie.Need-returns Inv-loop μ-loop
-returns c = let a = c .before .before .before .before .before .before .before .before .before .args in
-    sym (first-here (badRow (a .t .now) (a .rows) (a .bytes .now)) _ _ (c .before .before .before .before .before .loop-test .taken)
-    (sym (c .before .before .before .row-illegal .ensures) ∙ c .if1 .taken))
-    ∙ c .before .before .before .before .before .before .loop .inv .2
+returns c =
+    let at-loop-test = c .before .before .before .before .before in
+    let a = at-loop-test .before .before .before .before .args in
+    sym (first-here (badRow (a .t .now) (a .rows) (a .bytes .now)) _ _ (at-loop-test .loop-test .taken)
+    (sym (c .before .before .before .row-illegal .ensures) ∙ c .if1 .taken)) ∙ at-loop-test .before .loop .inv .2
 
 loop-again : tie.Need-loop-again Inv-loop μ-loop
 loop-again c =

@@ -33,23 +33,28 @@ row-fault-requires c κs = rw (c .read .ensures)
 
 returns : tie.Need-returns
 unfolding judgedAs rowsVerdict byteVerdict rowVerdict
-returns c = rw (
-  first-of-plain (c .before .before .before .before .before .before .before .before .before .before .before .args .bytes .now)
-      (c .before .before .before .before .before .before .before .before .before .before .before .pre .1 .0),
-  ← c .before .before .before .before .before .before .before .illegal-row .ensures,
-  c .before .before .before .i .given .1,
-  c .row-fault .ensures,
-  c .before .read .ensures,
-)
+returns c =
+    let at-i = c .before .before .before in
+    let at-illegal-row = at-i .before .before .before .before in
+    let start = at-illegal-row .before .before .before .before in
+    rw (
+      first-of-plain (start .args .bytes .now) (start .pre .1 .0),
+      ← at-illegal-row .illegal-row .ensures,
+      at-i .i .given .1,
+      c .row-fault .ensures,
+      c .before .read .ensures,
+    )
 
 returns-2 : tie.Need-returns-2
 unfolding judgedAs rowsVerdict byteVerdict rowVerdict
-returns-2 c = rw (
-  first-of-plain (c .before .before .before .before .before .before .before .before .args .bytes .now)
-      (c .before .before .before .before .before .before .before .before .pre .1 .0),
-  ← c .before .before .before .before .illegal-row .ensures,
-  c .enum-told .given .1,
-)
+returns-2 c =
+    let at-illegal-row = c .before .before .before .before in
+    let start = at-illegal-row .before .before .before .before in
+    rw (
+      first-of-plain (start .args .bytes .now) (start .pre .1 .0),
+      ← at-illegal-row .illegal-row .ensures,
+      c .enum-told .given .1,
+    )
 
 pub judge-plain-spec : {M : Type 1} → statement M
 judge-plain-spec =

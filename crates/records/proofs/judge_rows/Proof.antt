@@ -8,14 +8,15 @@ use Rattle.records.proofs.judge_rows.Statement.{statement}
 use Rattle.records.proofs.judge_rows.Tie as tie
 
 judge-plain-requires : tie.Need-judge-plain-requires
-judge-plain-requires c κs = (
-  c .before .before .before .before .before .before .pre .0,
-  (
-    plain-found (c .before .before .before .before .before .before .args .bytes .now)
-        (sym (c .before .before .before .low-byte .ensures) ∙ c .before .enum-told .given .1),
-    c .before .before .before .before .before .before .pre .1,
-  ),
-)
+judge-plain-requires c κs =
+    let at-low-byte = c .before .before .before in
+    let start = at-low-byte .before .before .before in (
+      start .pre .0,
+      (
+        plain-found (start .args .bytes .now) (sym (at-low-byte .low-byte .ensures) ∙ c .before .enum-told .given .1),
+        start .pre .1,
+      ),
+    )
 
 returns : tie.Need-returns
 unfolding judgedAs rowsVerdict byteVerdict

@@ -10,12 +10,14 @@ use Rattle.records.proofs.plain_sound.Tie as tie
 
 returns-2 : tie.Need-returns-2
 unfolding rowsVerdict byteVerdict rowVerdict
-returns-2 c e = rw (
-  first-of-plain (c .before .before .before .before .before .before .before .before .args .bytes .now)
-      (c .before .before .before .before .before .before .before .before .pre .1 .0),
-  ← c .before .before .before .before .illegal-row .ensures,
-  c .enum-told2 .given .1,
-)
+returns-2 c e =
+    let at-illegal-row = c .before .before .before .before in
+    let start = at-illegal-row .before .before .before .before in
+    rw (
+      first-of-plain (start .args .bytes .now) (start .pre .1 .0),
+      ← at-illegal-row .illegal-row .ensures,
+      c .enum-told2 .given .1,
+    )
 
 pub plain-sound-spec : {M : Type 1} → statement M
 plain-sound-spec =

@@ -32,29 +32,29 @@ read-requires-2 c κs =
     (omega arith, omega arith)
 
 read-row-requires : tie.Need-read-row-requires
-read-row-requires c κs = row-ready _ _ (c .before .before .before .before .before .before .before .before .before .before .args .bytes .now)
-    (c .before .before .before .before .before .before .before .before .before .before .args .list .now)
-    (sym (c .before .before .before .before .before .before .before .before .well-formed .ensures .says)
-    ∙ c .before .before .before .before .before .before .before .if1 .taken) _
-    (c .before .before .before .before .before .before .read .ensures) (c .before .before .before .before .if2 .left)
+read-row-requires c κs =
+    let at-if2 = c .before .before .before .before in
+    let at-read = at-if2 .before .before in
+    let args = at-read .before .before .before .before .args in
+    row-ready _ _ (args .bytes .now) (args .list .now) (sym (at-read .before .before .well-formed .ensures .says)
+    ∙ at-read .before .if1 .taken) _ (at-read .read .ensures) (at-if2 .if2 .left)
     (c .before .before .if3 .left) _ (c .before .read2 .ensures)
 
 with-fault-requires : tie.Need-with-fault-requires
-with-fault-requires c κs = row-ready _ _
-    (c .before .before .before .before .before .before .before .before .before .before .before .before .args .bytes .now)
-    (c .before .before .before .before .before .before .before .before .before .before .before .before .args .list .now)
-    (sym (c .before .before .before .before .before .before .before .before .before .before .well-formed .ensures .says)
-    ∙ c .before .before .before .before .before .before .before .before .before .if1 .taken) _
-    (c .before .before .before .before .before .before .before .before .read .ensures)
-    (c .before .before .before .before .before .before .if2 .left) (c .before .before .before .before .if3 .left) _
+with-fault-requires c κs =
+    let at-if3 = c .before .before .before .before in
+    let at-read = at-if3 .before .before .before .before in
+    let args = at-read .before .before .before .before .args in
+    row-ready _ _ (args .bytes .now) (args .list .now) (sym (at-read .before .before .well-formed .ensures .says)
+    ∙ at-read .before .if1 .taken) _ (at-read .read .ensures) (at-if3 .before .before .if2 .left) (at-if3 .if3 .left) _
     (c .before .before .before .read2 .ensures)
 
 returns-3 : tie.Need-returns-3
-returns-3 c = value-read _ _ _ _
-    (sym (c .before .before .before .before .before .before .before .before .before .before .before .well-formed .ensures .says)
-    ∙ c .before .before .before .before .before .before .before .before .before .before .if1 .taken) _
-    (c .before .before .before .before .before .before .before .before .before .read .ensures)
-    (c .before .before .before .before .before .before .before .if2 .left) (c .before .before .before .before .before .if3 .left) _
+returns-3 c =
+    let at-if3 = c .before .before .before .before .before in
+    let at-if2 = at-if3 .before .before in
+    value-read _ _ _ _ (sym (at-if2 .before .before .before .before .well-formed .ensures .says)
+    ∙ at-if2 .before .before .before .if1 .taken) _ (at-if2 .before .before .read .ensures) (at-if2 .if2 .left) (at-if3 .if3 .left) _
     (c .before .before .before .before .read2 .ensures) _ _ _ (c .before .before .read-row .ensures) (c .with-fault .ensures)
 
 returns-4 : tie.Need-returns-4

@@ -24,24 +24,25 @@ loop-holds c = rw (c .before .significant .ensures, c .significant2 .ensures) (s
 
 loop-less : tie.Need-loop-less Inv-loop μ-loop
 loop-less c =
-    let s = figure-one _ _ (c .before .before .before .before .before .before .before .before .next-digit .ensures)
-    (c .before .before .before .before .before .before .x .given .1) in
+    let at-x = c .before .before .before .before .before .before in
+    let s = figure-one _ _ (at-x .before .before .next-digit .ensures) (at-x .x .given .1) in
     omega arith
 
 loop-again : tie.Need-loop-again Inv-loop μ-loop
 loop-again c =
-    let s = figure-one _ _ (c .before .before .before .before .before .before .before .before .next-digit .ensures)
-    (c .before .before .before .before .before .before .x .given .1) in
-    let t = figure-one _ _ (c .before .before .before .before .next-digit2 .ensures) (c .before .before .y .given .1) in
-    c .before .before .before .before .before .before .before .before .before .loop .inv
-    ∙ less-both _ (s .split) (t .split) (c .then-order .ensures)
+    let at-next-digit2 = c .before .before .before .before in
+    let s = figure-one _ _ (at-next-digit2 .before .before .before .before .next-digit .ensures)
+    (at-next-digit2 .before .before .x .given .1) in
+    let t = figure-one _ _ (at-next-digit2 .next-digit2 .ensures) (c .before .before .y .given .1) in
+    at-next-digit2 .before .before .before .before .before .loop .inv ∙ less-both _ (s .split) (t .split) (c .then-order .ensures)
 
 returns : tie.Need-returns Inv-loop μ-loop
 returns c =
-    let s = figure-one _ _ (c .before .before .before .before .before .before .next-digit .ensures)
-    (c .before .before .before .before .x .given .1) in
-    sym (c .before .before .before .before .before .before .before .loop .inv
-    ∙ less-longer _ (s .split) (figure-none _ _ _ (c .before .before .next-digit2 .ensures) (c .enum-told .given .1)))
+    let at-next-digit2 = c .before .before in
+    let s = figure-one _ _ (at-next-digit2 .before .before .before .before .next-digit .ensures)
+    (at-next-digit2 .before .before .x .given .1) in
+    sym (at-next-digit2 .before .before .before .before .before .loop .inv
+    ∙ less-longer _ (s .split) (figure-none _ _ _ (at-next-digit2 .next-digit2 .ensures) (c .enum-told .given .1)))
 
 returns-2 : tie.Need-returns-2 Inv-loop μ-loop
 returns-2 c =
@@ -52,14 +53,10 @@ returns-2 c =
 
 returns-3 : tie.Need-returns-3 Inv-loop μ-loop
 returns-3 c =
-    c .is-less .ensures
-    ∙ sym
-    (c .before .before .before .before .before .before .before .loop .inv
-    ∙ less-even
-    _
-    (figure-none _ _ _ (c .before .before .before .before .before .before .next-digit .ensures)
-    (c .before .before .before .before .enum-told2 .given .1))
-    (figure-none _ _ _ (c .before .before .before .next-digit3 .ensures) (c .before .enum-told4 .given .1)))
+    let at-next-digit3 = c .before .before .before in
+    c .is-less .ensures ∙ sym (at-next-digit3 .before .before .before .before .loop .inv ∙ less-even _
+    (figure-none _ _ _ (at-next-digit3 .before .before .before .next-digit .ensures) (at-next-digit3 .before .enum-told2 .given .1))
+    (figure-none _ _ _ (at-next-digit3 .next-digit3 .ensures) (c .before .enum-told4 .given .1)))
 
 pub less-spec : {M : Type 1} → statement M
 less-spec =

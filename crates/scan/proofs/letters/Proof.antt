@@ -23,10 +23,9 @@ loop-holds c = refl
 
 returns : tie.Need-returns Inv-loop μ-loop
 returns c =
-    let s = stepped _ _ (c .before .before .before .before .before .before .next-byte .ensures)
-    (c .before .before .before .before .byte .given .1) in
-    sym (c .before .before .before .before .before .before .before .before .loop .inv
-    ∙ word-not _ _ _ (s .split) (c .before .before .before .before .before .before .before .loop-test .taken)
+    let at-byte = c .before .before .before .before in
+    let s = stepped _ _ (at-byte .before .before .next-byte .ensures) (at-byte .byte .given .1) in
+    sym (at-byte .before .before .before .before .loop .inv ∙ word-not _ _ _ (s .split) (at-byte .before .before .before .loop-test .taken)
     (λ e. c .if1 .taken (c .before .before .upper .ensures ∙ e)))
 
 returns-2 : tie.Need-returns-2 Inv-loop μ-loop
@@ -36,10 +35,9 @@ returns-2 c = sym (c .before .before .before .before .loop .inv
 
 loop-again : tie.Need-loop-again Inv-loop μ-loop
 loop-again c =
-    let s = stepped _ _ (c .before .before .before .before .before .before .next-byte .ensures)
-    (c .before .before .before .before .byte .given .1) in
-    c .before .before .before .before .before .before .before .before .loop .inv
-    ∙ word-next _ _ _ (s .split) (c .before .before .before .before .before .before .before .loop-test .taken)
+    let at-byte = c .before .before .before .before in
+    let s = stepped _ _ (at-byte .before .before .next-byte .ensures) (at-byte .byte .given .1) in
+    at-byte .before .before .before .before .loop .inv ∙ word-next _ _ _ (s .split) (at-byte .before .before .before .loop-test .taken)
     (sym (c .before .before .upper .ensures) ∙ c .if1 .left) ∙ rw (s .next)
 
 returns-3 : tie.Need-returns-3 Inv-loop μ-loop

@@ -30,11 +30,10 @@ returns c =
 returns-2 : tie.Need-returns-2 Inv-loop μ-loop
 unfolding isDigit
 returns-2 c =
-    let s = stepped _ _ (c .before .before .before .before .before .before .next-byte .ensures)
-    (c .before .before .before .before .byte .given .1) in
-    sym (c .before .before .before .before .before .before .before .loop .inv
-    ∙ figure-here _ (s .split) (c .before .before .if1 .left) (eq-eqb _ _ (sym (c .before .class-of .ensures) ∙ c .if2 .taken))
-    ∙ rw (s .next))
+    let at-if1 = c .before .before in
+    let s = stepped _ _ (at-if1 .before .before .before .before .next-byte .ensures) (at-if1 .before .before .byte .given .1) in
+    sym (at-if1 .before .before .before .before .before .loop .inv
+    ∙ figure-here _ (s .split) (at-if1 .if1 .left) (eq-eqb _ _ (sym (c .before .class-of .ensures) ∙ c .if2 .taken)) ∙ rw (s .next))
 
 loop-less : tie.Need-loop-less Inv-loop μ-loop
 loop-less c =
@@ -45,10 +44,10 @@ loop-less c =
 loop-again : tie.Need-loop-again Inv-loop μ-loop
 unfolding isDigit
 loop-again c =
-    let s = stepped _ _ (c .before .before .before .before .before .before .next-byte .ensures)
-    (c .before .before .before .before .byte .given .1) in
-    c .before .before .before .before .before .before .before .loop .inv
-    ∙ figure-on _ (s .split) (c .before .before .if1 .left) (ne-eqb _ _ (λ e. c .if2 .left (c .before .class-of .ensures ∙ e)))
+    let at-if1 = c .before .before in
+    let s = stepped _ _ (at-if1 .before .before .before .before .next-byte .ensures) (at-if1 .before .before .byte .given .1) in
+    at-if1 .before .before .before .before .before .loop .inv
+    ∙ figure-on _ (s .split) (at-if1 .if1 .left) (ne-eqb _ _ (λ e. c .if2 .left (c .before .class-of .ensures ∙ e)))
 
 returns-3 : tie.Need-returns-3 Inv-loop μ-loop
 returns-3 c = sym (c .before .before .before .loop .inv

@@ -26,10 +26,11 @@ loop-holds c = (refl, omega arith, omega arith)
 returns : tie.Need-returns Inv-loop μ-loop
 unfolding isDigit
 returns c =
-    let s = stepped _ _ (c .before .before .before .before .before .next-byte .ensures) (c .before .before .before .byte .given .1) in
-    sym (c .before .before .before .before .before .before .loop .inv .0
-    ∙ digits-over _ _ _ (s .split) (ne-eqb _ _ (λ e. c .if1 .taken (c .before .class-of .ensures ∙ e)))
-    (c .before .before .before .before .before .before .loop .inv .1))
+    let at-byte = c .before .before .before in
+    let at-loop = at-byte .before .before .before in
+    let s = stepped _ _ (at-byte .before .before .next-byte .ensures) (at-byte .byte .given .1) in
+    sym (at-loop .loop .inv .0 ∙ digits-over _ _ _ (s .split) (ne-eqb _ _ (λ e. c .if1 .taken (c .before .class-of .ensures ∙ e)))
+    (at-loop .loop .inv .1))
 
 add-count : tie.Need-add-count Inv-loop μ-loop
 add-count c =
@@ -46,10 +47,10 @@ loop-less c =
 loop-again : tie.Need-loop-again Inv-loop μ-loop
 unfolding isDigit
 loop-again c =
-    let s = stepped _ _ (c .before .before .before .before .before .before .next-byte .ensures)
-    (c .before .before .before .before .byte .given .1) in (
-      c .before .before .before .before .before .before .before .loop .inv .0
-          ∙ digits-next _ _ _ (s .split) (eq-eqb _ _ (sym (c .before .before .class-of .ensures) ∙ c .before .if1 .left))
+    let at-class-of = c .before .before in
+    let s = stepped _ _ (at-class-of .before .before .before .before .next-byte .ensures) (at-class-of .before .before .byte .given .1) in (
+      at-class-of .before .before .before .before .before .loop .inv .0
+          ∙ digits-next _ _ _ (s .split) (eq-eqb _ _ (sym (at-class-of .class-of .ensures) ∙ c .before .if1 .left))
           ∙ rw (s .next, c .pushed .ensures .0),
       c .pushed .ensures .1,
       omega arith,

@@ -14,9 +14,10 @@ returns c = claim-same (bits-same (c .before .before .before .before .before .be
 
 returns-2 : tie.Need-returns-2
 returns-2 c =
-    claim-same (bits-same (c .before .before .before .before .before .before .before .before .before .before .pre))
-    (after (c .before .before .before .before .before .before .before .claim-range .ensures)
-    (not-false _ (c .before .before .before .before .if1 .left)) (c .before .before .claim-lines .ensures))
+    let at-claim-lines = c .before .before in
+    let at-claim-range = at-claim-lines .before .before .before .before .before in
+    claim-same (bits-same (at-claim-range .before .before .before .pre)) (after (at-claim-range .claim-range .ensures)
+    (not-false _ (at-claim-lines .before .before .if1 .left)) (at-claim-lines .claim-lines .ensures))
 
 pub claim-bits-spec : {M : Type 1} → statement M
 claim-bits-spec =

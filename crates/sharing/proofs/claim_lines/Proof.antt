@@ -53,9 +53,11 @@ add-claim-one c = let l = low (c .before) in let h = high (c .before) in
 
 claim-one-requires : tie.Need-claim-one-requires Inv-loop μ-loop
 claim-one-requires c κs =
-    let l = low (c .before) in let h = high (c .before) in let i = c .before .before .before .before .before .before .before .pre .inside in
-    let o = c .before .before .before .before .before .before .before .pre .from-one in
-    let n = c .before .before .before .before .loop .inv .1 in omega arith
+    let at-loop = c .before .before .before .before in
+    let start = at-loop .before .before .before in
+    let l = low (c .before) in let h = high (c .before) in let i = start .pre .inside in
+    let o = start .pre .from-one in
+    let n = at-loop .loop .inv .1 in omega arith
 
 same-length : tie.Need-same-length Inv-loop μ-loop
 same-length c = c .before .before .before .claim-one .kept .0
@@ -63,22 +65,24 @@ same-length c = c .before .before .before .claim-one .kept .0
 
 returns : tie.Need-returns Inv-loop μ-loop
 returns c =
-    let l = c .before .before .before .before .before .before .before .before .loop in
-    let a = c .before .before .before .before .before .before .before .before .before .before .before .args in
+    let at-claim-one = c .before .before .before in
+    let at-loop-test = at-claim-one .before .before .before .before in
+    let l = at-loop-test .before .loop in
+    let a = at-loop-test .before .before .before .before .args in
     on-stop (l .inv .2) _ _ (lines-next (a .row .start - 1) (a .t .now) (a .rows) (a .row .before) (a .row .lines) (l .k)
-    (c .before .before .before .before .before .before .before .loop-test .taken))
-    (rw (counted (c .before .before .before .before .before)) at (c .before .before .before .claim-one .ensures))
+    (at-loop-test .loop-test .taken)) (rw (counted (at-claim-one .before .before)) at (at-claim-one .claim-one .ensures))
     (not-true _ (c .if1 .taken))
 
 loop-again : tie.Need-loop-again Inv-loop μ-loop
 loop-again c =
-    let l = c .before .before .before .before .before .before .before .before .loop in
-    let a = c .before .before .before .before .before .before .before .before .before .before .before .args in (
+    let at-claim-one = c .before .before .before in
+    let at-loop-test = at-claim-one .before .before .before .before in
+    let l = at-loop-test .before .loop in
+    let a = at-loop-test .before .before .before .before .args in (
       omega arith,
-      c .before .before .before .claim-one .kept .0 ∙ l .inv .1,
+      at-claim-one .claim-one .kept .0 ∙ l .inv .1,
       on-step (l .inv .2) _ _ (lines-next (a .row .start - 1) (a .t .now) (a .rows) (a .row .before) (a .row .lines) (l .k)
-          (c .before .before .before .before .before .before .before .loop-test .taken))
-          (rw (counted (c .before .before .before .before .before)) at (c .before .before .before .claim-one .ensures))
+          (at-loop-test .loop-test .taken)) (rw (counted (at-claim-one .before .before)) at (at-claim-one .claim-one .ensures))
           (not-false _ (c .if1 .left)),
     )
 

@@ -75,9 +75,10 @@ claim-range-spec =
     (λ c. let h = high (c .before .before) in
     let i = c .before .before .before .before .before .before .before .before .before .pre .inside in let e = ends (c .before .before) in
     omega arith)
-    (λ c κs. let l = low (c .before .before) in let h = high (c .before .before) in
-    let i = c .before .before .before .before .before .before .before .before .before .pre .inside in
-    let o = c .before .before .before .before .before .before .before .before .before .pre .from-one in let e = ends (c .before .before) in
+    (λ c κs. let start = c .before .before .before .before .before .before .before .before .before in let l = low (c .before .before) in
+    let h = high (c .before .before) in
+    let i = start .pre .inside in
+    let o = start .pre .from-one in let e = ends (c .before .before) in
     omega arith)
     (λ c. c .before .before .claim-run .kept .0)
     returns-2)

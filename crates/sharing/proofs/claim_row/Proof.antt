@@ -18,8 +18,11 @@ returns-2 c = as-bits _ _ _ (c .before .before .before .before .before .before .
     ∙ ap Multiple (c .before .before .before .before .enum-told2 .given .1)) (c .before .before .claim-bits .ensures)
 
 returns-3 : tie.Need-returns-3
-returns-3 c = as-spread _ _ _ (c .before .before .before .before .before .before .before .before .before .kind .given .1
-    ∙ ap Multiple (c .before .before .before .before .before .before .s .given .1)) (c .before .before .claim-spread .ensures)
+returns-3 c =
+    let at-claim-spread = c .before .before in
+    let at-s = at-claim-spread .before .before .before .before in
+    as-spread _ _ _ (at-s .before .before .before .kind .given .1
+    ∙ ap Multiple (at-s .s .given .1)) (at-claim-spread .claim-spread .ensures)
 
 returns-4 : tie.Need-returns-4
 returns-4 c = as-quantity _ _ _ (c .before .before .before .before .before .enum-told3 .given .1) (c .before .before .claim-run2 .ensures)
@@ -41,14 +44,15 @@ claim-row-spec =
     (c .before .before .enum-told .given .1) .right)
     (λ c. search needs)
     (λ c. search needs)
-    (λ c κs. bits-known _ (c .before .before .before .before .before .before .before .pre .0)
-    (c .before .before .before .before .before .before .before .pre .1)
-    (c .before .before .before .before .kind .given .1 ∙ ap Multiple (c .before .enum-told2 .given .1)))
+    (λ c κs. let at-kind = c .before .before .before .before in let start = at-kind .before .before .before in bits-known _ (start .pre .0)
+    (start .pre .1)
+    (at-kind .kind .given .1 ∙ ap Multiple (c .before .enum-told2 .given .1)))
     (λ c. search needs)
     (λ c. c .before .before .before .before .before .before .before .before .before .pre .0 .position .from-one)
-    (λ c κs. spread-room _ (c .before .before .before .before .before .before .before .before .before .pre .0)
-    (c .before .before .before .before .before .before .before .before .before .pre .1)
-    (c .before .before .before .before .before .before .kind .given .1 ∙ ap Multiple (c .before .before .before .s .given .1)))
+    (λ c κs. let at-s = c .before .before .before in let at-kind = at-s .before .before .before in
+    let start = at-kind .before .before .before in spread-room _ (start .pre .0)
+    (start .pre .1)
+    (at-kind .kind .given .1 ∙ ap Multiple (at-s .s .given .1)))
     (λ c. search needs)
     (λ c. quantity-room _ (c .before .before .before .before .before .pre .0) (c .before .before .before .before .before .pre .1)
     (c .before .before .enum-told3 .given .1) .reach)

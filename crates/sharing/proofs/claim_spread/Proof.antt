@@ -37,19 +37,21 @@ same-length c = c .before .before .before .claim-run .kept .0 ∙ c .before .bef
 
 returns : tie.Need-returns Inv-loop μ-loop
 returns c =
-    let l = c .before .before .before .before .before .before .loop in
-    let a = c .before .before .before .before .before .before .before .before .args in
-    on-stop (l .inv .2) _ _ (spread-next (l .q) (a .b) (a .w) (l .left) (c .before .before .before .before .before .loop-test .taken))
-    (c .before .before .before .claim-run .ensures) (not-true _ (c .if1 .taken))
+    let at-claim-run = c .before .before .before in
+    let l = at-claim-run .before .before .before .loop in
+    let a = at-claim-run .before .before .before .before .before .args in
+    on-stop (l .inv .2) _ _ (spread-next (l .q) (a .b) (a .w) (l .left) (at-claim-run .before .before .loop-test .taken))
+    (at-claim-run .claim-run .ensures) (not-true _ (c .if1 .taken))
 
 loop-again : tie.Need-loop-again Inv-loop μ-loop
 loop-again c =
-    let l = c .before .before .before .before .before .before .loop in
-    let a = c .before .before .before .before .before .before .before .before .args in (
-      more (c .before .before .before .before .before),
-      c .before .before .before .claim-run .kept .0 ∙ l .inv .1,
-      on-step (l .inv .2) _ _ (spread-next (l .q) (a .b) (a .w) (l .left) (c .before .before .before .before .before .loop-test .taken))
-          (c .before .before .before .claim-run .ensures) (not-false _ (c .if1 .left)),
+    let at-claim-run = c .before .before .before in
+    let l = at-claim-run .before .before .before .loop in
+    let a = at-claim-run .before .before .before .before .before .args in (
+      more (at-claim-run .before .before),
+      at-claim-run .claim-run .kept .0 ∙ l .inv .1,
+      on-step (l .inv .2) _ _ (spread-next (l .q) (a .b) (a .w) (l .left) (at-claim-run .before .before .loop-test .taken))
+          (at-claim-run .claim-run .ensures) (not-false _ (c .if1 .left)),
     )
 
 returns-2 : tie.Need-returns-2 Inv-loop μ-loop

@@ -33,25 +33,24 @@ loop-holds c =
 
 returns : tie.Need-returns Inv-loop μ-loop
 returns c =
-    let l = c .before .before .before .before .before .before .before .loop in
-    let a = c .before .before .before .before .before .before .before .before .before .args in
-    shares-some (a .t .now) (a .rows) (l .i) (c .before .before .before .before .before .before .loop-test .taken)
-    (turn-stop (placesAt (a .t .now) (a .rows)) (l .inv .2)
-    (rw (c .before .before .before .before .before .read .ensures) at (c .before .before .before .claim-row .ensures))
-    (not-true _ (c .if1 .taken)))
+    let at-read = c .before .before .before .before .before in
+    let l = at-read .before .before .loop in
+    let a = at-read .before .before .before .before .args in
+    shares-some (a .t .now) (a .rows) (l .i) (at-read .before .loop-test .taken) (turn-stop (placesAt (a .t .now) (a .rows)) (l .inv .2)
+    (rw (at-read .read .ensures) at (c .before .before .before .claim-row .ensures)) (not-true _ (c .if1 .taken)))
 
 loop-again : tie.Need-loop-again Inv-loop μ-loop
 loop-again c =
-    let l = c .before .before .before .before .before .before .before .loop in
-    let a = c .before .before .before .before .before .before .before .before .before .args in
+    let at-read = c .before .before .before .before .before in
+    let l = at-read .before .before .loop in
+    let a = at-read .before .before .before .before .args in
     let y = not-false _ (c .if1 .left) in (
       omega arith,
       c .before .before .before .claim-row .kept .1 .1 .1 .1 .0 ∙ l .inv .1,
       stamps-more (placesAt (a .t .now) (a .rows)) (l .inv .2)
-          (is-true y (rw (c .before .before .before .before .before .read .ensures) at (c .before .before .before .claim-row .ensures))),
-      all-more (apartBefore (placesAt (a .t .now) (a .rows))) (l .i) (l .inv .3)
-          (turn-done (placesAt (a .t .now) (a .rows)) (l .inv .2)
-          (rw (c .before .before .before .before .before .read .ensures) at (c .before .before .before .claim-row .ensures)) y),
+          (is-true y (rw (at-read .read .ensures) at (c .before .before .before .claim-row .ensures))),
+      all-more (apartBefore (placesAt (a .t .now) (a .rows))) (l .i) (l .inv .3) (turn-done (placesAt (a .t .now) (a .rows)) (l .inv .2)
+          (rw (at-read .read .ensures) at (c .before .before .before .claim-row .ensures)) y),
     )
 
 returns-2 : tie.Need-returns-2 Inv-loop μ-loop

@@ -37,67 +37,61 @@ rest-in-requires c κs =
 
 settle-requires : tie.Need-settle-requires
 settle-requires c κs =
-    let p = c .before .before .before .before .before .before .before .before .before .before .before .before .before .before .before
-    .before .before .before .before .pre in (
+    let at-r = c .before .before .before in
+    let at-rest-in = at-r .before .before .before .before .before in
+    let p = at-rest-in .before .before .before .before .before .before .before .before .before .before .before .pre in (
       p .0,
-      measured-all _ _ (p .1 .0 .0) _ _ _ _ _ _ _ _
-          (c .before .before .before .before .before .before .before .before .before .before .before .before .before .sift-in .ensures) _ _
-          (p .1 .1 .0 .0) _ (rw (c .before .before .before .r .given .1) at
-          (c .before .before .before .before .before .before .before .before .rest-in .ensures)) _ (c .before .placeless .ensures)
+      measured-all _ _ (p .1 .0 .0) _ _ _ _ _ _ _ _ (at-rest-in .before .before .before .before .before .sift-in .ensures) _ _
+          (p .1 .1 .0 .0) _ (rw (at-r .r .given .1) at (at-rest-in .rest-in .ensures)) _ (c .before .placeless .ensures)
           (p .1 .0 .1) (p .1 .1 .1 .1),
     )
 
 enter-requires : tie.Need-enter-requires
 enter-requires c κs =
-    let p = c .before .before .before .before .before .before .before .before .before .before .before .before .before .before .before
-    .before .before .before .before .before .before .before .before .before .pre in (
+    let at-settle = c .before .before .before .before in
+    let at-r = at-settle .before .before .before .before in
+    let at-rest-in = at-r .before .before .before .before .before in
+    let start = at-rest-in .before .before .before .before .before .before .before .before .before .before .before in
+    let p = start .pre in (
       (
-        rows-left _ _ (p .1 .0 .0) _ _
-            (c .before .before .before .before .before .before .before .before .before .before .before .before .before .before .before
-            .before .before .before .before .before .before .before .before .before .args .y) _ _ _ _ (p .1 .0 .1) (p .1 .1 .1 .1),
+        rows-left _ _ (p .1 .0 .0) _ _ (start .args .y) _ _ _ _ (p .1 .0 .1) (p .1 .1 .1 .1),
         p .1 .0 .1 .rows-long,
       ),
       small-all _ _ (p .1 .0 .0) _ _ _ _ _ _ _ _
-          (c .before .before .before .before .before .before .before .before .before .before .before .before .before .before .before .before
-          .before .before .sift-in .ensures) _ _ (p .1 .1 .0 .0) _
-          (rw (c .before .before .before .before .before .before .before .before .r .given .1) at
-          (c .before .before .before .before .before .before .before .before .before .before .before .before .before .rest-in .ensures)) _
-          (c .before .before .before .before .before .before .placeless .ensures) _ _ _
-          (sym (c .before .before .columns .given .1) ∙ c .before .before .before .before .settle .ensures) (p .1 .0 .1) (p .1 .1 .1 .1),
+          (at-rest-in .before .before .before .before .before .sift-in .ensures) _ _ (p .1 .1 .0 .0) _ (rw (at-r .r .given .1) at
+          (at-rest-in .rest-in .ensures)) _ (at-settle .before .before .placeless .ensures) _ _ _
+          (sym (c .before .before .columns .given .1) ∙ at-settle .settle .ensures) (p .1 .0 .1) (p .1 .1 .1 .1),
     )
 
 returns : tie.Need-returns
 returns c =
-    let p = c .before .before .before .before .before .before .before .before .before .before .before .before .before .before .before
-    .before .before .before .before .before .before .before .before .before .before .before .pre in
-    body-held _ _ (p .1 .0 .0) _ _ _ _ _ _ _ _
-    (c .before .before .before .before .before .before .before .before .before .before .before .before .before .before .before .before
-    .before .before .before .before .sift-in .ensures) _ _ (p .1 .1 .0 .0) _
-    (rw (c .before .before .before .before .before .before .before .before .before .before .r .given .1) at
-    (c .before .before .before .before .before .before .before .before .before .before .before .before .before .before .before .rest-in
-    .ensures)) _ (c .before .before .before .before .before .before .before .before .placeless .ensures) _ _ _
-    (sym (c .before .before .before .before .columns .given .1) ∙ c .before .before .before .before .before .before .settle .ensures) _ _
-    (c .before .enter .ensures .0) (c .before .enter .ensures .1)
+    let at-columns = c .before .before .before .before in
+    let at-settle = at-columns .before .before in
+    let at-r = at-settle .before .before .before .before in
+    let at-rest-in = at-r .before .before .before .before .before in
+    let p = at-rest-in .before .before .before .before .before .before .before .before .before .before .before .pre in
+    body-held _ _ (p .1 .0 .0) _ _ _ _ _ _ _ _ (at-rest-in .before .before .before .before .before .sift-in .ensures) _ _ (p .1 .1 .0 .0) _
+    (rw (at-r .r .given .1) at (at-rest-in .rest-in
+    .ensures)) _ (at-settle .before .before .placeless .ensures) _ _ _
+    (sym (at-columns .columns .given .1) ∙ at-settle .settle .ensures) _ _ (c .before .enter .ensures .0) (c .before .enter .ensures .1)
 
 returns-2 : tie.Need-returns-2
 returns-2 c =
-    let p = c .before .before .before .before .before .before .before .before .before .before .before .before .before .before .before
-    .before .before .before .before .before .before .before .before .pre in
+    let at-settle = c .before .before .before in
+    let at-r = at-settle .before .before .before .before in
+    let at-rest-in = at-r .before .before .before .before .before in
+    let p = at-rest-in .before .before .before .before .before .before .before .before .before .before .before .pre in
     body-unheld _ _ (p .1 .0 .0) _ _ _ _ _ _ _ _
-    (c .before .before .before .before .before .before .before .before .before .before .before .before .before .before .before .before
-    .before .sift-in .ensures) _ _ (p .1 .1 .0 .0) _
-    (rw (c .before .before .before .before .before .before .before .r .given .1) at
-    (c .before .before .before .before .before .before .before .before .before .before .before .before .rest-in .ensures)) _
-    (c .before .before .before .before .before .placeless .ensures) _ _
-    (sym (c .before .f .given .1) ∙ c .before .before .before .settle .ensures)
+    (at-rest-in .before .before .before .before .before .sift-in .ensures) _ _ (p .1 .1 .0 .0) _ (rw (at-r .r .given .1) at
+    (at-rest-in .rest-in .ensures)) _ (at-settle .before .before .placeless .ensures) _ _
+    (sym (c .before .f .given .1) ∙ at-settle .settle .ensures)
 
 returns-3 : tie.Need-returns-3
 returns-3 c =
-    let p = c .before .before .before .before .before .before .before .before .before .before .before .before .before .before .before
-    .before .before .pre in
-    body-not _ _ (p .1 .0 .0) _ _ _ _ _ _ _ _
-    (c .before .before .before .before .before .before .before .before .before .before .before .sift-in .ensures) _ _ (p .1 .1 .0 .0) _ _
-    (rw (c .before .f2 .given .1) at (c .before .before .before .before .before .before .rest-in .ensures))
+    let at-rest-in = c .before .before .before .before .before .before in
+    let p = at-rest-in .before .before .before .before .before .before .before .before .before .before .before .pre in
+    body-not _ _ (p .1 .0 .0) _ _ _ _ _ _ _ _ (at-rest-in .before .before .before .before .before .sift-in .ensures) _ _ (p .1 .1 .0 .0) _ _
+    (rw (c .before .f2 .given .1) at (at-rest-in .rest-in .ensures))
 
 pub body-at-spec : {M : Type 1} → statement M
 body-at-spec =

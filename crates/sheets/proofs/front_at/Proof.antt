@@ -24,41 +24,38 @@ place-front-requires c κs =
 
 returns : tie.Need-returns
 returns c =
-    let a = c .before .before .before .before .before .before .before .before .before .before .before .before .before .before .before
-    .args in
+    let at-b = c .before .before in
+    let at-a = at-b .before .before .before .before in
+    let at-ident = at-a .before .before .before .before in
+    let a = at-ident .before .before .before .before .before .args in
     record {
-      is = λ l h i. c .place-front .ensures .0
-          ∙ front-is (a .bad) (a .d .now) (ruleOf (a .m)) l (a .place) (a .end)
-          (c .before .before .before .before .before .before .a .given .0 .0) (c .before .before .b .given .0 .0)
-          (sym (c .before .before .before .before .before .before .before .before .before .before .before .before .title-at .ensures .is l h
-          i) ∙ c .before .before .before .before .before .before .before .before .before .before .ident .given .1)
-          (sym (c .before .before .before .before .before .before .before .before .name-in .ensures .is l h)
-          ∙ c .before .before .before .before .before .before .a .given .1)
-          (sym (c .before .before .before .before .label-in .ensures .0) ∙ c .before .before .b .given .1);
+      is = λ l h i. c .place-front .ensures .0 ∙ front-is (a .bad) (a .d .now) (ruleOf (a .m)) l (a .place) (a .end)
+          (at-a .a .given .0 .0) (at-b .b .given .0 .0) (sym (at-ident .before .before .title-at .ensures .is l h
+          i) ∙ at-ident .ident .given .1) (sym (at-a .before .before .name-in .ensures .is l h) ∙ at-a .a .given .1)
+          (sym (at-b .before .before .label-in .ensures .0) ∙ at-b .b .given .1);
       ends = c .place-front .ensures .1;
     }
 
 returns-2 : tie.Need-returns-2
 returns-2 c =
-    let a = c .before .before .before .before .before .before .before .before .before .before .before .before .before .before .args in
+    let at-a = c .before .before .before .before .before in
+    let at-ident = at-a .before .before .before .before in
+    let a = at-ident .before .before .before .before .before .args in
     record {
-      is = λ l h i. label-not (a .bad) (a .d .now) (ruleOf (a .m)) l (a .place) (a .end)
-          (c .before .before .before .before .before .a .given .0 .0)
-          (sym (c .before .before .before .before .before .before .before .before .before .before .before .title-at .ensures .is l h i)
-          ∙ c .before .before .before .before .before .before .before .before .before .ident .given .1)
-          (sym (c .before .before .before .before .before .before .before .name-in .ensures .is l h)
-          ∙ c .before .before .before .before .before .a .given .1)
+      is = λ l h i. label-not (a .bad) (a .d .now) (ruleOf (a .m)) l (a .place) (a .end) (at-a .a .given .0 .0)
+          (sym (at-ident .before .before .title-at .ensures .is l h i) ∙ at-ident .ident .given .1)
+          (sym (at-a .before .before .name-in .ensures .is l h) ∙ at-a .a .given .1)
           (sym (c .before .before .before .label-in .ensures .0) ∙ c .before .f .given .1);
       ends = tt;
     }
 
 returns-3 : tie.Need-returns-3
 returns-3 c =
-    let a = c .before .before .before .before .before .before .before .before .before .before .args in
+    let at-ident = c .before .before .before .before .before in
+    let a = at-ident .before .before .before .before .before .args in
     record {
       is = λ l h i. name-not (a .bad) (a .d .now) (ruleOf (a .m)) l (a .place) (a .end)
-          (sym (c .before .before .before .before .before .before .before .title-at .ensures .is l h i)
-          ∙ c .before .before .before .before .before .ident .given .1)
+          (sym (at-ident .before .before .title-at .ensures .is l h i) ∙ at-ident .ident .given .1)
           (sym (c .before .before .before .name-in .ensures .is l h) ∙ c .before .f2 .given .1);
       ends = tt;
     }

@@ -16,10 +16,11 @@ text-at-requires c κs = let v = rw (c .before .before .before .place .given .1)
 
 returns : tie.Need-returns
 returns c =
-    let a = c .before .before .before .before .before .before .before .before .before .args in
+    let at-place = c .before .before .before .before in
+    let a = at-place .before .before .before .before .before .args in
     let k = text (a .bad) (a .d .now) LABEL (rich (a .languages)) in
     let e = due-goes (a .bad) (a .d .now) LABEL k (a .at)
-    (sym (c .before .before .before .before .before .before .next-due .ensures .0) ∙ c .before .before .before .before .place .given .1) in
+    (sym (at-place .before .before .next-due .ensures .0) ∙ at-place .place .given .1) in
     let r : c .text-at .result ≡ phraseOf (labelIn (a .bad) (a .d .now) (a .languages) (a .at)) =
     c .text-at .ensures ∙ rw (c .before .before .mode-of .ensures) (ap phraseOf (sym e)) in (
       r,

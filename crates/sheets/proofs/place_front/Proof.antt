@@ -7,13 +7,14 @@ use Rattle.sheets.proofs.place_front.Tie as tie
 
 returns : tie.Need-returns
 returns c =
-    let a = c .before .before .before .before .before .before .before .args in
-    let e = sym (c .before .before .before .before .before .position-in .ensures .0) ∙ c .before .before .before .q .given .1 in
-    let v = rw (c .before .before .before .q .given .1) at (c .before .before .before .before .before .position-in .ensures .1) in
+    let at-q = c .before .before .before in
+    let start = at-q .before .before .before .before in
+    let a = start .args in
+    let e = sym (at-q .before .before .position-in .ensures .0) ∙ at-q .q .given .1 in
+    let v = rw (at-q .q .given .1) at (at-q .before .before .position-in .ensures .1) in
     rw (c .text-of2 .ensures, c .before .text-of .ensures) (
-      placed-by (a .ident) (a .kind) (a .usage) (a .a) (a .b) (positionIn (a .bad) (a .d .now) (a .b .next))
-          (c .before .before .before .q .given .0 .0) e,
-      (v .0, c .before .before .before .before .before .before .before .pre .0, v .1, v .2, v .3),
+      placed-by (a .ident) (a .kind) (a .usage) (a .a) (a .b) (positionIn (a .bad) (a .d .now) (a .b .next)) (at-q .q .given .0 .0) e,
+      (v .0, start .pre .0, v .1, v .2, v .3),
     )
 
 returns-2 : tie.Need-returns-2

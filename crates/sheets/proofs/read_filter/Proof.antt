@@ -19,17 +19,17 @@ find-open-requires c κs = rw (c .before .before .filter .given .1) at (c .befor
 
 returns : tie.Need-returns
 returns c =
-    let a = c .before .before .before .before .before .before .before .before .args in
-    let f = c .before .before .before .before .filter .given .0 .0 in
-    let n = c .before .before .before .before .filter .given .0 .1 .0 in
+    let at-filter = c .before .before .before .before in
+    let a = at-filter .before .before .before .before .args in
+    let f = at-filter .filter .given .0 .0 in
+    let n = at-filter .filter .given .0 .1 .0 in
     let o = c .before .find-open .result in
     let R = ap readOf (c .before .find-open .ensures .0) ∙ read-open (within (a .bad) (a .d .now) VARIABLE n) in
     record {
       is = λ l h. c .sift-by .ensures ∙ ap (λ (x : Result Open). siftedOf (bind x λ y k. Is (with f y) k)) R
           ∙ rw (filter-is (filter (a .bad) (a .d .now) (a .m .latin) (a .m .standard) l
           (record { place = a .name .place; length = a .name .length }) (a .usage) (a .place) (a .end))
-          (sym (c .before .before .before .before .before .before .filter-at .ensures .is l h)
-          ∙ c .before .before .before .before .filter .given .1));
+          (sym (at-filter .before .before .filter-at .ensures .is l h) ∙ at-filter .filter .given .1));
       ends = rw (c .sift-by .ensures) (sifted-tag (a .d .now) f o (within-first (a .d .now) n o (c .before .find-open .ensures .1)));
     }
 

@@ -11,25 +11,29 @@ use Rattle.sheets.proofs.rest_in.Tie as tie
 
 returns : tie.Need-returns
 returns c =
-    let a = c .before .before .before .before .before .before .before .before .before .args in
-    kinded (a .bad) (a .d .now) (ruleOf (a .m)) (a .before) {room = a .room} (readOf (a .o))
-    (c .before .before .before .before .before .before .if1 .taken)
+    let at-values-rest = c .before .before .before in
+    let at-if1 = at-values-rest .before .before .before in
+    let a = at-if1 .before .before .before .args in
+    kinded (a .bad) (a .d .now) (ruleOf (a .m)) (a .before) {room = a .room} (readOf (a .o)) (at-if1 .if1 .taken)
     (rests-of single (λ b n. refl) (λ b. refl) (content-single (a .bad) (a .d .now) (ruleOf (a .m)) (a .before) (a .room) (readOf (a .o)))
-    (c .before .before .before .values-rest .ensures))
+    (at-values-rest .values-rest .ensures))
 
 returns-2 : tie.Need-returns-2
 returns-2 c =
-    let a = c .before .before .before .before .before .before .before .before .before .before .args in
+    let at-spread-rest = c .before .before .before in
+    let at-if2 = at-spread-rest .before .before .before in
+    let a = at-if2 .before .before .before .before .args in
     kinded (a .bad) (a .d .now) (ruleOf (a .m)) (a .before) {room = a .room} (readOf (a .o))
-    (c .before .before .before .before .before .before .if2 .taken) (c .before .before .before .spread-rest .ensures)
+    (at-if2 .if2 .taken) (at-spread-rest .spread-rest .ensures)
 
 returns-3 : tie.Need-returns-3
 returns-3 c =
-    let a = c .before .before .before .before .before .before .before .before .before .before .before .args in
-    kinded (a .bad) (a .d .now) (ruleOf (a .m)) (a .before) {room = a .room} (readOf (a .o))
-    (c .before .before .before .before .before .before .if3 .taken)
+    let at-values-rest2 = c .before .before .before in
+    let at-if3 = at-values-rest2 .before .before .before in
+    let a = at-if3 .before .before .before .before .before .args in
+    kinded (a .bad) (a .d .now) (ruleOf (a .m)) (a .before) {room = a .room} (readOf (a .o)) (at-if3 .if3 .taken)
     (rests-of quantity (λ b n. refl) (λ b. refl) (content-quantity (a .bad) (a .d .now) (ruleOf (a .m)) (a .before) (a .room)
-    (readOf (a .o))) (c .before .before .before .values-rest2 .ensures))
+    (readOf (a .o))) (at-values-rest2 .values-rest2 .ensures))
 
 returns-4 : tie.Need-returns-4
 returns-4 c =

@@ -28,13 +28,14 @@ tag-due-requires c κs = let a = c .before .before .before .before .before .befo
 
 read-filter-requires : tie.Need-read-filter-requires
 read-filter-requires c κs =
-    let a = c .before .before .before .before .before .before .before .before .before .before .before .before .args in
-    let o = c .before .before .before .before .before .before .before .before .before .find-open .result in (
-      c .before .before .before .before .before .before .before .before .before .before .before .before .pre .0,
+    let at-find-open = c .before .before .before .before .before .before .before .before .before in
+    let start = at-find-open .before .before .before in
+    let a = start .args in
+    let o = at-find-open .find-open .result in (
+      start .pre .0,
       (
-        c .before .before .before .before .before .before .before .before .before .before .before .before .pre .1 .0,
-        due-within (a .bad) (a .d .now) FILTER o (within-first (a .d .now) (a .at) o
-            (c .before .before .before .before .before .before .before .before .before .find-open .ensures .1))
+        start .pre .1 .0,
+        due-within (a .bad) (a .d .now) FILTER o (within-first (a .d .now) (a .at) o (at-find-open .find-open .ensures .1))
             (sym (c .before .before .before .tag-due .ensures) ∙ c .before .place .given .1) .1,
       ),
     )
@@ -71,28 +72,28 @@ returns-2 c =
 
 returns-3 : tie.Need-returns-3
 returns-3 c =
-    let a = c .before .before .before .before .before .before .before .before .before .before .before .before .before .args in
-    let o = c .before .before .before .before .before .before .before .before .before .before .find-open .result in
+    let at-tag-due = c .before .before .before .before in
+    let at-if2 = at-tag-due .before .before in
+    let at-find-open = at-if2 .before .before .before .before in
+    let a = at-find-open .before .before .before .args in
+    let o = at-find-open .find-open .result in
     let t : Text = record { place = a .name .place; length = a .name .length } in
-    let R = ap readOf (c .before .before .before .before .before .before .before .before .before .before .find-open .ensures .0)
-    ∙ read-open (within (a .bad) (a .d .now) VARIABLE (a .at)) in
-    let s : startsOf (a .d .now) o FILTER ≡ true = sym (c .before .before .before .before .before .before .before .is-start .ensures)
-    ∙ not-false _ (c .before .before .before .before .before .before .if2 .left) in
+    let R = ap readOf (at-find-open .find-open .ensures .0) ∙ read-open (within (a .bad) (a .d .now) VARIABLE (a .at)) in
+    let s : startsOf (a .d .now) o FILTER ≡ true = sym (at-if2 .before .is-start .ensures) ∙ not-false _ (at-if2 .if2 .left) in
     record {
-      is = λ l h. c .read-filter .ensures .is l h
-          ∙ ap siftedOf (sym (sift-one (a .bad) (a .d .now) (ruleOf (a .m)) l t (a .usage) o
-          (c .before .before .before .before .before .before .before .before .before .if1 .left) s
-          (sym (c .before .before .before .before .tag-due .ensures) ∙ c .before .before .place .given .1)))
+      is = λ l h. c .read-filter .ensures .is l h ∙ ap siftedOf (sym (sift-one (a .bad) (a .d .now) (ruleOf (a .m)) l t (a .usage) o
+          (at-if2 .before .before .before .if1 .left) s (sym (at-tag-due .tag-due .ensures) ∙ c .before .before .place .given .1)))
           ∙ ap (λ (x : Result Open). siftedOf (bind x (filtered (a .bad) (a .d .now) (ruleOf (a .m)) l t (a .usage)))) R;
       ends = c .read-filter .ensures .ends;
     }
 
 returns-4 : tie.Need-returns-4
 returns-4 c =
-    let a = c .before .before .before .before .before .before .before .before .before .before .before .before .args in
-    let o = c .before .before .before .before .before .before .before .before .before .find-open .result in
-    let s : startsOf (a .d .now) o FILTER ≡ true = sym (c .before .before .before .before .before .before .is-start .ensures)
-    ∙ not-false _ (c .before .before .before .before .before .if2 .left) in
+    let at-if2 = c .before .before .before .before .before in
+    let at-find-open = at-if2 .before .before .before .before in
+    let a = at-find-open .before .before .before .args in
+    let o = at-find-open .find-open .result in
+    let s : startsOf (a .d .now) o FILTER ≡ true = sym (at-if2 .before .is-start .ensures) ∙ not-false _ (at-if2 .if2 .left) in
     starts-due (a .bad) (a .d .now) FILTER o s (sym (c .before .before .before .tag-due .ensures) ∙ c .before .f .given .1)
 
 pub sift-in-spec : {M : Type 1} → statement M

@@ -9,40 +9,36 @@ use Rattle.sheets.proofs.size_rest.Tie as tie
 
 size-at-requires : tie.Need-size-at-requires
 size-at-requires c κs =
-    let a = c .before .before .before .before .before .before .args in
-    due-within (a .bad) (a .d .now) SIZE (a .o) (c .before .before .before .before .before .before .pre)
-    (sym (c .before .before .before .tag-due .ensures) ∙ c .before .place .given .1) .1
+    let at-tag-due = c .before .before .before in
+    let start = at-tag-due .before .before .before in
+    let a = start .args in
+    due-within (a .bad) (a .d .now) SIZE (a .o) (start .pre) (sym (at-tag-due .tag-due .ensures) ∙ c .before .place .given .1) .1
 
 end-in-requires : tie.Need-end-in-requires
 end-in-requires c κs =
-    let a = c .before .before .before .before .before .before .before .before .before .before .args in
-    let b = due-within (a .bad) (a .d .now) SIZE (a .o)
-    (c .before .before .before .before .before .before .before .before .before .before .pre)
-    (sym (c .before .before .before .before .before .before .before .tag-due .ensures)
-    ∙ c .before .before .before .before .before .place .given .1) in
+    let at-place = c .before .before .before .before .before in
+    let start = at-place .before .before .before .before .before in
+    let a = start .args in
+    let b = due-within (a .bad) (a .d .now) SIZE (a .o) (start .pre) (sym (at-place .before .before .tag-due .ensures)
+    ∙ at-place .place .given .1) in
     size-next (a .bad) (a .d .now) _ _ _ (b .0) (sym (c .before .before .before .size-at .ensures) ∙ c .before .x .given .1)
 
 returns : tie.Need-returns
 returns c =
-    let a = c .before .before .before .before .before .before .before .before .before .before .before .before .args in
-    let e = size-ended (a .bad) (a .d .now) (a .o)
-    (sym (c .before .before .before .before .before .before .before .before .before .tag-due .ensures)
-    ∙ c .before .before .before .before .before .before .before .place .given .1) in
-    c .plain-rest .ensures
-    ∙ rw (c .before .end-in .ensures .0) (sized-by (a .bad) (a .d .now) (a .before)
-    (size (a .bad) (a .d .now) (c .before .before .before .before .before .before .before .place .given .0 .0)
-    (c .before .before .before .before .before .before .before .place .given .0 .1 .0)) (c .before .before .before .x .given .0 .0)
-    (sym (c .before .before .before .before .before .size-at .ensures) ∙ c .before .before .before .x .given .1)
-    ∙ ap (sizedOf (a .before)) (sym e))
+    let at-x = c .before .before .before in
+    let at-place = at-x .before .before .before .before in
+    let a = at-place .before .before .before .before .before .args in
+    let e = size-ended (a .bad) (a .d .now) (a .o) (sym (at-place .before .before .tag-due .ensures) ∙ at-place .place .given .1) in
+    c .plain-rest .ensures ∙ rw (c .before .end-in .ensures .0) (sized-by (a .bad) (a .d .now) (a .before)
+    (size (a .bad) (a .d .now) (at-place .place .given .0 .0) (at-place .place .given .0 .1 .0)) (at-x .x .given .0 .0)
+    (sym (at-x .before .before .size-at .ensures) ∙ at-x .x .given .1) ∙ ap (sizedOf (a .before)) (sym e))
 
 returns-2 : tie.Need-returns-2
 returns-2 c =
-    let a = c .before .before .before .before .before .before .before .before .before .before .args in
-    let e = size-ended (a .bad) (a .d .now) (a .o)
-    (sym (c .before .before .before .before .before .before .before .tag-due .ensures)
-    ∙ c .before .before .before .before .before .place .given .1) in
-    sized-not (a .bad) (a .d .now) (a .before) (size (a .bad) (a .d .now) (c .before .before .before .before .before .place .given .0 .0)
-    (c .before .before .before .before .before .place .given .0 .1 .0))
+    let at-place = c .before .before .before .before .before in
+    let a = at-place .before .before .before .before .before .args in
+    let e = size-ended (a .bad) (a .d .now) (a .o) (sym (at-place .before .before .tag-due .ensures) ∙ at-place .place .given .1) in
+    sized-not (a .bad) (a .d .now) (a .before) (size (a .bad) (a .d .now) (at-place .place .given .0 .0) (at-place .place .given .0 .1 .0))
     (sym (c .before .before .before .size-at .ensures) ∙ c .before .f .given .1) ∙ ap (sizedOf (a .before)) (sym e)
 
 returns-3 : tie.Need-returns-3

@@ -23,12 +23,11 @@ use Rattle.sheets.proofs.spread_rest.Tie as tie
 
 returns : tie.Need-returns
 returns c =
-    let a = c .before .before .before .before .before .before .before .before .before .before .before .args in
-    rests-of (multiple none) (λ b n. refl) (λ b. refl)
-    (content-unspread (a .bad) (a .d .now) (ruleOf (a .m)) (a .before) (a .room) (a .o)
-    (sym (c .before .before .before .before .before .before .before .is-start .ensures)
-    ∙ not-true _ (c .before .before .before .before .before .before .if1 .taken)))
-    (c .before .before .before .values-rest .ensures)
+    let at-values-rest = c .before .before .before in
+    let at-if1 = at-values-rest .before .before .before in
+    let a = at-if1 .before .before .before .before .before .args in
+    rests-of (multiple none) (λ b n. refl) (λ b. refl) (content-unspread (a .bad) (a .d .now) (ruleOf (a .m)) (a .before) (a .room) (a .o)
+    (sym (at-if1 .before .is-start .ensures) ∙ not-true _ (at-if1 .if1 .taken))) (at-values-rest .values-rest .ensures)
 
 spread-at-requires : tie.Need-spread-at-requires
 spread-at-requires c κs =
@@ -41,20 +40,19 @@ spread-at-requires c κs =
 
 find-open-requires : tie.Need-find-open-requires
 find-open-requires c κs =
-    let a = c .before .before .before .before .before .before .before .before .before .before .before .before .before .before .before
-    .args in
-    let p = c .before .before .before .before .before .before .before .before .before .before .before .before .before .before .before
-    .pre in
+    let start = c .before .before .before .before .before .before .before .before .before .before .before .before .before .before .before in
+    let a = start .args in
+    let p = start .pre in
     let y = spread-read (a .room) (spread (a .bad) (a .d .now) (a .room) _ _)
     (sym (c .before .before .before .before .spread-at .ensures) ∙ c .before .before .s .given .1) in
     spread-fine (a .bad) (a .d .now) (a .room) _ _ (p .0 .2) (p .0 .3) (y .is) .next
 
 values-rest-requires-2 : tie.Need-values-rest-requires-2
 values-rest-requires-2 c κs =
-    let a = c .before .before .before .before .before .before .before .before .before .before .before .before .before .before .before
-    .before .before .before .args in
-    let p = c .before .before .before .before .before .before .before .before .before .before .before .before .before .before .before
-    .before .before .before .pre in (
+    let start = c .before .before .before .before .before .before .before .before .before .before .before .before .before .before .before
+    .before .before .before in
+    let a = start .args in
+    let p = start .pre in (
       (
         within-first (a .d .now) (c .before .before .before .before .before .s .given .0 .0 .next) (c .before .before .find-open .result)
             (c .before .before .find-open .ensures .1),
@@ -65,46 +63,40 @@ values-rest-requires-2 c κs =
 
 returns-2 : tie.Need-returns-2
 returns-2 c =
-    let a = c .before .before .before .before .before .before .before .before .before .before .before .before .before .before .before
-    .before .before .before .before .before .before .before .args in
-    let n = c .before .before .before .before .before .before .before .before .before .s .given .0 .0 .next in
-    let y = spread-read (a .room) (spread (a .bad) (a .d .now) (a .room) _ _)
-    (sym (c .before .before .before .before .before .before .before .before .before .before .before .spread-at .ensures)
-    ∙ c .before .before .before .before .before .before .before .before .before .s .given .1) in
+    let at-values-rest2 = c .before .before .before in
+    let at-find-open = at-values-rest2 .before .before .before in
+    let at-s = at-find-open .before .before .before in
+    let at-place = at-s .before .before .before .before in
+    let at-if1 = at-place .before .before .before .before in
+    let a = at-if1 .before .before .before .before .before .args in
+    let n = at-s .s .given .0 .0 .next in
+    let y = spread-read (a .room) (spread (a .bad) (a .d .now) (a .room) _ _) (sym (at-s .before .before .spread-at .ensures)
+    ∙ at-s .s .given .1) in
     let e = content-spread (a .bad) (a .d .now) (ruleOf (a .m)) (a .before) (a .room) (a .o)
-    (sym (c .before .before .before .before .before .before .before .before .before .before .before .before .before .before .before .before
-    .before .before .is-start .ensures) ∙ not-false _
-    (c .before .before .before .before .before .before .before .before .before .before .before .before .before .before .before .before
-    .before .if1 .left))
-    (sym (c .before .before .before .before .before .before .before .before .before .before .before .before .before .before .before .tag-due
-    .ensures) ∙ c .before .before .before .before .before .before .before .before .before .before .before .before .before .place .given .1)
-    (y .spread) n (y .is) in
-    let o : readOf (c .before .before .before .before .before .before .find-open .result) ≡ within (a .bad) (a .d .now) VARIABLE n =
-    ap readOf (c .before .before .before .before .before .before .find-open .ensures .0)
-    ∙ read-open (within (a .bad) (a .d .now) VARIABLE n) in
+    (sym (at-if1 .before .is-start .ensures) ∙ not-false _ (at-if1 .if1 .left)) (sym (at-place .before .before .tag-due
+    .ensures) ∙ at-place .place .given .1) (y .spread) n (y .is) in
+    let o : readOf (at-find-open .find-open .result) ≡ within (a .bad) (a .d .now) VARIABLE n =
+    ap readOf (at-find-open .find-open .ensures .0) ∙ read-open (within (a .bad) (a .d .now) VARIABLE n) in
     rests-spread (y .spread) (y .count-is) (y .width-is)
     (e ∙ ap (λ (r : Result Open). bind (bind r (valuesEnded (a .bad) (a .d .now) (a .m .languages) false (a .before)))
-    (λ b n. Is (multiple (some (y .spread)) b) n)) (sym o))
-    (c .before .before .before .values-rest2 .ensures)
+    (λ b n. Is (multiple (some (y .spread)) b) n)) (sym o)) (at-values-rest2 .values-rest2 .ensures)
 
 returns-3 : tie.Need-returns-3
 returns-3 c =
-    let a = c .before .before .before .before .before .before .before .before .before .before .before .before .before .before .args in
-    rests-not (spread-not (a .bad) (a .d .now) (ruleOf (a .m)) (a .before) (a .room) (a .o)
-    (sym (c .before .before .before .before .before .before .before .before .before .before .is-start .ensures)
-    ∙ not-false _ (c .before .before .before .before .before .before .before .before .before .if1 .left))
-    (sym (c .before .before .before .before .before .before .before .tag-due .ensures)
-    ∙ c .before .before .before .before .before .place .given .1)
+    let at-place = c .before .before .before .before .before in
+    let at-if1 = at-place .before .before .before .before in
+    let a = at-if1 .before .before .before .before .before .args in
+    rests-not (spread-not (a .bad) (a .d .now) (ruleOf (a .m)) (a .before) (a .room) (a .o) (sym (at-if1 .before .is-start .ensures)
+    ∙ not-false _ (at-if1 .if1 .left)) (sym (at-place .before .before .tag-due .ensures) ∙ at-place .place .given .1)
     (spread-refused (a .room) (spread (a .bad) (a .d .now) (a .room) _ _)
     (sym (c .before .before .before .spread-at .ensures) ∙ c .before .f .given .1)))
 
 returns-4 : tie.Need-returns-4
 returns-4 c =
-    let a = c .before .before .before .before .before .before .before .before .before .before .args in
-    spread-stands (a .bad) (a .d .now) (ruleOf (a .m)) (a .before) (a .o)
-    (sym (c .before .before .before .before .before .before .is-start .ensures)
-    ∙ not-false _ (c .before .before .before .before .before .if1 .left))
-    (sym (c .before .before .before .tag-due .ensures) ∙ c .before .f2 .given .1)
+    let at-if1 = c .before .before .before .before .before in
+    let a = at-if1 .before .before .before .before .before .args in
+    spread-stands (a .bad) (a .d .now) (ruleOf (a .m)) (a .before) (a .o) (sym (at-if1 .before .is-start .ensures)
+    ∙ not-false _ (at-if1 .if1 .left)) (sym (c .before .before .before .tag-due .ensures) ∙ c .before .f2 .given .1)
 
 pub spread-rest-spec : {M : Type 1} → statement M
 spread-rest-spec =

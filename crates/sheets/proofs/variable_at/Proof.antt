@@ -8,18 +8,19 @@ front-at-requires c κs = let p = c .before .before .before .before .pre in ((p 
 
 body-at-requires : tie.Need-body-at-requires
 body-at-requires c κs =
-    let p = c .before .before .before .before .before .before .before .before .before .before .before .pre in
-    let a = c .before .before .before .before .before .before .before .before .before .before .before .args in (
+    let at-head = c .before .before .before .before in
+    let at-front-at = at-head .before .before in
+    let start = at-front-at .before .before .before .before .before in
+    let p = start .pre in
+    let a = start .args in (
       p .0,
       (
         (p .1 .0 .0, p .1 .0 .2),
         (
           p .1 .1,
           (
-            rw (c .before .before .before .before .head .given .1) at
-                (c .before .before .before .before .before .before .front-at .ensures .ends),
-            λ l b. front-given _ _ _ _ (a .y) _ _ _ _ _ _ _ (c .before .before .before .before .before .before .front-at .ensures)
-                (c .before .before .before .before .head .given .1) l b .read,
+            rw (at-head .head .given .1) at (at-front-at .front-at .ensures .ends),
+            λ l b. front-given _ _ _ _ (a .y) _ _ _ _ _ _ _ (at-front-at .front-at .ensures) (at-head .head .given .1) l b .read,
           ),
         ),
       ),
@@ -27,12 +28,12 @@ body-at-requires c κs =
 
 returns : tie.Need-returns
 returns c =
-    let a = c .before .before .before .before .before .before .before .before .before .before .before .before .before .before .before
-    .before .args in
-    joined _ _ _ _ (a .y) _ _ _ _ _ _ _ _ _ _ (λ l b. front-given _ _ _ _ (a .y) _ _ _ _ _ _ _
-    (c .before .before .before .before .before .before .before .before .before .before .before .front-at .ensures)
-    (c .before .before .before .before .before .before .before .before .before .head .given .1) l b)
-    (c .before .before .before .before .body-at .ensures)
+    let at-body-at = c .before .before .before .before in
+    let at-head = at-body-at .before .before .before .before .before in
+    let at-front-at = at-head .before .before in
+    let a = at-front-at .before .before .before .before .before .args in
+    joined _ _ _ _ (a .y) _ _ _ _ _ _ _ _ _ _ (λ l b. front-given _ _ _ _ (a .y) _ _ _ _ _ _ _ (at-front-at .front-at .ensures)
+    (at-head .head .given .1) l b) (at-body-at .body-at .ensures)
 
 returns-2 : tie.Need-returns-2
 returns-2 c =

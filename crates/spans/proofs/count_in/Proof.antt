@@ -28,23 +28,26 @@ returns c =
 
 add-count : tie.Need-add-count Inv-loop μ-loop
 add-count c =
-    let l = c .before .before .before .before .before .before .loop in
-    let o = first-on (c .before .before .before .before .before .before .before .before .args .s .now) (l .n) _ _
-    (sym (c .before .before .before .before .before .next-char .ensures) ∙ c .before .before .before .code .given .1) in
+    let at-code = c .before .before .before in
+    let l = at-code .before .before .before .loop in
+    let o = first-on (at-code .before .before .before .before .before .args .s .now) (l .n) _ _
+    (sym (at-code .before .before .next-char .ensures) ∙ at-code .code .given .1) in
     omega (arith, o .0, o .1)
 
 loop-less : tie.Need-loop-less Inv-loop μ-loop
 loop-less c =
-    let l = c .before .before .before .before .before .before .loop in
-    let o = first-on (c .before .before .before .before .before .before .before .before .args .s .now) (l .n) _ _
-    (sym (c .before .before .before .before .before .next-char .ensures) ∙ c .before .before .before .code .given .1) in
+    let at-code = c .before .before .before in
+    let l = at-code .before .before .before .loop in
+    let o = first-on (at-code .before .before .before .before .before .args .s .now) (l .n) _ _
+    (sym (at-code .before .before .next-char .ensures) ∙ at-code .code .given .1) in
     omega (arith, o .0, o .1)
 
 loop-again : tie.Need-loop-again Inv-loop μ-loop
 loop-again c =
-    let l = c .before .before .before .before .before .before .loop in
-    let e = sym (c .before .before .before .before .before .next-char .ensures) ∙ c .before .before .before .code .given .1 in
-    let o = first-on (c .before .before .before .before .before .before .before .before .args .s .now) (l .n) _ _ e in
+    let at-code = c .before .before .before in
+    let l = at-code .before .before .before .loop in
+    let e = sym (at-code .before .before .next-char .ensures) ∙ at-code .code .given .1 in
+    let o = first-on (at-code .before .before .before .before .before .args .s .now) (l .n) _ _ e in
     (l .inv .0 ∙ count-on _ _ _ (l .n) e (sym (c .before .of-class .ensures) ∙ not-false _ (c .if1 .left)), o .1, omega (arith, o .0))
 
 returns-2 : tie.Need-returns-2 Inv-loop μ-loop

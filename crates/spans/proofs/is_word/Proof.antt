@@ -28,27 +28,31 @@ returns c =
 
 returns-2 : tie.Need-returns-2 Inv-loop μ-loop
 returns-2 c =
-    let l = c .before .before .before .before .before .before .before .before .loop in
-    sym (l .inv .0 ∙ word-off (c .before .before .before .before .before .before .before .before .before .before .before .args .w .now)
-    (l .i) _ (l .n) (sym (c .before .before .before .before .before .before .before .next-char .ensures)
-    ∙ c .before .before .before .before .before .code .given .1) (omega arith) (λ q. c .if2 .taken (c .before .wide .ensures .0 ∙ q)))
+    let at-code = c .before .before .before .before .before in
+    let at-next-char = at-code .before .before in
+    let l = at-next-char .before .loop in
+    sym (l .inv .0 ∙ word-off (at-next-char .before .before .before .before .args .w .now)
+    (l .i) _ (l .n) (sym (at-next-char .next-char .ensures)
+    ∙ at-code .code .given .1) (omega arith) (λ q. c .if2 .taken (c .before .wide .ensures .0 ∙ q)))
 
 loop-less : tie.Need-loop-less Inv-loop μ-loop
 loop-less c =
-    let l = c .before .before .before .before .before .before .before .before .loop in
-    let o = first-on (c .before .before .before .before .before .before .before .before .before .before .before .args .s .now) (l .n) _ _
-    (sym (c .before .before .before .before .before .before .before .next-char .ensures)
-    ∙ c .before .before .before .before .before .code .given .1) in
+    let at-code = c .before .before .before .before .before in
+    let at-next-char = at-code .before .before in
+    let l = at-next-char .before .loop in
+    let o = first-on (at-next-char .before .before .before .before .args .s .now) (l .n) _ _ (sym (at-next-char .next-char .ensures)
+    ∙ at-code .code .given .1) in
     omega (arith, o .0, o .1)
 
 loop-again : tie.Need-loop-again Inv-loop μ-loop
 loop-again c =
-    let l = c .before .before .before .before .before .before .before .before .loop in
-    let e = sym (c .before .before .before .before .before .before .before .next-char .ensures)
-    ∙ c .before .before .before .before .before .code .given .1 in (
-      l .inv .0 ∙ word-on (c .before .before .before .before .before .before .before .before .before .before .before .args .w .now) (l .i) _
-          (l .n) e (omega arith) (sym (c .before .wide .ensures .0) ∙ c .if2 .left),
-      first-on (c .before .before .before .before .before .before .before .before .before .before .before .args .s .now) (l .n) _ _ e .1,
+    let at-code = c .before .before .before .before .before in
+    let at-next-char = at-code .before .before in
+    let args = at-next-char .before .before .before .before .args in
+    let l = at-next-char .before .loop in
+    let e = sym (at-next-char .next-char .ensures) ∙ at-code .code .given .1 in (
+      l .inv .0 ∙ word-on (args .w .now) (l .i) _ (l .n) e (omega arith) (sym (c .before .wide .ensures .0) ∙ c .if2 .left),
+      first-on (args .s .now) (l .n) _ _ e .1,
       omega arith,
     )
 

@@ -78,10 +78,11 @@ loop-again c =
 
 returns : tie.Need-returns Inv-loop μ-loop
 returns c =
-    let l = c .before .before .before .before .loop in
-    let e = told-over (c .before .before .next-sign .ensures) (c .enum-told .given .1) in
-    all-written _ _ _ _ _ _ (l .inv .0) (ap length e) (c .before .before .before .before .before .before .before .pre .1 .0)
-    (c .before .before .before .before .before .before .before .pre .1 .1)
+    let at-next-sign = c .before .before in
+    let start = at-next-sign .before .before .before .before .before in
+    let l = at-next-sign .before .before .loop in
+    let e = told-over (at-next-sign .next-sign .ensures) (c .enum-told .given .1) in
+    all-written _ _ _ _ _ _ (l .inv .0) (ap length e) (start .pre .1 .0) (start .pre .1 .1)
 
 returns-2 : tie.Need-returns-2 Inv-loop μ-loop
 returns-2 c = let l = c .before .loop in all-written _ _ _ _ _ _ (l .inv .0) (omega (arith, l .inv .1))

@@ -43,8 +43,10 @@ here c = pair-step _ _ _ (omega arith) (sym (c .before .before .before .is-hex .
 
 room : (c : tie.Else3 Inv-loop μ-loop) → c .before .before .before .before .before .before .before .before .loop .m
     < length (c .before .before .before .before .before .before .before .before .loop .list)
-room c = let l = c .before .before .before .before .before .before .before .before .loop in let e = ap length (here c .split) in
-    omega (arith, l .inv .1, l .inv .2, c .before .before .before .before .before .before .before .before .before .before .pre .1)
+room c =
+    let at-loop = c .before .before .before .before .before .before .before .before in
+    let l = at-loop .loop in let e = ap length (here c .split) in
+    omega (arith, l .inv .1, l .inv .2, at-loop .before .before .pre .1)
 
 returns : tie.Need-returns Inv-loop μ-loop
 returns c = let l = c .before .before .loop in record
@@ -69,8 +71,8 @@ loop-again c =
             toZ-ofZ (sfits-of (c .cell-of .ok)),
             c .cell-of .ensures,
             c .before .number-of .ensures .0,
-            c .before .before .before .hex-of .ensures .0,
-            c .before .before .hex-of2 .ensures .0,
+            c .before .before .before .hex-value .ensures .0,
+            c .before .before .hex-value2 .ensures .0,
             add-one (l .m),
           )
           (next-stored (l .list) (l .m) (s .split)),
@@ -105,12 +107,12 @@ copy-pairs-spec =
       c .before .before .before .before .before .before .before .before .before .before .pre .0,
       sym (c .before .before .before .is-hex .ensures) ∙ not-false _ (c .before .before .if2 .left),
     ))
-    (λ c. omega (arith, c .hex-of .ensures .1))
+    (λ c. omega (arith, c .hex-value .ensures .1))
     (λ c κs. (
       c .before .before .before .before .before .before .before .before .before .before .before .pre .0,
       sym (c .before .before .is-hex2 .ensures) ∙ not-false _ (c .before .if3 .left),
     ))
-    (λ c. omega (arith, c .before .hex-of .ensures .1, c .hex-of2 .ensures .1))
+    (λ c. omega (arith, c .before .hex-value .ensures .1, c .hex-value2 .ensures .1))
     (λ c κs. search needs)
     (λ c κs. omega (arith, c .number-of .ensures .1))
     (λ c. omega (arith, room (c .before .before .before .before)))

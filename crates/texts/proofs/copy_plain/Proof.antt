@@ -42,8 +42,10 @@ form c = was-form (c .before .form-end .ensures) (c .if2 .left)
 
 form-room : (c : tie.Else2 Inv-loop μ-loop) → c .before .before .before .before .before .before .loop .m
     < length (c .before .before .before .before .before .before .loop .list)
-form-room c = let l = c .before .before .before .before .before .before .loop in let e = ap length (form c .says .split) in
-    omega (arith, l .inv .1, l .inv .2, c .before .before .before .before .before .before .before .before .pre .1)
+form-room c =
+    let at-loop = c .before .before .before .before .before .before in
+    let l = at-loop .loop in let e = ap length (form c .says .split) in
+    omega (arith, l .inv .1, l .inv .2, at-loop .before .before .pre .1)
 
 loop-less : tie.Need-loop-less Inv-loop μ-loop
 loop-less c = let s = form (c .before .before .before) .says in omega (arith, s .ahead, s .within)
@@ -96,10 +98,11 @@ loop-again-2 c =
 
 loop-again-3 : tie.Need-loop-again-3 Inv-loop μ-loop
 loop-again-3 c =
-    let l = c .before .before .before .before .before .loop in
-    let low : getD (c .before .before .before .before .before .before .before .args .s .now) (l .i) 0 < 32 = omega (arith, c .if3 .left) in
-    let e = decode-dropped (c .before .before .before .before .before .before .before .args .s .now) (l .i)
-    (c .before .before .before .before .loop-test .taken) low in
+    let at-loop-test = c .before .before .before .before in
+    let args = at-loop-test .before .before .before .args in
+    let l = at-loop-test .before .loop in
+    let low : getD (args .s .now) (l .i) 0 < 32 = omega (arith, c .if3 .left) in
+    let e = decode-dropped (args .s .now) (l .i) (at-loop-test .loop-test .taken) low in
     (rw e at (l .inv .0), rw e at (l .inv .1), l .inv .2, l .inv .3)
 
 returns-2 : tie.Need-returns-2 Inv-loop μ-loop

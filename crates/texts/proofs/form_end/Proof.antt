@@ -14,25 +14,22 @@ returns-3 c = inr (mark-form _ _ (omega (arith, c .before .before .before .befor
     (c .if4 .taken))
 
 returns-6 : tie.Need-returns-6
-returns-6 c = inr
-    (line-form _ _
-    (omega (arith, c .before .before .before .before .before .before .before .before .before .before .before .before .pre .1))
-    (c .before .before .before .before .before .before .before .before .if2 .left) (c .before .if6 .taken) (c .if7 .taken)
-    (c .before .before .if5 .left))
+returns-6 c =
+    let at-if2 = c .before .before .before .before .before .before .before .before in
+    inr (line-form _ _ (omega (arith, at-if2 .before .before .before .before .pre .1))
+    (at-if2 .if2 .left) (c .before .if6 .taken) (c .if7 .taken) (c .before .before .if5 .left))
 
 returns-9 : tie.Need-returns-9
 returns-9 c =
-    inr
-    (pair-form _ _
-    (omega (
+    let at-is-hex = c .before .before .before in
+    let at-if3 = at-is-hex .before .before .before .before in
+    let at-if2 = at-if3 .before .before .before .before in
+    inr (pair-form _ _ (omega (
       arith,
-      c .before .before .before .before .before .before .before .before .before .before .before .before .before .before .before .pre .1,
-    )) (c .before .before .before .before .before .before .before .before .before .before .before .if2 .left)
-    (c .before .before .before .before .if6 .left)
-    (sym (c .before .before .before .before .before .before .before .before .marked .ensures)
-    ∙ c .before .before .before .before .before .before .before .if3 .left)
-    (sym (c .before .before .before .is-hex .ensures) ∙ not-false _ (c .before .before .if8 .left))
-    (sym (c .before .is-hex2 .ensures) ∙ c .if9 .taken) (c .before .before .before .before .before .if5 .left))
+      at-if2 .before .before .before .before .pre .1,
+    )) (at-if2 .if2 .left) (at-is-hex .before .if6 .left) (sym (at-if3 .before .marked .ensures) ∙ at-if3 .if3 .left)
+    (sym (at-is-hex .is-hex .ensures) ∙ not-false _ (c .before .before .if8 .left))
+    (sym (c .before .is-hex2 .ensures) ∙ c .if9 .taken) (at-is-hex .before .before .if5 .left))
 
 pub form-end-spec : {M : Type 1} → statement M
 form-end-spec =

@@ -15,19 +15,20 @@ returns-2 : tie.Need-returns-2
 unfolding formSign
 returns-2 c = rw (ne-eqb _ 78 (c .before .before .if1 .left), sym (c .before .marked .ensures) ∙ c .if2 .taken)
 
-hex-of-requires : tie.Need-hex-of-requires
-hex-of-requires c κs = (
+hex-value-requires : tie.Need-hex-value-requires
+hex-value-requires c κs = (
   c .before .before .before .before .before .pre .0,
   c .before .before .before .before .before .pre .1 .hex (c .before .before .if1 .left)
       (sym (c .before .marked .ensures) ∙ c .if2 .left) .0,
 )
 
-hex-of-requires-2 : tie.Need-hex-of-requires-2
-hex-of-requires-2 c κs = (
-  c .before .before .before .before .before .before .before .pre .0,
-  c .before .before .before .before .before .before .before .pre .1 .hex (c .before .before .before .before .if1 .left)
-      (sym (c .before .before .before .marked .ensures) ∙ c .before .before .if2 .left) .1,
-)
+hex-value-requires-2 : tie.Need-hex-value-requires-2
+hex-value-requires-2 c κs =
+    let at-if2 = c .before .before in
+    let start = at-if2 .before .before .before .before .before in (
+      start .pre .0,
+      start .pre .1 .hex (at-if2 .before .before .if1 .left) (sym (at-if2 .before .marked .ensures) ∙ at-if2 .if2 .left) .1,
+    )
 
 returns-3 : tie.Need-returns-3
 unfolding formSign
@@ -35,8 +36,8 @@ returns-3 c =
     rw (
       ne-eqb _ 78 (c .before .before .before .before .before .if1 .left),
       sym (c .before .before .before .before .marked .ensures) ∙ c .before .before .before .if2 .left,
-      c .before .before .hex-of .ensures .0,
-      c .hex-of2 .ensures .0,
+      c .before .before .hex-value .ensures .0,
+      c .hex-value2 .ensures .0,
     )
 
 pub form-sign-spec : {M : Type 1} → statement M
@@ -48,10 +49,10 @@ form-sign-spec =
     returns
     (λ c κs. search needs)
     returns-2
-    hex-of-requires
-    (λ c. omega (arith, c .hex-of .ensures .1))
+    hex-value-requires
+    (λ c. omega (arith, c .hex-value .ensures .1))
     (λ c. omega (arith, c .before .before .before .before .before .before .pre .1 .room))
     (λ c. omega (arith, c .before .before .before .before .before .before .before .pre .1 .room))
-    hex-of-requires-2
-    (λ c. omega (arith, c .before .before .hex-of .ensures .1, c .hex-of2 .ensures .1))
+    hex-value-requires-2
+    (λ c. omega (arith, c .before .before .hex-value .ensures .1, c .hex-value2 .ensures .1))
     returns-3)

@@ -38,10 +38,11 @@ returns-3 c = let l = c .before .before .before .before .before .before .before 
 
 loop-again : tie.Need-loop-again Inv-loop μ-loop
 loop-again c =
-    let l = c .before .before .before .before .before .before .before .before .loop in
-    let a = c .before .before .before .before .before .before .before .before .before .before .args in
-    let p = pair-step (a .s .now) (a .o) (l .i) (omega arith)
-    (sym (c .before .before .before .before .is-hex .ensures) ∙ not-false _ (c .before .before .before .if2 .left))
+    let at-if2 = c .before .before .before in
+    let at-loop = at-if2 .before .before .before .before .before in
+    let l = at-loop .loop in
+    let a = at-loop .before .before .args in
+    let p = pair-step (a .s .now) (a .o) (l .i) (omega arith) (sym (at-if2 .before .is-hex .ensures) ∙ not-false _ (at-if2 .if2 .left))
     (sym (c .before .is-hex2 .ensures) ∙ not-false _ (c .if3 .left)) in (
       λ j. let z : j + (l .count + 1) ≡ j + l .count + 1 = omega arith in l .inv .0 j ∙ p .counts (j + l .count) ∙ rw z,
       omega (arith, l .inv .1),

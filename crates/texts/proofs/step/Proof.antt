@@ -12,12 +12,12 @@ use Rattle.texts.proofs.step.Tie as tie
 returns : tie.Need-returns
 unfolding pacedOf
 returns c =
-    let s = stepped _ _ (c .before .before .before .before .before .before .before .before .next-byte .ensures)
-    (c .before .before .before .before .before .before .byte .given .1) in
+    let at-move-inside = c .before .before .before .before in
+    let s = stepped _ _ (at-move-inside .before .before .before .before .next-byte .ensures)
+    (at-move-inside .before .before .byte .given .1) in
     let k = c .completed .ensures in
     record {
-      paces = λ j. measure-on _ _ (s .split) (c .before .before .before .before .move-inside .ensures) (c .before .before .t .given .1)
-          ∙ rw (sym (k .0));
+      paces = λ j. measure-on _ _ (s .split) (at-move-inside .move-inside .ensures) (c .before .before .t .given .1) ∙ rw (sym (k .0));
       onwards = λ e. paced-on e (omega (arith, s .from, s .next)) (omega (arith, s .within, s .next)) (k .1);
     }
 

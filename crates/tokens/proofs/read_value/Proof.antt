@@ -11,12 +11,13 @@ read-digits-requires-2 c κs = (c .before .before .before .before .pre, rw (c .b
 returns : tie.Need-returns
 unfolding valueAt
 returns c =
+    let at-value-run = c .before .before .before in
     rw (
-      sym (c .before .before .before .before .before .before .before .find-mark .ensures),
-      sym (c .before .before .before .before .before .before .read-digits .ensures),
-      sym (c .before .before .before .before .before .find-mark2 .ensures),
-      sym (c .before .before .before .before .read-digits2 .ensures),
-      sym (c .before .before .before .value-run .ensures),
+      sym (at-value-run .before .before .before .before .find-mark .ensures),
+      sym (at-value-run .before .before .before .read-digits .ensures),
+      sym (at-value-run .before .before .find-mark2 .ensures),
+      sym (at-value-run .before .read-digits2 .ensures),
+      sym (at-value-run .value-run .ensures),
     )
 
 pub read-value-spec : {M : Type 1} → statement M

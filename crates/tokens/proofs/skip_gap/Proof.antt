@@ -28,16 +28,15 @@ loop-less c =
 
 loop-again : tie.Need-loop-again Inv-loop μ-loop
 loop-again c =
-    c .before .before .before .before .before .before .before .loop .inv
-    ∙ c .before .before .before .before .before .before .pass-blanks .ensures .0
-    ∙ gap-again _ _ (pace-on (sym (c .before .before .before .step-gap .ensures) ∙ c .before .m .given .1))
+    let at-step-gap = c .before .before .before in
+    at-step-gap .before .before .before .before .loop .inv ∙ at-step-gap .before .before .before .pass-blanks .ensures .0
+    ∙ gap-again _ _ (pace-on (sym (at-step-gap .step-gap .ensures) ∙ c .before .m .given .1))
 
 returns-2 : tie.Need-returns-2 Inv-loop μ-loop
 returns-2 c =
-    sym
-    (c .before .before .before .before .before .before .before .loop .inv
-    ∙ c .before .before .before .before .before .before .pass-blanks .ensures .0
-    ∙ gap-done _ _ (pace-over (sym (c .before .before .before .step-gap .ensures) ∙ c .before .r .given .1)))
+    let at-step-gap = c .before .before .before in
+    sym (at-step-gap .before .before .before .before .loop .inv ∙ at-step-gap .before .before .before .pass-blanks .ensures .0
+    ∙ gap-done _ _ (pace-over (sym (at-step-gap .step-gap .ensures) ∙ c .before .r .given .1)))
 
 pub skip-gap-spec : {M : Type 1} → statement M
 skip-gap-spec =

@@ -25,12 +25,12 @@ returns-2 c =
 returns-3 : tie.Need-returns-3
 unfolding gapStep paceOf isSpace
 returns-3 c =
-    let s = stepped _ _ (c .before .before .before .before .before .before .before .before .before .before .next-byte .ensures)
-    (c .before .before .before .before .before .before .before .before .byte .given .1) in
+    let at-if1 = c .before .before .before .before .before in
+    let s = stepped _ _ (at-if1 .before .before .before .before .before .next-byte .ensures)
+    (at-if1 .before .before .before .byte .given .1) in
     rw (
       s .split,
-      ne-eqb _ 1 (λ e. c .before .before .before .before .before .if1 .left
-          (c .before .before .before .before .before .before .class-of .ensures ∙ e)),
+      ne-eqb _ 1 (λ e. at-if1 .if1 .left (at-if1 .before .class-of .ensures ∙ e)),
       eq-eqb _ 60 (c .before .before .before .before .if2 .left),
       sym (c .before .before .before .comment .ensures) ∙ c .before .m .given .1,
     )
@@ -38,12 +38,12 @@ returns-3 c =
 returns-4 : tie.Need-returns-4
 unfolding gapStep paceOf isSpace
 returns-4 c =
-    let s = stepped _ _ (c .before .before .before .before .before .before .before .before .before .next-byte .ensures)
-    (c .before .before .before .before .before .before .before .byte .given .1) in
+    let at-if1 = c .before .before .before .before in
+    let s = stepped _ _ (at-if1 .before .before .before .before .before .next-byte .ensures)
+    (at-if1 .before .before .before .byte .given .1) in
     rw (
       s .split,
-      ne-eqb _ 1 (λ e. c .before .before .before .before .if1 .left
-          (c .before .before .before .before .before .class-of .ensures ∙ e)),
+      ne-eqb _ 1 (λ e. at-if1 .if1 .left (at-if1 .before .class-of .ensures ∙ e)),
       eq-eqb _ 60 (c .before .before .before .if2 .left),
       sym (c .before .before .comment .ensures) ∙ c .enum-told .given .1,
     )
@@ -51,12 +51,12 @@ returns-4 c =
 returns-5 : tie.Need-returns-5
 unfolding gapStep paceOf isSpace
 returns-5 c =
-    let s = stepped _ _ (c .before .before .before .before .before .before .before .before .before .before .next-byte .ensures)
-    (c .before .before .before .before .before .before .before .before .byte .given .1) in
+    let at-if1 = c .before .before .before .before .before in
+    let s = stepped _ _ (at-if1 .before .before .before .before .before .next-byte .ensures)
+    (at-if1 .before .before .before .byte .given .1) in
     rw (
       s .split,
-      ne-eqb _ 1 (λ e. c .before .before .before .before .before .if1 .left
-          (c .before .before .before .before .before .before .class-of .ensures ∙ e)),
+      ne-eqb _ 1 (λ e. at-if1 .if1 .left (at-if1 .before .class-of .ensures ∙ e)),
       eq-eqb _ 60 (c .before .before .before .before .if2 .left),
       sym (c .before .before .before .comment .ensures) ∙ c .before .p .given .1,
     )

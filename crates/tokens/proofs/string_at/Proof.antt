@@ -26,12 +26,13 @@ sub-t17 c = let a = ahead (string-ahead _ (from-text _ _) _) (sym (c .before .be
 returns-2 : tie.Need-returns-2
 unfolding stringIn
 returns-2 c =
-    let s = stepped _ _ (c .before .before .before .before .before .before .before .before .next-byte .ensures)
-    (c .before .before .before .before .before .before .byte .given .1) in
+    let at-string = c .before .before .before in
+    let s = stepped _ _ (at-string .before .before .before .before .before .next-byte .ensures)
+    (at-string .before .before .before .byte .given .1) in
     rw (
       s .split,
-      eq-eqb _ 34 (c .before .before .before .before .if1 .left),
-      sym (c .before .before .before .string .ensures) ∙ c .before .m .given .1,
+      eq-eqb _ 34 (at-string .before .if1 .left),
+      sym (at-string .string .ensures) ∙ c .before .m .given .1,
       s .next,
     )
 
@@ -45,12 +46,13 @@ returns-3 c =
 returns-4 : tie.Need-returns-4
 unfolding stringIn
 returns-4 c =
-    let s = stepped _ _ (c .before .before .before .before .before .before .before .before .next-byte .ensures)
-    (c .before .before .before .before .before .before .byte .given .1) in
+    let at-string = c .before .before .before in
+    let s = stepped _ _ (at-string .before .before .before .before .before .next-byte .ensures)
+    (at-string .before .before .before .byte .given .1) in
     rw (
       s .split,
-      eq-eqb _ 34 (c .before .before .before .before .if1 .left),
-      sym (c .before .before .before .string .ensures) ∙ c .before .p .given .1,
+      eq-eqb _ 34 (at-string .before .if1 .left),
+      sym (at-string .string .ensures) ∙ c .before .p .given .1,
     )
 
 returns-5 : tie.Need-returns-5

@@ -64,12 +64,14 @@ add-weights c = omega (arith, c .is-use2 .ensures, use-one (c .before .before .b
 
 loop-again : tie.Need-loop-again Inv-loop μ-loop
 loop-again c =
-    let inv = c .before .before .before .before .before .before .before .loop .inv in (
+    let at-read = c .before .before .before .before in
+    let at-loop = at-read .before .before .before in
+    let inv = at-loop .loop .inv in (
       omega arith,
-      omega (arith, c .before .is-use .ensures, use-one (c .before .before .before .before .read .result .usage) 1),
-      omega (arith, c .is-use2 .ensures, use-one (c .before .before .before .before .read .result .usage) 2),
-      rw (inv .3, serial-here (c .before)) (sym (sum-more _ (c .before .before .before .before .before .before .before .loop .i))),
-      rw (inv .4, weight-here c) (sym (sum-more _ (c .before .before .before .before .before .before .before .loop .i))),
+      omega (arith, c .before .is-use .ensures, use-one (at-read .read .result .usage) 1),
+      omega (arith, c .is-use2 .ensures, use-one (at-read .read .result .usage) 2),
+      rw (inv .3, serial-here (c .before)) (sym (sum-more _ (at-loop .loop .i))),
+      rw (inv .4, weight-here c) (sym (sum-more _ (at-loop .loop .i))),
       all-more _ _ (inv .5) (sym (good-here (c .before .before .before)) ∙ not-false _ (c .before .before .if1 .left)),
     )
 

@@ -6,17 +6,17 @@ use Rattle.utf.proofs.four.Tie as tie
 returns : tie.Need-returns
 unfolding fourOf
 returns c =
+    let at-does-follow2 = c .before .before in
     rw (
-      c .before .before .before .does-follow .ensures,
-      c .before .before .does-follow2 .ensures,
+      at-does-follow2 .before .does-follow .ensures,
+      at-does-follow2 .does-follow2 .ensures,
       c .before .does-follow3 .ensures,
       c .is-legal .ensures,
-    )
-    (rw (
-      c .before .before .before .before .before .before .before .bits .ensures .0,
-      c .before .before .before .before .before .before .bits2 .ensures .0,
-      c .before .before .before .before .before .bits3 .ensures .0,
-      c .before .before .before .before .bits4 .ensures .0,
+    ) (rw (
+      at-does-follow2 .before .before .before .before .before .bits .ensures .0,
+      at-does-follow2 .before .before .before .before .bits2 .ensures .0,
+      at-does-follow2 .before .before .before .bits3 .ensures .0,
+      at-does-follow2 .before .before .bits4 .ensures .0,
     ))
 
 pub four-spec : {M : Type 1} → statement M

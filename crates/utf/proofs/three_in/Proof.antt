@@ -12,21 +12,23 @@ returns c = rw (three-short (c .before .before .args .a) (drop (c .before .befor
 
 returns-2 : tie.Need-returns-2
 unfolding threeIn
-returns-2 c = rw (
-  drop-2 (c .before .before .before .before .before .before .args .d .now)
-      (c .before .before .before .before .before .before .args .at) (omega arith),
-  ← (c .before .triple .ensures),
-  c .if2 .taken,
-)
+returns-2 c =
+    let args = c .before .before .before .before .before .before .args in
+    rw (
+      drop-2 (args .d .now) (args .at) (omega arith),
+      ← (c .before .triple .ensures),
+      c .if2 .taken,
+    )
 
 returns-3 : tie.Need-returns-3
 unfolding threeIn
-returns-3 c = rw (
-  drop-2 (c .before .before .before .before .before .before .args .d .now)
-      (c .before .before .before .before .before .before .args .at) (omega arith),
-  ← (c .before .triple .ensures),
-  c .if2 .left,
-)
+returns-3 c =
+    let args = c .before .before .before .before .before .before .args in
+    rw (
+      drop-2 (args .d .now) (args .at) (omega arith),
+      ← (c .before .triple .ensures),
+      c .if2 .left,
+    )
 
 pub three-in-spec : {M : Type 1} → statement M
 three-in-spec = tie.close (tie.spec (λ c. search needs) returns (λ c. search needs) (λ c. search needs) (λ c. search needs)

@@ -30,10 +30,12 @@ returns-2 c =
 
 add-i : tie.Need-add-i Inv-loop μ-loop
 add-i c =
-    let d = c .before .before .before .before .before .before .args .d .now in
-    let i = c .before .before .before .before .loop .i in
+    let at-loop = c .before .before .before .before in
+    let args = at-loop .before .before .args in
+    let d = args .d .now in
+    let i = at-loop .loop .i in
     let w = c .before .width .ensures in
-    omega (arith, width-within (c .before .before .before .before .before .before .args .latin) (drop i d), length-drop i d)
+    omega (arith, width-within (args .latin) (drop i d), length-drop i d)
 
 loop-again : tie.Need-loop-again Inv-loop μ-loop
 loop-again c =

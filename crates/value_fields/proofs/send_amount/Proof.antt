@@ -43,11 +43,12 @@ send-digits-requires c κs = (
 )
 
 returns-2 : tie.Need-returns-2
-returns-2 c = sent-as (then (c .before .before .before .before .before .before .before .before .before .before .send-count2 .ensures)
-    (then (c .before .before .before .before .before .before .send-byte .ensures) (c .before .before .send-digits .ensures)))
-    (rw (c .before .before .before .before .before .before .before .before .before .before .before .before .power .ensures)
-    (amount-parts _ _
-    (c .before .before .before .before .before .before .before .before .before .before .before .before .before .if1 .left)))
+returns-2 c =
+    let at-send-digits = c .before .before in
+    let at-send-byte = at-send-digits .before .before .before .before in
+    let at-send-count2 = at-send-byte .before .before .before .before in
+    sent-as (then (at-send-count2 .send-count2 .ensures) (then (at-send-byte .send-byte .ensures) (at-send-digits .send-digits .ensures)))
+    (rw (at-send-count2 .before .before .power .ensures) (amount-parts _ _ (at-send-count2 .before .before .before .if1 .left)))
 
 pub send-amount-spec : {M : Type 1} → statement M
 send-amount-spec =

@@ -14,19 +14,21 @@ split : (c : tie.After-signed-of) → c .signed-of .result ≡ signedOf (c .befo
 split c = c .signed-of .ensures ∙ ap signedOf (toZ-ofZ (c .before .before .fits .z))
 
 send-amount-requires : tie.Need-send-amount-requires
-send-amount-requires c κs = (
-  c .before .before .before .before .before .before .before .before .pre .0,
-  (
-    rw (split (c .before .before .before .before .before .before))
-        (c .before .before .before .before .before .before .before .before .pre .1 .0),
-    c .before .before .before .before .before .before .before .before .pre .1 .1,
-  ),
-)
+send-amount-requires c κs =
+    let start = c .before .before .before .before .before .before .before .before in (
+      start .pre .0,
+      (
+        rw (split (c .before .before .before .before .before .before)) (start .pre .1 .0),
+        start .pre .1 .1,
+      ),
+    )
 
 returns : tie.Need-returns
-returns c = sent-as (then (c .before .before .before .before .before .before .send-byte .ensures) (c .before .before .send-amount .ensures))
-    (number-minus _ _ _ (split (c .before .before .before .before .before .before .before .before .before))
-    (c .before .before .before .before .before .before .before .before .if1 .taken))
+returns c =
+    let at-send-amount = c .before .before in
+    let at-send-byte = at-send-amount .before .before .before .before in
+    sent-as (then (at-send-byte .send-byte .ensures) (at-send-amount .send-amount .ensures))
+    (number-minus _ _ _ (split (at-send-byte .before .before .before)) (at-send-byte .before .before .if1 .taken))
 
 send-amount-requires-2 : tie.Need-send-amount-requires-2
 send-amount-requires-2 c κs = (

@@ -18,41 +18,34 @@ read-row-requires c κs = row-ready (c .before .before .before .before .pre .0 .
     (c .before .read .ensures) (c .before .before .before .before .args .bytes .now) (c .before .before .before .before .pre .1 .1)
 
 returns : tie.Need-returns
-returns c = sent-as (nothing-sent _ _ _) (row-empty (c .before .before .before .before .before .before .before .before .pre .0 .tested)
-    (c .before .before .before .before .before .before .before .before .pre .1 .0)
-    (c .before .before .before .before .before .read .ensures) _
-    (c .before .before .before .before .before .before .before .before .pre .1 .1) (c .before .before .before .read-row .ensures)
-    (sym (c .before .is-illegal .ensures) ∙ c .if1 .taken))
+returns c =
+    let at-read-row = c .before .before .before in
+    let start = at-read-row .before .before .before .before .before in
+    sent-as (nothing-sent _ _ _) (row-empty (start .pre .0 .tested) (start .pre .1 .0) (at-read-row .before .before .read .ensures) _
+    (start .pre .1 .1) (at-read-row .read-row .ensures) (sym (c .before .is-illegal .ensures) ∙ c .if1 .taken))
 
 send-value-requires : tie.Need-send-value-requires
-send-value-requires c κs = (
-  c .before .before .before .before .before .before .before .before .before .before .before .pre .0 .tens,
-  (
-    row-listable (c .before .before .before .before .before .before .before .before .before .before .before .pre .0 .tested)
-        (c .before .before .before .before .before .before .before .before .before .before .before .pre .1 .0)
-        (c .before .before .before .before .before .before .before .before .read .ensures) _
-        (c .before .before .before .before .before .before .before .before .before .before .before .pre .1 .1)
-        (c .before .before .before .before .before .before .read-row .ensures)
-        (c .before .before .before .before .before .before .before .before .before .before .before .pre .0 .list)
-        (sym (c .before .before .before .before .is-illegal .ensures) ∙ c .before .before .before .if1 .left),
-    rw (c .before .decimals .ensures) (row-decimals
-        (c .before .before .before .before .before .before .before .before .before .before .before .pre .0 .tested)
-        (c .before .before .before .before .before .before .before .before .before .before .before .pre .1 .0)
-        (c .before .before .before .before .before .before .before .before .read .ensures)),
-  ),
-)
+send-value-requires c κs =
+    let at-if1 = c .before .before .before in
+    let at-read = at-if1 .before .before .before .before .before in
+    let start = at-read .before .before .before in (
+      start .pre .0 .tens,
+      (
+        row-listable (start .pre .0 .tested) (start .pre .1 .0) (at-read .read .ensures) _ (start .pre .1 .1)
+            (at-if1 .before .before .before .read-row .ensures) (start .pre .0 .list)
+            (sym (at-if1 .before .is-illegal .ensures) ∙ at-if1 .if1 .left),
+        rw (c .before .decimals .ensures) (row-decimals (start .pre .0 .tested) (start .pre .1 .0) (at-read .read .ensures)),
+      ),
+    )
 
 returns-2 : tie.Need-returns-2
-returns-2 c = sent-as (rw (c .before .before .before .before .decimals .ensures) at (c .before .before .send-value .ensures))
-    (row-field
-    (c .before .before .before .before .before .before .before .before .before .before .before .before .before .before .pre .0 .tested)
-    (c .before .before .before .before .before .before .before .before .before .before .before .before .before .before .pre .1 .0)
-    (c .before .before .before .before .before .before .before .before .before .before .before .read .ensures) _
-    (c .before .before .before .before .before .before .before .before .before .before .before .before .before .before .pre .1 .1)
-    (c .before .before .before .before .before .before .before .before .before .read-row .ensures)
-    (c .before .before .before .before .before .before .before .before .before .before .before .before .before .before .pre .0 .list)
-    (sym (c .before .before .before .before .before .before .before .is-illegal .ensures)
-    ∙ c .before .before .before .before .before .before .if1 .left))
+returns-2 c =
+    let at-decimals = c .before .before .before .before in
+    let at-read-row = at-decimals .before .before .before .before .before in
+    let start = at-read-row .before .before .before .before .before in
+    sent-as (rw (at-decimals .decimals .ensures) at (c .before .before .send-value .ensures)) (row-field (start .pre .0 .tested)
+    (start .pre .1 .0) (at-read-row .before .before .read .ensures) _ (start .pre .1 .1) (at-read-row .read-row .ensures)
+    (start .pre .0 .list) (sym (at-decimals .before .before .before .is-illegal .ensures) ∙ at-decimals .before .before .if1 .left))
 
 pub send-row-spec : {M : Type 1} → statement M
 send-row-spec =

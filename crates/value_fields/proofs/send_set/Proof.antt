@@ -26,20 +26,23 @@ send-code-requires c κs = (
 )
 
 send-others-requires : tie.Need-send-others-requires
-send-others-requires c κs = (
-  c .before .before .before .before .before .before .before .before .pre .0,
-  (
-    c .before .before .before .before .before .before .before .before .pre .1,
-    some-of _ (c .before .before .before .before .before .before .if1 .left),
-  ),
-)
+send-others-requires c κs =
+    let at-if1 = c .before .before .before .before .before .before in
+    let start = at-if1 .before .before in (
+      start .pre .0,
+      (
+        start .pre .1,
+        some-of _ (at-if1 .if1 .left),
+      ),
+    )
 
 returns-2 : tie.Need-returns-2
-returns-2 c = sent-as (then (sent-as (c .before .before .before .before .before .before .send-code .ensures)
-    (ap (numberText 0) (toZ-ofZ (sfits-of (c .before .before .before .before .before .before .before .number .ok))
-    ∙ c .before .before .before .before .before .before .before .number .ensures))) (c .before .before .send-others .ensures))
-    (codes-first _ _ (some-of _ (c .before .before .before .before .before .before .before .before .before .if1 .left))
-    (c .before .before .before .before .before .before .before .before .before .before .before .pre .1 .many))
+returns-2 c =
+    let at-send-others = c .before .before in
+    let at-number = at-send-others .before .before .before .before .before in
+    sent-as (then (sent-as (at-send-others .before .before .before .before .send-code .ensures)
+    (ap (numberText 0) (toZ-ofZ (sfits-of (at-number .number .ok)) ∙ at-number .number .ensures))) (at-send-others .send-others .ensures))
+    (codes-first _ _ (some-of _ (at-number .before .before .if1 .left)) (at-number .before .before .before .before .pre .1 .many))
 
 pub send-set-spec : {M : Type 1} → statement M
 send-set-spec =

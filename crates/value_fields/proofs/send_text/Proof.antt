@@ -23,10 +23,10 @@ part-send-field-end : tie.Need-part-send-field-end
 part-send-field-end c = omega (arith, c .before .before .before .pre .1)
 
 returns : tie.Need-returns
-returns c = sent-as (c .before .before .send-field .ensures)
-    (ap fieldBytes (part-is (c .before .before .before .before .before .before .before .args .bytes .now)
-    (c .before .before .before .before .before .before .before .args .p)
-    (c .before .before .before .before .before .before .before .args .n)))
+returns c =
+    let at-send-field = c .before .before in
+    let args = at-send-field .before .before .before .before .before .args in
+    sent-as (at-send-field .send-field .ensures) (ap fieldBytes (part-is (args .bytes .now) (args .p) (args .n)))
 
 pub send-text-spec : {M : Type 1} → statement M
 send-text-spec =

@@ -16,20 +16,23 @@ back : (c : tie.After-known-told) → toZ w64 (ofZ w64 (c .before .a .given .0 .
 back c = search needs
 
 send-number-requires : tie.Need-send-number-requires
-send-number-requires c κs = (
-  c .before .before .before .before .before .before .pre .0,
-  (
-    rw (back (c .before)) (number-listed _ _ (c .before .before .before .before .before .before .pre .1 .0)
-        (c .before .before .a .given .1)),
-    c .before .before .before .before .before .before .pre .1 .1,
-  ),
-)
+send-number-requires c κs =
+    let at-a = c .before .before in
+    let start = at-a .before .before .before .before in (
+      start .pre .0,
+      (
+        rw (back (c .before)) (number-listed _ _ (start .pre .1 .0) (at-a .a .given .1)),
+        start .pre .1 .1,
+      ),
+    )
 
 send-set-requires : tie.Need-send-set-requires
-send-set-requires c κs = (
-  c .before .before .before .before .before .before .pre .0,
-  set-listed _ _ (c .before .before .before .before .before .before .pre .1 .0) (c .before .before .a2 .given .1),
-)
+send-set-requires c κs =
+    let at-a2 = c .before .before in
+    let start = at-a2 .before .before .before .before in (
+      start .pre .0,
+      set-listed _ _ (start .pre .1 .0) (at-a2 .a2 .given .1),
+    )
 
 send-text-requires : tie.Need-send-text-requires
 send-text-requires c κs = text-listed _ _ (c .before .before .before .before .before .before .pre .1 .0) (c .before .before .a3 .given .1)

@@ -31,10 +31,10 @@ returns-3 c =
 returns-4 : tie.Need-returns-4
 unfolding judgeRange
 returns-4 c =
+    let at-if2 = c .before .before .before .before in
     rw (
-      sym (c .before .before .before .before .before .before .before .formed .ensures)
-          ∙ not-false _ (c .before .before .before .before .before .before .if1 .left),
-      sym (c .before .before .before .before .before .formed2 .ensures) ∙ not-false _ (c .before .before .before .before .if2 .left),
+      sym (at-if2 .before .before .before .formed .ensures) ∙ not-false _ (at-if2 .before .before .if1 .left),
+      sym (at-if2 .before .formed2 .ensures) ∙ not-false _ (at-if2 .if2 .left),
       eq-eqb _ _ (c .before .if3 .left),
       c .if4 .taken,
     )
@@ -42,11 +42,10 @@ returns-4 c =
 returns-5 : tie.Need-returns-5
 unfolding judgeRange
 returns-5 c =
+    let at-if2 = c .before .before .before .before .before in
     rw (
-      sym (c .before .before .before .before .before .before .before .before .formed .ensures)
-          ∙ not-false _ (c .before .before .before .before .before .before .before .if1 .left),
-      sym (c .before .before .before .before .before .before .formed2 .ensures)
-          ∙ not-false _ (c .before .before .before .before .before .if2 .left),
+      sym (at-if2 .before .before .before .formed .ensures) ∙ not-false _ (at-if2 .before .before .if1 .left),
+      sym (at-if2 .before .formed2 .ensures) ∙ not-false _ (at-if2 .if2 .left),
       eq-eqb _ _ (c .before .before .if3 .left),
       c .before .if4 .left,
       sym (c .limit-range .ensures),

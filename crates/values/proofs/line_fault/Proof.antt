@@ -21,20 +21,22 @@ returns-2 c =
 returns-3 : tie.Need-returns-3
 unfolding lineFault
 returns-3 c =
+    let at-if2 = c .before .before in
     rw (
-      sym (c .before .before .before .before .before .before .before .formed .ensures)
-          ∙ not-false _ (c .before .before .before .before .before .before .if1 .left),
-      c .before .before .if2 .left,
+      sym (at-if2 .before .before .before .before .before .formed .ensures)
+          ∙ not-false _ (at-if2 .before .before .before .before .if1 .left),
+      at-if2 .if2 .left,
       sym (c .before .large .ensures) ∙ c .if3 .taken,
     )
 
 returns-4 : tie.Need-returns-4
 unfolding lineFault
 returns-4 c =
+    let at-if2 = c .before .before in
     rw (
-      sym (c .before .before .before .before .before .before .before .formed .ensures)
-          ∙ not-false _ (c .before .before .before .before .before .before .if1 .left),
-      c .before .before .if2 .left,
+      sym (at-if2 .before .before .before .before .before .formed .ensures)
+          ∙ not-false _ (at-if2 .before .before .before .before .if1 .left),
+      at-if2 .if2 .left,
       sym (c .before .large .ensures) ∙ c .if3 .left,
     )
 

@@ -7,9 +7,10 @@ use Rattle.values.proofs.more_apart.Tie as tie
 returns : tie.Need-returns
 unfolding moreOf
 returns c =
+    let at-m = c .before .before .before .before in
     rw (
-      sym (c .before .before .before .before .before .before .before .before .notes-on .ensures),
-      sym (c .before .before .before .before .before .before .perhaps .ensures) ∙ c .before .before .before .before .m .given .1,
+      sym (at-m .before .before .before .before .notes-on .ensures),
+      sym (at-m .before .before .perhaps .ensures) ∙ at-m .m .given .1,
       sym (c .before .word-on .ensures),
       sym (c .end-values .ensures),
     )

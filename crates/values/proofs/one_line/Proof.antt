@@ -6,25 +6,27 @@ use Rattle.values.proofs.one_line.Statement.{statement}
 use Rattle.values.proofs.one_line.Tie as tie
 
 place-line-requires : tie.Need-place-line-requires
-place-line-requires c κs = (
-  c .before .before .before .before .before .before .before .before .pre .0,
-  (
-    c .before .before .before .before .before .before .before .before .pre .1 .1 .0,
-    (
-      c .before .before .before .before .before .before .before .before .pre .1 .1 .1,
-      line-storable _ _ _ (c .before .before .before .before .before .before .before .before .pre .1 .0)
-          (sym (c .before .before .before .before .before .line-rest .ensures) ∙ c .before .before .before .s .given .1),
-    ),
-  ),
-)
+place-line-requires c κs =
+    let at-s = c .before .before .before in
+    let start = at-s .before .before .before .before .before in (
+      start .pre .0,
+      (
+        start .pre .1 .1 .0,
+        (
+          start .pre .1 .1 .1,
+          line-storable _ _ _ (start .pre .1 .0) (sym (at-s .before .before .line-rest .ensures) ∙ at-s .s .given .1),
+        ),
+      ),
+    )
 
 returns : tie.Need-returns
 unfolding turnOf roomAfter marksAfter
 returns c =
-    let e = sym (c .before .before .before .before .before .before .before .before .before .line-rest .ensures)
-    ∙ c .before .before .before .before .before .before .before .s .given .1 in (
-      rw e (c .before .before .before .place-line .ensures .0),
-      (rw e (c .before .before .before .place-line .ensures .1 .0), rw e (c .before .before .before .place-line .ensures .1 .1)),
+    let at-place-line = c .before .before .before in
+    let at-s = at-place-line .before .before .before .before in
+    let e = sym (at-s .before .before .line-rest .ensures) ∙ at-s .s .given .1 in (
+      rw e (at-place-line .place-line .ensures .0),
+      (rw e (at-place-line .place-line .ensures .1 .0), rw e (at-place-line .place-line .ensures .1 .1)),
     )
 
 returns-2 : tie.Need-returns-2

@@ -8,12 +8,14 @@ use Rattle.values.proofs.range_then.Tie as tie
 
 returns : tie.Need-returns
 unfolding rangeThen
-returns c = rw (
-  c .before .before .before .before .before .before .before .before .before .before .r2 .given .1,
-  sym (c .before .before .before .before .before .before .before .before .notes-on .ensures),
-  c .before .before .before .before .before .before .before .if1 .taken,
-  sym (c .before .before .before .before .before .before .value-here .ensures),
-) (c .before .before .before .read-lines .ensures)
+returns c =
+    let at-value-here = c .before .before .before .before .before .before in
+    rw (
+      at-value-here .before .before .before .before .r2 .given .1,
+      sym (at-value-here .before .before .notes-on .ensures),
+      at-value-here .before .if1 .taken,
+      sym (at-value-here .value-here .ensures),
+    ) (c .before .before .before .read-lines .ensures)
 
 returns-2 : tie.Need-returns-2
 unfolding rangeThen listedOf
@@ -22,14 +24,14 @@ returns-2 c = rw (c .before .r .given .1) (refl, stored-not _ _ _ _)
 returns-3 : tie.Need-returns-3
 unfolding rangeThen
 returns-3 c =
+    let at-word-here = c .before .before .before in
     rw (
-      c .before .before .before .before .before .before .before .before .r2 .given .1,
-      sym (c .before .before .before .before .before .before .notes-on .ensures),
-      c .before .before .before .before .before .if1 .left,
-      sym (c .before .before .before .word-here .ensures),
+      at-word-here .before .before .before .before .before .r2 .given .1,
+      sym (at-word-here .before .before .before .notes-on .ensures),
+      at-word-here .before .before .if1 .left,
+      sym (at-word-here .word-here .ensures),
       sym (c .before .word-on .ensures),
-    )
-    (c .close-block .ensures, stored-none _ _ _ _)
+    ) (c .close-block .ensures, stored-none _ _ _ _)
 
 pub range-then-spec : {M : Type 1} → statement M
 range-then-spec =

@@ -31,31 +31,34 @@ one-line-requires c κs =
 
 loop-again : tie.Need-loop-again Inv-loop μ-loop
 loop-again c =
-    let i = c .before .before .before .before .before .before .before .before .before .loop .inv in
-    let e = c .before .before .before .before .before .before .one-line .ensures in
+    let at-one-line = c .before .before .before .before .before .before in
+    let i = at-one-line .before .before .before .loop .inv in
+    let e = at-one-line .one-line .ensures in
     let o = went-more _ _ _ _ _ (i .holds) (e .0) (e .1 .0) (e .1 .1) (c .before .x .given .1) in
     record { lines = _; same = i .same ∙ lines-more _ _ _ _ (o .step); holds = o .holds }
 
 loop-less : tie.Need-loop-less Inv-loop μ-loop
 loop-less c =
-    let i = c .before .before .before .before .before .before .before .before .before .loop .inv in
-    let e = c .before .before .before .before .before .before .one-line .ensures in
+    let at-one-line = c .before .before .before .before .before .before in
+    let i = at-one-line .before .before .before .loop .inv in
+    let e = at-one-line .one-line .ensures in
     let o = went-more _ _ _ _ _ (i .holds) (e .0) (e .1 .0) (e .1 .1) (c .before .x .given .1) in
     omega (arith, o .more)
 
 returns : tie.Need-returns Inv-loop μ-loop
 returns c =
-    let i = c .before .before .before .before .before .before .before .before .before .loop .inv in
-    let e = c .before .before .before .before .before .before .one-line .ensures in
+    let at-one-line = c .before .before .before .before .before .before in
+    let i = at-one-line .before .before .before .loop .inv in
+    let e = at-one-line .one-line .ensures in
     let o = went-over _ _ _ _ _ (i .holds) (e .0) (e .1 .0) (e .1 .1) (c .before .y .given .1) in
     listed-over (i .same ∙ lines-done _ _ _ _ (o .step)) (o .holds)
 
 returns-2 : tie.Need-returns-2 Inv-loop μ-loop
 returns-2 c =
-    let i = c .before .before .before .before .before .before .before .before .before .loop .inv in
-    listed-not _ _ _ (i .same ∙ lines-done _ _ _ _
-    (turned-not _ _ _ _ _ (i .holds) (sym (c .before .f .given .1)
-    ∙ c .before .before .before .before .before .before .one-line .ensures .0)))
+    let at-one-line = c .before .before .before .before .before .before in
+    let i = at-one-line .before .before .before .loop .inv in
+    listed-not _ _ _ (i .same ∙ lines-done _ _ _ _ (turned-not _ _ _ _ _ (i .holds) (sym (c .before .f .given .1)
+    ∙ at-one-line .one-line .ensures .0)))
 
 pub read-lines-spec : {M : Type 1} → statement M
 read-lines-spec =

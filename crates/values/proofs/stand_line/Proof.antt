@@ -17,23 +17,25 @@ z-back c = search needs
 
 store-requires : tie.Need-store-requires
 store-requires c κs =
-    let p = c .before .before .before .before .before .before .before .before .before .pre .0 in
-    let g = good-line _ _ _ _ _ _ (sym (c .before .before .before .before .judge-line .ensures) ∙ c .before .before .z .given .1) in (
+    let at-judge-line = c .before .before .before .before in
+    let start = at-judge-line .before .before .before .before .before in
+    let p = start .pre .0 in
+    let g = good-line _ _ _ _ _ _ (sym (at-judge-line .judge-line .ensures) ∙ c .before .before .z .given .1) in (
       (omega (arith, g .few, p .0, p .1), p .2),
       (
-        c .before .before .before .before .before .before .before .before .before .pre .1 .1,
+        start .pre .1 .1,
         z-back (c .before) ∙ g .says,
       ),
     )
 
 returns : tie.Need-returns
 returns c =
-    let e = sym (c .before .before .before .before .before .before .before .before .before .before .judge-line .ensures)
-    ∙ c .before .before .before .before .before .before .before .before .z .given .1 in (
-      rw (e, z-back (c .before .before .before .before .before .before .before)),
+    let at-store = c .before .before .before .before .before in
+    let e = sym (at-store .before .before .before .before .before .judge-line .ensures) ∙ at-store .before .before .before .z .given .1 in (
+      rw (e, z-back (at-store .before .before)),
       (
-        rw e (c .before .before .before .before .before .store .ensures),
-        rw e (c .before .before .leave-mark .ensures ∙ rw (z-back (c .before .before .before .before .before .before .before))),
+        rw e (at-store .store .ensures),
+        rw e (c .before .before .leave-mark .ensures ∙ rw (z-back (at-store .before .before))),
       ),
     )
 

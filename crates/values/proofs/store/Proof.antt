@@ -8,18 +8,19 @@ use Rattle.values.proofs.store.Tie as tie
 returns : tie.Need-returns
 unfolding lineCells
 returns c =
-    c .before .paste .ensures
-    ∙ rw (
-      toZ-ofZ (c .before .before .before .before .before .before .before .before .fits .z),
-      toZ-ofZ (sfits-of (c .before .before .before .before .before .before .cell-of .ok)),
-      toZ-ofZ (sfits-of (c .before .before .before .before .before .cell-of2 .ok)),
-      toZ-ofZ (sfits-of (c .before .before .before .before .cell-of3 .ok)),
-    )
-    (rw (
-      c .before .before .before .before .before .before .cell-of .ensures,
-      c .before .before .before .before .before .cell-of2 .ensures,
-      c .before .before .before .before .cell-of3 .ensures,
-      c .before .before .before .before .before .before .before .before .pre .1 .1,
+    let at-cell-of3 = c .before .before .before .before in
+    let at-cell-of = at-cell-of3 .before .before in
+    let start = at-cell-of .before .before in
+    c .before .paste .ensures ∙ rw (
+      toZ-ofZ (start .fits .z),
+      toZ-ofZ (sfits-of (at-cell-of .cell-of .ok)),
+      toZ-ofZ (sfits-of (at-cell-of3 .before .cell-of2 .ok)),
+      toZ-ofZ (sfits-of (at-cell-of3 .cell-of3 .ok)),
+    ) (rw (
+      at-cell-of .cell-of .ensures,
+      at-cell-of3 .before .cell-of2 .ensures,
+      at-cell-of3 .cell-of3 .ensures,
+      start .pre .1 .1,
     ))
 
 pub store-spec : {M : Type 1} → statement M

@@ -7,15 +7,16 @@ use Rattle.variables.proofs.head_on.Tie as tie
 returns : tie.Need-returns
 unfolding headOn
 returns c =
+    let at-type-on = c .before .before .before .before in
+    let at-text-on2 = at-type-on .before .before in
     rw (
-      sym (c .before .before .before .before .before .before .before .before .before .before .before .past-number .ensures),
-      sym (c .before .before .before .before .before .before .before .before .before .text-on .ensures),
-      sym (c .before .before .before .before .before .before .before .before .past-string .ensures),
-      sym (c .before .before .before .before .before .before .text-on2 .ensures),
-      sym (c .before .before .before .before .before .past-string2 .ensures),
-      sym (c .before .before .before .before .type-on .ensures),
-    )
-    (rw (
+      sym (at-text-on2 .before .before .before .before .before .past-number .ensures),
+      sym (at-text-on2 .before .before .before .text-on .ensures),
+      sym (at-text-on2 .before .before .past-string .ensures),
+      sym (at-text-on2 .text-on2 .ensures),
+      sym (at-type-on .before .past-string2 .ensures),
+      sym (at-type-on .type-on .ensures),
+    ) (rw (
       sym (c .before .before .before .past-type .ensures),
       sym (c .before .before .position-on .ensures),
       sym (c .before .join-titles .ensures),

@@ -29,10 +29,12 @@ returns-3 c =
 returns-4 : tie.Need-returns-4
 unfolding joinHead
 returns-4 c =
+    let at-p2 = c .before .before .before in
+    let at-k2 = at-p2 .before .before .before in
     rw (
-      c .before .before .before .before .before .before .before .before .before .t2 .given .1,
-      c .before .before .before .before .before .before .k2 .given .1,
-      c .before .before .before .p2 .given .1,
+      at-k2 .before .before .before .t2 .given .1,
+      at-k2 .k2 .given .1,
+      at-p2 .p2 .given .1,
     )
 
 pub join-head-spec : {M : Type 1} → statement M

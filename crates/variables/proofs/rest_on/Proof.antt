@@ -13,18 +13,22 @@ returns c = rw (eq-eqb _ 1 (c .before .before .before .before .before .before .i
 
 returns-2 : tie.Need-returns-2
 unfolding restOf
-returns-2 c = rw (
-  ne-eqb _ 1 (c .before .before .before .before .before .before .before .if1 .left),
-  eq-eqb _ 2 (c .before .before .before .before .before .before .if2 .taken),
-) (c .before .before .before .spread-then .ensures)
+returns-2 c =
+    let at-if2 = c .before .before .before .before .before .before in
+    rw (
+      ne-eqb _ 1 (at-if2 .before .if1 .left),
+      eq-eqb _ 2 (at-if2 .if2 .taken),
+    ) (c .before .before .before .spread-then .ensures)
 
 returns-3 : tie.Need-returns-3
 unfolding restOf
-returns-3 c = rw (
-  ne-eqb _ 1 (c .before .before .before .before .before .before .before .before .if1 .left),
-  ne-eqb _ 2 (c .before .before .before .before .before .before .before .if2 .left),
-  eq-eqb _ 3 (c .before .before .before .before .before .before .if3 .taken),
-) (c .before .before .before .values-rest2 .ensures)
+returns-3 c =
+    let at-if3 = c .before .before .before .before .before .before in
+    rw (
+      ne-eqb _ 1 (at-if3 .before .before .if1 .left),
+      ne-eqb _ 2 (at-if3 .before .if2 .left),
+      eq-eqb _ 3 (at-if3 .if3 .taken),
+    ) (c .before .before .before .values-rest2 .ensures)
 
 returns-4 : tie.Need-returns-4
 unfolding restOf

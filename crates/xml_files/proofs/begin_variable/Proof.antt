@@ -19,11 +19,12 @@ variable-at-requires c κs =
 
 returns-2 : tie.Need-returns-2
 returns-2 c =
-    let a = c .before .before .before .before .before .before .before .before .before .before .before .before .before .before .args in
+    let at-variable-at = c .before .before .before .before in
+    let at-is-named = at-variable-at .before .before .before .before .before in
+    let a = at-is-named .before .before .before .before .before .args in
     joined-named (a .bad) (a .d .now) (ruleOf (a .m)) (a .place) (a .end) (a .seen .now) (a .y) (a .rows .now) _ (a .lines .now) _ _ _
-    (c .before .before .before .before .before .before .before .before .before .is-named .ensures)
-    (not-false _ (c .before .before .before .before .before .before .before .before .if1 .left))
-    (c .before .before .before .before .variable-at .ensures)
+    (at-is-named .is-named .ensures) (not-false _ (at-variable-at .before .before .before .before .if1 .left))
+    (at-variable-at .variable-at .ensures)
 
 pub begin-variable-spec : {M : Type 1} → statement M
 begin-variable-spec =

@@ -7,10 +7,11 @@ use Rattle.xml_files.proofs.one_variable.Tie as tie
 
 begin-variable-requires : tie.Need-begin-variable-requires
 begin-variable-requires c κs =
-    let p = c .before .before .before .before .before .before .before .before .before .before .before .pre in
-    let i = start-in (c .before .before .before .before .before .before .before .before .before .before .before .args .d .now)
-    (c .before .before .before .before .before .before .before .before .before .before .before .args .at) _
-    (c .before .before .before .before .before .before .find-open .ensures .1) (c .before .before .before .before .place .given .1) in
+    let at-place = c .before .before .before .before in
+    let at-find-open = at-place .before .before in
+    let start = at-find-open .before .before .before .before .before in
+    let p = start .pre in
+    let i = start-in (start .args .d .now) (start .args .at) _ (at-find-open .find-open .ensures .1) (at-place .place .given .1) in
     (p .0, ((p .1 .0 .0, i .0, i .1), (p .1 .1 .0, p .1 .1 .1)))
 
 returns : tie.Need-returns
@@ -22,23 +23,23 @@ returns c =
 
 returns-2 : tie.Need-returns-2
 returns-2 c =
-    let a = c .before .before .before .before .before .before .before .before .before .before .before .before .before .before .before
-    .before .before .before .before .args in
+    let at-begin-variable = c .before .before .before .before .before .before .before in
+    let at-place = at-begin-variable .before .before .before .before .before in
+    let at-find-open = at-place .before .before in
+    let a = at-find-open .before .before .before .before .before .args in
     turned-more (a .bad) (a .d .now) (ruleOf (a .m)) (a .at) (a .seen .now) (a .y) (a .rows .now) _ (a .lines .now) _ _
-    (c .before .before .before .before .before .before .before .before .before .before .before .before .before .before .find-open .ensures
-    .0) _ _
-    (c .before .before .before .before .before .before .before .before .before .before .before .before .place .given .1) _
-    (c .before .before .before .before .before .before .before .begin-variable .ensures) _ _ _ (c .before .ident .given .1)
+    (at-find-open .find-open .ensures .0) _ _ (at-place .place .given .1) _
+    (at-begin-variable .begin-variable .ensures) _ _ _ (c .before .ident .given .1)
 
 returns-3 : tie.Need-returns-3
 returns-3 c =
-    let a = c .before .before .before .before .before .before .before .before .before .before .before .before .before .before .before
-    .before .before .before .before .args in
+    let at-begin-variable = c .before .before .before .before .before .before .before in
+    let at-place = at-begin-variable .before .before .before .before .before in
+    let at-find-open = at-place .before .before in
+    let a = at-find-open .before .before .before .before .before .args in
     turned-fails (a .bad) (a .d .now) (ruleOf (a .m)) (a .at) (a .seen .now) (a .y) (a .rows .now) _ (a .lines .now) _ _
-    (c .before .before .before .before .before .before .before .before .before .before .before .before .before .before .find-open .ensures
-    .0) _ _
-    (c .before .before .before .before .before .before .before .before .before .before .before .before .place .given .1) _
-    (c .before .before .before .before .before .before .before .begin-variable .ensures) _ (c .before .f .given .1)
+    (at-find-open .find-open .ensures .0) _ _ (at-place .place .given .1) _
+    (at-begin-variable .begin-variable .ensures) _ (c .before .f .given .1)
 
 returns-4 : tie.Need-returns-4
 returns-4 c =

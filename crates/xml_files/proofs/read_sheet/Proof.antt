@@ -9,16 +9,17 @@ read-preface-requires c κs = c .before .before .before .pre .1 .1 .0 .1
 
 read-body-requires : tie.Need-read-body-requires
 read-body-requires c κs =
-    let p = c .before .before .before .before .before .before .before .before .before .before .before .pre in (
+    let at-manner = c .before .before .before .before .before in
+    let at-read-preface = at-manner .before .before in
+    let start = at-read-preface .before .before .before .before in
+    let p = start .pre in (
       p .0,
       (
         p .1 .0,
         (
           (
             p .1 .1 .0 .0,
-            ends-in (c .before .before .before .before .before .before .before .before .before .before .before .args .d .now) _
-                (c .before .before .before .before .before .before .before .read-preface .ensures .1)
-                (c .before .before .before .before .before .manner .given .1),
+            ends-in (start .args .d .now) _ (at-read-preface .read-preface .ensures .1) (at-manner .manner .given .1),
           ),
           (p .1 .1 .1 .0, p .1 .1 .1 .1),
         ),
@@ -27,12 +28,10 @@ read-body-requires c κs =
 
 returns : tie.Need-returns
 returns c =
-    let a = c .before .before .before .before .before .before .before .before .before .before .before .before .before .before .before
-    .before .before .before .args in
-    sheet-here (a .bad) (a .latin) (a .d .now) (a .at) _
-    (c .before .before .before .before .before .before .before .before .before .before .before .before .before .before .read-preface
-    .ensures .0) _ _ _ _ _
-    (c .before .before .before .before .before .before .before .before .before .before .before .before .manner .given .1)
+    let at-manner = c .before .before .before .before .before .before .before .before .before .before .before .before in
+    let at-read-preface = at-manner .before .before in
+    let a = at-read-preface .before .before .before .before .args in
+    sheet-here (a .bad) (a .latin) (a .d .now) (a .at) _ (at-read-preface .read-preface .ensures .0) _ _ _ _ _ (at-manner .manner .given .1)
     (c .before .before .before .before .before .before .read-body .ensures)
 
 returns-2 : tie.Need-returns-2

@@ -23,10 +23,9 @@ read-requires-2 c κs = row-stands _ _ [] (sym (c .before .before .before .befor
 
 returns-3 : tie.Need-returns-3
 returns-3 c =
-    c .kind-number .ensures ∙ bad-kind _ _ _ (sym
-    (c .before .before .before .before .before .before .before .before .well-formed .ensures .says)
-    ∙ c .before .before .before .before .before .before .before .if1 .taken) _
-    (c .before .before .before .before .before .before .read .ensures) (c .before .before .before .before .if2 .left)
+    let at-if2 = c .before .before .before .before in
+    c .kind-number .ensures ∙ bad-kind _ _ _ (sym (at-if2 .before .before .before .before .well-formed .ensures .says)
+    ∙ at-if2 .before .before .before .if1 .taken) _ (at-if2 .before .before .read .ensures) (at-if2 .if2 .left)
     (c .before .before .if3 .left) _ (c .before .read2 .ensures)
 
 returns-4 : tie.Need-returns-4

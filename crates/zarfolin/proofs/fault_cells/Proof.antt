@@ -10,17 +10,18 @@ use Rattle.zarfolin.proofs.fault_cells.Tie as tie
 faulty : tie.Need-returns-5
 unfolding faultCells judgedAs verdictNumber
 faulty c =
+    let at-fault-number = c .before .before in
+    let at-cell = at-fault-number .before .before .before .before in
     rw (
-      c .before .before .before .before .j2 .given .1,
-      toZ-ofZ (sfits-of (c .before .before .before .before .before .before .cell .ok)),
+      at-fault-number .before .before .j2 .given .1,
+      toZ-ofZ (sfits-of (at-cell .cell .ok)),
       toZ-ofZ (sfits-of (c .before .cell3 .ok)),
       toZ-ofZ (sfits-of (c .fault-cell .ok)),
-    )
-    (rw (
-      c .before .before .before .before .before .before .cell .ensures,
+    ) (rw (
+      at-cell .cell .ensures,
       c .before .cell3 .ensures,
       c .fault-cell .ensures,
-      c .before .before .fault-number .ensures,
+      at-fault-number .fault-number .ensures,
     ))
 
 pub fault-cells-spec : {M : Type 1} → statement M

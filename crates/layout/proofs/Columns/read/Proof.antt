@@ -9,38 +9,31 @@ use Rattle.layout.proofs.Columns.read.Tie as tie
 returns : tie.Need-returns
 unfolding columnsAt
 returns c =
+    let at-count-at13 = c .before .before .before .before .before in
+    let at-count-at8 = at-count-at13 .before .before .before .before .before in
+    let at-count-at4 = at-count-at8 .before .before .before .before in
     rw (
-      toZ-ofZ (sfits-of
-          (c .before .before .before .before .before .before .before .before .before .before .before .before .before .before .before .before
-          .before .before .before .from .given)),
-      toZ-ofZ (sfits-of
-          (c .before .before .before .before .before .before .before .before .before .before .before .before .before .before .before .before
-          .before .before .to .given)),
-      c .before .before .before .before .before .before .before .before .before .before .before .before .before .before .before .before
-          .before .count-at .ensures,
-      c .before .before .before .before .before .before .before .before .before .before .before .before .before .before .before .before
-          .count-at2 .ensures,
-      c .before .before .before .before .before .before .before .before .before .before .before .before .before .before .before .count-at3
-          .ensures,
-      c .before .before .before .before .before .before .before .before .before .before .before .before .before .before .count-at4 .ensures,
-    )
-    (rw (
-      c .before .before .before .before .before .before .before .before .before .before .before .before .before .count-at5 .ensures,
-      c .before .before .before .before .before .before .before .before .before .before .before .before .count-at6 .ensures,
-      c .before .before .before .before .before .before .before .before .before .before .before .count-at7 .ensures,
-      c .before .before .before .before .before .before .before .before .before .before .count-at8 .ensures,
-      c .before .before .before .before .before .before .before .before .before .count-at9 .ensures,
-      c .before .before .before .before .before .before .before .before .count-at10 .ensures,
-    )
-    (rw (
-      c .before .before .before .before .before .before .before .count-at11 .ensures,
-      c .before .before .before .before .before .before .count-at12 .ensures,
-      c .before .before .before .before .before .count-at13 .ensures,
+      toZ-ofZ (sfits-of (at-count-at4 .before .before .before .before .before .from .given)),
+      toZ-ofZ (sfits-of (at-count-at4 .before .before .before .before .to .given)),
+      at-count-at4 .before .before .before .count-at .ensures,
+      at-count-at4 .before .before .count-at2 .ensures,
+      at-count-at4 .before .count-at3 .ensures,
+      at-count-at4 .count-at4 .ensures,
+    ) (rw (
+      at-count-at8 .before .before .before .count-at5 .ensures,
+      at-count-at8 .before .before .count-at6 .ensures,
+      at-count-at8 .before .count-at7 .ensures,
+      at-count-at8 .count-at8 .ensures,
+      at-count-at13 .before .before .before .before .count-at9 .ensures,
+      at-count-at13 .before .before .before .count-at10 .ensures,
+    ) (rw (
+      at-count-at13 .before .before .count-at11 .ensures,
+      at-count-at13 .before .count-at12 .ensures,
+      at-count-at13 .count-at13 .ensures,
       c .before .before .before .before .count-at14 .ensures,
       c .before .before .before .count-at15 .ensures,
       c .before .before .count-at16 .ensures,
-    )
-    (rw (
+    ) (rw (
       c .before .count-at17 .ensures,
       c .count-at18 .ensures,
     ))))
