@@ -194,7 +194,7 @@ fn form_at(d: &[u8], n: usize) -> bool
 }
 
 // A place from which a string is read as from `at`, in plain text: that of the next quote or brace, forms of one sign passed whole.
-fn pass_forms(d: &[u8], at: usize) -> usize
+pub fn pass_forms(d: &[u8], at: usize) -> usize
     ensures { λ r. ⌜ stringOf Inside.Plain (text (now (d .entry)) at) ≡ stringOf Inside.Plain (text (now (d .entry)) r) ⌝ }
 {
     let mut n = quotes::skip_pair(d, at, 34, 123);

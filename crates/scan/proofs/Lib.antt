@@ -1,5 +1,5 @@
 pub mod Texts
-mod Words
+pub mod Words
 pub mod Runs
 pub mod Loops
 pub mod Keywords

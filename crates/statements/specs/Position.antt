@@ -5,7 +5,10 @@ use Prim.Native.Nat.{ℕ}
 use mathlib.Core.Bool.{Bool, cond}
 use mathlib.Core.List.{List}
 use lib.Dec.{eqb, ltb}
+use mathlib.Core.Path.{_≡_}
+use Rattle.scan.specs.Number.{capped}
 use Rattle.scan.specs.Order.{valueOf}
+use Rattle.tokens.specs.declared.Fault.{Fault}
 use Rattle.tokens.specs.declared.Reading.{Reading}
 use Rattle.tokens.specs.declared.Reading.the-variants.{At, Refused}
 use Rattle.tokens.specs.declared.Choice.{Choice}
@@ -28,6 +31,11 @@ trueOf d n = valueOf d (n .place) (n .next)
 -- b says less than a
 abbrev pub belowOf : List ℕ → Figures → Figures → Bool
 belowOf d b a = ltb (trueOf d b) (trueOf d a)
+
+-- what a number that was read says, held at 10 ^ 15, is what stands between its places
+pub data Held (d : List ℕ) : Number → Type 0 where
+  of-number : {x : Figures} → x .size ≡ capped (trueOf d x) → Held d (number.Is x)
+  of-fault : {f : Fault} → Held d (number.Not f)
 
 -- `below` says whether the second number is below the first: a judgement asks for the outcome, not for the text, so that another road
 -- to the same numbers can ask it too

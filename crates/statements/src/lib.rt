@@ -8,13 +8,17 @@ use tokens::Number;
 use tokens::Phrase;
 use tokens::Reading;
 ghost use mathlib.Core.Path.{_≡_};
+ghost use mathlib.Core.Bool.{true};
+ghost use Prim.Native.Nat.{_<_};
+ghost use lib.ListN.{length, getD};
 ghost use Rattle.ascii.specs.Class.{Classes};
+ghost use Rattle.scan.specs.Number.{capped};
 ghost use Rattle.tokens.specs.Token.{choiceOf};
 ghost use Rattle.statements.specs.rule.Words.{NOTE};
 ghost use Rattle.statements.specs.Note.{notesOn, statementOn, textOn};
 ghost use Rattle.statements.specs.Opening.{versionHere, openingOf, recordOn};
 ghost use Rattle.statements.specs.Kinds.{typeHere, typeOn};
-ghost use Rattle.statements.specs.Position.{judgePosition, bothOf, positionOn};
+ghost use Rattle.statements.specs.Position.{trueOf, belowOf, Held, judgePosition, bothOf, positionOn};
 ghost use Rattle.statements.specs.Spread.{judgeOf, judgeEven, fieldsOf, evenOf, spreadRest};
 ghost use Rattle.statements.specs.Size.{judgeSize, sizeOn};
 
@@ -25,8 +29,8 @@ fn note_word(classes: &[u8; 256], d: &[u8], t: Reading) -> Choice
     tokens::perhaps(classes, d, t, b"NOTE")
 }
 
-// NOTE and a string, as often as they stand between two statements, with the gaps around them.
-pub fn notes_on(classes: &[u8; 256], d: &[u8], t: Reading) -> Reading
+// The same as notes_on, where there may be notes.
+fn notes_apart(classes: &[u8; 256], d: &[u8], t: Reading) -> Reading
     requires { ⌜ Classes (now classes) ⌝ }
     ensures { λ r. ⌜ r ≡ notesOn (now (d .entry)) t ⌝ }
 {
@@ -34,7 +38,7 @@ pub fn notes_on(classes: &[u8; 256], d: &[u8], t: Reading) -> Reading
     loop {
         match note_word(classes, d, g) {
             Choice::Taken(m) => {
-                let s = tokens::string_on(classes, d, Reading::At(m));
+                let s = tokens::string_apart(classes, d, m);
                 let p = tokens::past_string(s);
                 g = tokens::gap_on(classes, d, p);
             }
@@ -45,13 +49,63 @@ pub fn notes_on(classes: &[u8; 256], d: &[u8], t: Reading) -> Reading
     }
 }
 
+// Whether a letter stands just here, or another byte above the digits, and no O.
+fn no_oh(d: &[u8], m: usize) -> bool
+    ensures { λ r. ⌜ (r ≡ true → (m < length (now (d .entry))) × (64 < getD (now (d .entry)) m 0)
+        × (getD (now (d .entry)) m 0 ≡ 79 → ⊥) × (getD (now (d .entry)) m 0 ≡ 111 → ⊥)) ⌝ }
+{
+    if d.len() <= m {
+        return false;
+    }
+    let b = d[m];
+    if b == 79 {
+        return false;
+    }
+    if b == 111 {
+        return false;
+    }
+    64 < b
+}
+
+// Whether it is clear at a look that no note stands here, behind blanks.
+fn no_note(d: &[u8], m: usize) -> bool
+    requires { ⌜ (m < length (now d) → 32 < getD (now d) m 0) ⌝ }
+    ensures { λ r. ⌜ (r ≡ true → notesOn (now (d .entry)) (Reading.At m) ≡ Reading.At m) ⌝ }
+{
+    if d.len() <= m {
+        return false;
+    }
+    let b = d[m];
+    if (b == 78) | (b == 110) {
+        return no_oh(d, m + 1);
+    }
+    b != 60
+}
+
+// NOTE and a string, as often as they stand between two statements, with the gaps around them.
+pub fn notes_on(classes: &[u8; 256], d: &[u8], t: Reading) -> Reading
+    requires { ⌜ Classes (now classes) ⌝ }
+    ensures { λ r. ⌜ r ≡ notesOn (now (d .entry)) t ⌝ }
+{
+    match t {
+        Reading::At(n) => {
+            let m = tokens::pass_blanks(d, n);
+            if no_note(d, m) {
+                return Reading::At(m);
+            }
+            notes_apart(classes, d, Reading::At(m))
+        }
+        Reading::Refused(f) => Reading::Refused(f),
+    }
+}
+
 // The first word of a statement, behind the notes before it. The readers of statements that a variable has call the two functions
 // themselves: so the compiler knows the word that it compares.
 pub fn statement_on(classes: &[u8; 256], d: &[u8], t: Reading, w: &[u8]) -> Reading
     requires { ⌜ Classes (now classes) ⌝ }
     ensures { λ r. ⌜ r ≡ statementOn (now (d .entry)) t (now (w .entry)) ⌝ }
 {
-    let n = notes_on(classes, d, t);
+    let n = notes_apart(classes, d, t);
     tokens::word_here(classes, d, n, w)
 }
 
@@ -205,16 +259,32 @@ pub fn judge_position(below: bool, a: Figures, b: Figures, next: usize) -> State
     })
 }
 
+// Whether a number says less than another: two that are not held at CAP tell by what they say.
+fn says_less(classes: &[u8; 256], d: &[u8], y: Figures, x: Figures) -> bool
+    requires { ⌜ Classes (now classes) ⌝ }
+    requires { ⌜ (y .size ≡ capped (trueOf (now d) y)) × (x .size ≡ capped (trueOf (now d) x)) ⌝ }
+    ensures { λ r. ⌜ r ≡ belowOf (now (d .entry)) y x ⌝ }
+{
+    if y.size != x.size {
+        return y.size < x.size;
+    }
+    if x.size < scan::CAP {
+        return false;
+    }
+    scan::less(classes, d, y.place, y.next, x.place, x.next)
+}
+
 // The first 2 or 3 met in a POSITION, and then what is wrong with its numbers.
 fn both(classes: &[u8; 256], d: &[u8], a: Number, b: Number, end: Reading) -> Stated
     requires { ⌜ Classes (now classes) ⌝ }
+    requires { ⌜ Held (now d) a × Held (now d) b ⌝ }
     ensures { λ r. ⌜ r ≡ bothOf (now (d .entry)) a b end ⌝ }
 {
     match a {
         Number::Is(x) => match b {
             Number::Is(y) => match end {
                 Reading::At(n) => {
-                    let below = scan::less(classes, d, y.place, y.next, x.place, x.next);
+                    let below = says_less(classes, d, y, x);
                     judge_position(below, x, y, n)
                 }
                 Reading::Refused(f) => Stated::Not(f),

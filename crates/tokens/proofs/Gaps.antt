@@ -68,7 +68,7 @@ gap-same d n m e = by (gapStep (text d n)) refl where
   by (Again k) h = gap-again d n h ∙ sym (gap-again d m (ap gapStep (sym e) ∙ h))
   by (Done g) h = gap-done d n h ∙ sym (gap-done d m (ap gapStep (sym e) ∙ h))
 
-low-dropped : (b : ℕ) → b < 32 → classOf b ≡ 0
+pub low-dropped : (b : ℕ) → b < 32 → classOf b ≡ 0
 unfolding classOf
 low-dropped b h = rw (lt-ltb b 32 h)
 

@@ -12,7 +12,7 @@ use Rattle.scan.specs.rule.Text.{Text, stop, sign, text}
 use Rattle.scan.specs.rule.Number.{isDigit, isValue, runOf, bytesOf, decimalOf}
 use Rattle.scan.specs.Number.{capped, digitsFrom, pushOf}
 use Rattle.scan.specs.declared.Digits.{Digits}
-use Rattle.scan.proofs.Texts.{text-kept, kept-byte}
+use Rattle.scan.proofs.Texts.{text-dropped, text-kept, kept-byte}
 use Rattle.scan.proofs.Runs.{low, digits-next, digits-over, digits-end, run-over, run-end}
 use Rattle.tokens.specs.declared.Mark.{Mark}
 use Rattle.tokens.specs.declared.Value.{Value}
@@ -22,6 +22,7 @@ use Rattle.tokens.specs.declared.Reading.the-variants.{At}
 use Rattle.tokens.specs.declared.Amount.{Amount}
 use Rattle.tokens.specs.declared.Amount.the-variants as amount
 use Rattle.tokens.specs.Over.{overOf}
+use Rattle.tokens.proofs.Gaps.{low-dropped}
 use Rattle.tokens.specs.Token.{markOf, valueAt, ofDigits, numberHere, ofValue, valueHere}
 
 -- ---- a digit more
@@ -70,6 +71,37 @@ module _ (n : ℕ) where
         ≡ record { size = v; count = c; next = n }
     by true f e = let o : _≡_ {A = ℕ} 0 1 = cc in absurd (omega arith)
     by false f e = digits-over v c n refl f h
+
+-- ---- where that is clear at a look: a space, or a byte above the digits, stands there or behind dropped bytes
+pub space-parts : (b : ℕ) → b ≡ 32 → isValue b ≡ false
+unfolding isValue isDigit classOf
+space-parts b e = rw e
+
+pub above-parts : (b : ℕ) → 57 < b → isValue b ≡ false
+unfolding isValue isDigit classOf
+above-parts b h = rw (
+  le-ltb b 32 (omega arith),
+  ne-eqb b 32 (λ e. omega arith),
+  le-leb 48 b (omega arith),
+  lt-leb b 57 h,
+  ne-eqb b 43 (λ e. omega arith),
+  ne-eqb b 45 (λ e. omega arith),
+  ne-eqb b 46 (λ e. omega arith),
+) (by (within 65 90 b || within 97 122 b) (eqb b 34) (eqb b 123 || eqb b 125) (eqb b 60 || eqb b 62)) where
+  by : (r s t u : Bool) → (eqb (cond r 3 (cond s 4 (cond t 5 (cond u 6 7)))) 2 || false) ≡ false
+  by true s t u = refl
+  by false true t u = refl
+  by false false true u = refl
+  by false false false true = refl
+  by false false false false = refl
+
+module _ (d : List ℕ) (n : ℕ) (h : n < length d) where
+  pub over-parted : 32 ≤ getD d n 0 → isValue (getD d n 0) ≡ false → overOf (text d n) ≡ true
+  unfolding overOf
+  over-parted l e = rw (text-kept d n h (kept-byte (getD d n 0) l), e)
+
+  pub over-dropped : getD d n 0 < 32 → overOf (text d (n + 1)) ≡ true → overOf (text d n) ≡ true
+  over-dropped l e = rw (text-dropped d n h (low-dropped (getD d n 0) l)) e
 
 -- ---- a digit is no minus
 minus : isDigit 45 ≡ false

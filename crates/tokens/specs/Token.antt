@@ -118,6 +118,10 @@ ofSkip p (Past n) = phrase.Is (record { place = p + 1; length = n - (p + 1) - 1;
 ofSkip p Unclosed = phrase.Not (fault 3 p)
 ofSkip p (Bad q) = phrase.Not (fault 3 q)
 
+-- from an opening quote at p to a closing one at m
+abbrev pub closedAt : ℕ → ℕ → Phrase
+closedAt p m = phrase.Is (record { place = p + 1; length = m - p - 1; next = m + 1 })
+
 unfoldable pub stringIn : Text → Phrase
 stringIn (stop p) = phrase.Not (fault 2 p)
 stringIn (sign p b t) = cond (eqb b 34) (ofSkip p (stringOf Plain t)) (phrase.Not (fault 2 p))

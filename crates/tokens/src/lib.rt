@@ -4,18 +4,19 @@ use marks::Skip;
 use scan::Step;
 use scan::Word;
 ghost use mathlib.Core.Path.{_≡_};
-ghost use mathlib.Core.Bool.{true};
-ghost use Prim.Native.Nat.{_+_, _-_, _≤_};
-ghost use lib.ListN.{length};
+ghost use mathlib.Core.Bool.{true, false};
+ghost use Prim.Native.Nat.{_+_, _-_, _≤_, _<_};
+ghost use lib.ListN.{length, getD};
 ghost use Rattle.ascii.specs.Class.{Classes};
 ghost use Rattle.scan.specs.rule.Text.{text};
 ghost use Rattle.scan.specs.Number.{digitsFrom};
+ghost use Rattle.scan.specs.rule.Number.{isValue};
 ghost use Rattle.tokens.specs.rule.Gap.{gapStep, gapAt};
 ghost use Rattle.tokens.specs.Gap.{gapOn, spacesOn};
 ghost use Rattle.tokens.specs.Gap.{paceOf};
 ghost use Rattle.tokens.specs.Over.{overOf};
 ghost use Rattle.tokens.specs.Token.{wordHere, wordOn, choiceOf, numberHere, numberOn, pastNumber, markOf, valueAt, valueHere};
-ghost use Rattle.tokens.specs.Token.{valueOn, pastValue, stringIn, stringOn, pastString, letterIn, letterOn};
+ghost use Rattle.tokens.specs.Token.{valueOn, pastValue, stringIn, closedAt, stringOn, pastString, letterIn, letterOn};
 
 // A refusal: its number, and the place of the token at fault.
 pub struct Fault {
@@ -68,21 +69,38 @@ fn four_spaces(d: &[u8], i: usize) -> bool
     (d[i] == 32) & ((d[i + 1] == 32) & ((d[i + 2] == 32) & (d[i + 3] == 32)))
 }
 
+// Up to sixteen spaces, by fours.
+fn pass_sixteen(d: &[u8], i: usize) -> usize
+    requires { ⌜ i + 16 ≤ length (now d) ⌝ }
+    ensures { λ r. ⌜ (gapAt (now (d .entry)) i ≡ gapAt (now (d .entry)) r) × (i ≤ r) ⌝ }
+{
+    if !four_spaces(d, i) {
+        return i;
+    }
+    if !four_spaces(d, i + 4) {
+        return i + 4;
+    }
+    if !four_spaces(d, i + 8) {
+        return i + 8;
+    }
+    if four_spaces(d, i + 12) { i + 16 } else { i + 12 }
+}
+
 // The spaces before a line's first token, by fours.
 fn pass_fours(d: &[u8], at: usize) -> usize
     ensures { λ r. ⌜ (gapAt (now (d .entry)) at ≡ gapAt (now (d .entry)) r) × (at ≤ r) ⌝ }
 {
-    if d.len() < 4 {
+    if d.len() < 16 {
         return at;
     }
-    let last = d.len() - 4;
+    let last = d.len() - 16;
     let mut i = at;
     while i <= last {
-        if four_spaces(d, i) {
-            i += 4;
-        } else {
-            return i;
+        let j = pass_sixteen(d, i);
+        if j != i + 16 {
+            return j;
         }
+        i = j;
     }
     i
 }
@@ -106,9 +124,11 @@ fn pass_few(d: &[u8], at: usize) -> usize
     pass_fours(d, at + 2)
 }
 
-// Most of a gap: the dropped bytes and spaces from a place on, which are those of 32 and below, in a loop of their own.
-fn pass_blanks(d: &[u8], at: usize) -> usize
-    ensures { λ r. ⌜ (gapAt (now (d .entry)) at ≡ gapAt (now (d .entry)) r) × (at ≤ r) ⌝ }
+// Most of a gap: the dropped bytes and spaces from a place on, which are those of 32 and below, in a loop of their own. Numbers alone go in
+// and out, so that it is a cheap call.
+pub fn pass_blanks(d: &[u8], at: usize) -> usize
+    ensures { λ r. ⌜ (gapAt (now (d .entry)) at ≡ gapAt (now (d .entry)) r) × (at ≤ r)
+        × (r < length (now (d .entry)) → 32 < getD (now (d .entry)) r 0) ⌝ }
 {
     let mut i = pass_few(d, at);
     while i < d.len() {
@@ -156,26 +176,18 @@ pub fn skip_gap(classes: &[u8; 256], d: &[u8], at: usize) -> Reading
     }
 }
 
-// The place behind a space, if one stands here.
-fn past_space(d: &[u8], n: usize) -> usize
-    ensures { λ r. ⌜ gapAt (now (d .entry)) n ≡ gapAt (now (d .entry)) r ⌝ }
-{
-    if d.len() <= n {
-        return n;
-    }
-    if d[n] == 32 { n + 1 } else { n }
-}
-
-// A gap of one space or none ends here; what is longer is a call.
+// Most gaps have no comment: what has one is a call of its own.
 pub fn gap_on(classes: &[u8; 256], d: &[u8], t: Reading) -> Reading
     requires { ⌜ Classes (now classes) ⌝ }
     ensures { λ r. ⌜ r ≡ gapOn (now (d .entry)) t ⌝ }
 {
     match t {
         Reading::At(n) => {
-            let m = past_space(d, n);
-            if token_at(d, m) {
-                return Reading::At(m);
+            let m = pass_blanks(d, n);
+            if m < d.len() {
+                if d[m] != 60 {
+                    return Reading::At(m);
+                }
             }
             skip_gap(classes, d, m)
         }
@@ -272,19 +284,45 @@ fn lead_at(d: &[u8], at: usize) -> Lead
     Lead { size: v, end: i }
 }
 
-// Whether a number or a value that reaches to a place ends there.
-fn over_at(classes: &[u8; 256], d: &[u8], at: usize) -> bool
-    requires { ⌜ Classes (now classes) ⌝ }
-    ensures { λ r. ⌜ r ≡ overOf (text (now (d .entry)) at) ⌝ }
+// Whether a byte is a space or above the digits: such a byte is kept, and of no number or value.
+fn parts(b: u8) -> bool
+    ensures { λ r. ⌜ (r ≡ true → (32 ≤ b) × (isValue b ≡ false)) ⌝ }
 {
-    match scan::next_byte(classes, d, at) {
-        Step::Byte {
-            byte,
-            place: _,
-            next: _,
-        } => !scan::of_value(classes, byte),
-        Step::End { place: _ } => true,
+    if b == 32 {
+        return true;
     }
+    57 < b
+}
+
+// Whether it is clear at a look that a value that reaches to a place ends there.
+fn over_here(d: &[u8], at: usize) -> bool
+    ensures { λ r. ⌜ (r ≡ true → overOf (text (now (d .entry)) at) ≡ true) ⌝ }
+{
+    if d.len() <= at {
+        return false;
+    }
+    parts(d[at])
+}
+
+// The same for a number, which often ends its line: the one or two dropped bytes that end a line are passed.
+fn over_soon(d: &[u8], at: usize) -> bool
+    ensures { λ r. ⌜ (r ≡ true → overOf (text (now (d .entry)) at) ≡ true) ⌝ }
+{
+    if d.len() < 3 {
+        return false;
+    }
+    if d.len() - 3 < at {
+        return false;
+    }
+    let b = d[at];
+    if 32 <= b {
+        return parts(b);
+    }
+    let c = d[at + 1];
+    if 32 <= c {
+        return parts(c);
+    }
+    parts(d[at + 2])
 }
 
 // A number that was read: what it says, at most 10 ^ 15, how many digits it has, its place and the place after it.
@@ -300,6 +338,26 @@ pub enum Number {
     Not(Fault),
 }
 
+// The same as number_here, whatever stands behind the digits.
+fn number_apart(classes: &[u8; 256], d: &[u8], n: usize) -> Number
+    requires { ⌜ Classes (now classes) ⌝ }
+    ensures { λ r. ⌜ r ≡ numberHere (now (d .entry)) (Reading.At n) ⌝ }
+{
+    let r = scan::read_digits(classes, d, n, 0);
+    if r.count == 0 {
+        return Number::Not(Fault {
+            number: 2,
+            place: n,
+        });
+    }
+    Number::Is(Figures {
+        size: r.size,
+        count: r.count,
+        place: n,
+        next: r.next,
+    })
+}
+
 pub fn number_here(classes: &[u8; 256], d: &[u8], t: Reading) -> Number
     requires { ⌜ Classes (now classes) ⌝ }
     ensures { λ r. ⌜ r ≡ numberHere (now (d .entry)) t ⌝ }
@@ -308,7 +366,7 @@ pub fn number_here(classes: &[u8; 256], d: &[u8], t: Reading) -> Number
         Reading::At(n) => {
             let q = lead_at(d, n);
             if n < q.end {
-                if over_at(classes, d, q.end) {
+                if over_soon(d, q.end) {
                     return Number::Is(Figures {
                         size: q.size,
                         count: q.end - n,
@@ -317,19 +375,7 @@ pub fn number_here(classes: &[u8; 256], d: &[u8], t: Reading) -> Number
                     });
                 }
             }
-            let r = scan::read_digits(classes, d, n, 0);
-            if r.count == 0 {
-                return Number::Not(Fault {
-                    number: 2,
-                    place: n,
-                });
-            }
-            Number::Is(Figures {
-                size: r.size,
-                count: r.count,
-                place: n,
-                next: r.next,
-            })
+            number_apart(classes, d, n)
         }
         Reading::Refused(f) => Number::Not(f),
     }
@@ -427,6 +473,21 @@ pub fn read_value(classes: &[u8; 256], d: &[u8], at: usize) -> Value
     }
 }
 
+// The same as value_here, for a value of any form.
+fn value_apart(classes: &[u8; 256], d: &[u8], n: usize) -> Amount
+    requires { ⌜ Classes (now classes) ⌝ }
+    ensures { λ r. ⌜ r ≡ valueHere (now (d .entry)) (Reading.At n) ⌝ }
+{
+    let v = read_value(classes, d, n);
+    if v.next == n {
+        return Amount::Not(Fault {
+            number: 2,
+            place: n,
+        });
+    }
+    Amount::Is(v)
+}
+
 pub fn value_here(classes: &[u8; 256], d: &[u8], t: Reading) -> Amount
     requires { ⌜ Classes (now classes) ⌝ }
     ensures { λ r. ⌜ r ≡ valueHere (now (d .entry)) t ⌝ }
@@ -435,7 +496,7 @@ pub fn value_here(classes: &[u8; 256], d: &[u8], t: Reading) -> Amount
         Reading::At(n) => {
             let q = lead_at(d, n);
             if n < q.end {
-                if over_at(classes, d, q.end) {
+                if over_here(d, q.end) {
                     return Amount::Is(Value {
                         minus: false,
                         size: q.size,
@@ -450,14 +511,7 @@ pub fn value_here(classes: &[u8; 256], d: &[u8], t: Reading) -> Amount
                     });
                 }
             }
-            let v = read_value(classes, d, n);
-            if v.next == n {
-                return Amount::Not(Fault {
-                    number: 2,
-                    place: n,
-                });
-            }
-            Amount::Is(v)
+            value_apart(classes, d, n)
         }
         Reading::Refused(f) => Amount::Not(f),
     }
@@ -467,8 +521,10 @@ pub fn value_on(classes: &[u8; 256], d: &[u8], t: Reading) -> Amount
     requires { ⌜ Classes (now classes) ⌝ }
     ensures { λ r. ⌜ r ≡ valueOn (now (d .entry)) t ⌝ }
 {
-    let g = gap_on(classes, d, t);
-    value_here(classes, d, g)
+    match gap_on(classes, d, t) {
+        Reading::At(n) => value_apart(classes, d, n),
+        Reading::Refused(f) => Amount::Not(f),
+    }
 }
 
 pub fn past_value(v: Amount) -> Reading
@@ -519,12 +575,54 @@ pub fn string_at(classes: &[u8; 256], d: &[u8], at: usize) -> Phrase
     }
 }
 
+// The place of the quote that closes the string from n on, where it has no brace forms but those of one sign; else the text's length.
+fn closing(d: &[u8], n: usize) -> usize
+    ensures { λ r. ⌜ (r < length (now (d .entry)) → (n < r) × (getD (now (d .entry)) n 0 ≡ 34)
+        × (stringIn (text (now (d .entry)) n) ≡ closedAt n r)) ⌝ }
+{
+    if d.len() <= n {
+        return d.len();
+    }
+    if d[n] != 34 {
+        return d.len();
+    }
+    let m = marks::pass_forms(d, n + 1);
+    if m < d.len() {
+        if d[m] == 34 {
+            return m;
+        }
+    }
+    d.len()
+}
+
+// The same as string_on, whatever the gap and the string hold.
+pub fn string_apart(classes: &[u8; 256], d: &[u8], n: usize) -> Phrase
+    requires { ⌜ Classes (now classes) ⌝ }
+    ensures { λ r. ⌜ r ≡ stringOn (now (d .entry)) (Reading.At n) ⌝ }
+{
+    match gap_on(classes, d, Reading::At(n)) {
+        Reading::At(m) => string_at(classes, d, m),
+        Reading::Refused(f) => Phrase::Not(f),
+    }
+}
+
 pub fn string_on(classes: &[u8; 256], d: &[u8], t: Reading) -> Phrase
     requires { ⌜ Classes (now classes) ⌝ }
     ensures { λ r. ⌜ r ≡ stringOn (now (d .entry)) t ⌝ }
 {
-    match gap_on(classes, d, t) {
-        Reading::At(n) => string_at(classes, d, n),
+    match t {
+        Reading::At(n) => {
+            let q = pass_blanks(d, n);
+            let m = closing(d, q);
+            if m < d.len() {
+                return Phrase::Is(Quoted {
+                    place: q + 1,
+                    length: m - q - 1,
+                    next: m + 1,
+                });
+            }
+            string_apart(classes, d, q)
+        }
         Reading::Refused(f) => Phrase::Not(f),
     }
 }

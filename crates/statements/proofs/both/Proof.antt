@@ -1,5 +1,6 @@
 use mathlib.Core.Path.{_∙_}
 use Rattle.statements.specs.Position.{bothOf}
+use Rattle.statements.proofs.Helds.{held-size}
 use borrow.Author.Needs.{needs}
 use Rattle.statements.proofs.both.Statement.{statement}
 use Rattle.statements.proofs.both.Tie as tie
@@ -10,7 +11,7 @@ returns c =
     let at-end = c .before .before .before in
     let at-b = at-end .before .before .before in
     c .judge-position .ensures ∙ rw (
-      c .before .less .ensures,
+      c .before .says-less .ensures,
       at-b .before .before .before .a .given .1,
       at-b .b .given .1,
       at-end .end .given .1,
@@ -38,7 +39,12 @@ unfolding bothOf
 returns-4 c =
     rw (c .before .a2 .given .1)
 
+says-less-requires : tie.Need-says-less-requires
+says-less-requires c κs =
+    let held = c .before .before .before .before .before .before .before .before .before .before .pre .1 in
+    (c .before .before .before .before .before .before .before .before .before .before .pre .0, (held-size (held .1) (c .before .before .before .before .b .given .1), held-size (held .0) (c .before .before .before .before .before .before .before .a .given .1)))
+
 pub both-spec : {M : Type 1} → statement M
 both-spec =
-    tie.close (tie.spec (λ c. search needs) (λ c. search needs) (λ c. search needs) (λ c κs. search needs) (λ c κs. search needs)
+    tie.close (tie.spec (λ c. search needs) (λ c. search needs) (λ c. search needs) says-less-requires (λ c κs. search needs)
     (λ c. search needs) (λ c. search needs) (λ c. search needs) returns returns-2 returns-3 returns-4)

@@ -1,51 +1,22 @@
--- `statements::notes_on` meets its contract. The invariant: the notes from here on end as all of them do.
-use mathlib.Core.Path.{_≡_, refl, _∙_, sym, ap}
-use Rattle.tokens.specs.Gap.{left}
-use Rattle.statements.specs.Note.{pastNote, notesHere, notesOn}
-use Rattle.statements.proofs.Notes.{note-left, notes-again, notes-done}
+use mathlib.Core.Path.{_∙_, sym}
 use borrow.Author.Needs.{needs}
-use native.Mathlib.Omega.{arith}
+use Rattle.statements.proofs.Notes.{notes-same, notes-refused}
 use Rattle.statements.proofs.notes_on.Statement.{statement}
 use Rattle.statements.proofs.notes_on.Tie as tie
 
-abbrev Inv-loop : tie.InvT-loop
-Inv-loop classes d g₀ g = notesHere d g₀ ≡ notesHere d g
+returns : tie.Need-returns
+returns c =
+    let p = c .before .before .pass-blanks in
+    rw (c .before .before .before .before .t .given .1) (sym (notes-same _ _ _ (p .ensures .0) ∙ c .before .no-note .ensures (c .if1 .taken)))
 
-abbrev μ-loop : tie.MeasureT-loop
-μ-loop classes d g₀ g = left d g
+returns-2 : tie.Need-returns-2
+returns-2 c = rw (c .before .before .before .before .before .t .given .1) (c .notes-apart .ensures ∙ sym (notes-same _ _ _ (c .before .before .before .pass-blanks .ensures .0)))
 
-loop-less : tie.Need-loop-less Inv-loop μ-loop
-unfolding pastNote
-loop-less c = rw (c .gap-on2 .ensures, c .before .past-string .ensures, c .before .before .string-on .ensures)
-    (note-left _ _ (c .before .before .before .before .before .before .note-word .ensures) (c .before .before .before .before .m .given .1))
-
-loop-again : tie.Need-loop-again Inv-loop μ-loop
-unfolding pastNote
-loop-again c =
-    let at-string-on = c .before .before in
-    at-string-on .before .before .before .before .before .loop .inv
-    ∙ notes-again _ _ (at-string-on .before .before .before .before .note-word .ensures) (at-string-on .before .before .m .given .1)
-    ∙ rw (sym (at-string-on .string-on .ensures), sym (c .before .past-string .ensures), sym (c .gap-on2 .ensures))
-
-returns : tie.Need-returns Inv-loop μ-loop
-unfolding notesOn
-returns c = sym (ap (notesHere _) (sym (c .before .before .before .before .gap-on .ensures)) ∙ c .before .before .before .loop .inv
-    ∙ notes-done _ _ (c .before .before .note-word .ensures) (c .enum-told .given .1))
+returns-3 : tie.Need-returns-3
+returns-3 c = rw (c .before .t2 .given .1) (sym (notes-refused _ _))
 
 pub notes-on-spec : {M : Type 1} → statement M
 notes-on-spec =
     tie.close
-    (tie.spec
-    Inv-loop
-    μ-loop
-    (λ c κs. search needs)
-    (λ c. refl)
-    (λ c κs. search needs)
-    (λ c. search needs)
-    (λ c κs. search needs)
-    (λ c κs. search needs)
-    (λ c κs. search needs)
-    loop-less
-    loop-again
-    (λ c. search needs)
-    returns)
+    (tie.spec (λ c. search needs) (λ c κs. search needs) (λ c κs. c .pass-blanks .ensures .2) returns (λ c κs. c .before .before .before .before .before .before .before .pre) (λ c. search needs)
+    returns-2 returns-3)

@@ -1,5 +1,6 @@
 use mathlib.Core.Path.{_∙_, sym}
 use Rattle.statements.specs.Position.{positionOn}
+use Rattle.statements.proofs.Helds.{held-by}
 use Rattle.statements.specs.Note.{statementOn}
 use borrow.Author.Needs.{needs}
 use Rattle.statements.proofs.position_on.Statement.{statement}
@@ -38,8 +39,14 @@ returns-2 c =
       sym (c .both2 .ensures),
     )
 
+both-requires : tie.Need-both-requires
+both-requires c κs = (c .before .before .before .before .before .before .before .before .before .before .before .before .before .before .pre, (held-by _ _ (c .before .before .before .before .before .before .before .before .before .number-on .ensures), held-by _ _ (c .before .number-on2 .ensures)))
+
+both-requires-2 : tie.Need-both-requires-2
+both-requires-2 c κs = let a = held-by _ _ (c .before .before .before .before .before .before .number-on .ensures) in (c .before .before .before .before .before .before .before .before .before .before .before .pre, (a, a))
+
 pub position-on-spec : {M : Type 1} → statement M
 position-on-spec =
     tie.close (tie.spec (λ c κs. search needs) (λ c. search needs) (λ c κs. search needs) (λ c κs. search needs) (λ c κs. search needs)
     (λ c κs. search needs) (λ c. search needs) (λ c κs. search needs) (λ c. search needs) (λ c κs. search needs) (λ c κs. search needs)
-    (λ c κs. search needs) (λ c. search needs) (λ c κs. search needs) returns returns-2)
+    both-requires (λ c. search needs) both-requires-2 returns returns-2)

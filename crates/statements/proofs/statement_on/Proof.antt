@@ -8,7 +8,7 @@ returns : tie.Need-returns
 unfolding statementOn
 returns c =
     rw (
-      sym (c .before .notes-on .ensures),
+      sym (c .before .notes-apart .ensures),
       sym (c .word-here .ensures),
     )
 

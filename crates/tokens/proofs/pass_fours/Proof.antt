@@ -14,10 +14,17 @@ Inv-loop d at last i₀ i = (gapAt d at ≡ gapAt d i) × (at ≤ i)
 abbrev μ-loop : tie.MeasureT-loop
 μ-loop d at last i₀ i = length d - i
 
+returns-2 : tie.Need-returns-2 Inv-loop μ-loop
+returns-2 c =
+    let l = c .before .before .before .loop in
+    let p = c .before .pass-sixteen .ensures in
+    (l .inv .0 ∙ p .0, omega arith)
+
 loop-again : tie.Need-loop-again Inv-loop μ-loop
 loop-again c =
     let l = c .before .before .before .loop in
-    (l .inv .0 ∙ c .before .four-spaces .ensures (c .if2 .taken), omega arith)
+    let p = c .before .pass-sixteen .ensures in
+    (l .inv .0 ∙ p .0, omega arith)
 
 pub pass-fours-spec : {M : Type 1} → statement M
 pass-fours-spec =
@@ -30,7 +37,7 @@ pass-fours-spec =
     (λ c. (refl, omega arith))
     (λ c κs. omega arith)
     (λ c. omega arith)
+    returns-2
     (λ c. omega arith)
     loop-again
-    (λ c. c .before .before .before .loop .inv)
     (λ c. c .before .loop .inv))

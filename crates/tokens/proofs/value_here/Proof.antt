@@ -1,8 +1,7 @@
-use mathlib.Core.Path.{_≡_, _∙_, sym}
-use borrow.Author.Tests.{eq-eqb, ne-eqb}
+use mathlib.Core.Path.{sym}
 use borrow.Author.Needs.{needs}
 use native.Mathlib.Omega.{arith}
-use Rattle.tokens.specs.Token.{ofValue, valueHere}
+use Rattle.tokens.specs.Token.{valueHere}
 use Rattle.tokens.proofs.Leads.{lead-here}
 use Rattle.tokens.proofs.value_here.Statement.{statement}
 use Rattle.tokens.proofs.value_here.Tie as tie
@@ -12,28 +11,14 @@ returns : tie.Need-returns
 returns c =
     let q = c .before .before .before .before .before .lead-at .ensures in
     rw (c .before .before .before .before .before .before .before .t .given .1)
-    (sym (lead-here _ _ _ _ (c .before .before .before .if1 .taken) (q .1 .1) (q .0)
-    (sym (c .before .before .over-at .ensures) ∙ c .before .if2 .taken)))
+    (sym (lead-here _ _ _ _ (c .before .before .before .if1 .taken) (q .1 .1) (q .0) (c .before .before .over-here .ensures (c .before .if2 .taken))))
 
 returns-2 : tie.Need-returns-2
-unfolding valueHere ofValue
-returns-2 c = rw (
-  c .before .before .before .before .before .before .before .t .given .1,
-  sym (c .before .before .read-value .ensures),
-  eq-eqb _ _ (c .if3 .taken),
-)
+returns-2 c = rw (c .before .before .before .before .before .t .given .1) (c .value-apart .ensures)
 
 returns-3 : tie.Need-returns-3
-unfolding valueHere ofValue
-returns-3 c = rw (
-  c .before .before .before .before .before .before .before .t .given .1,
-  sym (c .before .before .read-value .ensures),
-  ne-eqb _ _ (c .if3 .left),
-)
-
-returns-4 : tie.Need-returns-4
 unfolding valueHere
-returns-4 c = rw (c .before .t2 .given .1)
+returns-3 c = rw (c .before .t2 .given .1)
 
 pub value-here-spec : {M : Type 1} → statement M
 value-here-spec =
@@ -41,11 +26,10 @@ value-here-spec =
     (tie.spec
     (λ c. search needs)
     (λ c κs. search needs)
-    (λ c κs. c .before .before .before .before .before .before .before .pre)
+    (λ c κs. search needs)
     (λ c. omega arith)
     returns
     (λ c κs. c .before .before .before .before .before .before .before .pre)
-    returns-2
     (λ c. search needs)
-    returns-3
-    returns-4)
+    returns-2
+    returns-3)
