@@ -2,15 +2,15 @@ use mathlib.Core.Path.{_≡_, refl, sym, ap, _∙_}
 use native.Mathlib.Omega.{arith}
 use borrow.Author.Needs.{needs}
 use Rattle.steps.specs.Step.{statementFound}
-use Rattle.pages.proofs.find_end.Statement.{statement}
-use Rattle.pages.proofs.find_end.Tie as tie
+use Rattle.pages.proofs.look_end.Statement.{statement}
+use Rattle.pages.proofs.look_end.Tie as tie
 
 returns : tie.Need-returns
 unfolding statementFound
 returns c = rw (c .find-here .ensures, c .before .before .past-notes .ensures)
 
-pub find-end-spec : {M : Type 1} → statement M
-find-end-spec =
+pub look-end-spec : {M : Type 1} → statement M
+look-end-spec =
     tie.close
     (tie.spec
     (λ c κs. search needs)

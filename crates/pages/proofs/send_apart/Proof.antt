@@ -3,8 +3,8 @@ use native.Mathlib.Omega.{arith}
 use borrow.Author.Needs.{needs}
 use Rattle.sink.specs.Sent.{then, sent-as}
 use Rattle.pages.specs.Page.{lineText}
-use Rattle.pages.proofs.send_line.Statement.{statement}
-use Rattle.pages.proofs.send_line.Tie as tie
+use Rattle.pages.proofs.send_apart.Statement.{statement}
+use Rattle.pages.proofs.send_apart.Tie as tie
 
 returns : tie.Need-returns
 unfolding lineText
@@ -16,8 +16,8 @@ unfolding lineText
 returns-2 c = sent-as (then (c .before .before .before .before .before .before .before .before .send-closed .ensures)
     (c .before .before .send-closed3 .ensures)) (rw (c .before .before .before .before .before .if1 .left))
 
-pub send-line-spec : {M : Type 1} → statement M
-send-line-spec =
+pub send-apart-spec : {M : Type 1} → statement M
+send-apart-spec =
     tie.close
     (tie.spec
     (λ c. search needs)
