@@ -5,7 +5,7 @@ use scan::Step;
 use steps::Found;
 use steps::Span;
 ghost use mathlib.Core.Path.{_≡_};
-ghost use mathlib.Core.Bool.{true, cond};
+ghost use mathlib.Core.Bool.{true, false};
 ghost use mathlib.Core.List.{[], _∷_, _++_};
 ghost use Prim.Native.Nat.{_+_, _^_, _≤_, _<_};
 ghost use lib.ListN.{length};
@@ -13,11 +13,13 @@ ghost use Rattle.ascii.specs.Class.{Classes};
 ghost use Rattle.ascii.specs.rule.Tens.{Tens};
 ghost use Rattle.fields.specs.rule.Number.{padded};
 ghost use Rattle.sink.specs.rule.Sent.{Sent};
-ghost use Rattle.statements.specs.rule.Words.{VALUES, END};
+ghost use Rattle.statements.specs.rule.Words.{VARIABLE, NAME, LABEL, SIZE, VALUES, END};
 ghost use Rattle.steps.specs.Step.{statementFound, keywordPast};
+ghost use Rattle.steps.specs.Law.{found};
 ghost use Rattle.clean_text.specs.rule.Span.{spanOf};
 ghost use Rattle.clean_text.specs.rule.Clean.{plainDigits};
 ghost use Rattle.pages.specs.Plain.{Plain};
+ghost use Rattle.pages.specs.Stand.{Stands, Between, Framed, Standing};
 ghost use Rattle.pages.specs.Page.{Paged, framed, numberPage, phrasePage, typeAt, typeText, positionAt, positionText, roomOf};
 ghost use Rattle.pages.specs.Page.{spreadAt, evenOf, spreadText};
 ghost use Rattle.pages.specs.Page.{lineAt, lineText, linesPage, rangeAt, rangeText, blockPage, valuesPage, restPage, endPage};
@@ -42,6 +44,64 @@ fn plain(d: &[u8], from: usize, end: usize) -> bool
         return false;
     }
     lows::all_plain(&d[from..end])
+}
+
+// Whether bytes stand just as they are given, from a place on. Nothing leaves the loop early: so the compiler compares bytes that it
+// knows all at once.
+fn same_at(d: &[u8], at: usize, w: &[u8]) -> bool
+    requires { ⌜ at + length (now w) ≤ length (now d) ⌝ }
+    ensures { λ r. ⌜ (r ≡ true → Stands (now (d .entry)) at (now (w .entry)) (at + length (now (w .entry)))) ⌝ }
+{
+    let mut same = true;
+    let mut i: usize = 0;
+    while i < w.len() {
+        same = same & (d[at + i] == w[i]);
+        i += 1;
+    }
+    same
+}
+
+// Where bytes end that stand just as they are given, from a place on; 0 if they don't.
+fn stands_to(d: &[u8], at: usize, w: &[u8]) -> usize
+    ensures { λ r. ⌜ (0 < r → Stands (now (d .entry)) at (now (w .entry)) r) ⌝ }
+{
+    if d.len() < at {
+        return 0;
+    }
+    if d.len() - at < w.len() {
+        return 0;
+    }
+    if same_at(d, at, w) {
+        return at + w.len();
+    }
+    0
+}
+
+// Whether a stretch stands right behind a literal.
+fn follows(d: &[u8], at: usize, w: &[u8], s: Span) -> bool
+    ensures { λ r. ⌜ (r ≡ true → Stands (now (d .entry)) at (now (w .entry)) (s .from)) ⌝ }
+{
+    let e = stands_to(d, at, w);
+    if e == 0 {
+        return false;
+    }
+    e == s.from
+}
+
+// Whether two stretches stand with a literal between them, and no byte of them is dropped.
+fn between(d: &[u8], a: Span, w: &[u8], b: Span) -> bool
+    ensures { λ r. ⌜ (r ≡ true → Between (now (d .entry)) a (now (w .entry)) b) ⌝ }
+{
+    if !follows(d, a.end, w, b) {
+        return false;
+    }
+    if a.end < a.from {
+        return false;
+    }
+    if b.end < b.from {
+        return false;
+    }
+    plain(d, a.from, b.end)
 }
 
 // The kept bytes of a stretch, one by one.
@@ -160,72 +220,113 @@ fn send_count(powers: &[u64; 16], bound: usize, out: &mut [u8], at: usize, n: u6
 }
 
 // ---- statements of a word and a number, or a word and a string
-pub fn send_number(
+// Where the literal behind a stretch ends, if it stands there and the literal before it does too; else 0.
+fn frame_at(d: &[u8], g: usize, pre: &[u8], s: Span, post: &[u8]) -> usize
+    ensures { λ r. ⌜ (0 < r → Framed (now (d .entry)) g (now (pre .entry)) s (now (post .entry)) r) ⌝ }
+{
+    if !follows(d, g, pre, s) {
+        return 0;
+    }
+    stands_to(d, s.end, post)
+}
+
+// A stretch between two literals, at once where they stand so in the definition, up to e.
+fn send_whole(
     classes: &[u8; 256],
     d: &[u8],
-    n: usize,
     bound: usize,
     out: &mut [u8],
     at: usize,
-    w: &[u8],
+    g: usize,
+    e: usize,
     pre: &[u8],
-) -> Walked
+    s: Span,
+    post: &[u8],
+) -> usize
     requires { ⌜ Classes (now classes) ⌝ }
-    ensures { λ r. ⌜ Paged bound (now (out .entry)) at (now (out .exit)) r
-        (numberPage (now (d .entry)) n (now (w .entry)) (now (pre .entry))) ⌝ }
+    requires { ⌜ (0 < e → Framed (now d) g (now pre) s (now post) e) ⌝ }
+    ensures { λ r. ⌜ Sent bound (now (out .entry)) at (framed (now (d .entry)) (now (pre .entry)) s (now (post .entry))) (now (out .exit))
+        r ⌝ }
 {
-    let g = steps::past_notes(classes, d, n);
-    let a = steps::past_word(classes, d, g, w);
+    if 0 < e {
+        if plain(d, s.from, s.end) {
+            return sink::send_bytes(bound, out, at, &d[g..e]);
+        }
+    }
+    send_framed(classes, d, bound, out, at, pre, s, post)
+}
+
+fn send_ident(classes: &[u8; 256], d: &[u8], n: usize, bound: usize, out: &mut [u8], at: usize) -> Walked
+    requires { ⌜ Classes (now classes) ⌝ }
+    ensures { λ r. ⌜ Paged bound (now (out .entry)) at (now (out .exit)) r (numberPage (now (d .entry)) n VARIABLE (VARIABLE ++ 32 ∷ [])) ⌝ }
+{
+    let g = steps::notes_behind(classes, d, n);
+    let a = steps::past_word(classes, d, g, b"VARIABLE");
     let x = steps::number_span(classes, d, a);
-    let end = send_framed(classes, d, bound, out, at, pre, x, b"\r\n");
+    let e = frame_at(d, g, b"VARIABLE ", x, b"\r\n");
+    let end = send_whole(classes, d, bound, out, at, g, e, b"VARIABLE ", x, b"\r\n");
     Walked {
         at: end,
         next: x.next,
     }
 }
 
-pub fn send_phrase(
-    classes: &[u8; 256],
-    d: &[u8],
-    n: usize,
-    bound: usize,
-    out: &mut [u8],
-    at: usize,
-    w: &[u8],
-    pre: &[u8],
-) -> Walked
+fn send_size(classes: &[u8; 256], d: &[u8], n: usize, bound: usize, out: &mut [u8], at: usize) -> Walked
     requires { ⌜ Classes (now classes) ⌝ }
-    ensures { λ r. ⌜ Paged bound (now (out .entry)) at (now (out .exit)) r
-        (phrasePage (now (d .entry)) n (now (w .entry)) (now (pre .entry))) ⌝ }
+    ensures { λ r. ⌜ Paged bound (now (out .entry)) at (now (out .exit)) r (numberPage (now (d .entry)) n SIZE (SIZE ++ 32 ∷ [])) ⌝ }
 {
-    let g = steps::past_notes(classes, d, n);
-    let a = steps::past_word(classes, d, g, w);
+    let g = steps::notes_behind(classes, d, n);
+    let a = steps::past_word(classes, d, g, b"SIZE");
+    let x = steps::number_span(classes, d, a);
+    let e = frame_at(d, g, b"SIZE ", x, b"\r\n");
+    let end = send_whole(classes, d, bound, out, at, g, e, b"SIZE ", x, b"\r\n");
+    Walked {
+        at: end,
+        next: x.next,
+    }
+}
+
+fn send_name(classes: &[u8; 256], d: &[u8], n: usize, bound: usize, out: &mut [u8], at: usize) -> Walked
+    requires { ⌜ Classes (now classes) ⌝ }
+    ensures { λ r. ⌜ Paged bound (now (out .entry)) at (now (out .exit)) r (phrasePage (now (d .entry)) n NAME (NAME ++ 32 ∷ 34 ∷ [])) ⌝ }
+{
+    let g = steps::notes_behind(classes, d, n);
+    let a = steps::past_word(classes, d, g, b"NAME");
     let x = steps::string_span(classes, d, a);
-    let end = send_framed(classes, d, bound, out, at, pre, x, b"\"\r\n");
+    let e = frame_at(d, g, b"NAME \"", x, b"\"\r\n");
+    let end = send_whole(classes, d, bound, out, at, g, e, b"NAME \"", x, b"\"\r\n");
     Walked {
         at: end,
         next: x.next,
     }
 }
 
-// END and a word.
-pub fn send_end(
-    classes: &[u8; 256],
-    d: &[u8],
-    n: usize,
-    bound: usize,
-    out: &mut [u8],
-    at: usize,
-    w: &[u8],
-    line: &[u8],
-) -> Walked
+fn send_label(classes: &[u8; 256], d: &[u8], n: usize, bound: usize, out: &mut [u8], at: usize) -> Walked
+    requires { ⌜ Classes (now classes) ⌝ }
+    ensures { λ r. ⌜ Paged bound (now (out .entry)) at (now (out .exit)) r (phrasePage (now (d .entry)) n LABEL (LABEL ++ 32 ∷ 34 ∷ [])) ⌝ }
+{
+    let g = steps::notes_behind(classes, d, n);
+    let a = steps::past_word(classes, d, g, b"LABEL");
+    let x = steps::string_span(classes, d, a);
+    let e = frame_at(d, g, b"LABEL \"", x, b"\"\r\n");
+    let end = send_whole(classes, d, bound, out, at, g, e, b"LABEL \"", x, b"\"\r\n");
+    Walked {
+        at: end,
+        next: x.next,
+    }
+}
+
+// END VARIABLE.
+fn send_end(classes: &[u8; 256], d: &[u8], n: usize, bound: usize, out: &mut [u8], at: usize) -> Walked
     requires { ⌜ Classes (now classes) ⌝ }
     ensures { λ r. ⌜ Paged bound (now (out .entry)) at (now (out .exit)) r
-        (endPage (now (d .entry)) n (now (w .entry)) (now (line .entry))) ⌝ }
+        (endPage (now (d .entry)) n VARIABLE (END ++ 32 ∷ VARIABLE ++ 13 ∷ 10 ∷ [])) ⌝ }
 {
-    let a = steps::past_statement(classes, d, n, b"END");
-    let next = steps::past_keyword(classes, d, a, w);
-    let end = sink::send_bytes(bound, out, at, line);
+    let g = steps::notes_behind(classes, d, n);
+    let a = steps::past_word(classes, d, g, b"END");
+    let h = steps::past_gap(classes, d, a);
+    let next = steps::past_word(classes, d, h, b"VARIABLE");
+    let end = sink::send_bytes(bound, out, at, b"END VARIABLE\r\n");
     Walked { at: end, next }
 }
 
@@ -240,7 +341,8 @@ fn type_at(classes: &[u8; 256], d: &[u8], n: usize) -> Sort
     requires { ⌜ Classes (now classes) ⌝ }
     ensures { λ r. ⌜ r ≡ typeAt (now (d .entry)) n ⌝ }
 {
-    let a = steps::past_statement(classes, d, n, b"TYPE");
+    let f = steps::notes_behind(classes, d, n);
+    let a = steps::past_word(classes, d, f, b"TYPE");
     let g = steps::past_gap(classes, d, a);
     let one = steps::find_here(classes, d, g, b"SINGLE");
     if one.there {
@@ -303,9 +405,11 @@ fn position_at(classes: &[u8; 256], d: &[u8], n: usize) -> Places
     requires { ⌜ Classes (now classes) ⌝ }
     ensures { λ r. ⌜ r ≡ positionAt (now (d .entry)) n ⌝ }
 {
-    let a = steps::past_statement(classes, d, n, b"POSITION");
+    let g = steps::notes_behind(classes, d, n);
+    let a = steps::past_word(classes, d, g, b"POSITION");
     let x = steps::number_span(classes, d, a);
-    let f = steps::find_word(classes, d, x.next, b"TO");
+    let h = steps::past_gap(classes, d, x.next);
+    let f = steps::find_here(classes, d, h, b"TO");
     if f.there {
         let y = steps::number_span(classes, d, f.next);
         return Places {
@@ -321,6 +425,24 @@ fn position_at(classes: &[u8; 256], d: &[u8], n: usize) -> Places
     }
 }
 
+// Where the statement ends, if it stands just as it is to be written; else 0.
+fn position_end(d: &[u8], p: Places) -> usize
+    ensures { λ r. ⌜ (0 < r → Standing (now (d .entry)) p r) ⌝ }
+{
+    let start = p.start;
+    let finish = p.finish;
+    if start.from < 9 {
+        return 0;
+    }
+    if !follows(d, start.from - 9, b"POSITION ", start) {
+        return 0;
+    }
+    if !between(d, start, b" TO ", finish) {
+        return 0;
+    }
+    stands_to(d, finish.end, b"\r\n")
+}
+
 fn send_position(
     classes: &[u8; 256],
     d: &[u8],
@@ -334,6 +456,11 @@ fn send_position(
 {
     let start = p.start;
     let finish = p.finish;
+    let e = position_end(d, p);
+    if 0 < e {
+        let g = start.from - 9;
+        return sink::send_bytes(bound, out, at, &d[g..e]);
+    }
     let a = send_framed(classes, d, bound, out, at, b"POSITION ", start, b" TO ");
     send_closed(classes, d, bound, out, a, finish, b"\r\n")
 }
@@ -366,7 +493,8 @@ fn spread_at(classes: &[u8; 256], d: &[u8], n: usize) -> Parts
 {
     let f = steps::find_statement(classes, d, n, b"SPREAD");
     let x = steps::number_span(classes, d, f.next);
-    let g = steps::find_word(classes, d, x.next, b"OF");
+    let h = steps::past_gap(classes, d, x.next);
+    let g = steps::find_here(classes, d, h, b"OF");
     let w = steps::number_span(classes, d, g.next);
     if f.there {
         if g.there {
@@ -455,7 +583,23 @@ fn line_at(classes: &[u8; 256], d: &[u8], n: usize) -> LineParts
     }
 }
 
-fn send_line(
+// Where a line ends that stands just as it is to be written; else 0.
+fn line_end(d: &[u8], l: LineParts) -> usize
+    ensures { λ r. ⌜ (0 < r → Stands (now (d .entry)) (l .value .from) (lineText (now (d .entry)) l) r) ⌝ }
+{
+    let value = l.value;
+    let text = l.text;
+    if !between(d, value, b" \"", text) {
+        return 0;
+    }
+    if l.special {
+        return stands_to(d, text.end, b"\" SPECIAL\r\n");
+    }
+    stands_to(d, text.end, b"\"\r\n")
+}
+
+// A line's things, one by one.
+fn send_apart(
     classes: &[u8; 256],
     d: &[u8],
     bound: usize,
@@ -475,8 +619,40 @@ fn send_line(
     send_closed(classes, d, bound, out, a, text, b"\"\r\n")
 }
 
-// Whether END stands behind the notes. In a function of its own: a literal in a loop would be one more thing that the loop keeps.
-fn find_end(classes: &[u8; 256], d: &[u8], n: usize) -> Found
+fn send_line(
+    classes: &[u8; 256],
+    d: &[u8],
+    bound: usize,
+    out: &mut [u8],
+    at: usize,
+    l: LineParts,
+) -> usize
+    requires { ⌜ Classes (now classes) ⌝ }
+    ensures { λ r. ⌜ Sent bound (now (out .entry)) at (lineText (now (d .entry)) l) (now (out .exit)) r ⌝ }
+{
+    let end = line_end(d, l);
+    if 0 < end {
+        let value = l.value;
+        let from = value.from;
+        return sink::send_bytes(bound, out, at, &d[from..end]);
+    }
+    send_apart(classes, d, bound, out, at, l)
+}
+
+// Whether neither a gap nor a note begins here, nor END.
+fn no_end(d: &[u8], n: usize) -> bool
+    ensures { λ r. ⌜ (r ≡ true → statementFound (now (d .entry)) n END ≡ found false n) ⌝ }
+{
+    if !steps::passed(d, n) {
+        return false;
+    }
+    if d[n] == 69 {
+        return false;
+    }
+    d[n] != 101
+}
+
+fn look_end(classes: &[u8; 256], d: &[u8], n: usize) -> Found
     requires { ⌜ Classes (now classes) ⌝ }
     ensures { λ r. ⌜ r ≡ statementFound (now (d .entry)) n END ⌝ }
 {
@@ -484,11 +660,23 @@ fn find_end(classes: &[u8; 256], d: &[u8], n: usize) -> Found
     steps::find_here(classes, d, g, b"END")
 }
 
+// Whether END stands behind the notes. In a function of its own: a literal in a loop would be one more thing that the loop keeps.
+fn find_end(classes: &[u8; 256], d: &[u8], n: usize) -> Found
+    requires { ⌜ Classes (now classes) ⌝ }
+    ensures { λ r. ⌜ r ≡ statementFound (now (d .entry)) n END ⌝ }
+{
+    if no_end(d, n) {
+        return Found { there: false, next: n };
+    }
+    look_end(classes, d, n)
+}
+
 fn past_values(classes: &[u8; 256], d: &[u8], n: usize) -> usize
     requires { ⌜ Classes (now classes) ⌝ }
     ensures { λ r. ⌜ r ≡ keywordPast (now (d .entry)) n VALUES ⌝ }
 {
-    steps::past_keyword(classes, d, n, b"VALUES")
+    let g = steps::past_gap(classes, d, n);
+    steps::past_word(classes, d, g, b"VALUES")
 }
 
 // The lines of a block, from the place behind VALUES or WITH.
@@ -534,11 +722,13 @@ fn range_at(classes: &[u8; 256], d: &[u8], n: usize) -> RangeParts
 {
     let g = steps::past_notes(classes, d, n);
     let from = steps::value_span(classes, d, g);
-    let f = steps::find_word(classes, d, from.next, b"TO");
+    let e = steps::past_gap(classes, d, from.next);
+    let f = steps::find_here(classes, d, e, b"TO");
     if f.there {
         let h = steps::past_gap(classes, d, f.next);
         let to = steps::value_span(classes, d, h);
-        let w = steps::find_word(classes, d, to.next, b"WITH");
+        let k = steps::past_gap(classes, d, to.next);
+        let w = steps::find_here(classes, d, k, b"WITH");
         return RangeParts {
             there: true,
             from,
@@ -610,7 +800,8 @@ pub fn send_values(
     requires { ⌜ Classes (now classes) ⌝ }
     ensures { λ w. ⌜ Paged bound (now (out .entry)) at (now (out .exit)) w (valuesPage (now (d .entry)) n) ⌝ }
 {
-    let a = steps::past_statement(classes, d, n, b"VALUES");
+    let g = steps::notes_behind(classes, d, n);
+    let a = steps::past_word(classes, d, g, b"VALUES");
     let r = range_at(classes, d, a);
     let b = sink::send_bytes(bound, out, at, b"VALUES\r\n");
     let c = send_range(classes, d, bound, out, b, r);
@@ -644,7 +835,7 @@ fn send_rest(
         return Walked { at, next: n };
     }
     if kind == 4 {
-        return send_number(classes, d, n, bound, out, at, b"SIZE", b"SIZE ");
+        return send_size(classes, d, n, bound, out, at);
     }
     if kind == 2 {
         let p = spread_at(classes, d, n);
@@ -665,9 +856,9 @@ fn send_titles(
     requires { ⌜ Classes (now classes) ⌝ }
     ensures { λ w. ⌜ Paged bound (now (out .entry)) at (now (out .exit)) w (titlesPage (now (d .entry)) n) ⌝ }
 {
-    let a = send_number(classes, d, n, bound, out, at, b"VARIABLE", b"VARIABLE ");
-    let b = send_phrase(classes, d, a.next, bound, out, a.at, b"NAME", b"NAME \"");
-    send_phrase(classes, d, b.next, bound, out, b.at, b"LABEL", b"LABEL \"")
+    let a = send_ident(classes, d, n, bound, out, at);
+    let b = send_name(classes, d, a.next, bound, out, a.at);
+    send_label(classes, d, b.next, bound, out, b.at)
 }
 
 pub fn send_variable(
@@ -692,16 +883,7 @@ pub fn send_variable(
     let finish = p.finish;
     let room = room_of(start.size, finish.size);
     let e = send_rest(classes, powers, d, p.next, t.kind, room, bound, out, c);
-    send_end(
-        classes,
-        d,
-        e.next,
-        bound,
-        out,
-        e.at,
-        b"VARIABLE",
-        b"END VARIABLE\r\n",
-    )
+    send_end(classes, d, e.next, bound, out, e.at)
 }
 
 // All variables, and the END behind them.

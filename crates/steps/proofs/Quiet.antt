@@ -1,4 +1,4 @@
--- Where a byte begins neither a gap nor a note, nothing is passed.
+-- A byte that begins neither a gap nor a note, and the two that begin NAME.
 use mathlib.Core.Path.{_≡_, refl, sym, ap, _∙_}
 use mathlib.Core.Bool.{Bool, true, false, cond, _||_}
 use mathlib.Core.List.{List, [], _∷_}
@@ -17,13 +17,10 @@ use Rattle.tokens.specs.declared.Reading.{Reading}
 use Rattle.tokens.specs.declared.Reading.the-variants.{At}
 use Rattle.tokens.specs.declared.Choice.the-variants.{Left}
 use Rattle.tokens.specs.rule.Gap.{gapStep, gapAt}
-use Rattle.tokens.specs.Gap.{gapOn}
 use Rattle.tokens.specs.Token.{choiceOf}
 use Rattle.tokens.proofs.Gaps.{gap-done}
 use Rattle.statements.specs.rule.Words.{NOTE}
-use Rattle.statements.specs.Note.{notesOn}
-use Rattle.statements.proofs.Notes.{notes-done}
-use Rattle.steps.specs.Step.{placeIn, notesPast}
+use Rattle.steps.specs.Quiet.{Quiet}
 
 -- a byte that is a letter in neither case
 pub upper-miss : (b x : ℕ) → (b ≡ x → ⊥) → (b ≡ x + 32 → ⊥) → upperOf b ≡ x → ⊥
@@ -55,6 +52,24 @@ module _ (d : List ℕ) (n : ℕ) (a : 32 < getD d n 0) (h : n < length d) where
   unfolding choiceOf wordAt wordOf
   no-note g = rw (text-kept d n h (kept-byte _ (omega arith)), ne-eqb _ 78 g)
 
-  pub nothing-passed : (getD d n 0 ≡ 60 → ⊥) → (upperOf (getD d n 0) ≡ 78 → ⊥) → notesPast d n ≡ n
-  unfolding notesPast placeIn notesOn gapOn
-  nothing-passed f g = rw (gap-done d n (gap-over f), notes-done d (At n) refl (no-note g))
+  pub quiet-byte : (getD d n 0 ≡ 60 → ⊥) → (upperOf (getD d n 0) ≡ 78 → ⊥) → Quiet d n
+  quiet-byte f g = record { within = h; above = a; token = gap-done d n (gap-over f); no-note = no-note g }
+
+-- NA is the beginning of NAME
+module _ (d : List ℕ) (n : ℕ) (h : n + 1 < length d) (x : getD d n 0 ≡ 78) (y : getD d (n + 1) 0 ≡ 65) where
+  name-note : choiceOf d (At n) NOTE ≡ Left
+  unfolding choiceOf wordAt wordOf upperOf
+  name-note = rw (
+    text-kept d n (omega arith) (kept-byte _ (omega arith)),
+    x,
+    text-kept d (n + 1) h (kept-byte _ (omega arith)),
+    y,
+  )
+
+  pub quiet-name : Quiet d n
+  quiet-name = record {
+    within = omega arith;
+    above = omega arith;
+    token = gap-done d n (gap-over d n (omega arith) (omega arith) (λ z. omega arith));
+    no-note = name-note;
+  }

@@ -6,14 +6,7 @@ use Rattle.pages.proofs.find_end.Statement.{statement}
 use Rattle.pages.proofs.find_end.Tie as tie
 
 returns : tie.Need-returns
-unfolding statementFound
-returns c = rw (c .find-here .ensures, c .before .before .past-notes .ensures)
+returns c = sym (c .before .no-end .ensures (c .if1 .taken))
 
 pub find-end-spec : {M : Type 1} → statement M
-find-end-spec =
-    tie.close
-    (tie.spec
-    (λ c κs. search needs)
-    (λ c. search needs)
-    (λ c κs. search needs)
-    returns)
+find-end-spec = tie.close (tie.spec (λ c κs. search needs) returns (λ c κs. search needs) (λ c. search needs))

@@ -2,6 +2,7 @@ use mathlib.Core.Path.{sym}
 use native.Mathlib.Omega.{arith}
 use borrow.Author.Needs.{needs}
 use Rattle.sink.specs.Sent.{sent-as}
+use Rattle.pages.specs.Plain.{plain-bytes}
 use Rattle.pages.proofs.send_span.Statement.{statement}
 use Rattle.pages.proofs.send_span.Tie as tie
 
@@ -16,7 +17,7 @@ part-send-bytes-end c = let h = c .before .before .plain .ensures (c .before .if
 
 returns : tie.Need-returns
 returns c = sent-as (c .before .before .send-bytes .ensures)
-    (sym (c .before .before .before .before .before .before .plain .ensures (c .before .before .before .before .before .if1 .taken) .bytes))
+    (sym (plain-bytes (c .before .before .before .before .before .before .plain .ensures (c .before .before .before .before .before .if1 .taken))))
 
 returns-2 : tie.Need-returns-2
 returns-2 c = c .before .before .send-kept .ensures

@@ -1,41 +1,40 @@
 use mathlib.Core.Path.{_≡_, refl, sym, ap, _∙_}
-use native.Mathlib.Omega.{arith}
-use borrow.Author.Needs.{needs}
 use Rattle.sink.specs.Sent.{then, sent-as}
+use Rattle.steps.specs.Step.{statementPast}
 use Rattle.pages.specs.Page.{valuesPage, blockPage}
+use borrow.Author.Needs.{needs}
 use Rattle.pages.proofs.send_values.Statement.{statement}
 use Rattle.pages.proofs.send_values.Tie as tie
 
 returns : tie.Need-returns
-unfolding valuesPage
+unfolding valuesPage statementPast
 returns c =
-    rw (
-      ← c .before .before .before .before .before .before .before .before .before .before .before .before .before .before .before .before
-          .before .before .before .past-statement .ensures,
-      ← c .before .before .before .before .before .before .before .before .before .before .before .before .before .before .before .before
-          .before .before .range-at .ensures,
-    )
+    let at-send-bytes2 = c .before .before in
+    let at-send-block = at-send-bytes2 .before .before .before .before .before in
+    let at-send-range = at-send-block .before .before .before .before in
+    let at-send-bytes = at-send-range .before .before .before .before in
+    let at-range-at = at-send-bytes .before .before .before in
+    let at-past-word = at-range-at .before in
+    let at-notes-behind = at-past-word .before .before in
+    rw (← at-notes-behind .notes-behind .ensures, ← at-past-word .past-word .ensures, ← at-range-at .range-at .ensures)
     (record {
-      sent = then
-          (c .before .before .before .before .before .before .before .before .before .before .before .before .before .before .before
-          .send-bytes .ensures)
-          (then (c .before .before .before .before .before .before .before .before .before .before .before .send-range .ensures)
-          (then (c .before .before .before .before .before .before .before .send-block .ensures .sent)
-          (c .before .before .send-bytes2 .ensures)));
-      stands = c .before .before .before .before .before .before .before .send-block .ensures .stands;
+      sent = then (at-send-bytes .send-bytes .ensures)
+          (then (at-send-range .send-range .ensures) (then (at-send-block .send-block .ensures .sent) (at-send-bytes2 .send-bytes2 .ensures)));
+      stands = at-send-block .send-block .ensures .stands;
     })
 
 pub send-values-spec : {M : Type 1} → statement M
 send-values-spec =
     tie.close
     (tie.spec
+    (λ c κs. c .before .before .pre)
+    (λ c. search needs)
+    (λ c κs. c .before .before .before .before .pre)
+    (λ c κs. c .before .before .before .before .before .pre)
     (λ c. search needs)
     (λ c κs. search needs)
-    (λ c κs. search needs)
-    (λ c. search needs)
-    (λ c κs. search needs)
-    (λ c κs. c .before .before .before .before .before .before .before .before .before .before .before .pre)
-    (λ c κs. c .before .before .before .before .before .before .before .before .before .before .before .before .before .before .before .pre)
+    (λ c κs. c .before .before .before .before .before .before .before .before .before .before .before .before .pre)
+    (λ c κs. c .before .before .before .before .before .before .before .before .before .before .before .before .before .before .before .before .pre)
     (λ c. search needs)
     (λ c κs. search needs)
     (λ c. search needs)
