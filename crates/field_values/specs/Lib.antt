@@ -5,3 +5,4 @@ pub mod Guess
 pub mod Exactly
 pub mod Coded
 pub mod Steps
+pub mod Quick

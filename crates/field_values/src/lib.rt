@@ -16,6 +16,8 @@ use layout::Row;
 use writes::Value;
 use writes::Wrote;
 
+pub mod quick;
+
 // What a byte says as a digit.
 fn digit_of(b: u8) -> u64
     ensures { λ r. ⌜ r ≡ b - 48 ⌝ }

@@ -2,7 +2,7 @@
 // line and the passes of an import.
 ghost use mathlib.Core.Path.{_≡_};
 ghost use mathlib.Core.Bool.{false, cond};
-ghost use Prim.Native.Nat.{_+_, _≤_, min};
+ghost use Prim.Native.Nat.{_+_, _≤_, _<_, min};
 ghost use lib.ListN.{length};
 ghost use Rattle.ascii.specs.rule.Tens.{Tens};
 ghost use Rattle.fields.specs.rule.Field.{spaces};
@@ -78,6 +78,44 @@ fn take_raw(
     field_values::take_field(powers, t, rows, row, &spare[..n], list, room, bytes)
 }
 
+// Field j of a line, where the quick road did not take it.
+fn take_slow(
+    powers: &[u64; 16],
+    t: &[i64],
+    rows: usize,
+    len: usize,
+    j: usize,
+    raw: &[u8],
+    bare: bool,
+    list: &mut [i64],
+    room: &mut [u8],
+    spare: &mut [u8],
+    bytes: &mut [u8],
+) -> usize
+    requires { ⌜ Tens (now powers) ⌝ }
+    requires { ⌜ TableKnown (now t) rows len × (len ≤ length (now bytes)) × (j < rows) ⌝ }
+    requires { ⌜ RawOf (now raw) bare ⌝ }
+    requires { ⌜ (length (now list) ≡ 9999) × (length (now room) ≡ 50000) × (length (now spare) ≡ 50000) ⌝ }
+    ensures { λ r. ⌜ walk-of r (now (bytes .exit))
+        ≡ step (now (t .entry)) rows j (undoubled false (now (raw .entry))) 0 (now (bytes .entry)) ⌝ }
+{
+    if take_raw(
+        powers,
+        t,
+        rows,
+        Row::read(t, j),
+        raw,
+        bare,
+        list,
+        room,
+        spare,
+        bytes,
+    ) {
+        return 0;
+    }
+    j + 1
+}
+
 // Field j of a line, unless one before it was no value: the first column that is none, or 0.
 fn take_one(
     powers: &[u64; 16],
@@ -106,21 +144,13 @@ fn take_one(
     if rows <= j {
         return 0;
     }
-    if take_raw(
-        powers,
-        t,
-        rows,
-        Row::read(t, j),
-        raw,
-        bare,
-        list,
-        room,
-        spare,
-        bytes,
-    ) {
+    if !bare {
+        return take_slow(powers, t, rows, len, j, raw, bare, list, room, spare, bytes);
+    }
+    if field_values::quick::take_quick(powers, t, rows, Row::read(t, j), raw, list, bytes) {
         return 0;
     }
-    j + 1
+    take_slow(powers, t, rows, len, j, raw, bare, list, room, spare, bytes)
 }
 
 fn lesser(a: usize, b: usize) -> usize

@@ -10,7 +10,7 @@ use lib.Signed.{leZ}
 use Rattle.below.specs.Below.{holds-not, and-left, and-right, and-true}
 use Rattle.cells.specs.rule.Cell.{signedOf}
 use Rattle.widths.specs.rule.Width.{sizeOf, lowest, highest, need, quantityWidth}
-use Rattle.fields.specs.rule.Legal.{legal}
+use Rattle.fields.specs.rule.Legal.{inRange, legal}
 use Rattle.layout.specs.declared.Kind.the-variants.{Single, Multiple, Quantity, Character, Logical}
 use Rattle.layout.specs.declared.Spread.the-variants.{Bits, Fields}
 use Rattle.layout.specs.declared.Format.{Format}
@@ -230,3 +230,12 @@ each-within t v r w h (negsuc c) e = holds-not (and-left (leZ (pos 1) (negsuc c)
 pub each-fits : (t : List ℤ) (v : ℕ) (r : Row) (w : ℕ) (ms : List ℤ) → EachLegal t v r w → setFits (within (pos 1) (pos w)) ms ≡ true
     → EachFits t v r w ms
 each-fits t v r w ms h e = record { each = h; fits = fits-more (within (pos 1) (pos w)) (legal t v r) (each-within t v r w h) ms e }
+
+-- what lies in the row's range is legal
+within-range : (t : List ℤ) (v : ℕ) (r : Row) → r .range ≡ true → (z : ℤ) → within (r .from) (r .to) z ≡ true → legal t v r z ≡ true
+unfolding within legal inRange
+within-range t v r h z e = rw (h, e)
+
+pub range-fits : (t : List ℤ) (v : ℕ) (r : Row) (ms : List ℤ) → r .range ≡ true → setFits (within (r .from) (r .to)) ms ≡ true
+    → setFits (legal t v r) ms ≡ true
+range-fits t v r ms h e = fits-more (within (r .from) (r .to)) (legal t v r) (within-range t v r h) ms e

@@ -8,7 +8,7 @@ ghost use Rattle.writes.specs.rule.Public.{numberOf, Written};
 use layout::Header;
 use layout::Row;
 
-mod marked;
+pub mod marked;
 pub mod plain;
 mod texts;
 

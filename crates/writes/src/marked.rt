@@ -7,6 +7,8 @@ ghost use Prim.Native.Nat.{_≤_};
 ghost use lib.ListN.{length};
 ghost use Rattle.ascii.specs.rule.Tens.{Tens};
 ghost use Rattle.fields.specs.Facts.{LineFacts};
+ghost use Rattle.fields.specs.rule.Field.{setFits};
+ghost use Rattle.fields.specs.rule.Legal.{legal};
 ghost use Rattle.layout.specs.declared.Kind.the-variants as kind;
 ghost use Rattle.layout.specs.declared.Spread.the-variants as spread;
 ghost use Rattle.writes.specs.declared.Value.the-variants as given;
@@ -87,7 +89,7 @@ fn bits_blanked(t: &[i64], rows: usize, row: Row, bytes: &mut [u8]) -> Wrote
 }
 
 // Whether the row's lines are its categories, as they mostly are, and the set is some of them: then no marks are needed.
-fn each_fits(t: &[i64], rows: usize, row: Row, w: usize, list: &[i64]) -> bool
+pub fn each_fits(t: &[i64], rows: usize, row: Row, w: usize, list: &[i64]) -> bool
     requires { ⌜ LineFacts (now t) rows row ⌝ }
     requires { ⌜ w ≤ 9999 ⌝ }
     ensures { λ r. ⌜ (r ≡ true → EachFits (now (t .entry)) rows row w (now (list .entry))) ⌝ }
@@ -99,7 +101,7 @@ fn each_fits(t: &[i64], rows: usize, row: Row, w: usize, list: &[i64]) -> bool
 }
 
 // A set of a row that allows every category.
-fn bits_full(t: &[i64], rows: usize, row: Row, list: &[i64], bytes: &mut [u8]) -> Wrote
+pub fn bits_full(t: &[i64], rows: usize, row: Row, list: &[i64], bytes: &mut [u8]) -> Wrote
     requires { ⌜ Ready (kind.Multiple spread.Bits) (now t) rows (length (now bytes)) row ⌝ }
     requires { ⌜ EachFits (now t) rows row (row .width) (now list) ⌝ }
     ensures { λ r. ⌜ WrittenBy (kind.Multiple spread.Bits) (now (t .entry)) rows row given.Set (now (list .entry)) [] (now (bytes .entry))
@@ -312,4 +314,42 @@ pub fn write_set(
         Kind::Character => Wrote::OtherType,
         Kind::Logical => Wrote::OtherType,
     }
+}
+
+// Whether a set rises within the row's range: then no line is searched for its members.
+pub fn range_fits(t: &[i64], rows: usize, row: Row, list: &[i64]) -> bool
+    ensures { λ r. ⌜ (r ≡ true → setFits (legal (now (t .entry)) rows row) (now (list .entry)) ≡ true) ⌝ }
+{
+    let from = row.from;
+    let to = row.to;
+    if !row.range {
+        return false;
+    }
+    setbytes::judge::fits_in(from, to, list)
+}
+
+// A set of legal members at the places of a spread, if it has a subfield for each.
+pub fn spread_full(
+    powers: &[u64; 16],
+    t: &[i64],
+    rows: usize,
+    row: Row,
+    count: usize,
+    width: usize,
+    list: &[i64],
+    bytes: &mut [u8],
+) -> Wrote
+    requires { ⌜ Tens (now powers) ⌝ }
+    requires { ⌜ Ready (kind.Multiple (spread.Fields count width)) (now t) rows (length (now bytes)) row ⌝ }
+    requires { ⌜ setFits (legal (now t) rows row) (now list) ≡ true ⌝ }
+    ensures { λ r. ⌜ WrittenBy (kind.Multiple (spread.Fields count width)) (now (t .entry)) rows row given.Set (now (list .entry)) []
+        (now (bytes .entry)) (now (bytes .exit)) r ⌝ }
+{
+    let w = row.width;
+    let at = row.start - 1;
+    if count < list.len() {
+        return Wrote::TooMany;
+    }
+    setbytes::spread::put_spread(powers, bytes, at, width, w, count, list);
+    Wrote::Done
 }
