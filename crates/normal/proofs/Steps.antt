@@ -19,7 +19,10 @@ use Rattle.layout.specs.declared.Kind.{Kind}
 use Rattle.layout.specs.declared.Kind.the-variants.{Single, Multiple, Quantity, Character, Logical}
 use Rattle.layout.specs.declared.Spread.the-variants.{Bits, Fields}
 use Rattle.fields.specs.rule.Field.{Value, missing, number, members, text, truth, Field, holds, illegal}
-use Rattle.fields.specs.rule.Row.{readingOf, writtenOf, fits, otherType, fitsBy, fitOf}
+use Rattle.fields.specs.rule.Legal.{legal}
+use Rattle.fields.specs.rule.Row.{readingOf, writtenOf, placesBy, bytesBy, fits, otherType, fitsBy, fitOf}
+use Rattle.places.specs.rule.Places.{put}
+use Rattle.fieldlaws.specs.BackLaws.{fit-legal}
 use Rattle.fieldlaws.specs.Corrections.{Plain, bitstring, character, logical, read-fits, writes-back-bytes}
 use Rattle.sets.specs.rule.Sets.{listAfter, filledOf}
 use Rattle.readings.specs.Answer.{answerOf, RowRead}
@@ -105,6 +108,24 @@ module _ (t : List ℤ) (v : ℕ) (r : Row) (s : List ℕ) where
       → valueOf value list x ≡ h → WrittenBy (r .kind) t v r value list x s new w → new ≡ backOf t v r s
   unfolding fieldBack leftBy writtenOf
   written-back h q e w = w .leaves ∙ rw (e, read-fits t v r h s q, q)
+
+  -- a number that was read is one that the row allows
+  by-kind : (k : Kind) (z : ℤ) → fitsBy k t v r (number z) ≡ fits → legal t v r z ≡ true
+  unfolding fitsBy
+  by-kind Single z e = fit-legal (legal t v r z) e
+  by-kind (Quantity f) z e = fit-legal (legal t v r z) e
+  by-kind (Multiple m) z e = let q : _≡_ {A = ℕ} 0 1 = cc in absurd (omega arith)
+  by-kind Character z e = let q : _≡_ {A = ℕ} 0 1 = cc in absurd (omega arith)
+  by-kind Logical z e = let q : _≡_ {A = ℕ} 0 1 = cc in absurd (omega arith)
+
+  pub number-legal : (z : ℤ) → readingOf t v r s ≡ holds (number z) → legal t v r z ≡ true
+  number-legal z q = by-kind (r .kind) z (read-fits t v r (number z) s q)
+
+  -- and its bytes at its places are what is written back
+  pub number-back : {new : List ℕ} (z : ℤ) → readingOf t v r s ≡ holds (number z)
+      → new ≡ put s (placesBy (r .kind) t v r) (bytesBy (r .kind) t v r (number z)) → new ≡ backOf t v r s
+  unfolding fieldBack writtenOf
+  number-back z q e = e ∙ rw q
 
 -- what was read, once its case is known
 pub held : (t : List ℤ) (v : ℕ) (r : Row) (s : List ℕ) (list : List ℤ) {a b : Answer} → a ≡ b → HeldAs t v r s list a

@@ -1,9 +1,11 @@
 // One normal form of a record: every row is written back as it reads, where no two rows share a value place. Above it stands the face.
 ghost use mathlib.Core.Path.{_≡_};
 ghost use mathlib.Core.Logic.{_⊎_};
-ghost use Prim.Native.Nat.{_≤_};
+ghost use Prim.Native.Nat.{_+_, _≤_};
 ghost use lib.ListN.{length};
 ghost use Rattle.ascii.specs.rule.Tens.{Tens};
+ghost use Rattle.layout.specs.rule.Layout.{mostRows, rowBase, rowSize};
+ghost use Rattle.layout.specs.rule.Row.{rowAt};
 ghost use Rattle.records.specs.rule.Verdict.{judgedAs, rowsVerdict};
 ghost use Rattle.records.specs.Tables.{TableReady};
 ghost use Rattle.files.specs.rule.File.{isSound};
@@ -24,6 +26,9 @@ use writes::Value;
 const MARKS: usize = 10000;
 
 const SHORT: usize = 128;
+
+// Most records of some dozen variables are no longer, and so have no larger set.
+const MIDDLING: usize = 1024;
 
 // Two rows share a value place; or as the record is judged.
 pub enum Normal {
@@ -62,16 +67,14 @@ fn put_back(
     requires { ⌜ HeldAs (now t) rows row (now bytes) (now list) said ⌝ }
     ensures { λ _. ⌜ now (bytes .exit) ≡ backOf (now (t .entry)) rows row (now (bytes .entry)) ⌝ }
 {
-    let none = [0u8; 1];
     match said {
         Answer::Missing => {
-            writes::write_row(powers, t, rows, row, Value::Missing, t, &none, bytes);
+            writes::plain::blank_row(t, rows, row, bytes);
         }
-        Answer::Number(z) => {
-            writes::write_row(powers, t, rows, row, Value::Number(z), t, &none, bytes);
-        }
+        Answer::Number(z) => writes::plain::put_figures(powers, t, rows, row, z, bytes),
         Answer::Set(n) => {
             let set = &list[..n];
+            let none = [0u8; 1];
             writes::write_row(powers, t, rows, row, Value::Set, set, &none, bytes);
         }
         Answer::Text(_, _) => {}
@@ -105,6 +108,36 @@ fn settle_row(
     put_back(powers, t, rows, row, said, list, bytes);
 }
 
+// Whether row i is such a row. Of its numbers only those of its kind are read.
+fn row_stays(t: &[i64], i: usize) -> bool
+    requires { ⌜ (i ≤ mostRows) × (rowBase i + rowSize ≤ length (now t)) ⌝ }
+    ensures { λ r. ⌜ r ≡ settle.stays (rowAt (now (t .entry)) i .kind) ⌝ }
+{
+    let row = Row::read(t, i);
+    let kind = row.kind;
+    stays(kind)
+}
+
+// Row i of the table written back as it reads.
+fn settle_at(
+    powers: &[u64; 16],
+    t: &[i64],
+    rows: usize,
+    i: usize,
+    list: &mut [i64],
+    bytes: &mut [u8],
+)
+    requires { ⌜ Tens (now powers) ⌝ }
+    requires { ⌜ (i ≤ mostRows) × (rowBase i + rowSize ≤ length (now t)) ⌝ }
+    requires { ⌜ Settles (now t) rows (rowAt (now t) i) (length (now bytes)) (length (now list)) ⌝ }
+    ensures { λ _. ⌜ now (bytes .exit) ≡ backOf (now (t .entry)) rows (rowAt (now (t .entry)) i) (now (bytes .entry)) ⌝ }
+{
+    if row_stays(t, i) {
+        return;
+    }
+    settle_row(powers, t, rows, Row::read(t, i), list, bytes);
+}
+
 // Every row, in the order of the table.
 fn settle_rows(powers: &[u64; 16], t: &[i64], rows: usize, list: &mut [i64], bytes: &mut [u8])
     requires { ⌜ Tens (now powers) ⌝ }
@@ -113,7 +146,7 @@ fn settle_rows(powers: &[u64; 16], t: &[i64], rows: usize, list: &mut [i64], byt
 {
     let mut i: usize = 0;
     while i < rows {
-        settle_row(powers, t, rows, Row::read(t, i), list, bytes);
+        settle_at(powers, t, rows, i, list, bytes);
         i += 1;
     }
 }
@@ -128,6 +161,11 @@ fn settle_all(t: &[i64], rows: usize, len: usize, bytes: &mut [u8])
     if len <= SHORT {
         let mut few = [0i64; SHORT];
         settle_rows(&powers, t, rows, &mut few, bytes);
+        return;
+    }
+    if len <= MIDDLING {
+        let mut some = [0i64; MIDDLING];
+        settle_rows(&powers, t, rows, &mut some, bytes);
         return;
     }
     let mut many = [0i64; MARKS];

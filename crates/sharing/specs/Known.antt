@@ -99,7 +99,7 @@ linePlaces p t v before k (suc n) = (p + (countOf (cell t (lineBase v (before + 
 
 -- ---- a place is one of them just where its category is legal
 module _ (ok : ℤ → Bool) (p : ℕ) where
-  in-bits : {A : Type 0} (q c n : ℕ) → isOut q (bitPlaces p (defined ok c n)) ≡ false
+  pub in-bits : {A : Type 0} (q c n : ℕ) → isOut q (bitPlaces p (defined ok c n)) ≡ false
       → ((d : ℕ) → c ≤ d → d < c + n → ok (pos d) ≡ true → q ≡ p + (d - 1) → A) → A
   unfolding bitPlaces defined
   in-bits {A} q c zero e f = none-out q e
@@ -127,7 +127,7 @@ module _ (ok : ℤ → Bool) (p : ℕ) where
       rw (z, y) (out-here (p + (c - 1)) (bitPlaces p (defined ok (suc c) n))))
       (lt-or-le c d)
 
-in-run : {A : Type 0} (q a n : ℕ) → isOut q (run a n) ≡ false → (a ≤ q → q < a + n → A) → A
+pub in-run : {A : Type 0} (q a n : ℕ) → isOut q (run a n) ≡ false → (a ≤ q → q < a + n → A) → A
 in-run q a zero e f = none-out q e
 in-run q a (suc n) e f =
     out-cases q a (run (suc a) n) e (λ z. f (omega arith) (omega arith)) (λ x. in-run q (suc a) n x (λ h l. f (omega arith) (omega arith)))

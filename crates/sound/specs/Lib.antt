@@ -4,3 +4,4 @@ pub mod Block
 pub mod Given
 pub mod Values
 pub mod Rows
+pub mod Laid

@@ -143,6 +143,9 @@ module _ (c : Columns) where
   pub type-decimals : typeGood c ≡ true → c .decimals ≤ 9
   type-decimals g = leb-true (c .decimals) 9 (parts-of g .decimals)
 
+  pub type-some : typeGood c ≡ true → 1 ≤ c .kind
+  type-some g = leb-true 1 (c .kind) (and-left (leb 1 (c .kind)) (leb (c .kind) 5) (parts-of g .known))
+
   pub type-subfields : typeGood c ≡ true → subfieldsGood c ≡ true
   type-subfields g = parts-of g .subfields
 

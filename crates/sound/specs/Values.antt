@@ -452,6 +452,14 @@ module _ (t : List ℤ) (v e before : ℕ) (c : Columns) where
         → rowGood t v e before c ≡ (typeGood c and valuesBy (kindOf c) (rowOf c) h)
     row-lined h u plain differ = by-type _ (λ f. values-lined t v e before c h f u plain differ)
 
+    -- a type without numbers has no lines: any hull will do
+    row-bare : (h : Hull) → 4 ≤ c .kind → rowGood t v e before c ≡ (typeGood c and valuesBy (kindOf c) (rowOf c) h)
+    unfolding widthsGood rowOf
+    row-bare h l = by-type _ (λ f. type-cases _ (c .kind) (f .type-low) (f .type-high) (λ q. absurd (omega arith))
+        (λ q. absurd (omega arith)) (λ q. absurd (omega arith))
+        (λ q. bare t v e before c h f l (sym (bare-four c h q (widest t v (rowOf c)))))
+        (λ q. bare t v e before c h f l (sym (bare-five c h q (widest t v (rowOf c))))))
+
   row-plain : linesPlain t v (c .before) (c .lines) ≡ false → rowGood t v e before c ≡ false
   unfolding rowGood valuesGood linesGood rowOf
   row-plain g = and-nor _ _ (and-no _ _ (and-nor _ _ (and-no _ _ (and-no _ _ g))))
@@ -464,6 +472,10 @@ module _ (t : List ℤ) (v e before : ℕ) (c : Columns) where
 module _ (t : List ℤ) (v : ℕ) (c : Columns) where
   pub told-none : c .lines ≡ 0 → BlockTold t v c (rangeBlock c true)
   told-none none = λ e before g. row-unlined t v e before c g none ∙ sym (and-yes _ _ refl)
+
+  pub told-bare : (e before : ℕ) → sharedGood e before c ≡ true → 4 ≤ c .kind
+      → rowGood t v e before c ≡ (typeGood c and valuesBy (kindOf c) (rowOf c) (hullFrom (c .from) (c .to)))
+  told-bare e before g l = row-bare t v e before c g (hullFrom (c .from) (c .to)) l
 
   pub told-odd : linesPlain t v (c .before) (c .lines) ≡ false → BlockTold t v c (rangeBlock c false)
   told-odd odd = λ e before g. row-plain t v e before c odd ∙ sym (and-no _ _ refl)

@@ -4,7 +4,7 @@ ghost use mathlib.Core.Path.{_≡_};
 ghost use Prim.Native.Nat.{_+_, _*_, _≤_, _<_, max};
 ghost use lib.Dec.{leb};
 ghost use lib.ListN.{length};
-ghost use mathlib.Core.Bool.{true};
+ghost use mathlib.Core.Bool.{true, _&&_};
 ghost use Rattle.ascii.specs.rule.Tens.{Tens, digitsOf};
 ghost use Rattle.below.specs.rule.Below.{_and_};
 ghost use Rattle.widths.specs.rule.Width.{need, sizeOf};
@@ -12,10 +12,12 @@ ghost use Rattle.widths.specs.Width.{FewDecimals};
 ghost use Rattle.sound.specs.rule.Sound.{headCounts, headSums, textsGood, subfieldsGood, linePlain, linesPlain, rangeWidth};
 ghost use Rattle.sound.specs.rule.Sound.{holdsWidth, roomGood, rowGood, rowsGood, valueAt, identsDiffer, TableTested};
 ghost use Rattle.sound.specs.Types.{wholeIs, undividedIs, formatGood, unrangedIs, valuedIs, valuelessIs, typeGood, sharedGood, Sited};
-ghost use Rattle.strides.specs.Hull.{Blocked};
+ghost use Rattle.strides.specs.Hull.{Blocked, hullFrom};
 ghost use Rattle.sound.specs.Block.{Standing, hullWidth, Placed};
+ghost use Rattle.sound.specs.Laid.{Over};
 ghost use Rattle.sound.specs.Values.{rangeWithin, numbersWithin, bottomOf, topOf, endsWidth, valuedBy, spreadBy, multipleOf};
 ghost use Rattle.sound.specs.Values.{quantityOf, valuesBy, rangeBlock, BlockTold};
+ghost use Rattle.layout.specs.rule.Layout.{rowSize, columnsAt};
 ghost use Rattle.layout.specs.rule.Row.{kindOf, rowOf};
 ghost use Rattle.layout.specs.declared.Kind.the-variants.{Single};
 ghost use Rattle.layout.specs.declared.Spread.the-variants.{Bits, Fields};
@@ -95,8 +97,10 @@ fn valueless(c: Columns) -> bool
     (c.range == 0) & (c.lines == 0) & unranged(c)
 }
 
-// Does a row have the columns that its type has, and no others? Each type tests its own, so that a row passes few tests.
+// Does a row have the columns that its type has, and no others? Each type tests its own, so that a row passes few tests. Those without
+// numbers are tested apart.
 fn type_good(c: Columns) -> bool
+    requires { ⌜ c .kind < 4 ⌝ }
     ensures { λ b. ⌜ b ≡ typeGood c ⌝ }
 {
     let kind = c.kind;
@@ -104,8 +108,6 @@ fn type_good(c: Columns) -> bool
         1 => whole(c) & undivided(c) & valued(c),
         2 => whole(c) & ((c.subfields == 0) == (c.subwidth == 0)) & valued(c),
         3 => undivided(c) & format_good(c) & valued(c),
-        4 => whole(c) & undivided(c) & valueless(c),
-        5 => whole(c) & undivided(c) & valueless(c),
         _ => false,
     }
 }
@@ -143,33 +145,81 @@ fn line_plain(l: Line) -> bool
     l.text_len <= 1_048_576
 }
 
-// The same at once, by what all of them make, one over the other: none is above that. It may miss some that are good, but only where a
-// text begins or ends at the last byte of the longest definition.
-fn lines_low(t: &[i64], v: usize, b: usize, n: usize) -> bool
-    requires { ⌜ Standing (now t) v b n ⌝ }
-    ensures { λ r. ⌜ (r ≡ true → linesPlain (now (t .entry)) v b n ≡ true) ⌝ }
-{
-    let mut flags: usize = 0;
-    let mut texts: usize = 0;
-    let mut k: usize = 0;
-    while k < n {
-        let l = Line::read(t, Line::base(v, b + k));
-        let special = l.special;
-        let text = l.text;
-        let text_len = l.text_len;
-        flags = flags | special;
-        texts = texts | (text | text_len);
-        k += 1;
-    }
-    (flags < 2) & (texts < 1_048_576)
+// What the numbers of some lines make, one over the other: none is above that.
+struct Laid {
+    special: usize,
+    text: usize,
+    text_len: usize,
 }
 
-// Are the flags and texts of the n lines from b on good?
-fn lines_plain(t: &[i64], v: usize, b: usize, n: usize) -> bool
+// The same with line k.
+fn with_line(t: &[i64], v: usize, k: usize, l: Laid) -> Laid
+    requires { ⌜ Standing (now t) v k 1 ⌝ }
+    requires { ⌜ Over (now t) v k l ⌝ }
+    ensures { λ r. ⌜ Over (now (t .entry)) v (k + 1) r ⌝ }
+{
+    let line = Line::read(t, Line::base(v, k));
+    Laid {
+        special: l.special | line.special,
+        text: l.text | line.text,
+        text_len: l.text_len | line.text_len,
+    }
+}
+
+// The same with four lines from k on.
+fn with_four(t: &[i64], v: usize, k: usize, l: Laid) -> Laid
+    requires { ⌜ Standing (now t) v k 4 ⌝ }
+    requires { ⌜ Over (now t) v k l ⌝ }
+    ensures { λ r. ⌜ Over (now (t .entry)) v (k + 4) r ⌝ }
+{
+    let one = with_line(t, v, k, l);
+    let two = with_line(t, v, k + 1, one);
+    let three = with_line(t, v, k + 2, two);
+    with_line(t, v, k + 3, three)
+}
+
+// Are the flags and texts of all e lines low, where those of the first k make l?
+fn rest_low(t: &[i64], v: usize, e: usize, from: usize, l: Laid) -> bool
+    requires { ⌜ Standing (now t) v 0 e × (from ≤ e) ⌝ }
+    requires { ⌜ Over (now t) v from l ⌝ }
+    ensures { λ r. ⌜ (r ≡ true → linesPlain (now (t .entry)) v 0 e ≡ true) ⌝ }
+{
+    let mut laid = l;
+    let mut k = from;
+    while k < e {
+        laid = with_line(t, v, k, laid);
+        k += 1;
+    }
+    (laid.special < 2) & (laid.text < 1_048_576) & (laid.text_len < 1_048_576)
+}
+
+// Are the flags and texts of all e lines of a table low? It goes by what all of them make, four in a turn, and may miss lines that are
+// good, but only where a text begins or ends at the last byte of the longest definition.
+fn lines_low(t: &[i64], v: usize, e: usize) -> bool
+    requires { ⌜ Standing (now t) v 0 e ⌝ }
+    ensures { λ r. ⌜ (r ≡ true → linesPlain (now (t .entry)) v 0 e ≡ true) ⌝ }
+{
+    let mut laid = Laid {
+        special: 0,
+        text: 0,
+        text_len: 0,
+    };
+    let fours = e / 4;
+    let mut k: usize = 0;
+    while k < fours {
+        laid = with_four(t, v, 4 * k, laid);
+        k += 1;
+    }
+    rest_low(t, v, e, 4 * fours, laid)
+}
+
+// Are the flags and texts of the n lines from b on good? Where those of all lines are low, nobody looks again.
+fn lines_plain(t: &[i64], v: usize, b: usize, n: usize, low: bool) -> bool
     requires { ⌜ Standing (now t) v b n ⌝ }
+    requires { ⌜ (low ≡ true → linesPlain (now t) v b n ≡ true) ⌝ }
     ensures { λ r. ⌜ r ≡ linesPlain (now (t .entry)) v b n ⌝ }
 {
-    if lines_low(t, v, b, n) {
+    if low {
         return true;
     }
     let mut k: usize = 0;
@@ -427,23 +477,46 @@ fn quantity_fits(powers: &[u64; 16], c: Columns, h: Hull) -> bool
 fn values_good(powers: &[u64; 16], c: Columns, h: Hull) -> bool
     requires { ⌜ Tens (now powers) ⌝ }
     requires { ⌜ Sited c ⌝ }
-    requires { ⌜ typeGood c ≡ true ⌝ }
+    requires { ⌜ (typeGood c ≡ true) × (c .kind < 4) ⌝ }
     ensures { λ b. ⌜ b ≡ valuesBy (kindOf c) (rowOf c) h ⌝ }
 {
     let kind = c.kind;
     match kind {
         1 => single_fits(powers, c, h),
         2 => multiple_fits(powers, c, h),
-        3 => quantity_fits(powers, c, h),
-        4 => (1 <= c.width) & (c.width <= 4_096) & width_held(c),
-        _ => (c.width == 1) & width_held(c),
+        _ => quantity_fits(powers, c, h),
     }
 }
 
-// Is a row good apart from the columns that all types have, and from its lines but for their hull?
+// Has a row none of the columns that go by its type?
+fn lacks_all(c: Columns) -> bool
+    ensures { λ b. ⌜ b ≡ (wholeIs c && undividedIs c && valuelessIs c) ⌝ }
+{
+    whole(c) & undivided(c) & valueless(c)
+}
+
+// Is a row of a type without numbers good apart from the columns that all types have? It has no line.
+fn bare_good(c: Columns) -> bool
+    requires { ⌜ Sited c ⌝ }
+    requires { ⌜ 4 ≤ c .kind ⌝ }
+    ensures { λ b. ⌜ b ≡ (typeGood c and valuesBy (kindOf c) (rowOf c) (hullFrom (c .from) (c .to))) ⌝ }
+{
+    if 5 < c.kind {
+        return false;
+    }
+    if !lacks_all(c) {
+        return false;
+    }
+    if c.kind == 4 {
+        return (1 <= c.width) & (c.width <= 4_096) & width_held(c);
+    }
+    (c.width == 1) & width_held(c)
+}
+
+// Is a row of a type with numbers good apart from the columns that all types have, and from its lines but for their hull?
 fn typed_good(powers: &[u64; 16], c: Columns, h: Hull) -> bool
     requires { ⌜ Tens (now powers) ⌝ }
-    requires { ⌜ Sited c ⌝ }
+    requires { ⌜ Sited c × (c .kind < 4) ⌝ }
     ensures { λ b. ⌜ b ≡ (typeGood c and valuesBy (kindOf c) (rowOf c) h) ⌝ }
 {
     if !type_good(c) {
@@ -466,47 +539,55 @@ fn range_block(c: Columns, differ: bool) -> Block
 }
 
 // Whether a row's lines are plain and their values differ, and the hull of these, or of the range where there are none.
-fn lines_block(t: &[i64], v: usize, c: Columns) -> Block
+fn lines_block(t: &[i64], v: usize, c: Columns, low: bool) -> Block
     requires { ⌜ Standing (now t) v (c .before) (c .lines) ⌝ }
+    requires { ⌜ (low ≡ true → linesPlain (now t) v (c .before) (c .lines) ≡ true) ⌝ }
     ensures { λ r. ⌜ BlockTold (now (t .entry)) v c r ⌝ }
 {
     if c.lines == 0 {
         return range_block(c, true);
     }
-    if !lines_plain(t, v, c.before, c.lines) {
+    if !lines_plain(t, v, c.before, c.lines, low) {
         return range_block(c, false);
     }
     block_of(t, v, c.before, c.lines)
 }
 
-// Is a row good, with `before` lines before its own?
+// Is a row good, with `before` lines before its own? Its columns are read again behind its lines: they would be kept on the stack else.
 fn whole_row_good(
     t: &[i64],
     powers: &[u64; 16],
     v: usize,
     e: usize,
     before: usize,
-    c: Columns,
+    at: usize,
+    low: bool,
 ) -> bool
     requires { ⌜ Tens (now powers) ⌝ }
-    requires { ⌜ Standing (now t) v 0 e × (before ≤ e) ⌝ }
-    ensures { λ r. ⌜ r ≡ rowGood (now (t .entry)) v e before c ⌝ }
+    requires { ⌜ Standing (now t) v 0 e × (before ≤ e) × (at + rowSize ≤ length (now t)) ⌝ }
+    requires { ⌜ (low ≡ true → linesPlain (now t) v 0 e ≡ true) ⌝ }
+    ensures { λ r. ⌜ r ≡ rowGood (now (t .entry)) v e before (columnsAt (now (t .entry)) at) ⌝ }
 {
+    let c = Columns::read(t, at);
     if !shared_good(e, before, c) {
         return false;
     }
-    let block = lines_block(t, v, c);
+    if 4 <= c.kind {
+        return bare_good(Columns::read(t, at));
+    }
+    let block = lines_block(t, v, c, low);
     if !block.differ {
         return false;
     }
     let hull = block.hull;
-    typed_good(powers, c, hull)
+    typed_good(powers, Columns::read(t, at), hull)
 }
 
 // Are all rows good, their lines counted up, and L the highest finish?
-fn rows_good(t: &[i64], powers: &[u64; 16], h: Header) -> bool
+fn rows_good(t: &[i64], powers: &[u64; 16], h: Header, low: bool) -> bool
     requires { ⌜ Tens (now powers) ⌝ }
     requires { ⌜ Standing (now t) (h .rows) 0 (h .lines) ⌝ }
+    requires { ⌜ (low ≡ true → linesPlain (now t) (h .rows) 0 (h .lines) ≡ true) ⌝ }
     ensures { λ r. ⌜ r ≡ rowsGood (now (t .entry)) h ⌝ }
 {
     let v = h.rows;
@@ -515,10 +596,11 @@ fn rows_good(t: &[i64], powers: &[u64; 16], h: Header) -> bool
     let mut sum: usize = 0;
     let mut high: usize = 0;
     while i < v {
-        let c = Columns::read(t, Row::base(i));
-        if !whole_row_good(t, powers, v, e, sum, c) {
+        let at = Row::base(i);
+        if !whole_row_good(t, powers, v, e, sum, at, low) {
             return false;
         }
+        let c = Columns::read(t, at);
         sum += c.lines;
         high = larger(high, c.finish);
         i += 1;
@@ -546,7 +628,8 @@ pub fn well_formed(t: &[i64]) -> bool
         return false;
     }
     let powers = ascii::powers();
-    if !rows_good(t, &powers, h) {
+    let low = lines_low(t, h.rows, h.lines);
+    if !rows_good(t, &powers, h, low) {
         return false;
     }
     if !idents_differ(t, h.rows) {

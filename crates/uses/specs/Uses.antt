@@ -1,20 +1,38 @@
 -- What follows from rule/Uses.antt.
-use mathlib.Core.Path.{_≡_, refl}
+use mathlib.Core.Path.{_≡_, refl, _∙_}
 use mathlib.Core.Logic.{⊎-elim}
 use mathlib.Core.Bool.{Bool, true, false, cond, _&&_}
 use mathlib.Core.List.{List}
 use Prim.Native.Nat.{ℕ, _-_, _≤_, _<_}
 use native.Mathlib.Omega.{arith}
-use borrow.Author.Tests.{eqb-true, leb-true}
+use borrow.Author.Tests.{eq-eqb, eqb-true, leb-true}
+use lib.Bits.{bitOr, or-add-and, and-le-l, and-le-r}
 use lib.Dec.{eqb, leb}
 use lib.IntN.{ℤ}
-use Rattle.below.specs.Below.{and-both, and-left, and-right, either-true, all-at}
+use Rattle.below.specs.Below.{and-both, and-left, and-right, and-true, same-bool, either-true, all-at}
 use Rattle.layout.specs.rule.Layout.{markXml, rowBase, columnsAt}
 use Rattle.layout.specs.declared.Header.{Header}
 use Rattle.layout.specs.declared.Columns.{Columns}
 use Rattle.uses.specs.rule.Uses.{unused, rowsUnused, useKnown, serialTyped, weightTyped, unfiltered, ownUse, filterGood, useGood}
 use Rattle.uses.specs.rule.Uses.{isUse}
 use Rattle.uses.specs.rule.Uses.{usesGood, xmlGood, kindGood}
+
+-- one number over another is 0 just where both are
+or-none : (a b : ℕ) → eqb (bitOr a b) 0 ≡ (eqb a 0 && eqb b 0)
+or-none a b =
+    same-bool _ _
+    (λ e.
+    let z = eqb-true (bitOr a b) 0 e in
+    and-true (eqb a 0) (eqb b 0) (eq-eqb a 0 (omega (arith, or-add-and a b, and-le-r a b)))
+    (eq-eqb b 0 (omega (arith, or-add-and a b, and-le-l a b))))
+    (λ e.
+    let x = eqb-true a 0 (and-left (eqb a 0) (eqb b 0) e) in
+    let y = eqb-true b 0 (and-right (eqb a 0) (eqb b 0) e) in
+    rw (x, y))
+
+-- use and filter of a row laid over those of the rows before it
+pub laid-none : (n usage filter : ℕ) → eqb (bitOr n (bitOr usage filter)) 0 ≡ (eqb n 0 && (eqb usage 0 && eqb filter 0))
+laid-none n usage filter = or-none n (bitOr usage filter) ∙ rw (or-none usage filter)
 
 pub use-one : (usage k : ℕ) → isUse usage k ≤ 1
 unfolding isUse

@@ -4,19 +4,12 @@ ghost use mathlib.Core.Path.{_≡_};
 ghost use Prim.Native.Nat.{_+_, _≤_, _<_};
 ghost use lib.ListN.{length};
 ghost use Rattle.layout.specs.rule.Layout.{mostRows, mostLines, rowBase, lineBase};
-ghost use Rattle.uses.specs.rule.Uses.{unused, ownUse, filterGood, useGood, isUse, usesGood, specialsNone, xmlGood, rowsUnused};
+ghost use Rattle.uses.specs.rule.Uses.{ownUse, filterGood, useGood, isUse, usesGood, specialsNone, xmlGood, rowsUnused};
 ghost use Rattle.uses.specs.rule.Uses.{kindGood};
 use layout::Columns;
 use layout::Header;
 use layout::Line;
 use layout::Row;
-
-// No use and no filter: every row of a 1.1 table.
-fn unused(c: Columns) -> bool
-    ensures { λ b. ⌜ b ≡ unused c ⌝ }
-{
-    (c.usage == 0) & (c.filter == 0)
-}
 
 // A use that there is, in a row whose type may have it, and no filter beside it.
 fn own_use(c: Columns) -> bool
@@ -102,19 +95,21 @@ fn xml_good(t: &[i64], v: usize, e: usize) -> bool
     specials_none(t, v, e)
 }
 
-// Has no row a use or a filter?
+// Has no row a use or a filter, as no row of a 1.1 table has? All are laid one over the other.
 fn rows_unused(t: &[i64], v: usize) -> bool
     requires { ⌜ (v ≤ mostRows) × (rowBase v ≤ length (now t)) ⌝ }
     ensures { λ b. ⌜ b ≡ rowsUnused (now (t .entry)) v ⌝ }
 {
     let mut i: usize = 0;
+    let mut laid: usize = 0;
     while i < v {
-        if !unused(Columns::read(t, Row::base(i))) {
-            return false;
-        }
+        let c = Columns::read(t, Row::base(i));
+        let usage = c.usage;
+        let filter = c.filter;
+        laid = laid | (usage | filter);
         i += 1;
     }
-    true
+    laid == 0
 }
 
 // Are use, filter and SPECIAL as the mark of the table asks?

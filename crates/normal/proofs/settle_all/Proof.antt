@@ -1,4 +1,4 @@
--- `normal::settle_all` meets its contract: with little room, or with all.
+-- `normal::settle_all` meets its contract: with little room, with some, or with all.
 use mathlib.Core.Path.{_≡_}
 use mathlib.Core.Logic.{inl, inr}
 use Prim.Native.Nat.{_≤_}
@@ -18,11 +18,16 @@ settle-rows-requires c κs =
 
 settle-rows-requires-2 : tie.Need-settle-rows-requires-2
 settle-rows-requires-2 c κs =
-    let h : 9999 ≤ 10000 = omega arith in (
-      c .before .before .before .before .powers .ensures,
-      table-settles _ _ (c .before .before .before .before .before .before .pre .0)
-          (c .before .before .before .before .before .before .pre .1) (inr h),
-    )
+    let at-powers = c .before .before .before .before .before in
+    let start = at-powers .before .before in
+    (at-powers .powers .ensures, table-settles _ _ (start .pre .0) (start .pre .1) (inl (c .before .before .before .if2 .taken)))
+
+settle-rows-requires-3 : tie.Need-settle-rows-requires-3
+settle-rows-requires-3 c κs =
+    let h : 9999 ≤ 10000 = omega arith in
+    let at-powers = c .before .before .before .before .before in
+    let start = at-powers .before .before in
+    (at-powers .powers .ensures, table-settles _ _ (start .pre .0) (start .pre .1) (inr h))
 
 pub settle-all-spec : {M : Type 1} → statement M
 settle-all-spec =
@@ -36,4 +41,8 @@ settle-all-spec =
     (λ c. search needs)
     settle-rows-requires-2
     (λ c. search needs)
-    (λ c. c .before .before .before .settle-rows2 .ensures))
+    (λ c. c .before .before .before .settle-rows2 .ensures)
+    (λ c. search needs)
+    settle-rows-requires-3
+    (λ c. search needs)
+    (λ c. c .before .before .before .settle-rows3 .ensures))

@@ -16,20 +16,22 @@ Inv-loop powers t rows list₀ bytes₀ i₀ list bytes i =
 abbrev μ-loop : tie.MeasureT-loop
 μ-loop powers t rows list₀ bytes₀ i₀ list bytes i = rows - i
 
-settle-row-requires : tie.Need-settle-row-requires Inv-loop μ-loop
-settle-row-requires c κs =
-    let l = c .before .before .before .before .loop in
-    let p = c .before .before .before .before .before .before .pre in
-    (p .0, rw (c .before .before .read .ensures, l .inv .2, l .inv .1) (p .1 .row (l .i) (c .before .before .before .loop-test .taken)))
+settle-at-requires : tie.Need-settle-at-requires Inv-loop μ-loop
+settle-at-requires c κs =
+    let l = c .before .before .before .loop in
+    let p = c .before .before .before .before .before .pre in
+    let f = p .1 .few in
+    let s = p .1 .stand in
+    (p .0, ((omega arith, omega arith), rw (l .inv .2, l .inv .1) (p .1 .row (l .i) (c .before .before .loop-test .taken))))
 
 loop-again : tie.Need-loop-again Inv-loop μ-loop
 loop-again c =
-    let l = c .before .before .before .before .before .before .before .before .loop in (
+    let at-settle-at = c .before .before .before in
+    let l = at-settle-at .before .before .before .before .loop in (
       omega arith,
-      c .before .before .before .settle-row .kept .1 .1 .1 .1 .0 ∙ l .inv .1,
-      c .before .before .before .settle-row .kept .1 .1 .1 .1 .1 .0 ∙ l .inv .2,
-      settled-step _ _ _ _ (c .before .before .before .settle-row .ensures)
-          (c .before .before .before .before .before .before .read .ensures) (l .inv .3),
+      at-settle-at .settle-at .kept .1 .1 .1 .1 .0 ∙ l .inv .1,
+      at-settle-at .settle-at .kept .1 .1 .1 .1 .1 .0 ∙ l .inv .2,
+      settled-step _ _ _ _ (at-settle-at .settle-at .ensures) refl (l .inv .3),
     )
 
 pub settle-rows-spec : {M : Type 1} → statement M
@@ -39,9 +41,7 @@ settle-rows-spec =
     Inv-loop
     μ-loop
     (λ c. (omega arith, refl, refl, settled-none _ _ _))
-    (λ c κs. let f = c .before .before .before .pre .1 .few in
-    let s = c .before .before .before .pre .1 .stand in (omega arith, omega arith))
-    settle-row-requires
+    settle-at-requires
     (λ c. omega arith)
     (λ c. omega arith)
     loop-again

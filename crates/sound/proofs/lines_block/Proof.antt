@@ -14,11 +14,12 @@ returns-2 c = rw (c .range-block2 .ensures) (told-odd _ _ _
     (sym (c .before .before .lines-plain .ensures) ∙ not-true _ (c .before .if2 .taken)))
 
 block-of-requires : tie.Need-block-of-requires
-block-of-requires c κs = (c .before .before .before .before .pre, omega (arith, c .before .before .if1 .left))
+block-of-requires c κs = (c .before .before .before .before .pre .0, omega (arith, c .before .before .if1 .left))
 
 returns-3 : tie.Need-returns-3
 returns-3 c = told-block _ _ _ _ (c .block-of .ensures) (sym (c .before .before .lines-plain .ensures) ∙ not-false _ (c .before .if2 .left))
 
 pub lines-block-spec : {M : Type 1} → statement M
 lines-block-spec =
-    tie.close (tie.spec (λ c κs. search needs) returns (λ c κs. search needs) (λ c κs. search needs) returns-2 block-of-requires returns-3)
+    tie.close (tie.spec (λ c κs. search needs) returns (λ c κs. c .before .before .pre) (λ c κs. search needs) returns-2 block-of-requires
+    returns-3)

@@ -15,11 +15,11 @@ use Rattle.sound.proofs.rows_good.Statement.{statement}
 use Rattle.sound.proofs.rows_good.Tie as tie
 
 abbrev Inv-loop : tie.InvT-loop
-Inv-loop t powers h v e i₀ sum₀ high₀ i sum high =
+Inv-loop t powers h low v e i₀ sum₀ high₀ i sum high =
     (i ≤ v) × (sum ≤ e) × (sum ≡ linesBefore t i) × (high ≡ highestFinish t i) × (allBelow i (goodAt t v e) ≡ true)
 
 abbrev μ-loop : tie.MeasureT-loop
-μ-loop t powers h v e i₀ sum₀ high₀ i sum high = v - i
+μ-loop t powers h low v e i₀ sum₀ high₀ i sum high = v - i
 
 loop-holds : tie.Need-loop-holds Inv-loop μ-loop
 loop-holds c = (
@@ -30,54 +30,57 @@ loop-holds c = (
   all-none _,
 )
 
--- the columns read are those of row i, and what is answered is whether it is good
-columns-here : (c : tie.After-read Inv-loop μ-loop) → c .read .result
-    ≡ columnsOf (c .before .before .before .before .args .t .now) (c .before .before .before .loop .i)
-columns-here c = c .read .ensures ∙ ap (columnsAt (c .before .before .before .before .args .t .now)) (c .before .base .ensures)
-
-good-here : (c : tie.After-whole-row-good Inv-loop μ-loop) → c .whole-row-good .result
-    ≡ goodAt (c .before .before .before .before .before .args .t .now) (c .before .before .before .before .before .args .h .rows)
-    (c .before .before .before .before .before .args .h .lines) (c .before .before .before .before .loop .i)
-good-here c = c .whole-row-good .ensures ∙ rw (columns-here (c .before), c .before .before .before .before .loop .inv .2)
-
 whole-row-good-requires : tie.Need-whole-row-good-requires Inv-loop μ-loop
-whole-row-good-requires c κs = (
-  c .before .before .before .before .pre .0,
-  (c .before .before .before .before .pre .1, c .before .before .before .loop .inv .1),
-)
+whole-row-good-requires c κs =
+    let p = c .before .before .before .pre in
+    let s = p .1 .0 in
+    (p .0, ((s, c .before .before .loop .inv .1, rw (c .base .ensures) (omega (arith, s .stand))), p .1 .1))
+
+-- what is answered is whether row i is good
+good-here : (c : tie.After-whole-row-good Inv-loop μ-loop) → c .whole-row-good .result
+    ≡ goodAt (c .before .before .before .before .args .t .now) (c .before .before .before .before .args .h .rows)
+    (c .before .before .before .before .args .h .lines) (c .before .before .before .loop .i)
+good-here c = c .whole-row-good .ensures ∙ rw (c .before .base .ensures, c .before .before .before .loop .inv .2)
 
 returns : tie.Need-returns Inv-loop μ-loop
 unfolding rowsGood
 returns c =
-    sym (and-no _ _ (and-no _ _ (all-fails _ _ (c .before .before .before .before .before .loop .i) (omega arith)
+    sym (and-no _ _ (and-no _ _ (all-fails _ _ (c .before .before .before .before .loop .i) (omega arith)
     (sym (good-here (c .before)) ∙ not-true _ (c .if1 .taken)))))
 
+read-requires : tie.Need-read-requires Inv-loop μ-loop
+read-requires c κs = let s = c .before .before .before .before .before .pre .1 .0 in
+    rw (c .before .before .base .ensures) (omega (arith, s .stand))
+
+-- the columns read are those of row i
+columns-here : (c : tie.After-read Inv-loop μ-loop) → c .read .result
+    ≡ columnsOf (c .before .before .before .before .before .before .args .t .now) (c .before .before .before .before .before .loop .i)
+columns-here c = c .read .ensures ∙ ap (columnsAt (c .before .before .before .before .before .before .args .t .now))
+    (c .before .before .before .base .ensures)
+
 -- the lines of a good row keep within the table's
-within-here : (c : tie.Else1 Inv-loop μ-loop) → c .before .before .before .before .before .loop .sum
-    + c .before .before .read .result .lines ≤ c .before .before .before .before .before .before .args .h .lines
+within-here : (c : tie.After-read Inv-loop μ-loop) → c .before .before .before .before .before .loop .sum + c .read .result .lines
+    ≤ c .before .before .before .before .before .before .args .h .lines
 within-here c =
-    row-within (c .before .before .before .before .before .before .args .t .now)
-    (c .before .before .before .before .before .before .args .h .rows) (c .before .before .before .before .before .before .args .h .lines)
-    (c .before .before .before .before .before .loop .sum) (c .before .before .read .result)
-    (sym (c .before .whole-row-good .ensures) ∙ not-false _ (c .if1 .left))
+    let start = c .before .before .before .before .before .before in
+    row-within (start .args .t .now) (start .args .h .rows) (start .args .h .lines) (c .before .before .before .before .before .loop .sum)
+    (c .read .result)
+    (rw (c .read .ensures) (sym (c .before .before .whole-row-good .ensures) ∙ not-false _ (c .before .if1 .left)))
 
 add-sum : tie.Need-add-sum Inv-loop μ-loop
-add-sum c = omega (arith, within-here (c .before), c .before .before .before .before .before .before .before .pre .1 .few-lines)
+add-sum c = omega (arith, within-here (c .before), c .before .before .before .before .before .before .before .pre .1 .0 .few-lines)
 
 loop-again : tie.Need-loop-again Inv-loop μ-loop
 loop-again c =
-    let t = c .before .before .before .before .before .before .before .before .args .t .now in
-    let i = c .before .before .before .before .before .before .before .loop .i in (
+    let at-read = c .before .before in
+    let at-good = at-read .before .before in
+    let l = at-good .before .before .before .loop in
+    let t = at-good .before .before .before .before .args .t .now in (
       omega arith,
-      within-here (c .before .before),
-      rw (c .before .before .before .before .before .before .before .loop .inv .2, columns-here (c .before .before .before .before))
-          (sym (sum-more (linesAt t) i)),
-      c .larger .ensures ∙ rw (
-        c .before .before .before .before .before .before .before .loop .inv .3,
-        columns-here (c .before .before .before .before),
-      ) (sym (max-more (finishAt t) i)),
-      all-more _ _ (c .before .before .before .before .before .before .before .loop .inv .4)
-          (sym (good-here (c .before .before .before)) ∙ not-false _ (c .before .before .if1 .left)),
+      within-here at-read,
+      rw (l .inv .2, columns-here at-read) (sym (sum-more (linesAt t) (l .i))),
+      c .larger .ensures ∙ rw (l .inv .3, columns-here at-read) (sym (max-more (finishAt t) (l .i))),
+      all-more _ _ (l .inv .4) (sym (good-here at-good) ∙ not-false _ (at-read .before .if1 .left)),
     )
 
 returns-2 : tie.Need-returns-2 Inv-loop μ-loop
@@ -90,5 +93,5 @@ returns-2 c =
 
 pub rows-good-spec : {M : Type 1} → statement M
 rows-good-spec =
-    tie.close (tie.spec Inv-loop μ-loop loop-holds (λ c κs. search needs) (λ c κs. search needs) whole-row-good-requires returns add-sum
+    tie.close (tie.spec Inv-loop μ-loop loop-holds (λ c κs. search needs) whole-row-good-requires returns read-requires add-sum
     (λ c κs. search needs) (λ c. omega arith) (λ c. omega arith) loop-again returns-2)

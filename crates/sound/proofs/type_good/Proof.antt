@@ -1,7 +1,7 @@
 use mathlib.Core.Path.{_≡_, sym}
 use native.Mathlib.Omega.{arith}
 use borrow.Author.Needs.{needs}
-use Rattle.sound.specs.Types.{single-good, multiple-good, quantity-good, bare-good, type-unknown}
+use Rattle.sound.specs.Types.{single-good, multiple-good, quantity-good, type-unknown}
 use Rattle.sound.proofs.type_good.Statement.{statement}
 use Rattle.sound.proofs.type_good.Tie as tie
 
@@ -19,24 +19,11 @@ returns-3 c = rw (c .valued3 .ensures, c .before .format-good .ensures, c .befor
 
 returns-4 : tie.Need-returns-4
 returns-4 c =
-    let q = c .before .before .before .match .keys4 in
-    rw (c .valueless .ensures, c .before .undivided3 .ensures, c .before .before .whole3 .ensures)
-    (sym (bare-good (c .before .before .before .before .args .c) (omega arith) (omega arith)))
-
-returns-5 : tie.Need-returns-5
-returns-5 c =
-    let q = c .before .before .before .match .keys5 in
-    rw (c .valueless2 .ensures, c .before .undivided4 .ensures, c .before .before .whole4 .ensures)
-    (sym (bare-good (c .before .before .before .before .args .c) (omega arith) (omega arith)))
-
-returns-6 : tie.Need-returns-6
-returns-6 c =
     let r = c .match .rest in
-    sym (type-unknown (c .before .args .c) (r .0 .0 .0 .0 .1) (r .0 .0 .0 .1) (r .0 .0 .1) (r .0 .1) (r .1))
+    let l = c .before .pre in
+    sym (type-unknown (c .before .args .c) (r .0 .0 .1) (r .0 .1) (r .1) (λ q. omega arith) (λ q. omega arith))
 
 pub type-good-spec : {M : Type 1} → statement M
 type-good-spec =
     tie.close (tie.spec (λ c κs. search needs) (λ c κs. search needs) (λ c κs. search needs) (λ c κs. search needs) (λ c κs. search needs)
-    (λ c κs. search needs) (λ c κs. search needs) (λ c κs. search needs) (λ c κs. search needs) (λ c κs. search needs)
-    (λ c κs. search needs) (λ c κs. search needs) (λ c κs. search needs) (λ c κs. search needs) returns returns-2 returns-3 returns-4
-    returns-5 returns-6)
+    (λ c κs. search needs) (λ c κs. search needs) (λ c κs. search needs) returns returns-2 returns-3 returns-4)

@@ -11,7 +11,7 @@ returns c = sym (and-no _ _ (sym (c .before .type-good .ensures) ∙ not-true _ 
 values-good-requires : tie.Need-values-good-requires
 values-good-requires c κs = (
   c .before .before .pre .0,
-  (c .before .before .pre .1, sym (c .before .type-good .ensures) ∙ not-false _ (c .if1 .left)),
+  (c .before .before .pre .1 .0, (sym (c .before .type-good .ensures) ∙ not-false _ (c .if1 .left), c .before .before .pre .1 .1)),
 )
 
 returns-2 : tie.Need-returns-2
@@ -19,4 +19,4 @@ returns-2 c = c .values-good .ensures ∙ sym (and-yes _ _ (sym (c .before .befo
 
 pub typed-good-spec : {M : Type 1} → statement M
 typed-good-spec =
-    tie.close (tie.spec (λ c κs. search needs) returns values-good-requires returns-2)
+    tie.close (tie.spec (λ c κs. c .pre .1 .1) returns values-good-requires returns-2)

@@ -1,19 +1,18 @@
-use mathlib.Core.Path.{_∙_}
+use mathlib.Core.Path.{_≡_, _∙_}
+use Prim.Native.Nat.{ℕ}
+use native.Mathlib.Omega.{arith}
 use borrow.Author.Needs.{needs}
-use borrow.Author.Tests.{ne-eqb}
-use Rattle.below.specs.rule.Below.{_and_}
-use Rattle.layout.specs.rule.Row.{kindOf, rowOf}
-use Rattle.sound.specs.rule.Sound.{widthGood, roomGood}
-use Rattle.sound.specs.Types.{type-decimals, type-subfields}
+use Rattle.layout.specs.rule.Row.{kindOf}
+use Rattle.sound.specs.Types.{type-some, type-decimals, type-subfields}
 use Rattle.sound.specs.Values.{valuesBy}
 use Rattle.sound.proofs.values_good.Statement.{statement}
 use Rattle.sound.proofs.values_good.Tie as tie
 
 multiple-fits-requires : tie.Need-multiple-fits-requires
-multiple-fits-requires c κs = (c .before .pre .0, (c .before .pre .1 .0, type-subfields _ (c .before .pre .1 .1)))
+multiple-fits-requires c κs = (c .before .pre .0, (c .before .pre .1 .0, type-subfields _ (c .before .pre .1 .1 .0)))
 
 quantity-fits-requires : tie.Need-quantity-fits-requires
-quantity-fits-requires c κs = (c .before .pre .0, (c .before .pre .1 .0, type-decimals _ (c .before .pre .1 .1)))
+quantity-fits-requires c κs = (c .before .pre .0, (c .before .pre .1 .0, type-decimals _ (c .before .pre .1 .1 .0)))
 
 returns : tie.Need-returns
 unfolding valuesBy kindOf
@@ -25,24 +24,12 @@ returns-2 c = c .multiple-fits .ensures ∙ rw (c .before .match .keys2)
 
 returns-3 : tie.Need-returns-3
 unfolding valuesBy kindOf
-returns-3 c = c .quantity-fits .ensures ∙ rw (c .before .match .keys3)
-
-returns-4 : tie.Need-returns-4
-unfolding valuesBy kindOf widthGood roomGood rowOf _and_
-returns-4 c = rw (c .width-held .ensures, c .before .before .before .match .keys4)
-
-returns-5 : tie.Need-returns-5
-unfolding valuesBy kindOf widthGood roomGood rowOf _and_
-returns-5 c =
-    rw (
-      c .width-held2 .ensures,
-      ne-eqb _ 1 (c .before .before .match .rest .0 .0 .0 .1),
-      ne-eqb _ 2 (c .before .before .match .rest .0 .0 .1),
-      ne-eqb _ 3 (c .before .before .match .rest .0 .1),
-      ne-eqb _ 4 (c .before .before .match .rest .1),
-    )
+returns-3 c =
+    let p = c .before .before .pre .1 .1 in
+    let r = c .before .match .rest in
+    let q : c .before .before .args .c .kind ≡ 3 = omega (arith, type-some (c .before .before .args .c) (p .0), p .1, r .0 .1, r .1) in
+    c .quantity-fits .ensures ∙ rw q
 
 pub values-good-spec : {M : Type 1} → statement M
 values-good-spec =
-    tie.close (tie.spec (λ c κs. search needs) multiple-fits-requires quantity-fits-requires (λ c κs. search needs) (λ c κs. search needs)
-    returns returns-2 returns-3 returns-4 returns-5)
+    tie.close (tie.spec (λ c κs. search needs) multiple-fits-requires quantity-fits-requires returns returns-2 returns-3)

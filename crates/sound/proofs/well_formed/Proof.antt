@@ -40,40 +40,44 @@ returns-2 c = record {
       (sym (c .before .head-sums .ensures) ∙ not-true _ (c .if2 .taken))));
 }
 
+lines-low-requires : tie.Need-lines-low-requires
+lines-low-requires c κs = standing (c .before)
+
 rows-good-requires : tie.Need-rows-good-requires
-rows-good-requires c κs = (search needs, standing (c .before .before))
+rows-good-requires c κs = (search needs, (standing (c .before .before .before), c .before .lines-low .ensures))
 
 returns-3 : tie.Need-returns-3
 returns-3 c = record {
-  says = sym (form-rows _ (rw (← c .before .before .before .before .before .before .before .before .read .ensures)
+  says = sym (form-rows _ (rw (← c .before .before .before .before .before .before .before .before .before .read .ensures)
       (sym (c .before .rows-good .ensures) ∙ not-true _ (c .if3 .taken))));
 }
 
 idents-differ-requires : tie.Need-idents-differ-requires
-idents-differ-requires c κs = standing-rows (standing (c .before .before .before .before))
+idents-differ-requires c κs = standing-rows (standing (c .before .before .before .before .before))
 
 returns-4 : tie.Need-returns-4
 returns-4 c = record {
-  says = sym (form-idents _ (rw
-      (← c .before .before .before .before .before .before .before .before .before .before .read .ensures)
+  says = sym (form-idents _ (rw (← c .before .before .before .before .before .before .before .before .before .before .before .read .ensures)
       (sym (c .before .idents-differ .ensures) ∙ not-true _ (c .if4 .taken))));
 }
 
 kind-good-requires : tie.Need-kind-good-requires
 kind-good-requires c κs =
-    let s = standing (c .before .before .before .before .before .before) in
+    let s = standing (c .before .before .before .before .before .before .before) in
     (s .few-rows, omega (arith, s .few-lines), omega (arith, s .stand))
 
 returns-5 : tie.Need-returns-5
 returns-5 c =
-    let e = c .before .before .before .before .before .before .before .before .before .before .before .read .ensures in
+    let at-if2 = c .before .before .before .before .before .before .before .before in
+    let at-read = at-if2 .before .before .before .before in
+    let e = at-read .read .ensures in
     record {
       says =
           c .kind-good .ensures
           ∙ rw e
-          (sym (form-kind (c .before .before .before .before .before .before .before .before .before .before .before .before .args .t .now)
-          (rw e at (counts (c .before .before .before .before .before .before .before .before .before)))
-          (rw e at (sums (c .before .before .before .before .before .before .before)))
+          (sym (form-kind (at-read .before .args .t .now)
+          (rw e at (counts (at-if2 .before .before)))
+          (rw e at (sums at-if2))
           (rw (← e) (sym (c .before .before .before .before .rows-good .ensures) ∙ not-false _ (c .before .before .before .if3 .left)))
           (rw (← e) (sym (c .before .before .idents-differ .ensures) ∙ not-false _ (c .before .if4 .left)))));
     }
@@ -81,4 +85,4 @@ returns-5 c =
 pub well-formed-spec : {M : Type 1} → statement M
 well-formed-spec =
     tie.close (tie.spec (λ c κs. search needs) (λ c κs. search needs) returns head-sums-requires returns-2 (λ c κs. search needs)
-    rows-good-requires returns-3 idents-differ-requires returns-4 kind-good-requires returns-5)
+    lines-low-requires rows-good-requires returns-3 idents-differ-requires returns-4 kind-good-requires returns-5)
