@@ -13,9 +13,11 @@ returns c e = let z : _≡_ {A = ℕ} 0 1 = cc in absurd (omega arith)
 
 returns-2 : tie.Need-returns-2
 returns-2 c e =
-    let a = c .before .before .before .before .before .before .args in
-    plain-next (a .d .now) (a .w) (a .from) (a .size) (c .before .before .before .before .before .before .pre .0 .low) (omega arith)
-    (sym (c .before .before .before .begins-at .ensures) ∙ c .before .before .if2 .taken) (c .all-plain .ensures e)
+    let at-if2 = c .before .before in
+    let start = at-if2 .before .before .before .before in
+    let a = start .args in
+    plain-next (a .d .now) (a .w) (a .from) (a .size) (start .pre .0 .low) (omega arith)
+    (sym (at-if2 .before .begins-at .ensures) ∙ at-if2 .if2 .taken) (c .all-plain .ensures e)
 
 returns-3 : tie.Need-returns-3
 returns-3 c e = let z : _≡_ {A = ℕ} 0 1 = cc in absurd (omega arith)

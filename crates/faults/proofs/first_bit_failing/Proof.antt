@@ -43,12 +43,12 @@ returns c =
 
 loop-again : tie.Need-loop-again Inv-loop μ-loop
 loop-again c =
-    let a = c .before .before .before .before .before .before .before .before .before .before .args in (
+    let at-loop-test = c .before .before .before .before .before .before in
+    let the-loop = at-loop-test .before in
+    let a = the-loop .before .before .before .args in (
       omega arith,
-      sym (bit-not (a .x) (legal (a .t .now) (a .rows) (a .row)) (a .bytes .now) (a .row .start - 1) (a .row .width)
-          (c .before .before .before .before .before .before .before .loop .i)
-          (c .before .before .before .before .before .before .loop-test .taken) (sym (asked (c .before)) ∙ c .if2 .left))
-          ∙ c .before .before .before .before .before .before .before .loop .inv .1,
+      sym (bit-not (a .x) (legal (a .t .now) (a .rows) (a .row)) (a .bytes .now) (a .row .start - 1) (a .row .width) (the-loop .loop .i)
+          (at-loop-test .loop-test .taken) (sym (asked (c .before)) ∙ c .if2 .left)) ∙ the-loop .loop .inv .1,
     )
 
 loop-again-2 : tie.Need-loop-again-2 Inv-loop μ-loop

@@ -35,15 +35,14 @@ returns c =
     ∙ c .before .before .before .before .before .loop .inv .2
 
 loop-again : tie.Need-loop-again Inv-loop μ-loop
-loop-again c = (
-  omega arith,
-  rw (c .before .before .before .before .loop .inv .1)
-      (sym (open-more (c .before .before .before .before .before .before .args .bytes .now)
-      (c .before .before .before .before .before .before .args .at) (c .before .before .before .before .loop .i))),
-  sym (number-on _ _ _ _ _ _ (c .before .before .before .loop-test .taken)
-      (sym (c .before .may-stand .ensures _ (sym (c .before .before .before .before .loop .inv .1))) ∙ not-false _ (c .if1 .left)))
-      ∙ c .before .before .before .before .loop .inv .2,
-)
+loop-again c =
+    let at-loop = c .before .before .before .before in
+    let args = at-loop .before .before .args in (
+      omega arith,
+      rw (at-loop .loop .inv .1) (sym (open-more (args .bytes .now) (args .at) (at-loop .loop .i))),
+      sym (number-on _ _ _ _ _ _ (c .before .before .before .loop-test .taken)
+          (sym (c .before .may-stand .ensures _ (sym (at-loop .loop .inv .1))) ∙ not-false _ (c .if1 .left))) ∙ at-loop .loop .inv .2,
+    )
 
 returns-2 : tie.Need-returns-2 Inv-loop μ-loop
 returns-2 c = sym (number-none _ _ _ _ _ _ (c .loop-test .left)) ∙ c .before .loop .inv .2

@@ -33,13 +33,12 @@ long : (c : tie.Else2) → lengthOf (c .before .before .before .before .before .
 long c = rw (← tested-length (c .before .before .before .before .before .pre .0)) (c .if2 .left)
 
 judge-rows-requires : tie.Need-judge-rows-requires
-judge-rows-requires c κs = (
-  rw (tested-rows (c .before .before .before .before .before .before .pre .0))
-      (table-ready (c .before .before .before .before .before .before .args .t .now)
-      (c .before .before .before .before .before .before .pre .0 .good)
-      (length (c .before .before .before .before .before .before .args .bytes .now)) (long (c .before))),
-  omega (arith, c .before .before .before .before .before .before .pre .1 .1),
-)
+judge-rows-requires c κs =
+    let the-start = c .before .before .before .before .before .before in (
+      rw (tested-rows (the-start .pre .0)) (table-ready (the-start .args .t .now) (the-start .pre .0 .good)
+          (length (the-start .args .bytes .now)) (long (c .before))),
+      omega (arith, the-start .pre .1 .1),
+    )
 
 -- what the rows say is what the record is judged to be
 verdict : (c : tie.After-judge-rows) → judgedAs (c .judge-rows .result)

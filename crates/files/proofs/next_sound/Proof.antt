@@ -20,11 +20,12 @@ plain c = c .before .next-plain .ensures (c .if1 .taken)
 
 plain-sound-requires : tie.Need-plain-sound-requires
 plain-sound-requires c κs =
-    let a = c .before .before .before .before .before .before .args in let g = c .before .before .before .before .before .before .pre .0 in
+    let the-start = c .before .before .before .before .before .before in
+    let a = the-start .args in let g = the-start .pre .0 in
     let p = plain (c .before .before) in
     let r : TableReady (a .t .now) (a .h .rows) (length (part (a .d .now) (a .from) (a .from + a .first))) =
     rw (p .long, tested-rows (g .0)) (table-ready (a .t .now) (g .0 .good) (a .first) (g .1)) in
-    (r, (p .plain, omega (arith, c .before .before .before .before .before .before .pre .1 .1)))
+    (r, (p .plain, omega (arith, the-start .pre .1 .1)))
 
 returns : tie.Need-returns
 unfolding isSound

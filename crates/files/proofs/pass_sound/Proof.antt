@@ -46,9 +46,11 @@ sized c =
 
 loop-again : tie.Need-loop-again Inv-loop μ-loop
 loop-again c =
-    let a = c .before .before .before .before .before .before .before .before .before .before .args in
-    let l = c .before .before .before .before .before .before .before .loop in let p = l .inv .2 in let s = sound (c .before) in (
-      c .before .before .before .before .next-sound .kept .1 .1 .1 .1 .1 .1 .0 ∙ l .inv .0,
+    let at-next-sound = c .before .before .before .before in
+    let the-loop = at-next-sound .before .before .before in
+    let a = the-loop .before .before .before .args in
+    let l = the-loop .loop in let p = l .inv .2 in let s = sound (c .before) in (
+      at-next-sound .next-sound .kept .1 .1 .1 .1 .1 .1 .0 ∙ l .inv .0,
       omega arith,
       record {
         on = omega (arith, p .on);

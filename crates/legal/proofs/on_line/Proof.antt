@@ -36,11 +36,12 @@ here c = rw (c .same .ensures, toZ-ofZ (sfits-of (c .before .same-arg .given)), 
 returns : tie.Need-returns Inv-loop μ-loop
 unfolding onLine
 returns c =
-    let a = c .before .before .before .before .before .before .args in
-    let z = toZ-ofZ (c .before .before .before .before .before .before .fits .z) in
+    let at-loop = c .before .before .before .before .before in
+    let start = at-loop .before in
+    let a = start .args in
+    let z = toZ-ofZ (start .fits .z) in
     sym (any-holds (λ k. eqZ (cell (a .t .now) (lineBase (a .rows) (a .row .before + k))) (a .z)) (a .row .lines)
-    (c .before .before .before .before .before .loop .k) (omega arith)
-    (rw z at (sym (here (c .before)) ∙ c .if1 .taken)))
+    (at-loop .loop .k) (omega arith) (rw z at (sym (here (c .before)) ∙ c .if1 .taken)))
 
 loop-again : tie.Need-loop-again Inv-loop μ-loop
 loop-again c = (omega arith, rw (any-next, c .before .before .before .before .before .loop .inv .1) (sym (here (c .before)) ∙ c .if1 .left))

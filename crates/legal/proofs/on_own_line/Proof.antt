@@ -49,13 +49,13 @@ here c = rw (c .same .ensures, toZ-ofZ (sfits-of (c .before .same-arg .given)), 
 returns : tie.Need-returns
 unfolding onLine
 returns c e =
+    let start = c .before .before .before .before .before .before .before in
     let d = c .before .before in
-    let a = c .before .before .before .before .before .before .before .args in
+    let a = start .args in
     let l = low (d .before .before) in
     let h = high (d .before .before) in
     any-holds (λ k. eqZ (cell (a .t .now) (lineBase (a .rows) (a .row .before + k))) (a .z)) (a .row .lines)
-    (d .before .before .before .before .count-of .result - 1) (omega arith)
-    (rw (toZ-ofZ (c .before .before .before .before .before .before .before .fits .z)) at (sym (here c) ∙ e))
+    (d .before .before .before .before .count-of .result - 1) (omega arith) (rw (toZ-ofZ (start .fits .z)) at (sym (here c) ∙ e))
 
 returns-2 : tie.Need-returns-2
 returns-2 c e = holds-not e refl

@@ -60,37 +60,39 @@ append-last-requires-2 c κs = let p = c .before .before .before .before .before
 
 returns : tie.Need-returns
 returns c =
-    let p = c .before .before .before .before .before .before .before .before .before .before .before .before .before .before .before
-    .before .before .before .pre in
-    let a = c .before .before .before .before .before .before .before .before .before .before .before .before .before .before .before
-    .before .before .before .args in
+    let at-take-record = c .before .before .before .before .before .before in
+    let start = at-take-record .before .before .before .before .before .before .before .before .before .before .before .before in
+    let p = start .pre in
+    let a = start .args in
     let f = table-ready (a .t .now) (p .0 .0 .tested .good) (lengthOf (a .t .now)) (omega arith) .few in
     listed-record (a .t .now) (a .w) (a .d .now) (a .p) (p .1 .2) f
-    (ended (c .before .before .before .before .before .before .before .before .before .before .before)) (c .turn-of .ensures)
-    (c .before .before .before .before .before .before .take-record .ensures)
+    (ended (at-take-record .before .before .before .before .before)) (c .turn-of .ensures) (at-take-record .take-record .ensures)
 
 returns-2 : tie.Need-returns-2
 unfolding fileSaid
 returns-2 c =
-    let p = c .before .before .before .before .before .before .before .before .before .before .before .pre in
-    let a = c .before .before .before .before .before .before .before .before .before .before .before .args in
+    let at-append-last = c .before .before in
+    let at-next-from = at-append-last .before .before .before .before .before in
+    let start = at-next-from .before .before .before .before in
+    let p = start .pre in
+    let a = start .args in
     let f = table-ready (a .t .now) (p .0 .0 .tested .good) (lengthOf (a .t .now)) (omega arith) .few in
-    let u = next-unended (a .d .now) (a .w) (a .p .from)
-    (sym (c .before .before .before .before .before .before .before .next-from .ensures)
-    ∙ c .before .before .before .before .before .enum-told .given .1) in
-    listed-unended (a .t .now) (a .w) (a .d .now) (a .p) (p .1 .2) f (u .records) (c .before .before .append-last .ensures)
+    let u = next-unended (a .d .now) (a .w) (a .p .from) (sym (at-next-from .next-from .ensures)
+    ∙ at-append-last .before .before .before .enum-told .given .1) in
+    listed-unended (a .t .now) (a .w) (a .d .now) (a .p) (p .1 .2) f (u .records) (at-append-last .append-last .ensures)
 
 returns-3 : tie.Need-returns-3
 unfolding fileSaid
 returns-3 c =
-    let p = c .before .before .before .before .before .before .before .before .before .before .pre in
-    let a = c .before .before .before .before .before .before .before .before .before .before .args in
+    let at-append-last2 = c .before .before in
+    let at-next-from = at-append-last2 .before .before .before .before in
+    let start = at-next-from .before .before .before .before in
+    let p = start .pre in
+    let a = start .args in
     let f = table-ready (a .t .now) (p .0 .0 .tested .good) (lengthOf (a .t .now)) (omega arith) .few in
-    let o = over-past (a .d .now) (a .w) (a .p .from)
-    (next-nothing (a .d .now) (a .w) (a .p .from)
-    (sym (c .before .before .before .before .before .before .next-from .ensures)
-    ∙ c .before .before .before .before .enum-told2 .given .1)) in
-    listed-over (a .t .now) (a .w) (a .d .now) (a .p) (p .1 .2) f o (c .before .before .append-last2 .ensures)
+    let o = over-past (a .d .now) (a .w) (a .p .from) (next-nothing (a .d .now) (a .w) (a .p .from) (sym (at-next-from .next-from .ensures)
+    ∙ at-append-last2 .before .before .enum-told2 .given .1)) in
+    listed-over (a .t .now) (a .w) (a .d .now) (a .p) (p .1 .2) f o (at-append-last2 .append-last2 .ensures)
 
 pub list-on-spec : {M : Type 1} → statement M
 list-on-spec =

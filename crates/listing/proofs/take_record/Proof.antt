@@ -68,9 +68,11 @@ returns-2 c =
 
 returns-3 : tie.Need-returns-3
 returns-3 c =
-    let p = c .before .before .before .before .before .before .pre in
-    let a = c .before .before .before .before .before .before .args in
-    taken-short (a .t .now) (a .n) (a .first) (a .row) (a .bytes .now) _ _ (c .before .before .if1 .left)
+    let the-if1 = c .before .before in
+    let the-start = the-if1 .before .before .before .before in
+    let p = the-start .pre in
+    let a = the-start .args in
+    taken-short (a .t .now) (a .n) (a .first) (a .row) (a .bytes .now) _ _ (the-if1 .if1 .left)
     (rw (tested-length (p .0 .0 .tested)) at (c .if3 .taken)) (omega (arith, p .1 .1))
 
 take-rows-requires-2 : tie.Need-take-rows-requires-2

@@ -34,13 +34,14 @@ add-o c = let l = c .before .before .before .loop in
 
 loop-again : tie.Need-loop-again Inv-loop μ-loop
 loop-again c =
-    let l = c .before .before .before .loop in
-    let q = c .before .before .before .before .before .before .pre in
-    let n = plain-next (c .before .before .before .before .before .before .args .d .now) (l .j)
-    (c .before .before .before .before .before .before .args .stop) (c .before .before .loop-test .taken) (q .1) in (
-      omega (arith, c .before .before .loop-test .taken),
+    let at-loop-test = c .before .before in
+    let start = at-loop-test .before .before .before .before in
+    let l = at-loop-test .before .loop in
+    let q = start .pre in
+    let n = plain-next (start .args .d .now) (l .j) (start .args .stop) (at-loop-test .loop-test .taken) (q .1) in (
+      omega (arith, at-loop-test .loop-test .taken),
       l .inv .1 ∙ ap (sets (l .out) (l .o)) n ∙ rw (c .plain .ensures, add-one (l .o)),
-      omega (arith, l .inv .2, c .before .before .loop-test .taken),
+      omega (arith, l .inv .2, at-loop-test .loop-test .taken),
       simp length-set (l .inv .3),
     )
 

@@ -22,69 +22,72 @@ lay-bytes-requires c κs =
 
 add-blank : tie.Need-add-blank
 add-blank c =
-    let a = c .before .before .before .before .before .before .before .before .args in
-    let q = c .before .before .before .before .before .before .before .before .pre in
-    let n = record-length _ (a .e) (a .width) _ _ (q .0 .0) (c .before .before .before .before .before .if1 .left) (q .0 .1) (q .1 .0) in
+    let at-if1 = c .before .before .before .before .before in
+    let start = at-if1 .before .before .before in
+    let a = start .args in
+    let q = start .pre in
+    let n = record-length _ (a .e) (a .width) _ _ (q .0 .0) (at-if1 .if1 .left) (q .0 .1) (q .1 .0) in
     omega (arith, n, q .1 .0, q .1 .1)
 
 blank-requires : tie.Need-blank-requires
 blank-requires c κs =
-    let a = c .before .before .before .before .before .before .before .before .args in
-    let q = c .before .before .before .before .before .before .before .before .pre in
-    let n = record-length _ (a .e) (a .width) _ _ (q .0 .0) (c .before .before .before .before .before .if1 .left) (q .0 .1) (q .1 .0) in
-    omega (arith, n, q .1 .0, q .1 .1, stored-length (c .before .before .before .lay-bytes .ensures))
+    let at-lay-bytes = c .before .before .before in
+    let start = at-lay-bytes .before .before .before .before .before in
+    let a = start .args in
+    let q = start .pre in
+    let n = record-length _ (a .e) (a .width) _ _ (q .0 .0) (at-lay-bytes .before .before .if1 .left) (q .0 .1) (q .1 .0) in
+    omega (arith, n, q .1 .0, q .1 .1, stored-length (at-lay-bytes .lay-bytes .ensures))
 
 add-end : tie.Need-add-end
 add-end c =
-    let a = c .before .before .before .before .before .before .before .before .before .before .before .args in
-    let q = c .before .before .before .before .before .before .before .before .before .before .before .pre in
-    let n = record-length _ (a .e) (a .width) _ _ (q .0 .0) (c .before .before .before .before .before .before .before .before .if1 .left)
-    (q .0 .1) (q .1 .0) in
+    let at-if1 = c .before .before .before .before .before .before .before .before in
+    let start = at-if1 .before .before .before in
+    let a = start .args in
+    let q = start .pre in
+    let n = record-length _ (a .e) (a .width) _ _ (q .0 .0) (at-if1 .if1 .left) (q .0 .1) (q .1 .0) in
     omega (arith, n, q .1 .0, q .1 .1)
 
 lay-ending-requires : tie.Need-lay-ending-requires
 lay-ending-requires c κs =
-    let a = c .before .before .before .before .before .before .before .before .before .before .before .before .args in
-    let q = c .before .before .before .before .before .before .before .before .before .before .before .before .pre in
-    let n = record-length _ (a .e) (a .width) _ _ (q .0 .0)
-    (c .before .before .before .before .before .before .before .before .before .if1 .left) (q .0 .1) (q .1 .0) in (
+    let at-blank = c .before .before .before in
+    let at-lay-bytes = at-blank .before .before .before .before in
+    let start = at-lay-bytes .before .before .before .before .before in
+    let a = start .args in
+    let q = start .pre in
+    let n = record-length _ (a .e) (a .width) _ _ (q .0 .0) (at-lay-bytes .before .before .if1 .left) (q .0 .1) (q .1 .0) in (
       q .0 .1,
       omega (
         arith,
         n,
         q .1 .0,
         q .1 .1,
-        stored-length
-            (c .before .before .before .before .before .before .before .lay-bytes .ensures),
-        stored-length (blank-stored _ (a .at + (a .p .stop - a .from)) (a .width - (a .p .stop - a .from))
-            (c .before .before .before .blank .ensures)),
+        stored-length (at-lay-bytes .lay-bytes .ensures),
+        stored-length (blank-stored _ (a .at + (a .p .stop - a .from)) (a .width - (a .p .stop - a .from)) (at-blank .blank .ensures)),
       ),
     )
 
 add-result : tie.Need-add-result
 add-result c =
-    let a = c .before .before .before .before .before .before .before .before .before .before .before .before .before .before .before
-    .before .args in
-    let q = c .before .before .before .before .before .before .before .before .before .before .before .before .before .before .before
-    .before .pre in
-    let n = record-length _ (a .e) (a .width) _ _ (q .0 .0)
-    (c .before .before .before .before .before .before .before .before .before .before .before .before .before .if1 .left) (q .0 .1)
-    (q .1 .0) in
+    let at-if1 = c .before .before .before .before .before .before .before .before .before .before .before .before .before in
+    let start = at-if1 .before .before .before in
+    let a = start .args in
+    let q = start .pre in
+    let n = record-length _ (a .e) (a .width) _ _ (q .0 .0) (at-if1 .if1 .left) (q .0 .1) (q .1 .0) in
     omega (arith, n, q .1 .0, q .1 .1)
 
 returns-2 : tie.Need-returns-2
 returns-2 c =
-    let a = c .before .before .before .before .before .before .before .before .before .before .before .before .before .before .before
-    .before .args in
-    let q = c .before .before .before .before .before .before .before .before .before .before .before .before .before .before .before
-    .before .pre in
-    let x = record-full _ (a .e) (a .width) _ _ (q .0 .0)
-    (c .before .before .before .before .before .before .before .before .before .before .before .before .before .if1 .left) in
+    let at-lay-ending = c .before .before .before in
+    let at-blank = at-lay-ending .before .before .before .before in
+    let at-lay-bytes = at-blank .before .before .before .before in
+    let start = at-lay-bytes .before .before .before .before .before in
+    let a = start .args in
+    let q = start .pre in
+    let x = record-full _ (a .e) (a .width) _ _ (q .0 .0) (at-lay-bytes .before .before .if1 .left) in
     let k : a .at + (a .p .stop - a .from) + (a .width - (a .p .stop - a .from)) ≡ a .at + a .width = omega (arith, q .1 .0) in
-    rw x (stored-join
-    (stored-join (c .before .before .before .before .before .before .before .before .before .before .before .lay-bytes .ensures)
+    rw x (stored-join (stored-join (at-lay-bytes .lay-bytes .ensures)
     (rw k at (blank-stored _ (a .at + (a .p .stop - a .from)) (a .width - (a .p .stop - a .from))
-    (c .before .before .before .before .before .before .before .blank .ensures)))) (c .before .before .before .lay-ending .ensures))
+    (at-blank .blank .ensures)))) (at-lay-ending .lay-ending .ensures))
 
 pub lay-piece-spec : {M : Type 1} → statement M
 lay-piece-spec =
@@ -99,9 +102,10 @@ lay-piece-spec =
     add-end
     lay-ending-requires
     add-result
-    (λ c. let a = c .before .before .before .before .before .before .before .before .before .before .before .before .before .before .before
-    .before .args in stored-length (c .before .before .before .lay-ending .ensures)
+    (λ c. let at-lay-ending = c .before .before .before in let at-blank = at-lay-ending .before .before .before .before in
+    let at-lay-bytes = at-blank .before .before .before .before in let a = at-lay-bytes .before .before .before .before .before .args in
+    stored-length (at-lay-ending .lay-ending .ensures)
     ∙ stored-length (blank-stored _ (a .at + (a .p .stop - a .from)) (a .width - (a .p .stop - a .from))
-    (c .before .before .before .before .before .before .before .blank .ensures))
-    ∙ stored-length (c .before .before .before .before .before .before .before .before .before .before .before .lay-bytes .ensures))
+    (at-blank .blank .ensures))
+    ∙ stored-length (at-lay-bytes .lay-bytes .ensures))
     returns-2)

@@ -51,22 +51,25 @@ note-piece-requires c κs =
 
 lay-piece-requires : tie.Need-lay-piece-requires Inv-loop μ-loop
 lay-piece-requires c κs =
-    let l = c .before .before .before .before .before .before .loop in
-    let a = c .before .before .before .before .before .before .before .before .before .args in
-    let u = c .before .before .before .before .next-piece .ensures in
+    let at-next-piece = c .before .before .before .before in
+    let start = at-next-piece .before .before .before .before .before in
+    let l = at-next-piece .before .before .loop in
+    let a = start .args in
+    let u = at-next-piece .next-piece .ensures in
     let n = mended-length _ (a .e) (a .width) _ _ u in (
-      (u, c .before .before .before .before .before .before .before .before .before .pre .0 .0),
+      (u, start .pre .0 .0),
       (width-next _ (a .e) (a .width) _ _ u (l .inv .2) .0, omega (arith, n, l .inv .4)),
     )
 
 loop-again : tie.Need-loop-again Inv-loop μ-loop
 loop-again c =
-    let l = c .before .before .before .before .before .before .before .before .before .before .before .before .loop in
-    let a = c .before .before .before .before .before .before .before .before .before .before .before .before .before .before .before
-    .args in
-    let u = c .before .before .before .before .before .before .before .before .before .before .next-piece .ensures in
-    let s = c .before .before .before .before .before .before .before .before .note-piece .ensures in
-    let r = c .before .before .before .before .before .lay-piece .ensures in
+    let at-lay-piece = c .before .before .before .before .before in
+    let at-next-piece = at-lay-piece .before .before .before .before .before in
+    let l = at-next-piece .before .before .loop in
+    let a = at-next-piece .before .before .before .before .before .args in
+    let u = at-next-piece .next-piece .ensures in
+    let s = at-lay-piece .before .before .before .note-piece .ensures in
+    let r = at-lay-piece .lay-piece .ensures in
     let m = mended-next _ (a .e) (a .width) _ _ u in
     let n = entries-next _ (a .e) (a .width) _ _ u (l .number + 1) in
     let ml = mended-length _ (a .e) (a .width) _ _ u in
@@ -102,10 +105,10 @@ mend-into-spec =
     note-piece-requires
     lay-piece-requires
     (λ c. omega (arith, c .before .before .before .before .before .before .before .before .before .before .next-piece .ensures .within))
-    (λ c. omega (
+    (λ c. let at-next-piece = c .before .before .before .before .before .before .before .before .before .before in omega (
       arith,
-      c .before .before .before .before .before .before .before .before .before .before .next-piece .ensures .within,
-      c .before .before .before .before .before .before .before .before .before .before .next-piece .ensures .ahead,
+      at-next-piece .next-piece .ensures .within,
+      at-next-piece .next-piece .ensures .ahead,
     ))
     loop-again
     (λ c. c .before .loop .inv .5)

@@ -43,19 +43,23 @@ note-requires c κs =
 
 add-m : tie.Need-add-m Inv-loop μ-loop
 add-m c =
-    let l = c .before .before .before .before .loop in
-    let a = c .before .before .before .before .before .before .before .args in
-    let q = c .before .before .before .before .before .before .before .pre in
-    let t = c .before .before .before .loop-test .taken in
+    let at-loop-test = c .before .before .before in
+    let start = at-loop-test .before .before .before .before in
+    let l = at-loop-test .before .loop in
+    let a = start .args in
+    let q = start .pre in
+    let t = at-loop-test .loop-test .taken in
     let b = bytes-low-length (a .d .now) (a .stop) (a .number) (q .0 .1) (l .j) t (l .inv .4 (omega (arith, t, q .0 .1))) in
     omega (arith, b, l .inv .2, l .inv .3, q .1)
 
 loop-again : tie.Need-loop-again Inv-loop μ-loop
 loop-again c =
-    let l = c .before .before .before .before .before .loop in
-    let a = c .before .before .before .before .before .before .before .before .args in
-    let q = c .before .before .before .before .before .before .before .before .pre in
-    let t = c .before .before .before .before .loop-test .taken in
+    let at-loop-test = c .before .before .before .before in
+    let start = at-loop-test .before .before .before .before in
+    let l = at-loop-test .before .loop in
+    let a = start .args in
+    let q = start .pre in
+    let t = at-loop-test .loop-test .taken in
     let s = c .before .before .note .ensures in
     let f = c .low-from2 .ensures in
     let g = l .inv .4 (omega (arith, t, q .0 .1)) in

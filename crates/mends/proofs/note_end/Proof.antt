@@ -25,20 +25,23 @@ returns c = rw (c .before .before .before .before .if1 .taken, c .if2 .taken) (c
 note-requires-2 : tie.Need-note-requires-2
 unfolding numbersOf listedIf
 note-requires-2 c κs =
-    let r = rw (c .before .before .before .before .before .if1 .taken, c .before .if2 .left) at
-    (c .before .before .before .before .before .before .pre .1) in (
-      omega (arith, stored-length (c .before .before .before .note .ensures)),
+    let at-note = c .before .before .before in
+    let start = at-note .before .before .before in
+    let r = rw (at-note .before .before .if1 .taken, c .before .if2 .left) at (start .pre .1) in (
+      omega (arith, stored-length (at-note .note .ensures)),
       (
         omega arith,
-        c .before .before .before .before .before .before .pre .0 .0,
-        c .before .before .before .before .before .before .pre .0 .1,
+        start .pre .0 .0,
+        start .pre .0 .1,
       ),
     )
 
 add-result : tie.Need-add-result
 unfolding numbersOf listedIf
-add-result c = let r = rw (c .before .before .before .before .before .before .before .if1 .taken, c .before .before .before .if2 .left) at
-    (c .before .before .before .before .before .before .before .before .pre .1) in omega arith
+add-result c =
+    let at-if2 = c .before .before .before in
+    let r = rw (at-if2 .before .before .before .before .if1 .taken, at-if2 .if2 .left) at
+    (at-if2 .before .before .before .before .before .pre .1) in omega arith
 
 returns-2 : tie.Need-returns-2
 unfolding numbersOf listedIf

@@ -18,58 +18,68 @@ note-requires c κs =
 add-result : tie.Need-add-result
 unfolding numbersOf
 add-result c =
-    let a = c .before .before .before .before .before .before .args in
-    let q = c .before .before .before .before .before .before .pre in
-    let r = rw (piece-empty _ (a .e) (a .width) _ _ (q .0) (a .number) (c .before .before .before .if1 .taken)) at (q .1 .1) in
+    let at-if1 = c .before .before .before in
+    let start = at-if1 .before .before .before in
+    let a = start .args in
+    let q = start .pre in
+    let r = rw (piece-empty _ (a .e) (a .width) _ _ (q .0) (a .number) (at-if1 .if1 .taken)) at (q .1 .1) in
     omega arith
 
 returns : tie.Need-returns
 returns c =
-    let a = c .before .before .before .before .before .before .args in
-    rw (piece-empty _ (a .e) (a .width) _ _ (c .before .before .before .before .before .before .pre .0) (a .number)
-    (c .before .before .before .if1 .taken)) (c .before .note .ensures)
+    let at-if1 = c .before .before .before in
+    let start = at-if1 .before .before .before in
+    let a = start .args in
+    rw (piece-empty _ (a .e) (a .width) _ _ (start .pre .0) (a .number) (at-if1 .if1 .taken)) (c .before .note .ensures)
 
 note-end-requires : tie.Need-note-end-requires
 note-end-requires c κs =
-    let a = c .before .before .before .before .before .before .before .args in
-    let q = c .before .before .before .before .before .before .before .pre in
-    let x = piece-plain _ (a .e) (a .width) _ _ (q .0) (a .number) (c .before .before .before .before .if1 .left) (c .before .if2 .taken) in
-    ((q .1 .0, omega (arith, q .0 .within)), rw (c .before .before .before .same .ensures) (rw x at (q .1 .1)))
+    let at-same = c .before .before .before in
+    let start = at-same .before .before .before .before in
+    let a = start .args in
+    let q = start .pre in
+    let x = piece-plain _ (a .e) (a .width) _ _ (q .0) (a .number) (at-same .before .if1 .left) (c .before .if2 .taken) in
+    ((q .1 .0, omega (arith, q .0 .within)), rw (at-same .same .ensures) (rw x at (q .1 .1)))
 
 returns-2 : tie.Need-returns-2
 returns-2 c =
-    let a = c .before .before .before .before .before .before .before .before .before .args in
-    let x = piece-plain _ (a .e) (a .width) _ _ (c .before .before .before .before .before .before .before .before .before .pre .0)
-    (a .number) (c .before .before .before .before .before .before .if1 .left) (c .before .before .before .if2 .taken) in
-    rw x (rw (c .before .before .before .before .before .same .ensures) at (c .before .note-end .ensures))
+    let at-same = c .before .before .before .before .before in
+    let start = at-same .before .before .before .before in
+    let a = start .args in
+    let x = piece-plain _ (a .e) (a .width) _ _ (start .pre .0)
+    (a .number) (at-same .before .if1 .left) (c .before .before .before .if2 .taken) in
+    rw x (rw (at-same .same .ensures) at (c .before .note-end .ensures))
 
 note-bytes-requires : tie.Need-note-bytes-requires
 note-bytes-requires c κs =
-    let a = c .before .before .before .before .before .before .before .args in
-    let q = c .before .before .before .before .before .before .before .pre in
-    let n = piece-length _ (a .e) (a .width) _ _ (q .0) (a .number) (c .before .before .before .before .if1 .left) in
+    let at-if1 = c .before .before .before .before in
+    let start = at-if1 .before .before .before in
+    let a = start .args in
+    let q = start .pre in
+    let n = piece-length _ (a .e) (a .width) _ _ (q .0) (a .number) (at-if1 .if1 .left) in
     ((q .0 .on, omega (arith, q .0 .within), q .1 .0), omega (arith, n, q .1 .1))
 
 note-end-requires-2 : tie.Need-note-end-requires-2
 note-end-requires-2 c κs =
-    let a = c .before .before .before .before .before .before .before .before .before .before .args in
-    let q = c .before .before .before .before .before .before .before .before .before .before .pre in
-    let s = c .before .before .note-bytes .ensures in
-    let n = piece-length _ (a .e) (a .width) _ _ (q .0) (a .number)
-    (c .before .before .before .before .before .before .before .if1 .left) in (
+    let at-note-bytes = c .before .before in
+    let at-same = at-note-bytes .before .before .before .before in
+    let start = at-same .before .before .before .before in
+    let a = start .args in
+    let q = start .pre in
+    let s = at-note-bytes .note-bytes .ensures in
+    let n = piece-length _ (a .e) (a .width) _ _ (q .0) (a .number) (at-same .before .if1 .left) in (
       (q .1 .0, omega (arith, q .0 .within)),
-      rw (c .before .before .before .before .before .before .same .ensures)
-          (omega (arith, n, q .1 .1, s .next, stored-length s)),
+      rw (at-same .same .ensures) (omega (arith, n, q .1 .1, s .next, stored-length s)),
     )
 
 returns-3 : tie.Need-returns-3
 returns-3 c =
-    let a = c .before .before .before .before .before .before .before .before .before .before .before .before .args in
-    let x = piece-full _ (a .e) (a .width) _ _
-    (c .before .before .before .before .before .before .before .before .before .before .before .before .pre .0) (a .number)
-    (c .before .before .before .before .before .before .before .before .before .if1 .left) in
-    rw x (stored-join (c .before .before .before .before .note-bytes .ensures)
-    (rw (c .before .before .before .before .before .before .before .before .same .ensures) at (c .before .note-end2 .ensures)))
+    let at-note-bytes = c .before .before .before .before in
+    let at-same = at-note-bytes .before .before .before .before in
+    let start = at-same .before .before .before .before in
+    let a = start .args in
+    let x = piece-full _ (a .e) (a .width) _ _ (start .pre .0) (a .number) (at-same .before .if1 .left) in
+    rw x (stored-join (at-note-bytes .note-bytes .ensures) (rw (at-same .same .ensures) at (c .before .note-end2 .ensures)))
 
 pub note-piece-spec : {M : Type 1} → statement M
 note-piece-spec =

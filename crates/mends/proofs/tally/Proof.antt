@@ -25,9 +25,9 @@ returns-2 c = rw (
 )
 
 add-short : tie.Need-add-short
-add-short c = let h : c .before .shorter .result ≤ 1 = rw (c .before .shorter .ensures)
-    (one-few (ltb (c .before .before .before .before .before .before .before .args .long)
-    (c .before .before .before .before .before .before .before .args .z .width))) in omega arith
+add-short c =
+    let args = c .before .before .before .before .before .before .before .args in
+    let h : c .before .shorter .result ≤ 1 = rw (c .before .shorter .ensures) (one-few (ltb (args .long) (args .z .width))) in omega arith
 
 returns-3 : tie.Need-returns-3
 unfolding tallied
