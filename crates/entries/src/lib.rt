@@ -34,7 +34,8 @@ fn end_variable(classes: &[u8; 256], d: &[u8], next: usize) -> Reading
 {
     let s = statements::notes_on(classes, d, Reading::At(next));
     let e = tokens::word_here(classes, d, s, b"END");
-    tokens::word_on(classes, d, e, b"VARIABLE")
+    let g = tokens::gap_on(classes, d, e);
+    tokens::word_here(classes, d, g, b"VARIABLE")
 }
 
 // Width is judged after END VARIABLE.

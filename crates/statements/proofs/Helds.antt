@@ -63,8 +63,12 @@ number-held d t = by (gapOn d t) where
   by (Refused f) = of-fault
   by (At n) = told (eqb (digitsFrom 0 0 n (text d n) .count) 0) where
     told : (q : Bool) → Held d (cond q (number.Not (fault 2 n))
-        (number.Is (record { size = digitsFrom 0 0 n (text d n) .size; count = digitsFrom 0 0 n (text d n) .count; place = n;
-          next = digitsFrom 0 0 n (text d n) .next })))
+        (number.Is (record {
+          size = digitsFrom 0 0 n (text d n) .size;
+          count = digitsFrom 0 0 n (text d n) .count;
+          place = n;
+          next = digitsFrom 0 0 n (text d n) .next;
+        })))
     told true = of-fault
     told false = of-number (ap capped (sym (run-value d n)))
 

@@ -83,7 +83,11 @@ fn pass_sixteen(d: &[u8], i: usize) -> usize
     if !four_spaces(d, i + 8) {
         return i + 8;
     }
-    if four_spaces(d, i + 12) { i + 16 } else { i + 12 }
+    if four_spaces(d, i + 12) {
+        i + 16
+    } else {
+        i + 12
+    }
 }
 
 // The spaces before a line's first token, by fours.

@@ -17,6 +17,8 @@ ghost use Prim.Native.Nat.{_*_, _≤_};
 ghost use lib.ListN.{length};
 ghost use Rattle.ascii.specs.Class.{Classes};
 ghost use Rattle.layout.specs.rule.Layout.{lineSize, mostLines};
+ghost use Rattle.statements.specs.rule.Words.{NAME, LABEL};
+ghost use Rattle.statements.specs.Note.{textOn};
 ghost use Rattle.variables.specs.Ident.{marked};
 ghost use Rattle.variables.specs.Ident.{wrongIdent, judgeIdent, identOn};
 ghost use Rattle.variables.specs.Head.{pastType, joinTitles, joinHead, headOn};
@@ -162,15 +164,34 @@ fn join_head(t: Titled, k: Typed, p: Stated) -> Headed
     }
 }
 
+// NAME and LABEL with their texts. Each knows the word that it compares, as the readers of the other statements do.
+fn name_on(classes: &[u8; 256], d: &[u8], t: Reading) -> Phrase
+    requires { ⌜ Classes (now classes) ⌝ }
+    ensures { λ r. ⌜ r ≡ textOn (now (d .entry)) t NAME ⌝ }
+{
+    let s = statements::notes_on(classes, d, t);
+    let w = tokens::word_here(classes, d, s, b"NAME");
+    tokens::string_on(classes, d, w)
+}
+
+fn label_on(classes: &[u8; 256], d: &[u8], t: Reading) -> Phrase
+    requires { ⌜ Classes (now classes) ⌝ }
+    ensures { λ r. ⌜ r ≡ textOn (now (d .entry)) t LABEL ⌝ }
+{
+    let s = statements::notes_on(classes, d, t);
+    let w = tokens::word_here(classes, d, s, b"LABEL");
+    tokens::string_on(classes, d, w)
+}
+
 // NAME, LABEL, TYPE and POSITION behind an ident that stands.
 pub fn head_on(classes: &[u8; 256], d: &[u8], i: Number) -> Headed
     requires { ⌜ Classes (now classes) ⌝ }
     ensures { λ r. ⌜ r ≡ headOn (now (d .entry)) i ⌝ }
 {
     let a = tokens::past_number(i);
-    let n = statements::text_on(classes, d, a, b"NAME");
+    let n = name_on(classes, d, a);
     let b = tokens::past_string(n);
-    let l = statements::text_on(classes, d, b, b"LABEL");
+    let l = label_on(classes, d, b);
     let e = tokens::past_string(l);
     let k = statements::type_on(classes, d, e);
     let g = past_type(k);

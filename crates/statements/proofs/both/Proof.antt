@@ -41,8 +41,10 @@ returns-4 c =
 
 says-less-requires : tie.Need-says-less-requires
 says-less-requires c κs =
-    let held = c .before .before .before .before .before .before .before .before .before .before .pre .1 in
-    (c .before .before .before .before .before .before .before .before .before .before .pre .0, (held-size (held .1) (c .before .before .before .before .b .given .1), held-size (held .0) (c .before .before .before .before .before .before .before .a .given .1)))
+    let at-b = c .before .before .before .before in
+    let at-a = at-b .before .before .before in
+    let pre = at-a .before .before .before .pre in
+    (pre .0, (held-size (pre .1 .1) (at-b .b .given .1), held-size (pre .1 .0) (at-a .a .given .1)))
 
 pub both-spec : {M : Type 1} → statement M
 both-spec =

@@ -40,10 +40,16 @@ returns-2 c =
     )
 
 both-requires : tie.Need-both-requires
-both-requires c κs = (c .before .before .before .before .before .before .before .before .before .before .before .before .before .before .pre, (held-by _ _ (c .before .before .before .before .before .before .before .before .before .number-on .ensures), held-by _ _ (c .before .number-on2 .ensures)))
+both-requires c κs =
+    let at-number-on = c .before .before .before .before .before .before .before .before .before in
+    let pre = at-number-on .before .before .before .before .before .pre in
+    (pre, (held-by _ _ (at-number-on .number-on .ensures), held-by _ _ (c .before .number-on2 .ensures)))
 
 both-requires-2 : tie.Need-both-requires-2
-both-requires-2 c κs = let a = held-by _ _ (c .before .before .before .before .before .before .number-on .ensures) in (c .before .before .before .before .before .before .before .before .before .before .before .pre, (a, a))
+both-requires-2 c κs =
+    let at-number-on = c .before .before .before .before .before .before in
+    let a = held-by _ _ (at-number-on .number-on .ensures) in
+    (at-number-on .before .before .before .before .before .pre, (a, a))
 
 pub position-on-spec : {M : Type 1} → statement M
 position-on-spec =

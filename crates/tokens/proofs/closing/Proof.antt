@@ -8,7 +8,8 @@ returns-3 : tie.Need-returns-3
 returns-3 c e =
     let a = c .before .before .before .before .before .before .before .before .args in
     let p = c .before .before .before .pass-forms in
-    string-closing (a .d .now) (a .n) (p .result) (omega arith) (c .before .before .before .before .if2 .left) (c .before .before .if3 .taken) (c .if4 .taken) (p .ensures)
+    string-closing (a .d .now) (a .n) (p .result) (omega arith) (c .before .before .before .before .if2 .left)
+    (c .before .before .if3 .taken) (c .if4 .taken) (p .ensures)
 
 pub closing-spec : {M : Type 1} → statement M
 closing-spec =

@@ -13,7 +13,8 @@ returns c =
     rw (
       c .before .before .before .before .before .t .given .1,
       p .ensures .0,
-      gap-token (c .before .before .before .before .before .before .before .before .args .d .now) (p .result) within (p .ensures .2 within) (c .if2 .taken),
+      gap-token (c .before .before .before .before .before .before .before .before .args .d .now) (p .result) within (p .ensures .2 within)
+          (c .if2 .taken),
     )
 
 returns-2 : tie.Need-returns-2
@@ -27,5 +28,6 @@ returns-3 c = rw (c .before .t2 .given .1)
 pub gap-on-spec : {M : Type 1} → statement M
 gap-on-spec =
     tie.close
-    (tie.spec (λ c. search needs) (λ c κs. search needs) (λ c. search needs) returns (λ c κs. c .before .before .before .before .before .before .pre) (λ c. search needs) returns-2
+    (tie.spec (λ c. search needs) (λ c κs. search needs) (λ c. search needs) returns
+    (λ c κs. c .before .before .before .before .before .before .pre) (λ c. search needs) returns-2
     returns-3)

@@ -13,8 +13,7 @@ returns-2 c = (c .before .before .before .four-spaces .ensures (not-false _ (c .
 returns-3 : tie.Need-returns-3
 returns-3 c =
     let a = c .before .before .before .before .before .before .before .args in
-    let q : a .i + 4 + 4 ≡ a .i + 8 = omega arith in
-    (
+    let q : a .i + 4 + 4 ≡ a .i + 8 = omega arith in (
       c .before .before .before .before .before .four-spaces .ensures (not-false _ (c .before .before .before .before .if1 .left))
           ∙ c .before .before .before .four-spaces2 .ensures (not-false _ (c .before .before .if2 .left)) ∙ ap (gapAt (a .d .now)) q,
       omega arith,
@@ -22,27 +21,32 @@ returns-3 c =
 
 returns-4 : tie.Need-returns-4
 returns-4 c =
-    let a = c .before .before .before .before .before .before .before .before .before .args in
+    let at-if1 = c .before .before .before .before .before .before in
+    let a = at-if1 .before .before .before .args in
     let q : a .i + 4 + 4 ≡ a .i + 8 = omega arith in
     let r : a .i + 8 + 4 ≡ a .i + 12 = omega arith in
-    let s : a .i + 12 + 4 ≡ a .i + 16 = omega arith in
-    (
-      c .before .before .before .before .before .before .before .four-spaces .ensures (not-false _ (c .before .before .before .before .before .before .if1 .left))
-          ∙ c .before .before .before .before .before .four-spaces2 .ensures (not-false _ (c .before .before .before .before .if2 .left)) ∙ ap (gapAt (a .d .now)) q
-          ∙ c .before .before .before .four-spaces3 .ensures (not-false _ (c .before .before .if3 .left)) ∙ ap (gapAt (a .d .now)) r
-          ∙ c .before .four-spaces4 .ensures (c .if4 .taken) ∙ ap (gapAt (a .d .now)) s,
+    let s : a .i + 12 + 4 ≡ a .i + 16 = omega arith in (
+      at-if1 .before .four-spaces .ensures (not-false _ (at-if1 .if1 .left))
+          ∙ c .before .before .before .before .before .four-spaces2 .ensures (not-false _ (c .before .before .before .before .if2 .left))
+          ∙ ap (gapAt (a .d .now)) q
+          ∙ c .before .before .before .four-spaces3 .ensures (not-false _ (c .before .before .if3 .left))
+          ∙ ap (gapAt (a .d .now)) r
+          ∙ c .before .four-spaces4 .ensures (c .if4 .taken)
+          ∙ ap (gapAt (a .d .now)) s,
       omega arith,
     )
 
 returns-5 : tie.Need-returns-5
 returns-5 c =
-    let a = c .before .before .before .before .before .before .before .before .before .args in
+    let at-if1 = c .before .before .before .before .before .before in
+    let a = at-if1 .before .before .before .args in
     let q : a .i + 4 + 4 ≡ a .i + 8 = omega arith in
-    let r : a .i + 8 + 4 ≡ a .i + 12 = omega arith in
-    (
-      c .before .before .before .before .before .before .before .four-spaces .ensures (not-false _ (c .before .before .before .before .before .before .if1 .left))
-          ∙ c .before .before .before .before .before .four-spaces2 .ensures (not-false _ (c .before .before .before .before .if2 .left)) ∙ ap (gapAt (a .d .now)) q
-          ∙ c .before .before .before .four-spaces3 .ensures (not-false _ (c .before .before .if3 .left)) ∙ ap (gapAt (a .d .now)) r,
+    let r : a .i + 8 + 4 ≡ a .i + 12 = omega arith in (
+      at-if1 .before .four-spaces .ensures (not-false _ (at-if1 .if1 .left))
+          ∙ c .before .before .before .before .before .four-spaces2 .ensures (not-false _ (c .before .before .before .before .if2 .left))
+          ∙ ap (gapAt (a .d .now)) q
+          ∙ c .before .before .before .four-spaces3 .ensures (not-false _ (c .before .before .if3 .left))
+          ∙ ap (gapAt (a .d .now)) r,
       omega arith,
     )
 

@@ -25,13 +25,15 @@ returns c =
     rw (
       c .before .before .before .before .t .given .1,
       p .ensures .0,
-      gap-token (c .before .before .before .before .before .before .before .args .d .now) (p .result) (omega arith) (omega arith) (λ e. omega arith),
+      gap-token (c .before .before .before .before .before .before .before .args .d .now) (p .result) (omega arith) (omega arith)
+          (λ e. omega arith),
       z .2,
     )
 
 returns-2 : tie.Need-returns-2
 unfolding stringOn gapOn
-returns-2 c = rw (c .before .before .before .before .before .t .given .1, c .before .before .before .pass-blanks .ensures .0) (c .string-apart .ensures)
+returns-2 c = rw (c .before .before .before .before .before .t .given .1, c .before .before .before .pass-blanks .ensures .0)
+    (c .string-apart .ensures)
 
 returns-3 : tie.Need-returns-3
 unfolding stringOn gapOn

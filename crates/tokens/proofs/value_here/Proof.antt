@@ -11,7 +11,8 @@ returns : tie.Need-returns
 returns c =
     let q = c .before .before .before .before .before .lead-at .ensures in
     rw (c .before .before .before .before .before .before .before .t .given .1)
-    (sym (lead-here _ _ _ _ (c .before .before .before .if1 .taken) (q .1 .1) (q .0) (c .before .before .over-here .ensures (c .before .if2 .taken))))
+    (sym (lead-here _ _ _ _ (c .before .before .before .if1 .taken) (q .1 .1) (q .0)
+    (c .before .before .over-here .ensures (c .before .if2 .taken))))
 
 returns-2 : tie.Need-returns-2
 returns-2 c = rw (c .before .before .before .before .before .t .given .1) (c .value-apart .ensures)

@@ -8,12 +8,12 @@ returns : tie.Need-returns
 unfolding headOn
 returns c =
     let at-type-on = c .before .before .before .before in
-    let at-text-on2 = at-type-on .before .before in
+    let at-label-on = at-type-on .before .before in
     rw (
-      sym (at-text-on2 .before .before .before .before .before .past-number .ensures),
-      sym (at-text-on2 .before .before .before .text-on .ensures),
-      sym (at-text-on2 .before .before .past-string .ensures),
-      sym (at-text-on2 .text-on2 .ensures),
+      sym (at-label-on .before .before .before .past-number .ensures),
+      sym (at-label-on .before .before .name-on .ensures),
+      sym (at-label-on .before .past-string .ensures),
+      sym (at-label-on .label-on .ensures),
       sym (at-type-on .before .past-string2 .ensures),
       sym (at-type-on .type-on .ensures),
     ) (rw (
@@ -25,6 +25,5 @@ returns c =
 
 pub head-on-spec : {M : Type 1} → statement M
 head-on-spec =
-    tie.close (tie.spec (λ c κs. search needs) (λ c. search needs) (λ c κs. search needs) (λ c κs. search needs) (λ c. search needs)
-    (λ c κs. search needs) (λ c κs. search needs) (λ c κs. search needs) (λ c κs. search needs) (λ c κs. search needs)
-    (λ c κs. search needs) (λ c κs. search needs) returns)
+    tie.close (tie.spec (λ c κs. search needs) (λ c κs. search needs) (λ c κs. search needs) (λ c κs. search needs) (λ c κs. search needs)
+    (λ c κs. search needs) (λ c κs. search needs) (λ c κs. search needs) (λ c κs. search needs) (λ c κs. search needs) returns)
