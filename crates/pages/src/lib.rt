@@ -907,7 +907,7 @@ pub fn send_variables(
         let v = send_variable(classes, powers, d, n, bound, out, p);
         p = v.at;
         n = v.next;
-        let e = find_end(classes, d, n);
+        let e = look_end(classes, d, n);
         if e.there {
             return Walked { at: p, next: n };
         }

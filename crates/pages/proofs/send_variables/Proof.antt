@@ -22,8 +22,8 @@ loop-holds c = (omega arith, all-owed _ _ _ refl, refl)
 send-variable-requires : tie.Need-send-variable-requires Inv-loop μ-loop
 send-variable-requires c κs = c .before .before .before .before .before .pre
 
-find-end-requires : tie.Need-find-end-requires Inv-loop μ-loop
-find-end-requires c κs = c .before .before .before .before .before .before .before .before .pre .0
+look-end-requires : tie.Need-look-end-requires Inv-loop μ-loop
+look-end-requires c κs = c .before .before .before .before .before .before .before .before .pre .0
 
 same-length : tie.Need-same-length Inv-loop μ-loop
 same-length c = c .before .before .before .before .send-variable .ensures .sent .room
@@ -32,7 +32,7 @@ same-length c = c .before .before .before .before .send-variable .ensures .sent 
 returns : tie.Need-returns Inv-loop μ-loop
 returns c =
     let q = variables-done _ _ _ (c .before .before .before .before .before .before .loop-test .taken) _
-    (c .before .before .before .before .send-variable .ensures .stands) _ (c .before .find-end .ensures) (c .if1 .taken) in
+    (c .before .before .before .before .send-variable .ensures .stands) _ (c .before .look-end .ensures) (c .if1 .taken) in
     record {
       sent = none-owed (less-owed (c .before .before .before .before .before .before .before .loop .inv .1) (ap (λ (p : Page). p .text) q)
           (c .before .before .before .before .send-variable .ensures .sent)) refl;
@@ -48,7 +48,7 @@ loop-less c = omega (arith, c .before .before .before .before .before .before .l
 loop-again : tie.Need-loop-again Inv-loop μ-loop
 loop-again c =
     let q = variables-more _ _ _ (c .before .before .before .before .before .before .loop-test .taken) _
-    (c .before .before .before .before .send-variable .ensures .stands) _ (c .before .find-end .ensures) (c .if1 .left) in (
+    (c .before .before .before .before .send-variable .ensures .stands) _ (c .before .look-end .ensures) (c .if1 .left) in (
       omega (arith, c .before .before .before .before .before .before .loop-test .taken),
       less-owed (c .before .before .before .before .before .before .before .loop .inv .1) (ap (λ (p : Page). p .text) q)
           (c .before .before .before .before .send-variable .ensures .sent),
@@ -74,7 +74,7 @@ send-variables-spec =
     μ-loop
     loop-holds
     send-variable-requires
-    find-end-requires
+    look-end-requires
     same-length
     returns
     add-k
