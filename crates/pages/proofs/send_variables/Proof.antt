@@ -31,12 +31,14 @@ same-length c = c .before .before .before .before .send-variable .ensures .sent 
 
 returns : tie.Need-returns Inv-loop μ-loop
 returns c =
-    let q = variables-done _ _ _ (c .before .before .before .before .before .before .loop-test .taken) _
-    (c .before .before .before .before .send-variable .ensures .stands) _ (c .before .look-end .ensures) (c .if1 .taken) in
+    let at-send-variable = c .before .before .before .before in
+    let at-loop = at-send-variable .before .before .before in
+    let q = variables-done _ _ _ (at-send-variable .before .before .loop-test .taken) _
+    (at-send-variable .send-variable .ensures .stands) _ (c .before .look-end .ensures) (c .if1 .taken) in
     record {
-      sent = none-owed (less-owed (c .before .before .before .before .before .before .before .loop .inv .1) (ap (λ (p : Page). p .text) q)
-          (c .before .before .before .before .send-variable .ensures .sent)) refl;
-      stands = sym (c .before .before .before .before .before .before .before .loop .inv .2 ∙ ap (λ (p : Page). p .next) q);
+      sent = none-owed (less-owed (at-loop .loop .inv .1) (ap (λ (p : Page). p .text) q)
+          (at-send-variable .send-variable .ensures .sent)) refl;
+      stands = sym (at-loop .loop .inv .2 ∙ ap (λ (p : Page). p .next) q);
     }
 
 add-k : tie.Need-add-k Inv-loop μ-loop
