@@ -22,39 +22,41 @@ pub struct Item {
     pub next: usize,
 }
 
+// The notes before it are passed once, whatever its word.
 fn item_at(classes: &[u8; 256], d: &[u8], n: usize) -> Item
     requires { ⌜ Classes (now classes) ⌝ }
     ensures { λ r. ⌜ r ≡ itemAt (now (d .entry)) n ⌝ }
 {
-    let date = steps::find_statement(classes, d, n, b"DATE");
+    let g = steps::notes_behind(classes, d, n);
+    let date = steps::find_here(classes, d, g, b"DATE");
     if date.there {
         return Item {
             which: 0,
             next: date.next,
         };
     }
-    let time = steps::find_statement(classes, d, n, b"TIME");
+    let time = steps::find_here(classes, d, g, b"TIME");
     if time.there {
         return Item {
             which: 1,
             next: time.next,
         };
     }
-    let origin = steps::find_statement(classes, d, n, b"ORIGIN");
+    let origin = steps::find_here(classes, d, g, b"ORIGIN");
     if origin.there {
         return Item {
             which: 2,
             next: origin.next,
         };
     }
-    let user = steps::find_statement(classes, d, n, b"USER");
+    let user = steps::find_here(classes, d, g, b"USER");
     if user.there {
         return Item {
             which: 3,
             next: user.next,
         };
     }
-    let standard = steps::find_statement(classes, d, n, b"STANDARD");
+    let standard = steps::find_here(classes, d, g, b"STANDARD");
     if standard.there {
         return Item {
             which: 4,

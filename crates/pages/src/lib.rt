@@ -256,9 +256,17 @@ fn send_whole(
     send_framed(classes, d, bound, out, at, pre, s, post)
 }
 
-fn send_ident(classes: &[u8; 256], d: &[u8], n: usize, bound: usize, out: &mut [u8], at: usize) -> Walked
+fn send_ident(
+    classes: &[u8; 256],
+    d: &[u8],
+    n: usize,
+    bound: usize,
+    out: &mut [u8],
+    at: usize,
+) -> Walked
     requires { ⌜ Classes (now classes) ⌝ }
-    ensures { λ r. ⌜ Paged bound (now (out .entry)) at (now (out .exit)) r (numberPage (now (d .entry)) n VARIABLE (VARIABLE ++ 32 ∷ [])) ⌝ }
+    ensures { λ r. ⌜ Paged bound (now (out .entry)) at (now (out .exit)) r
+        (numberPage (now (d .entry)) n VARIABLE (VARIABLE ++ 32 ∷ [])) ⌝ }
 {
     let g = steps::notes_behind(classes, d, n);
     let a = steps::past_word(classes, d, g, b"VARIABLE");
@@ -271,7 +279,14 @@ fn send_ident(classes: &[u8; 256], d: &[u8], n: usize, bound: usize, out: &mut [
     }
 }
 
-fn send_size(classes: &[u8; 256], d: &[u8], n: usize, bound: usize, out: &mut [u8], at: usize) -> Walked
+fn send_size(
+    classes: &[u8; 256],
+    d: &[u8],
+    n: usize,
+    bound: usize,
+    out: &mut [u8],
+    at: usize,
+) -> Walked
     requires { ⌜ Classes (now classes) ⌝ }
     ensures { λ r. ⌜ Paged bound (now (out .entry)) at (now (out .exit)) r (numberPage (now (d .entry)) n SIZE (SIZE ++ 32 ∷ [])) ⌝ }
 {
@@ -286,7 +301,14 @@ fn send_size(classes: &[u8; 256], d: &[u8], n: usize, bound: usize, out: &mut [u
     }
 }
 
-fn send_name(classes: &[u8; 256], d: &[u8], n: usize, bound: usize, out: &mut [u8], at: usize) -> Walked
+fn send_name(
+    classes: &[u8; 256],
+    d: &[u8],
+    n: usize,
+    bound: usize,
+    out: &mut [u8],
+    at: usize,
+) -> Walked
     requires { ⌜ Classes (now classes) ⌝ }
     ensures { λ r. ⌜ Paged bound (now (out .entry)) at (now (out .exit)) r (phrasePage (now (d .entry)) n NAME (NAME ++ 32 ∷ 34 ∷ [])) ⌝ }
 {
@@ -301,7 +323,14 @@ fn send_name(classes: &[u8; 256], d: &[u8], n: usize, bound: usize, out: &mut [u
     }
 }
 
-fn send_label(classes: &[u8; 256], d: &[u8], n: usize, bound: usize, out: &mut [u8], at: usize) -> Walked
+fn send_label(
+    classes: &[u8; 256],
+    d: &[u8],
+    n: usize,
+    bound: usize,
+    out: &mut [u8],
+    at: usize,
+) -> Walked
     requires { ⌜ Classes (now classes) ⌝ }
     ensures { λ r. ⌜ Paged bound (now (out .entry)) at (now (out .exit)) r (phrasePage (now (d .entry)) n LABEL (LABEL ++ 32 ∷ 34 ∷ [])) ⌝ }
 {
@@ -317,7 +346,14 @@ fn send_label(classes: &[u8; 256], d: &[u8], n: usize, bound: usize, out: &mut [
 }
 
 // END VARIABLE.
-fn send_end(classes: &[u8; 256], d: &[u8], n: usize, bound: usize, out: &mut [u8], at: usize) -> Walked
+fn send_end(
+    classes: &[u8; 256],
+    d: &[u8],
+    n: usize,
+    bound: usize,
+    out: &mut [u8],
+    at: usize,
+) -> Walked
     requires { ⌜ Classes (now classes) ⌝ }
     ensures { λ r. ⌜ Paged bound (now (out .entry)) at (now (out .exit)) r
         (endPage (now (d .entry)) n VARIABLE (END ++ 32 ∷ VARIABLE ++ 13 ∷ 10 ∷ [])) ⌝ }
@@ -666,7 +702,10 @@ fn find_end(classes: &[u8; 256], d: &[u8], n: usize) -> Found
     ensures { λ r. ⌜ r ≡ statementFound (now (d .entry)) n END ⌝ }
 {
     if no_end(d, n) {
-        return Found { there: false, next: n };
+        return Found {
+            there: false,
+            next: n,
+        };
     }
     look_end(classes, d, n)
 }
@@ -907,7 +946,7 @@ pub fn send_variables(
         let v = send_variable(classes, powers, d, n, bound, out, p);
         p = v.at;
         n = v.next;
-        let e = find_end(classes, d, n);
+        let e = look_end(classes, d, n);
         if e.there {
             return Walked { at: p, next: n };
         }

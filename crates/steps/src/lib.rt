@@ -150,7 +150,8 @@ fn begins_other(b: u8) -> bool
 // Whether NA stands at a place: so NAME begins, and no note.
 fn begins_name(d: &[u8], n: usize) -> bool
     requires { ⌜ n < length (now d) ⌝ }
-    ensures { λ r. ⌜ (r ≡ true → (n + 1 < length (now (d .entry))) × (getD (now (d .entry)) n 0 ≡ 78) × (getD (now (d .entry)) (n + 1) 0 ≡ 65)) ⌝ }
+    ensures { λ r. ⌜ (r ≡ true → (n + 1 < length (now (d .entry))) × (getD (now (d .entry)) n 0 ≡ 78)
+        × (getD (now (d .entry)) (n + 1) 0 ≡ 65)) ⌝ }
 {
     if d.len() <= n + 1 {
         return false;

@@ -25,7 +25,8 @@ returns-4 c e =
     let at-if2 = at-if3 .before .before in
     let at-if1 = at-if2 .before .before in
     let at-follows = at-if1 .before in
-    between-stands _ _ (at-follows .follows .ensures (not-false _ (at-if1 .if1 .left))) (omega (arith, at-if2 .if2 .left)) (omega (arith, at-if3 .if3 .left))
+    between-stands _ _ (at-follows .follows .ensures (not-false _ (at-if1 .if1 .left))) (omega (arith, at-if2 .if2 .left))
+    (omega (arith, at-if3 .if3 .left))
     (c .plain .ensures e)
 
 pub between-spec : {M : Type 1} → statement M

@@ -15,7 +15,12 @@ returns c =
     let at-notes-behind = at-past-word .before .before in
     record {
       sent = at-send-bytes .send-bytes .ensures;
-      stands = rw (at-past-word2 .past-word2 .ensures, at-past-gap .past-gap .ensures, at-past-word .past-word .ensures, at-notes-behind .notes-behind .ensures);
+      stands = rw (
+        at-past-word2 .past-word2 .ensures,
+        at-past-gap .past-gap .ensures,
+        at-past-word .past-word .ensures,
+        at-notes-behind .notes-behind .ensures,
+      );
     }
 
 pub send-end-spec : {M : Type 1} → statement M

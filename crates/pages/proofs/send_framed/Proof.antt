@@ -8,8 +8,11 @@ use Rattle.pages.proofs.send_framed.Tie as tie
 
 returns : tie.Need-returns
 unfolding framed
-returns c = then (c .before .before .before .before .before .before .before .before .before .before .send-bytes .ensures)
-    (then (c .before .before .before .before .before .before .send-span .ensures) (c .before .before .send-bytes2 .ensures))
+returns c =
+    let at-send-bytes2 = c .before .before in
+    let at-send-span = at-send-bytes2 .before .before .before .before in
+    then (at-send-span .before .before .before .before .send-bytes .ensures)
+    (then (at-send-span .send-span .ensures) (at-send-bytes2 .send-bytes2 .ensures))
 
 pub send-framed-spec : {M : Type 1} → statement M
 send-framed-spec =

@@ -37,10 +37,10 @@ loop-less c =
 
 loop-again : tie.Need-loop-again Inv-loop μ-loop
 loop-again c =
-    let s = stepped _ _ (c .before .before .before .before .before .before .before .before .next-byte .ensures)
-    (c .before .before .before .before .before .before .byte .given .1) in
-    less-owed (c .before .before .before .before .before .before .before .before .before .loop .inv)
-    (span-more _ _ _ _ _ (s .split) (c .before .before .before .before .if1 .left)) (c .before .before .send-byte .ensures)
+    let at-if1 = c .before .before .before .before in
+    let s = stepped _ _ (at-if1 .before .before .before .before .next-byte .ensures) (at-if1 .before .before .byte .given .1) in
+    less-owed (at-if1 .before .before .before .before .before .loop .inv)
+    (span-more _ _ _ _ _ (s .split) (at-if1 .if1 .left)) (c .before .before .send-byte .ensures)
 
 same-length-2 : tie.Need-same-length-2 Inv-loop μ-loop
 same-length-2 c = c .before .before .before .loop .inv .same-room

@@ -25,14 +25,13 @@ same-length c = c .before .before .before .before .before .send-line .ensures .r
 
 returns : tie.Need-returns Inv-loop μ-loop
 returns c =
-    let q = lines-done _ _ _ (c .before .before .before .before .before .before .before .before .loop-test .taken) _
-    (c .before .before .before .before .before .before .before .line-at .ensures) _ (c .before .before .find-end .ensures)
-    (c .before .if1 .taken) in
+    let at-send-line = c .before .before .before .before .before in
+    let at-loop = at-send-line .before .before .before .before in
+    let q = lines-done _ _ _ (at-send-line .before .before .before .loop-test .taken) _
+    (at-send-line .before .before .line-at .ensures) _ (c .before .before .find-end .ensures) (c .before .if1 .taken) in
     record {
-      sent = none-owed (less-owed (c .before .before .before .before .before .before .before .before .before .loop .inv .1)
-          (ap (λ (p : Page). p .text) q) (c .before .before .before .before .before .send-line .ensures)) refl;
-      stands = c .past-values .ensures ∙ sym (c .before .before .before .before .before .before .before .before .before .loop .inv .2
-          ∙ ap (λ (p : Page). p .next) q);
+      sent = none-owed (less-owed (at-loop .loop .inv .1) (ap (λ (p : Page). p .text) q) (at-send-line .send-line .ensures)) refl;
+      stands = c .past-values .ensures ∙ sym (at-loop .loop .inv .2 ∙ ap (λ (p : Page). p .next) q);
     }
 
 add-k : tie.Need-add-k Inv-loop μ-loop

@@ -13,24 +13,24 @@ returns c = rw (not-true (c .before .before .before .before .args .r .there) (c 
 
 returns-2 : tie.Need-returns-2
 unfolding rangeText
-returns-2 c = sent-as (then (c .before .before .before .before .before .before .before .before .send-closed .ensures)
-    (c .before .before .send-closed2 .ensures)) (rw (
-      not-false
-          (c .before .before .before .before .before .before .before .before .before .before .before .before .before .before .before .before
-          .before .args .r .there)
-          (c .before .before .before .before .before .before .before .before .before .before .before .before .before .if1 .left),
-      c .before .before .before .before .before .if2 .taken,
+returns-2 c =
+    let at-if2 = c .before .before .before .before .before in
+    let at-send-closed = at-if2 .before .before .before in
+    let at-if1 = at-send-closed .before .before .before .before .before in
+    sent-as (then (at-send-closed .send-closed .ensures) (c .before .before .send-closed2 .ensures)) (rw (
+      not-false (at-if1 .before .before .before .before .args .r .there) (at-if1 .if1 .left),
+      at-if2 .if2 .taken,
     ))
 
 returns-3 : tie.Need-returns-3
 unfolding rangeText
-returns-3 c = sent-as (then (c .before .before .before .before .before .before .before .before .send-closed .ensures)
-    (c .before .before .send-closed3 .ensures)) (rw (
-      not-false
-          (c .before .before .before .before .before .before .before .before .before .before .before .before .before .before .before .before
-          .before .args .r .there)
-          (c .before .before .before .before .before .before .before .before .before .before .before .before .before .if1 .left),
-      c .before .before .before .before .before .if2 .left,
+returns-3 c =
+    let at-if2 = c .before .before .before .before .before in
+    let at-send-closed = at-if2 .before .before .before in
+    let at-if1 = at-send-closed .before .before .before .before .before in
+    sent-as (then (at-send-closed .send-closed .ensures) (c .before .before .send-closed3 .ensures)) (rw (
+      not-false (at-if1 .before .before .before .before .args .r .there) (at-if1 .if1 .left),
+      at-if2 .if2 .left,
     ))
 
 pub send-range-spec : {M : Type 1} → statement M

@@ -48,7 +48,8 @@ returns-4 c =
     let at-if3 = at-send-values2 .before .before in
     let at-if2 = at-if3 .before in
     let at-if1 = at-if2 .before in
-    rw (ne-eqb _ _ (at-if1 .if1 .left), ne-eqb _ _ (at-if2 .if2 .left), ne-eqb _ _ (at-if3 .if3 .left)) (at-send-values2 .send-values2 .ensures)
+    rw (ne-eqb _ _ (at-if1 .if1 .left), ne-eqb _ _ (at-if2 .if2 .left), ne-eqb _ _ (at-if3 .if3 .left))
+    (at-send-values2 .send-values2 .ensures)
 
 pub send-rest-spec : {M : Type 1} → statement M
 send-rest-spec =

@@ -17,7 +17,8 @@ part-send-bytes-end c = let h = c .before .before .plain .ensures (c .before .if
 
 returns : tie.Need-returns
 returns c = sent-as (c .before .before .send-bytes .ensures)
-    (sym (plain-bytes (c .before .before .before .before .before .before .plain .ensures (c .before .before .before .before .before .if1 .taken))))
+    (sym (plain-bytes (c .before .before .before .before .before .before .plain .ensures
+    (c .before .before .before .before .before .if1 .taken))))
 
 returns-2 : tie.Need-returns-2
 returns-2 c = c .before .before .send-kept .ensures

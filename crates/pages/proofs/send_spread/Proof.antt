@@ -13,38 +13,35 @@ returns c = rw (not-true (c .before .before .before .before .args .p .there) (c 
 
 returns-2 : tie.Need-returns-2
 unfolding spreadText
-returns-2 c = sent-as (then (c .before .before .before .before .before .before .before .before .send-framed .ensures)
-    (c .before .before .send-closed .ensures)) (rw (
-      not-false
-          (c .before .before .before .before .before .before .before .before .before .before .before .before .before .before .before .before
-          .before .before .args .p .there)
-          (c .before .before .before .before .before .before .before .before .before .before .before .before .before .before .if1 .left),
-      c .before .before .before .before .before .if2 .taken,
+returns-2 c =
+    let at-if2 = c .before .before .before .before .before in
+    let at-if1 = at-if2 .before .before .before .before .before .before .before .before .before in
+    sent-as (then (at-if2 .before .before .before .send-framed .ensures) (c .before .before .send-closed .ensures)) (rw (
+      not-false (at-if1 .before .before .before .before .args .p .there) (at-if1 .if1 .left),
+      at-if2 .if2 .taken,
     ))
 
 send-count-requires : tie.Need-send-count-requires
 send-count-requires c
-    κs = (
-      c .before .before .before .before .before .before .before .before .before .before .before .before .before .before .before .pre .1
-          .0,
-      rw (c .even-of .ensures)
-          (c .before .before .before .before .before .before .before .before .before .before .before .before .before .before .before .pre .1
-          .1),
+    κs =
+    let start = c .before .before .before .before .before .before .before .before .before .before .before .before .before .before
+    .before in (
+      start .pre .1 .0,
+      rw (c .even-of .ensures) (start .pre .1 .1),
     )
 
 returns-3 : tie.Need-returns-3
 unfolding spreadText
-returns-3 c = sent-as
-    (then (c .before .before .before .before .before .before .before .before .before .before .before .before .before .send-framed .ensures)
-    (then (c .before .before .before .before .before .before .before .send-count .ensures) (c .before .before .send-bytes .ensures)))
-    (rw (
-      not-false
-          (c .before .before .before .before .before .before .before .before .before .before .before .before .before .before .before .before
-          .before .before .before .before .before .before .before .args .p .there)
-          (c .before .before .before .before .before .before .before .before .before .before .before .before .before .before .before .before
-          .before .before .before .if1 .left),
-      c .before .before .before .before .before .before .before .before .before .before .if2 .left,
-      c .before .before .before .before .before .before .before .before .even-of .ensures,
+returns-3 c =
+    let at-send-bytes = c .before .before in
+    let at-send-count = at-send-bytes .before .before .before .before .before in
+    let at-even-of = at-send-count .before in
+    let at-if1 = at-even-of .before .before .before .before .before .before .before .before .before .before .before in
+    sent-as (then (at-even-of .before .before .before .before .before .send-framed .ensures)
+    (then (at-send-count .send-count .ensures) (at-send-bytes .send-bytes .ensures))) (rw (
+      not-false (at-if1 .before .before .before .before .args .p .there) (at-if1 .if1 .left),
+      at-even-of .before .before .if2 .left,
+      at-even-of .even-of .ensures,
     ))
 
 pub send-spread-spec : {M : Type 1} → statement M

@@ -19,7 +19,8 @@ returns c =
     rw (← at-notes-behind .notes-behind .ensures, ← at-past-word .past-word .ensures, ← at-range-at .range-at .ensures)
     (record {
       sent = then (at-send-bytes .send-bytes .ensures)
-          (then (at-send-range .send-range .ensures) (then (at-send-block .send-block .ensures .sent) (at-send-bytes2 .send-bytes2 .ensures)));
+          (then (at-send-range .send-range .ensures)
+          (then (at-send-block .send-block .ensures .sent) (at-send-bytes2 .send-bytes2 .ensures)));
       stands = at-send-block .send-block .ensures .stands;
     })
 
@@ -34,7 +35,8 @@ send-values-spec =
     (λ c. search needs)
     (λ c κs. search needs)
     (λ c κs. c .before .before .before .before .before .before .before .before .before .before .before .before .pre)
-    (λ c κs. c .before .before .before .before .before .before .before .before .before .before .before .before .before .before .before .before .pre)
+    (λ c κs. c .before .before .before .before .before .before .before .before .before .before .before .before .before .before .before
+    .before .pre)
     (λ c. search needs)
     (λ c κs. search needs)
     (λ c. search needs)

@@ -10,7 +10,8 @@ use Rattle.pages.proofs.send_variable.Tie as tie
 send-rest-requires : tie.Need-send-rest-requires
 send-rest-requires c κs =
     let at-room-of = c .before in
-    let start = at-room-of .before .before .before .before .before .before .before .before .before .before .before .before .before .before .before .before .before .before .before in
+    let start = at-room-of .before .before .before .before .before .before .before .before .before .before .before .before .before .before
+    .before .before .before .before .before in
     (start .pre .0, (start .pre .1, rw (at-room-of .room-of .ensures) (room-small _ _)))
 
 same-length : tie.Need-same-length
@@ -20,7 +21,8 @@ same-length c =
     let at-send-position = at-send-rest .before .before .before .before .before .before .before in
     let at-send-type = at-send-position .before .before .before .before .before in
     let at-send-titles = at-send-type .before .before .before .before .before in
-    at-send-end .send-end .ensures .sent .room ∙ at-send-rest .send-rest .ensures .sent .room ∙ at-send-position .send-position .ensures .room
+    at-send-end .send-end .ensures .sent .room ∙ at-send-rest .send-rest .ensures .sent .room
+    ∙ at-send-position .send-position .ensures .room
     ∙ at-send-type .send-type .ensures .room ∙ at-send-titles .send-titles .ensures .sent .room
 
 returns : tie.Need-returns
@@ -54,6 +56,7 @@ send-variable-spec =
     (λ c κs. c .before .before .before .before .before .before .before .before .before .before .before .before .before .pre .0)
     (λ c κs. search needs)
     send-rest-requires
-    (λ c κs. c .before .before .before .before .before .before .before .before .before .before .before .before .before .before .before .before .before .before .before .before .before .before .before .before .pre .0)
+    (λ c κs. c .before .before .before .before .before .before .before .before .before .before .before .before .before .before .before
+    .before .before .before .before .before .before .before .before .before .pre .0)
     same-length
     returns)

@@ -22,8 +22,8 @@ loop-holds c = (omega arith, all-owed _ _ _ refl, refl)
 send-variable-requires : tie.Need-send-variable-requires Inv-loop μ-loop
 send-variable-requires c κs = c .before .before .before .before .before .pre
 
-find-end-requires : tie.Need-find-end-requires Inv-loop μ-loop
-find-end-requires c κs = c .before .before .before .before .before .before .before .before .pre .0
+look-end-requires : tie.Need-look-end-requires Inv-loop μ-loop
+look-end-requires c κs = c .before .before .before .before .before .before .before .before .pre .0
 
 same-length : tie.Need-same-length Inv-loop μ-loop
 same-length c = c .before .before .before .before .send-variable .ensures .sent .room
@@ -31,12 +31,14 @@ same-length c = c .before .before .before .before .send-variable .ensures .sent 
 
 returns : tie.Need-returns Inv-loop μ-loop
 returns c =
-    let q = variables-done _ _ _ (c .before .before .before .before .before .before .loop-test .taken) _
-    (c .before .before .before .before .send-variable .ensures .stands) _ (c .before .find-end .ensures) (c .if1 .taken) in
+    let at-send-variable = c .before .before .before .before in
+    let at-loop = at-send-variable .before .before .before in
+    let q = variables-done _ _ _ (at-send-variable .before .before .loop-test .taken) _
+    (at-send-variable .send-variable .ensures .stands) _ (c .before .look-end .ensures) (c .if1 .taken) in
     record {
-      sent = none-owed (less-owed (c .before .before .before .before .before .before .before .loop .inv .1) (ap (λ (p : Page). p .text) q)
-          (c .before .before .before .before .send-variable .ensures .sent)) refl;
-      stands = sym (c .before .before .before .before .before .before .before .loop .inv .2 ∙ ap (λ (p : Page). p .next) q);
+      sent = none-owed (less-owed (at-loop .loop .inv .1) (ap (λ (p : Page). p .text) q)
+          (at-send-variable .send-variable .ensures .sent)) refl;
+      stands = sym (at-loop .loop .inv .2 ∙ ap (λ (p : Page). p .next) q);
     }
 
 add-k : tie.Need-add-k Inv-loop μ-loop
@@ -48,7 +50,7 @@ loop-less c = omega (arith, c .before .before .before .before .before .before .l
 loop-again : tie.Need-loop-again Inv-loop μ-loop
 loop-again c =
     let q = variables-more _ _ _ (c .before .before .before .before .before .before .loop-test .taken) _
-    (c .before .before .before .before .send-variable .ensures .stands) _ (c .before .find-end .ensures) (c .if1 .left) in (
+    (c .before .before .before .before .send-variable .ensures .stands) _ (c .before .look-end .ensures) (c .if1 .left) in (
       omega (arith, c .before .before .before .before .before .before .loop-test .taken),
       less-owed (c .before .before .before .before .before .before .before .loop .inv .1) (ap (λ (p : Page). p .text) q)
           (c .before .before .before .before .send-variable .ensures .sent),
@@ -74,7 +76,7 @@ send-variables-spec =
     μ-loop
     loop-holds
     send-variable-requires
-    find-end-requires
+    look-end-requires
     same-length
     returns
     add-k

@@ -139,5 +139,6 @@ type-at-spec =
     (λ c κs. c .before .before .before .before .before .before .before .before .before .before .before .before .before .before .before .pre)
     returns-4
     (λ c. search needs)
-    (λ c κs. c .before .before .before .before .before .before .before .before .before .before .before .before .before .before .before .before .before .before .pre)
+    (λ c κs. c .before .before .before .before .before .before .before .before .before .before .before .before .before .before .before
+    .before .before .before .pre)
     returns-5)

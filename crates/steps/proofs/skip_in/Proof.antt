@@ -18,4 +18,5 @@ returns-3 c = rw (c .enum-told2 .given .1)
 
 pub skip-in-spec : {M : Type 1} → statement M
 skip-in-spec =
-    tie.close (tie.spec (λ c. search needs) (λ c κs. search needs) (λ c. omega arith) (λ c. search needs) (λ c. search needs) returns returns-2 returns-3)
+    tie.close (tie.spec (λ c. search needs) (λ c κs. search needs) (λ c. omega arith) (λ c. search needs) (λ c. search needs) returns
+    returns-2 returns-3)

@@ -19,5 +19,6 @@ returns-2 c = rw (c .phrase-in .ensures, c .before .string-on .ensures)
 
 pub string-span-spec : {M : Type 1} → statement M
 string-span-spec =
-    tie.close (tie.spec (λ c κs. search needs) (λ c κs. search needs) (λ c. omega (arith, c .before .quote-at .ensures (c .if1 .taken) .0)) (λ c κs. search needs) (λ c κs. omega (arith, c .before .before .quote-at .ensures (c .before .if1 .taken) .0)) returns
+    tie.close (tie.spec (λ c κs. search needs) (λ c κs. search needs) (λ c. omega (arith, c .before .quote-at .ensures (c .if1 .taken) .0))
+    (λ c κs. search needs) (λ c κs. omega (arith, c .before .before .quote-at .ensures (c .before .if1 .taken) .0)) returns
     (λ c κs. search needs) (λ c κs. search needs) returns-2)
