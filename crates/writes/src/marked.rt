@@ -336,20 +336,20 @@ pub fn spread_full(
     row: Row,
     count: usize,
     width: usize,
-    list: &[i64],
+    members: &[i64],
     bytes: &mut [u8],
 ) -> Wrote
     requires { ⌜ Tens (now powers) ⌝ }
     requires { ⌜ Ready (kind.Multiple (spread.Fields count width)) (now t) rows (length (now bytes)) row ⌝ }
-    requires { ⌜ setFits (legal (now t) rows row) (now list) ≡ true ⌝ }
-    ensures { λ r. ⌜ WrittenBy (kind.Multiple (spread.Fields count width)) (now (t .entry)) rows row given.Set (now (list .entry)) []
+    requires { ⌜ setFits (legal (now t) rows row) (now members) ≡ true ⌝ }
+    ensures { λ r. ⌜ WrittenBy (kind.Multiple (spread.Fields count width)) (now (t .entry)) rows row given.Set (now (members .entry)) []
         (now (bytes .entry)) (now (bytes .exit)) r ⌝ }
 {
     let w = row.width;
     let at = row.start - 1;
-    if count < list.len() {
+    if count < members.len() {
         return Wrote::TooMany;
     }
-    setbytes::spread::put_spread(powers, bytes, at, width, w, count, list);
+    setbytes::spread::put_spread(powers, bytes, at, width, w, count, members);
     Wrote::Done
 }
