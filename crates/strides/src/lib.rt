@@ -44,25 +44,31 @@ fn above_last(t: &[i64], at: usize, step: usize, n: usize, k: usize) -> bool
     )
 }
 
-// Does each number rise above the one before it? The usual case, in which no two are equal. Two are tested in a turn.
+// Does each number rise above the one before it? The usual case, in which no two are equal. Two are tested in a turn, and the last once
+// more where it was one of them.
 fn all_rise(t: &[i64], at: usize, step: usize, n: usize) -> bool
     requires { ⌜ Strided (now t) at step n ⌝ }
     ensures { λ r. ⌜ r ≡ allRise (strideAt (now (t .entry)) at step) n ⌝ }
 {
-    let mut k: usize = 1;
-    while k + 1 < n {
+    if n == 0 {
+        return true;
+    }
+    let pairs = (n - 1) / 2;
+    let mut j: usize = 0;
+    while j < pairs {
+        let k = 2 * j + 1;
         if !above_last(t, at, step, n, k) {
             return false;
         }
         if !above_last(t, at, step, n, k + 1) {
             return false;
         }
-        k += 2;
+        j += 1;
     }
-    if k < n {
-        return above_last(t, at, step, n, k);
+    if n == 1 {
+        return true;
     }
-    true
+    above_last(t, at, step, n, n - 1)
 }
 
 // Does number k differ from those before it?

@@ -17,10 +17,11 @@ returns c =
 
 returns-2 : tie.Need-returns-2
 returns-2 c =
-    let a = c .before .before .before .before .before .before .before .before .args in
+    let at-if2 = c .before .before .before .before in
+    let a = at-if2 .before .before .before .before .args in
     let m = row-most (a .t .now) (a .rows) (a .row) (a .bytes .now) in
-    let e = c .before .before .before .before .before .before .most-of .ensures in
-    let z = c .before .before .before .before .if2 .taken in
+    let e = at-if2 .before .before .most-of .ensures in
+    let z = at-if2 .if2 .taken in
     c .members-in .ensures ∙ read-members (c .before .before .read-row .ensures) (omega arith)
 
 pub count-row-spec : {M : Type 1} → statement M

@@ -85,58 +85,58 @@ slice-aggregate-paste c = sym (ap length (c .before .before .row-numbers .ensure
 
 paste-requires : tie.Need-paste-requires Inv-loop μ-loop
 paste-requires c κs =
-    let e = ap length (c .before .before .row-numbers .ensures) ∙ length-four _ _ in
-    let l = c .before .before .before .before .before .before .before .before .loop .inv .4 in
-    let p = c .before .before .before .before .before .before .before .before .before .before .pre .1 .0 in
-    let i = c .before .before .before .before .before .before .before .loop-test .taken in
+    let at-row-numbers = c .before .before in
+    let at-loop-test = at-row-numbers .before .before .before .before .before in
+    let e = ap length (at-row-numbers .row-numbers .ensures) ∙ length-four _ _ in
+    let l = at-loop-test .before .loop .inv .4 in
+    let p = at-loop-test .before .before .before .pre .1 .0 in
+    let i = at-loop-test .loop-test .taken in
     omega arith
 
 add-at : tie.Need-add-at Inv-loop μ-loop
 add-at c =
+    let at-loop = c .before .before .before .before .before .before .before .before .before .before .before in
     let f = at-fits (c .before .before .before .before .before .before .before) in
     let e = c .members-in .ensures in
-    let q = c .before .before .before .before .before .before .before .before .before .before .before .loop .inv .5 in
-    let g = c .before .before .before .before .before .before .before .before .before .before .before .before .before .good .1 .1 .1 .1
-    .0 in
+    let q = at-loop .loop .inv .5 in
+    let g = at-loop .before .before .good .1 .1 .1 .1 .0 in
     omega arith
 
 add-refused : tie.Need-add-refused Inv-loop μ-loop
 add-refused c =
-    let r = refusals-one (c .before .before .before .before .before .before .before .before .read-row .result) in
+    let at-read-row = c .before .before .before .before .before .before .before .before in
+    let at-loop-test = at-read-row .before .before .before in
+    let r = refusals-one (at-read-row .read-row .result) in
     let e = c .refusals-in .ensures in
-    let l = c .before .before .before .before .before .before .before .before .before .before .before .before .loop .inv .3 in
-    let f = c .before .before .before .before .before .before .before .before .before .before .before .before .before .before .pre .0
-    .few in
-    let i = c .before .before .before .before .before .before .before .before .before .before .before .loop-test .taken in
+    let l = at-loop-test .before .loop .inv .3 in
+    let f = at-loop-test .before .before .before .pre .0 .few in
+    let i = at-loop-test .loop-test .taken in
     omega arith
 
 loop-again : tie.Need-loop-again Inv-loop μ-loop
 loop-again c =
-    let a = c .before .before .before .before .before .before .before .before .before .before .before .before .before .before .args in
-    let l = c .before .before .before .before .before .before .before .before .before .before .before .before .loop in (
+    let at-paste = c .before .before .before in
+    let at-read-row = at-paste .before .before .before .before .before in
+    let the-read = at-read-row .before .before in
+    let at-loop-test = the-read .before in
+    let start-place = at-loop-test .before .before .before in
+    let a = start-place .args in
+    let l = at-loop-test .before .loop in (
       omega arith,
-      rw (c .before .members-in .ensures) (at-next (c .before .before .before .before .before .before .before .before)),
-      rw (c .refusals-in .ensures) (refused-next (c .before .before .before .before .before .before .before .before)),
-      (let r = refusals-one (c .before .before .before .before .before .before .before .before .read-row .result) in
+      rw (c .before .members-in .ensures) (at-next at-read-row),
+      rw (c .refusals-in .ensures) (refused-next at-read-row),
+      (let r = refusals-one (at-read-row .read-row .result) in
           let e = c .refusals-in .ensures in let q = l .inv .3 in omega arith),
-      c .before .before .before .paste .kept .0 ∙ l .inv .4,
-      same-len-mid (l .at) (length (l .list) - l .at) (l .list)
-          (c .before .before .before .before .before .before .before .before .read-row .last .1 .1 .1 .1 .0)
-          (c .before .before .before .before .before .before .before .before .read-row .kept .1 .1 .1 .1 .0) ∙ l .inv .5,
-      step-out (a .t .now) (a .rows) (a .bytes .now) (l .i)
-          (c .before .before .before .before .before .before .before .before .before .before .before .loop-test .taken) (a .list .now)
-          (l .list) (l .at) (l .inv .1) (l .inv .5)
-          (c .before .before .before .before .before .before .before .before .before .before .before .before .before .before .pre .1 .1) _
-          (c .before .before .before .before .before .before .before .before .before .before .read .ensures) _ _
-          (c .before .before .before .before .before .before .before .before .read-row .ensures) (a .out .now) (l .out) _ _
-          (c .before .before .before .before .before .before .before .before .before .before .before .before .before .before .pre .1 .0)
-          (l .inv .6) (c .before .before .before .before .before .before .row-numbers .ensures) (c .before .before .before .paste .ensures),
-      step-list (a .t .now) (a .rows) (a .bytes .now) (l .i)
-          (c .before .before .before .before .before .before .before .before .before .before .before .loop-test .taken) (a .list .now)
-          (l .list) (l .at) (l .inv .1) (l .inv .5)
-          (c .before .before .before .before .before .before .before .before .before .before .before .before .before .before .pre .1 .1) _
-          (c .before .before .before .before .before .before .before .before .before .before .read .ensures) _ _
-          (c .before .before .before .before .before .before .before .before .read-row .ensures) (l .inv .7),
+      at-paste .paste .kept .0 ∙ l .inv .4,
+      same-len-mid (l .at) (length (l .list) - l .at) (l .list) (at-read-row .read-row .last .1 .1 .1 .1 .0)
+          (at-read-row .read-row .kept .1 .1 .1 .1 .0) ∙ l .inv .5,
+      step-out (a .t .now) (a .rows) (a .bytes .now) (l .i) (at-loop-test .loop-test .taken) (a .list .now)
+          (l .list) (l .at) (l .inv .1) (l .inv .5) (start-place .pre .1 .1) _ (the-read .read .ensures) _ _
+          (at-read-row .read-row .ensures) (a .out .now) (l .out) _ _ (start-place .pre .1 .0)
+          (l .inv .6) (at-paste .before .before .before .row-numbers .ensures) (at-paste .paste .ensures),
+      step-list (a .t .now) (a .rows) (a .bytes .now) (l .i) (at-loop-test .loop-test .taken) (a .list .now)
+          (l .list) (l .at) (l .inv .1) (l .inv .5) (start-place .pre .1 .1) _ (the-read .read .ensures) _ _
+          (at-read-row .read-row .ensures) (l .inv .7),
     )
 
 returns : tie.Need-returns Inv-loop μ-loop
@@ -164,8 +164,9 @@ read-rows-spec =
     (λ c κs. let p = c .before .before .before .before .before .before .before .pre .0 in
     rw (c .before .before .before .read .ensures)
     (p .row (c .before .before .before .before .before .loop .i) (c .before .before .before .before .loop-test .taken)))
-    (λ c. let p = c .before .before .before .before .before .before .before .before .before .pre .0 .few in
-    let l = c .before .before .before .before .before .before .loop-test .taken in omega arith)
+    (λ c. let at-loop-test = c .before .before .before .before .before .before in
+    let p = at-loop-test .before .before .before .pre .0 .few in
+    let l = at-loop-test .loop-test .taken in omega arith)
     slice-aggregate-paste
     paste-requires
     (λ c κs. search needs)

@@ -41,12 +41,13 @@ returns c =
 
 loop-again : tie.Need-loop-again Inv-loop μ-loop
 loop-again c =
-    let a = c .before .before .before .before .before .before .before .before .before .args in (
+    let at-row-illegal = c .before .before .before in
+    let at-loop = at-row-illegal .before .before .before in
+    let a = at-loop .before .before .before .args in (
       omega arith,
-      c .before .before .before .row-illegal .kept .1 .1 .1 .1 .0 ∙ c .before .before .before .before .before .before .loop .inv .1,
-      sym (first-on (badRow (a .t .now) (a .rows) (a .bytes .now)) _ _ (c .before .before .before .before .before .loop-test .taken)
-          (sym (c .before .before .before .row-illegal .ensures) ∙ c .if1 .left))
-          ∙ c .before .before .before .before .before .before .loop .inv .2,
+      at-row-illegal .row-illegal .kept .1 .1 .1 .1 .0 ∙ at-loop .loop .inv .1,
+      sym (first-on (badRow (a .t .now) (a .rows) (a .bytes .now)) _ _ (at-row-illegal .before .before .loop-test .taken)
+          (sym (at-row-illegal .row-illegal .ensures) ∙ c .if1 .left)) ∙ at-loop .loop .inv .2,
     )
 
 returns-2 : tie.Need-returns-2 Inv-loop μ-loop

@@ -13,17 +13,18 @@ use Rattle.records.proofs.judge_plain.Tie as tie
 inside : (c : tie.After-known-told) → c .before .i .given .0 .0
     < c .before .before .before .before .before .before .before .before .before .args .rows
 inside c =
-    let h = first-inside (badRow (c .before .before .before .before .before .before .before .before .before .args .t .now)
-    (c .before .before .before .before .before .before .before .before .before .args .rows)
-    (c .before .before .before .before .before .before .before .before .before .args .bytes .now))
-    (c .before .before .before .before .before .before .before .before .before .args .rows) 0 (c .before .i .given .0 .0)
-    (sym (c .before .before .before .before .before .illegal-row .ensures) ∙ c .before .i .given .1) in
+    let the-illegal-row = c .before .before .before .before .before in
+    let the-start = the-illegal-row .before .before .before .before in
+    let h = first-inside (badRow (the-start .args .t .now) (the-start .args .rows) (the-start .args .bytes .now))
+    (the-start .args .rows) 0 (c .before .i .given .0 .0) (sym (the-illegal-row .illegal-row .ensures) ∙ c .before .i .given .1) in
     omega arith
 
 -- row i stands in the table
 read-requires : tie.Need-read-requires
-read-requires c κs = let f = c .before .before .before .before .before .before .before .before .before .pre .0 .few in
-    let s = c .before .before .before .before .before .before .before .before .before .pre .0 .stand in
+read-requires c κs =
+    let the-start = c .before .before .before .before .before .before .before .before .before in
+    let f = the-start .pre .0 .few in
+    let s = the-start .pre .0 .stand in
     let l = inside c in (omega arith, omega arith)
 
 row-fault-requires : tie.Need-row-fault-requires

@@ -20,13 +20,13 @@ returns-2 c = value-short _ _ _ _ (sym (c .before .before .before .before .befor
 
 read-requires-2 : tie.Need-read-requires-2
 read-requires-2 c κs =
+    let the-read = c .before .before .before .before in
+    let args = the-read .before .before .before .before .args in
     let l = c .before .before .if2 .left in
-    let e = c .before .before .before .before .read .ensures in
+    let e = the-read .read .ensures in
     let long = rw e at (c .if3 .left) in
-    let r = table-ready (c .before .before .before .before .before .before .before .before .args .t .now)
-    (sym (c .before .before .before .before .before .before .well-formed .ensures .says)
-    ∙ c .before .before .before .before .before .if1 .taken)
-    (length (c .before .before .before .before .before .before .before .before .args .bytes .now)) long in
+    let r = table-ready (args .t .now) (sym (the-read .before .before .well-formed .ensures .says) ∙ the-read .before .if1 .taken)
+    (length (args .bytes .now)) long in
     let f = r .few in let s = r .stand in
     let k = rw e at l in
     (omega arith, omega arith)

@@ -39,14 +39,16 @@ returns-3 c = rw (typed (c .before .before .before .before .before), c .width-he
 returns-4 : tie.Need-returns-4
 unfolding valuesBy kindOf widthGood roomGood rowOf _and_
 returns-4 c =
-    let start = c .before .before .before .before .before .before .before .before in
+    let at-if3 = c .before .before in
+    let at-if1 = at-if3 .before .before .before .before in
+    let start = at-if1 .before .before in
     let q : start .args .c .kind ≡ 5 = omega (
       arith,
       start .pre .1,
-      c .before .before .before .before .before .before .if1 .left,
-      c .before .before .if3 .left,
+      at-if1 .if1 .left,
+      at-if3 .if3 .left,
     ) in
-    rw (typed (c .before .before .before .before), c .width-held2 .ensures, q)
+    rw (typed (at-if3 .before .before), c .width-held2 .ensures, q)
 
 pub bare-good-spec : {M : Type 1} → statement M
 bare-good-spec =

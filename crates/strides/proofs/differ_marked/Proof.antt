@@ -34,16 +34,18 @@ inside-here : (c : tie.After-mark-of Inv-loop μ-loop) → c .mark-of .result < 
 inside-here c = rw (c .before .before .before .loop .inv .1) (c .mark-of .ensures .1)
 
 new-by-mark-requires : tie.Need-new-by-mark-requires Inv-loop μ-loop
-new-by-mark-requires c κs = (
-  (c .before .before .before .before .before .before .pre .0, c .before .before .before .loop-test .taken),
-  λ e. new-unmarked markOf (strideAt (c .before .before .before .before .before .before .args .t .now)
-      (c .before .before .before .before .before .before .args .at) (c .before .before .before .before .before .before .args .step)) _ _ _
-      (c .before .before .before .before .loop .inv .2) (place-here (c .before)) e,
-)
+new-by-mark-requires c κs =
+    let at-loop-test = c .before .before .before in
+    let start = at-loop-test .before .before .before in (
+      (start .pre .0, at-loop-test .loop-test .taken),
+      λ e. new-unmarked markOf (strideAt (start .args .t .now) (start .args .at) (start .args .step)) _ _ _
+          (at-loop-test .before .loop .inv .2) (place-here (c .before)) e,
+    )
 
 same-length : tie.Need-same-length Inv-loop μ-loop
-same-length c = c .before .before .before .before .before .before .loop .inv .1
-    ∙ sym (c .before .before .before .before .before .before .before .before .pre .1)
+same-length c =
+    let at-loop = c .before .before .before .before .before .before in
+    at-loop .loop .inv .1 ∙ sym (at-loop .before .before .pre .1)
 
 returns : tie.Need-returns Inv-loop μ-loop
 unfolding allDiffer
@@ -51,18 +53,17 @@ returns c = sym (all-fails _ _ (c .before .before .before .before .before .befor
     (sym (c .before .new-by-mark .ensures) ∙ not-true _ (c .if1 .taken)))
 
 loop-again : tie.Need-loop-again Inv-loop μ-loop
-loop-again c = (
-  omega arith,
-  simp length-set (c .before .before .before .before .before .before .loop .inv .1),
-  left-more markOf (strideAt (c .before .before .before .before .before .before .before .before .args .t .now)
-      (c .before .before .before .before .before .before .before .before .args .at)
-      (c .before .before .before .before .before .before .before .before .args .step))
-      (c .before .before .before .before .before .before .loop .k) (c .before .before .before .mark-of .result)
-      (c .before .before .before .before .before .before .loop .marks) (inside-here (c .before .before .before))
-      (place-here (c .before .before .before)) (c .before .before .before .before .before .before .loop .inv .2),
-  all-more _ _ (c .before .before .before .before .before .before .loop .inv .3)
-      (sym (c .before .new-by-mark .ensures) ∙ not-false _ (c .if1 .left)),
-)
+loop-again c =
+    let at-mark-of = c .before .before .before in
+    let the-loop = at-mark-of .before .before .before in
+    let the-start = the-loop .before .before in (
+      omega arith,
+      simp length-set (the-loop .loop .inv .1),
+      left-more markOf (strideAt (the-start .args .t .now) (the-start .args .at) (the-start .args .step))
+          (the-loop .loop .k) (at-mark-of .mark-of .result) (the-loop .loop .marks) (inside-here at-mark-of)
+          (place-here at-mark-of) (the-loop .loop .inv .2),
+      all-more _ _ (the-loop .loop .inv .3) (sym (c .before .new-by-mark .ensures) ∙ not-false _ (c .if1 .left)),
+    )
 
 same-length-2 : tie.Need-same-length-2 Inv-loop μ-loop
 same-length-2 c = c .before .loop .inv .1 ∙ sym (c .before .before .before .pre .1)

@@ -36,12 +36,13 @@ inside-here c = rw (c .before .before .before .loop .inv .1, place-here c)
     (c .before .before .before .before .before .pre .1 (c .before .before .before .loop .k) (c .before .before .loop-test .taken))
 
 new-by-mark-requires : tie.Need-new-by-mark-requires Inv-loop μ-loop
-new-by-mark-requires c κs = (
-  (c .before .before .before .before .before .before .pre .0, c .before .before .before .loop-test .taken),
-  λ e. new-unmarked countOf (strideAt (c .before .before .before .before .before .before .args .t .now)
-      (c .before .before .before .before .before .before .args .at) (c .before .before .before .before .before .before .args .step)) _ _ _
-      (c .before .before .before .before .loop .inv .2) (place-here (c .before)) e,
-)
+new-by-mark-requires c κs =
+    let at-loop-test = c .before .before .before in
+    let start = at-loop-test .before .before .before in (
+      (start .pre .0, at-loop-test .loop-test .taken),
+      λ e. new-unmarked countOf (strideAt (start .args .t .now) (start .args .at) (start .args .step)) _ _ _
+          (at-loop-test .before .loop .inv .2) (place-here (c .before)) e,
+    )
 
 same-length : tie.Need-same-length Inv-loop μ-loop
 same-length c = c .before .before .before .before .before .before .loop .inv .1
@@ -52,18 +53,17 @@ returns c = sym (all-fails _ _ (c .before .before .before .before .before .befor
     (sym (c .before .new-by-mark .ensures) ∙ not-true _ (c .if1 .taken)))
 
 loop-again : tie.Need-loop-again Inv-loop μ-loop
-loop-again c = (
-  omega arith,
-  simp length-set (c .before .before .before .before .before .before .loop .inv .1),
-  left-more countOf (strideAt (c .before .before .before .before .before .before .before .before .args .t .now)
-      (c .before .before .before .before .before .before .before .before .args .at)
-      (c .before .before .before .before .before .before .before .before .args .step))
-      (c .before .before .before .before .before .before .loop .k) (c .before .before .before .count-of .result)
-      (c .before .before .before .before .before .before .loop .marks) (inside-here (c .before .before .before))
-      (place-here (c .before .before .before)) (c .before .before .before .before .before .before .loop .inv .2),
-  all-more _ _ (c .before .before .before .before .before .before .loop .inv .3)
-      (sym (c .before .new-by-mark .ensures) ∙ not-false _ (c .if1 .left)),
-)
+loop-again c =
+    let at-count-of = c .before .before .before in
+    let at-loop = at-count-of .before .before .before in
+    let the-start = at-loop .before .before in (
+      omega arith,
+      simp length-set (at-loop .loop .inv .1),
+      left-more countOf (strideAt (the-start .args .t .now) (the-start .args .at) (the-start .args .step))
+          (at-loop .loop .k) (at-count-of .count-of .result) (at-loop .loop .marks) (inside-here at-count-of)
+          (place-here at-count-of) (at-loop .loop .inv .2),
+      all-more _ _ (at-loop .loop .inv .3) (sym (c .before .new-by-mark .ensures) ∙ not-false _ (c .if1 .left)),
+    )
 
 same-length-2 : tie.Need-same-length-2 Inv-loop μ-loop
 same-length-2 c = c .before .loop .inv .1

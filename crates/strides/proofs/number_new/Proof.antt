@@ -38,9 +38,10 @@ here c =
 
 returns : tie.Need-returns Inv-loop μ-loop
 unfolding numberNew
-returns c = sym (all-fails (unlike (strideAt (c .before .before .before .before .before .before .args .t .now)
-    (c .before .before .before .before .before .before .args .at) (c .before .before .before .before .before .before .args .step))
-    (c .before .before .before .before .before .before .args .k)) _ (c .before .before .before .before .loop .j) (omega arith)
+returns c =
+    let at-loop = c .before .before .before .before in
+    let args = at-loop .before .before .args in
+    sym (all-fails (unlike (strideAt (args .t .now) (args .at) (args .step)) (args .k)) _ (at-loop .loop .j) (omega arith)
     (ap not (sym (here (c .before)) ∙ c .if1 .taken)))
 
 loop-again : tie.Need-loop-again Inv-loop μ-loop
