@@ -21,13 +21,13 @@ use Rattle.sound.specs.rule.Rows.{rowsOf, lengthOf}
 use Rattle.records.specs.Tables.{table-ready}
 use Rattle.files.specs.rule.File.{FileVerdict, fileVerdict, recordsVerdict}
 use Rattle.files.specs.rule.Tested.{Tested}
-use Rattle.files.specs.Tested.{tested-rows, tested-length}
+use Rattle.files.specs.Tested.{tested-rows}
 use Rattle.sink.specs.rule.Sent.{Sent}
 use Rattle.sink.specs.Sent.{sets-front}
 use Rattle.commas.specs.rule.Csv.{lineBytes, textBytes}
 use Rattle.name_line.specs.rule.Names.{nameLine}
 use Rattle.record_lines.specs.rule.Lines.{before, linesOf}
-use Rattle.record_lines.specs.Lines.{Long, verdict-long}
+use Rattle.record_lines.specs.Lines.{SoundFirst, verdict-sound}
 use Rattle.exports.specs.rule.Text.{linesWith, exportLines, exportText, ExportVerdict, refused, written, fitted, outputAfter}
 
 -- the text of the names and the first n records
@@ -48,17 +48,17 @@ unfolding linesWith textBytes
 names-and g def n rs = rw (tested-rows g)
 
 -- ---- the records before the first fault
-pub before-long : (t : List ℤ) (d : List ℕ) → wellFormed t ≡ true → Long (lengthOf t) (before (fileVerdict t d)) (recordsOf d)
+pub before-sound : (t : List ℤ) (d : List ℕ) → wellFormed t ≡ true → SoundFirst t (before (fileVerdict t d)) (recordsOf d)
 unfolding fileVerdict
-before-long t d g =
+before-sound t d g =
     let n = before (recordsVerdict t 0 0 (recordsOf d)) in
     let e : n - 0 ≡ n = omega arith in
-    rw g (rw e at (verdict-long t (recordsOf d) 0 0 .1))
+    rw g (rw e at (verdict-sound t (recordsOf d) 0 0 .1))
 
 -- so many records as come before the fault that was told
 module _ (t : List ℤ) (d : List ℕ) {n : ℕ} {v : FileVerdict} (e : n ≡ before v) (f : v ≡ fileVerdict t d) where
-  pub told-long : {h : Header} → Tested t h → Long (h .length) n (recordsOf d)
-  told-long g = rw (tested-length g, e, f) (before-long t d (g .good))
+  pub told-sound : {h : Header} → Tested t h → SoundFirst t n (recordsOf d)
+  told-sound g = rw (e, f) (before-sound t d (g .good))
 
   pub told-text : (def : List ℕ) → textWith def t n (recordsOf d) ≡ exportText def t d
   unfolding exportText exportLines

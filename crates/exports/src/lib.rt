@@ -14,7 +14,7 @@ ghost use Rattle.files.specs.rule.File.{fileSaid, fileVerdict};
 ghost use Rattle.files.specs.rule.Tested.{Tested};
 ghost use Rattle.listing.specs.rule.Turns.{Ready};
 ghost use Rattle.sink.specs.rule.Sent.{Sent};
-ghost use Rattle.record_lines.specs.Lines.{Long};
+ghost use Rattle.record_lines.specs.Lines.{SoundFirst};
 ghost use Rattle.exports.specs.rule.Text.{exportText, exportSaid, fitted, outputAfter};
 ghost use Rattle.exports.specs.rule.Export.{Exported};
 ghost use Rattle.exports.specs.Sizes.{textWith};
@@ -49,7 +49,7 @@ fn send_all(
 ) -> usize
     requires { ⌜ Classes (now classes) ⌝ }
     requires { ⌜ Ready (now powers) (now t) h (length (now list)) ⌝ }
-    requires { ⌜ Found (now d) w × Long (h .length) n (recordsOf (now d)) ⌝ }
+    requires { ⌜ Found (now d) w × SoundFirst (now t) n (recordsOf (now d)) ⌝ }
     ensures { λ r. ⌜ Sent bound (now (out .entry)) 0 (textWith (now (def .entry)) (now (t .entry)) n (recordsOf (now (d .entry))))
         (now (out .exit)) r ⌝ }
 {
@@ -72,7 +72,7 @@ fn fits(
 ) -> bool
     requires { ⌜ Classes (now classes) ⌝ }
     requires { ⌜ Ready (now powers) (now t) h (length (now list)) ⌝ }
-    requires { ⌜ Found (now d) w × Long (h .length) n (recordsOf (now d)) ⌝ }
+    requires { ⌜ Found (now d) w × SoundFirst (now t) n (recordsOf (now d)) ⌝ }
     requires { ⌜ room < 9223372036854775808 ⌝ }
     ensures { λ r. ⌜ r ≡ leb (length (textWith (now (def .entry)) (now (t .entry)) n (recordsOf (now (d .entry))))) room ⌝ }
 {
@@ -104,7 +104,7 @@ fn write(
 ) -> usize
     requires { ⌜ Classes (now classes) ⌝ }
     requires { ⌜ Ready (now powers) (now t) h (length (now list)) ⌝ }
-    requires { ⌜ Found (now d) w × Long (h .length) n (recordsOf (now d)) ⌝ }
+    requires { ⌜ Found (now d) w × SoundFirst (now t) n (recordsOf (now d)) ⌝ }
     requires { ⌜ length (textWith (now def) (now t) n (recordsOf (now d))) ≤ length (now out) ⌝ }
     ensures { λ r. ⌜ (r ≡ length (textWith (now (def .entry)) (now (t .entry)) n (recordsOf (now (d .entry)))))
         × (now (out .exit) ≡ textWith (now (def .entry)) (now (t .entry)) n (recordsOf (now (d .entry)))

@@ -45,7 +45,6 @@ use Rattle.commas.specs.Csv.{field-plain, commaBefore, lineLeft, left-line}
 use Rattle.value_fields.specs.rule.Values.{amountText, numberText, codesBehind, setText, valueText, fieldText, decimalsOf, rowField}
 use Rattle.value_fields.specs.Plain.{number-plain, set-plain, truth-plain}
 use Rattle.record_lines.specs.rule.Lines.{recordLine, linesOf}
-use Rattle.record_lines.specs.Lines.{Long}
 
 -- ---- the most bytes of a field, by its row
 unfoldable pub mostBy : Kind → ℕ → ℕ

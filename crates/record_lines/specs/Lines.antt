@@ -1,8 +1,10 @@
 -- What follows from rule/Lines.antt, and what the code keeps.
 use mathlib.Core.Path.{_≡_, refl, sym, ap, _∙_}
+use mathlib.Core.Logic.{⊎-elim}
 use mathlib.Core.Bool.{Bool, true, false, cond}
 use mathlib.Core.List.{List, [], _∷_, _++_}
 use Prim.Native.Nat.{ℕ, zero, suc, _+_, _-_, _≤_, _<_}
+use native.Mathlib.Nat.{eq-or-lt-of-le}
 use native.Mathlib.Omega.{arith}
 use borrow.Author.Tests.{leb-true}
 use lib.Dec.{eqb, leb}
@@ -11,7 +13,12 @@ use lib.ListN.{length}
 use Rattle.below.specs.Below.{holds-not}
 use Rattle.sound.specs.rule.Rows.{rowsOf, lengthOf}
 use Rattle.cuts.specs.rule.Records.{Records, over, unended, record-and}
-use Rattle.records.specs.rule.Verdict.{Verdict, sound, refused, lowByte, badField, rowsVerdict}
+use Rattle.sets.specs.rule.Sets.{isIllegal}
+use Rattle.records.specs.declared.Found.{Found}
+use Rattle.records.specs.declared.Found.the-variants.{At, Nothing}
+use Rattle.records.specs.rule.First.{firstFrom, badRow, rowFault}
+use Rattle.records.specs.rule.Value.{readingAt}
+use Rattle.records.specs.rule.Verdict.{Verdict, sound, refused, lowByte, badField, rowVerdict, byteVerdict, rowsVerdict}
 use Rattle.files.specs.rule.File.{FileVerdict, soundWith, badTable, faultIn, recordVerdict, goOn, firstLength, recordsVerdict, isSound}
 use Rattle.files.specs.rule.Tested.{Tested}
 use Rattle.files.specs.Tested.{tested-rows}
@@ -21,12 +28,17 @@ use Rattle.commas.specs.Csv.{lineLeft, left-line}
 use Rattle.value_fields.specs.rule.Values.{rowField}
 use Rattle.record_lines.specs.rule.Lines.{before, recordLine, linesOf}
 
--- the first n records have at least l bytes each
-unfoldable pub Long : ℕ → ℕ → Records → Type 0
-Long l zero rs = Unit
-Long l (suc n) over = Unit
-Long l (suc n) (unended r) = Unit
-Long l (suc n) (record-and r rs) = (l ≤ length r) × Long l n rs
+-- a record that is long enough, and in which every row is legal
+pub record SoundRecord (t : List ℤ) (r : List ℕ) : Type 0 where
+  pub long : lengthOf t ≤ length r
+  pub legal : (i : ℕ) → i < rowsOf t → isIllegal (readingAt t i r) ≡ false
+
+-- the first n records are
+unfoldable pub SoundFirst : List ℤ → ℕ → Records → Type 0
+SoundFirst t zero rs = Unit
+SoundFirst t (suc n) over = Unit
+SoundFirst t (suc n) (unended r) = Unit
+SoundFirst t (suc n) (record-and r rs) = SoundRecord t r × SoundFirst t n rs
 
 -- ---- a line from its first field on
 pub line-whole : {t : List ℤ} {h : Header} → Tested t h → (bytes : List ℕ) → lineBytes (recordLine t bytes)
@@ -41,9 +53,10 @@ module _ (k : ℕ) (some : 0 < k) where
   less : k ≡ suc (k - 1)
   less = omega arith
 
-  pub long-next : {l : ℕ} {rs us : Records} {r : List ℕ} → rs ≡ record-and r us → Long l k rs → (l ≤ length r) × Long l (k - 1) us
-  unfolding Long
-  long-next e h = rw (e, less) at h
+  pub sound-next : {t : List ℤ} {rs us : Records} {r : List ℕ} → rs ≡ record-and r us → SoundFirst t k rs
+      → SoundRecord t r × SoundFirst t (k - 1) us
+  unfolding SoundFirst
+  sound-next e h = rw (e, less) at h
 
   pub lines-next : (t : List ℤ) {rs us : Records} {r : List ℕ} → rs ≡ record-and r us
       → textBytes (linesOf t k rs) ≡ lineBytes (recordLine t r) ++ textBytes (linesOf t (k - 1) us)
@@ -62,41 +75,66 @@ pub lines-none : (k : ℕ) (t : List ℤ) (rs : Records) → k ≡ 0 → textByt
 unfolding linesOf textBytes
 lines-none k t rs e = rw e
 
--- ---- THE RECORDS BEFORE THE FIRST FAULT are long enough
-sound-here : (t : List ℤ) (first : ℕ) (r : List ℕ) → isSound (recordVerdict t first r) ≡ true → lengthOf t ≤ length r
-unfolding recordVerdict isSound
-sound-here t first r e = go (eqb (length r) first) (leb (lengthOf t) (length r)) refl e
+-- ---- THE RECORDS BEFORE THE FIRST FAULT are sound
+-- where no number passes a test, each fails it
+none-found : (f : ℕ → Bool) (n i : ℕ) → firstFrom f i n ≡ Nothing → (j : ℕ) → i ≤ j → j < i + n → f j ≡ false
+unfolding firstFrom
+none-found f zero i e j a b = absurd (omega arith)
+none-found f (suc n) i e j a b = go (f i) refl e (λ q. none-found f n (suc i) q)
   where
-    go : (p q : Bool) → leb (lengthOf t) (length r) ≡ q
-        → isSound (cond p (cond q (rowsVerdict t (rowsOf t) r) (refused 22)) (refused 31)) ≡ true → lengthOf t ≤ length r
-    go true true b g = leb-true (lengthOf t) (length r) b
-    go true false b g = holds-not g refl
-    go false q b g = holds-not g refl
+    go : (c : Bool) → f i ≡ c → cond c (At i) (firstFrom f (suc i) n) ≡ Nothing
+        → (firstFrom f (suc i) n ≡ Nothing → (j : ℕ) → suc i ≤ j → j < suc i + n → f j ≡ false) → f j ≡ false
+    go true q p ih = let z : _≡_ {A = ℕ} 0 1 = cc in absurd (omega arith)
+    go false q p ih = ⊎-elim (λ s. ap f (sym s) ∙ q) (λ l. ih p j l (omega arith)) (eq-or-lt-of-le a)
 
-none-left : (l m : ℕ) (rs : Records) → m ≡ 0 → Long l m rs
-unfolding Long
-none-left l m rs e = rw e tt
+-- a record whose judgement found no fault
+module _ (t : List ℤ) (r : List ℕ) where
+  rows-legal : (b : Found) (f : Found) → firstFrom (badRow t (rowsOf t) r) 0 (rowsOf t) ≡ f
+      → isSound (byteVerdict b (rowVerdict (rowFault t (rowsOf t) r) f)) ≡ true
+      → (i : ℕ) → i < rowsOf t → isIllegal (readingAt t i r) ≡ false
+  unfolding byteVerdict rowVerdict isSound
+  rows-legal (At p) f e g = holds-not g refl
+  rows-legal Nothing (At i) e g = holds-not g refl
+  rows-legal Nothing Nothing e g = λ i h. none-found (badRow t (rowsOf t) r) (rowsOf t) 0 e i (omega arith) (omega arith)
 
-pub verdict-long : (t : List ℤ) (rs : Records) (n first : ℕ)
-    → (n ≤ before (recordsVerdict t n first rs)) × Long (lengthOf t) (before (recordsVerdict t n first rs) - n) rs
-unfolding recordsVerdict before goOn isSound Long
-verdict-long t over n first = (omega arith, none-left (lengthOf t) (n - n) over (omega arith))
-verdict-long t (unended r) n first = (omega arith, none-left (lengthOf t) (n + 1 - 1 - n) (unended r) (omega arith))
-verdict-long t (record-and r rs) n first =
+  legal-rows : isSound (rowsVerdict t (rowsOf t) r) ≡ true → (i : ℕ) → i < rowsOf t → isIllegal (readingAt t i r) ≡ false
+  unfolding rowsVerdict
+  legal-rows g = rows-legal _ (firstFrom (badRow t (rowsOf t) r) 0 (rowsOf t)) refl g
+
+  sound-here : (first : ℕ) → isSound (recordVerdict t first r) ≡ true → SoundRecord t r
+  unfolding recordVerdict isSound
+  sound-here first e = go (eqb (length r) first) (leb (lengthOf t) (length r)) refl e
+    where
+      go : (p q : Bool) → leb (lengthOf t) (length r) ≡ q
+          → isSound (cond p (cond q (rowsVerdict t (rowsOf t) r) (refused 22)) (refused 31)) ≡ true → SoundRecord t r
+      go true true b g = record { long = leb-true (lengthOf t) (length r) b; legal = legal-rows g }
+      go true false b g = holds-not g refl
+      go false q b g = holds-not g refl
+
+none-left : (t : List ℤ) (m : ℕ) (rs : Records) → m ≡ 0 → SoundFirst t m rs
+unfolding SoundFirst
+none-left t m rs e = rw e tt
+
+pub verdict-sound : (t : List ℤ) (rs : Records) (n first : ℕ)
+    → (n ≤ before (recordsVerdict t n first rs)) × SoundFirst t (before (recordsVerdict t n first rs) - n) rs
+unfolding recordsVerdict before goOn isSound SoundFirst
+verdict-sound t over n first = (omega arith, none-left t (n - n) over (omega arith))
+verdict-sound t (unended r) n first = (omega arith, none-left t (n + 1 - 1 - n) (unended r) (omega arith))
+verdict-sound t (record-and r rs) n first =
     let f = firstLength n first (length r) in
-    go (recordVerdict t f r) (recordsVerdict t (n + 1) f rs) refl (verdict-long t rs (n + 1) f)
+    go (recordVerdict t f r) (recordsVerdict t (n + 1) f rs) refl (verdict-sound t rs (n + 1) f)
   where
-    stop : (m : ℕ) → m ≡ n + 1 - 1 → (n ≤ m) × Long (lengthOf t) (m - n) (record-and r rs)
-    stop m e = (omega arith, none-left (lengthOf t) (m - n) (record-and r rs) (omega arith))
+    stop : (m : ℕ) → m ≡ n + 1 - 1 → (n ≤ m) × SoundFirst t (m - n) (record-and r rs)
+    stop m e = (omega arith, none-left t (m - n) (record-and r rs) (omega arith))
 
-    step : (b : ℕ) → lengthOf t ≤ length r → (n + 1 ≤ b) × Long (lengthOf t) (b - (n + 1)) rs → (n ≤ b)
-        × Long (lengthOf t) (b - n) (record-and r rs)
+    step : (b : ℕ) → SoundRecord t r → (n + 1 ≤ b) × SoundFirst t (b - (n + 1)) rs → (n ≤ b)
+        × SoundFirst t (b - n) (record-and r rs)
     step b l h = let e : b - n ≡ suc (b - (n + 1)) = omega (arith, h .0) in (omega (arith, h .0), rw e (l, h .1))
 
     go : (v : Verdict) (rest : FileVerdict) → recordVerdict t (firstLength n first (length r)) r ≡ v
-        → (n + 1 ≤ before rest) × Long (lengthOf t) (before rest - (n + 1)) rs
-        → (n ≤ before (goOn v n rest)) × Long (lengthOf t) (before (goOn v n rest) - n) (record-and r rs)
-    go sound rest e h = step (before rest) (sound-here t (firstLength n first (length r)) r (ap isSound e)) h
+        → (n + 1 ≤ before rest) × SoundFirst t (before rest - (n + 1)) rs
+        → (n ≤ before (goOn v n rest)) × SoundFirst t (before (goOn v n rest) - n) (record-and r rs)
+    go sound rest e h = step (before rest) (sound-here t r (firstLength n first (length r)) (ap isSound e)) h
     go (refused k) rest e h = stop (n + 1 - 1) refl
     go (lowByte p) rest e h = stop (n + 1 - 1) refl
     go (badField i x) rest e h = stop (n + 1 - 1) refl

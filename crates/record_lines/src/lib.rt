@@ -7,8 +7,9 @@ ghost use Rattle.files.specs.rule.File.{fileSaid};
 ghost use Rattle.listing.specs.rule.Turns.{Ready};
 ghost use Rattle.commas.specs.rule.Csv.{lineBytes, textBytes};
 ghost use Rattle.sink.specs.rule.Sent.{Sent};
+ghost use Rattle.value_fields.specs.Legal.{Full};
 ghost use Rattle.record_lines.specs.rule.Lines.{before, recordLine, linesOf};
-ghost use Rattle.record_lines.specs.Lines.{Long};
+ghost use Rattle.record_lines.specs.Lines.{SoundRecord, SoundFirst};
 use cuts::Next;
 use cuts::Terminator;
 use files::Judgement;
@@ -34,11 +35,12 @@ pub fn count_before(j: Judgement) -> usize
     }
 }
 
-// The line of a record: a field for each row.
+// The line of a record that is sound: a field for each row. `full` marks the rows that have every category from 1 to w.
 pub fn send_line(
     powers: &[u64; 16],
     t: &[i64],
     h: Header,
+    full: &[u8; 512],
     bytes: &[u8],
     list: &mut [i64],
     bound: usize,
@@ -46,20 +48,21 @@ pub fn send_line(
     at: usize,
 ) -> usize
     requires { ⌜ Ready (now powers) (now t) h (length (now list)) ⌝ }
-    requires { ⌜ h .length ≤ length (now bytes) ⌝ }
+    requires { ⌜ Full (now t) (h .rows) (h .rows) (now full) ⌝ }
+    requires { ⌜ SoundRecord (now t) (now bytes) ⌝ }
     ensures { λ r. ⌜ Sent bound (now (out .entry)) at (lineBytes (recordLine (now (t .entry)) (now (bytes .entry)))) (now (out .exit)) r ⌝ }
 {
     let mut end = at;
     let mut i: usize = 0;
     while i < h.rows {
         end = commas::send_comma(bound, out, end, i);
-        end = value_fields::send_row(powers, t, h, i, bytes, list, bound, out, end);
+        end = value_fields::send_row(powers, t, h, full, i, bytes, list, bound, out, end);
         i += 1;
     }
     commas::send_end(bound, out, end)
 }
 
-// The lines of the first n records of some data, which are long enough.
+// The lines of the first n records of some data, which are sound.
 pub fn send_lines(
     powers: &[u64; 16],
     t: &[i64],
@@ -73,11 +76,13 @@ pub fn send_lines(
     at: usize,
 ) -> usize
     requires { ⌜ Ready (now powers) (now t) h (length (now list)) ⌝ }
-    requires { ⌜ (w .size ≤ 2) × Long (h .length) n (recordsFrom w (now d)) ⌝ }
+    requires { ⌜ (w .size ≤ 2) × SoundFirst (now t) n (recordsFrom w (now d)) ⌝ }
     ensures { λ r. ⌜ Sent bound (now (out .entry)) at (textBytes (linesOf (now (t .entry)) n (recordsFrom w (now (d .entry)))))
         (now (out .exit)) r ⌝ }
 {
     let mut end = at;
+    let mut full = [0u8; 512];
+    value_fields::mark_full(t, h, &mut full);
     let mut from: usize = 0;
     let mut k = n;
     while 0 < k {
@@ -87,7 +92,7 @@ pub fn send_lines(
                 end: stop,
                 next,
             } => {
-                end = send_line(powers, t, h, &d[start..stop], list, bound, out, end);
+                end = send_line(powers, t, h, &full, &d[start..stop], list, bound, out, end);
                 from = next;
                 k -= 1;
             }

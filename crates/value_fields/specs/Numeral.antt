@@ -1,5 +1,5 @@
 -- A count in its digits: the last is what ten leaves, those before it are the rest's. Import reads codes by it.
-use mathlib.Core.Path.{_≡_, ap}
+use mathlib.Core.Path.{_≡_, ap, _∙_}
 use mathlib.Core.List.{[], _∷_, _++_}
 use Prim.Native.Nat.{ℕ, zero, suc, _+_, _*_, _/_, _%_, _^_, _≤_, _<_}
 use native.Mathlib.Nat.{pow-succ'}
@@ -37,3 +37,13 @@ numeral-one n h =
     let e : digitsOf n ≡ 1 = omega (arith, digits-some n, digits-least n 1 (omega arith) (omega arith)) in
     let d : n / 1 % 10 ≡ n = omega arith in
     rw e (ap (λ (x : ℕ). (48 + x) ∷ []) d)
+
+-- how many digits a small count has
+pub digits-one : (n : ℕ) → n < 10 → digitsOf n ≡ 1
+digits-one n h = omega (arith, digits-some n, digits-least n 1 (omega arith) (omega arith))
+
+pub digits-two : (n : ℕ) → 10 ≤ n → n < 100 → digitsOf n ≡ 2
+digits-two n l h = digits-more n l (omega arith) ∙ ap suc (digits-one (n / 10) (omega arith))
+
+pub digits-three : (n : ℕ) → 100 ≤ n → n < 1000 → digitsOf n ≡ 3
+digits-three n l h = digits-more n (omega arith) (omega arith) ∙ ap suc (digits-two (n / 10) (omega arith) (omega arith))

@@ -2,22 +2,45 @@
 // it
 // stands the export of a file.
 ghost use mathlib.Core.Path.{_≡_};
-ghost use mathlib.Core.Bool.{false, cond};
-ghost use Prim.Native.Nat.{_+_, _^_, _≤_, _<_};
+ghost use mathlib.Core.Bool.{Bool, true, false, cond};
+ghost use mathlib.Core.List.{[], _∷_};
+ghost use Prim.Native.Nat.{_+_, _-_, _^_, _≤_, _<_};
+ghost use lib.Dec.{eqb};
+ghost use lib.IntN.{ℤ};
 ghost use lib.ListN.{length, take, drop};
 ghost use Rattle.ascii.specs.rule.Tens.{Tens};
 ghost use Rattle.cells.specs.rule.Cell.{signedOf};
-ghost use Rattle.fields.specs.rule.Number.{padded};
+ghost use Rattle.places.specs.rule.Places.{pick, run};
+ghost use Rattle.layout.specs.declared.Kind.the-variants.{Multiple};
+ghost use Rattle.layout.specs.declared.Spread.the-variants.{Fields};
+ghost use Rattle.layout.specs.rule.Row.{rowAt};
+ghost use Rattle.fields.specs.Facts.{LineFacts};
+ghost use Rattle.fields.specs.rule.Field.{unended, singleField, quantityField, textField, truthField};
+ghost use Rattle.fields.specs.rule.Number.{padded, allSpaces, codeOf, quantityOf};
+ghost use Rattle.numbers.specs.Numeral.{saidOf};
+ghost use Rattle.numbers.specs.rule.Format.{FormatFacts};
+ghost use Rattle.sets.specs.rule.Sets.{isIllegal};
+ghost use Rattle.sets.specs.Full.{EachLegal};
+ghost use Rattle.readings.specs.Answer.{numeralField};
+ghost use Rattle.records.specs.rule.Value.{readingAt};
+ghost use Rattle.files.specs.rule.Tested.{Tested};
 ghost use Rattle.lines.specs.rule.Text.{numeral};
 ghost use Rattle.lines.specs.Lines.{Codes, Listable, valueOf};
 ghost use Rattle.listing.specs.rule.Turns.{Ready};
 ghost use Rattle.commas.specs.rule.Csv.{fieldBytes};
 ghost use Rattle.sink.specs.rule.Sent.{Sent};
-ghost use Rattle.value_fields.specs.rule.Values.{amountText, numberText, codesBehind, setText, valueText, decimalsOf, rowField};
+ghost use Rattle.value_fields.specs.rule.Values.{amountText, numberText, codesBehind, setText, valueText, fieldText, decimalsOf};
+ghost use Rattle.value_fields.specs.rule.Values.{rowField};
+ghost use Rattle.value_fields.specs.Ends.{SpacesFrom, EndsAt};
+ghost use Rattle.value_fields.specs.Legal.{Told, bitsFrom, eachField, FirstSet, Full};
+use layout::Format;
 use layout::Header;
 use layout::Kind;
 use layout::Row;
+use layout::Spread;
+use numbers::Numeral;
 use readings::Answer;
+use sets::SetRead;
 
 // The last w digits of n. Where they are only measured, none is made.
 fn send_digits(
@@ -52,6 +75,15 @@ fn send_count(powers: &[u64; 16], bound: usize, out: &mut [u8], at: usize, n: u6
     requires { ⌜ n < 10 ^ 16 ⌝ }
     ensures { λ r. ⌜ Sent bound (now (out .entry)) at (numeral n) (now (out .exit)) r ⌝ }
 {
+    if n < 10 {
+        return send_digits(powers, bound, out, at, 1, n);
+    }
+    if n < 100 {
+        return send_digits(powers, bound, out, at, 2, n);
+    }
+    if n < 1000 {
+        return send_digits(powers, bound, out, at, 3, n);
+    }
     let w = ascii::digit_count(powers, n);
     send_digits(powers, bound, out, at, w, n)
 }
@@ -211,8 +243,252 @@ pub fn decimals(k: Kind) -> usize
     }
 }
 
-// The field of row i for a record.
-pub fn send_row(
+// What the bytes of a number say, in a field that is legal, with k decimals. Zero is missing for a SINGLE and a number for a quantity.
+fn send_said(
+    powers: &[u64; 16],
+    bound: usize,
+    out: &mut [u8],
+    at: usize,
+    k: usize,
+    said: Numeral,
+    zero_is_missing: bool,
+) -> usize
+    requires { ⌜ Tens (now powers) ⌝ }
+    requires { ⌜ Told (saidOf said) × (k ≤ 9) ⌝ }
+    ensures { λ r. ⌜ ((ok : ℤ → Bool) → isIllegal (numeralField «zero_is_missing» ok (saidOf said)) ≡ false
+        → Sent bound (now (out .entry)) at (fieldBytes (fieldText k (numeralField «zero_is_missing» ok (saidOf said)))) (now (out .exit))
+        r) ⌝ }
+{
+    match said {
+        Numeral::Blank => at,
+        Numeral::Says(z) => {
+            if zero_is_missing & cells::same(z, 0) {
+                return at;
+            }
+            send_number(powers, bound, out, at, k, z)
+        }
+        Numeral::Wrong => at,
+    }
+}
+
+// A SINGLE that is legal: its w bytes end before the place e.
+fn send_single(
+    powers: &[u64; 16],
+    bound: usize,
+    out: &mut [u8],
+    at: usize,
+    bytes: &[u8],
+    e: usize,
+    w: usize,
+) -> usize
+    requires { ⌜ Tens (now powers) ⌝ }
+    requires { ⌜ (w ≤ 17) × (w ≤ e) × (e ≤ length (now bytes)) ⌝ }
+    requires { ⌜ Told (codeOf (pick (now bytes) (run (e - w) w))) ⌝ }
+    ensures { λ r. ⌜ ((ok : ℤ → Bool) → isIllegal (singleField ok (pick (now (bytes .entry)) (run (e - w) w))) ≡ false
+        → Sent bound (now (out .entry)) at (fieldBytes (fieldText 0 (singleField ok (pick (now (bytes .entry)) (run (e - w) w)))))
+        (now (out .exit)) r) ⌝ }
+{
+    let a = e - w;
+    send_said(powers, bound, out, at, 0, numbers::code(&bytes[a..e]), true)
+}
+
+// A quantity that is legal.
+fn send_quantity(
+    powers: &[u64; 16],
+    bound: usize,
+    out: &mut [u8],
+    at: usize,
+    f: Format,
+    bytes: &[u8],
+    e: usize,
+    w: usize,
+) -> usize
+    requires { ⌜ Tens (now powers) ⌝ }
+    requires { ⌜ (w ≤ 17) × (w ≤ e) × (e ≤ length (now bytes)) ⌝ }
+    requires { ⌜ FormatFacts f × Told (quantityOf f (pick (now bytes) (run (e - w) w))) ⌝ }
+    ensures { λ r. ⌜ ((ok : ℤ → Bool) → isIllegal (quantityField f ok (pick (now (bytes .entry)) (run (e - w) w))) ≡ false
+        → Sent bound (now (out .entry)) at
+        (fieldBytes (fieldText (f .decimals) (quantityField f ok (pick (now (bytes .entry)) (run (e - w) w))))) (now (out .exit)) r) ⌝ }
+{
+    let a = e - w;
+    let k = f.decimals;
+    send_said(
+        powers,
+        bound,
+        out,
+        at,
+        k,
+        numbers::quantity(f, &bytes[a..e]),
+        false,
+    )
+}
+
+// Whether the eight bytes from i on are spaces. Nothing leaves the loop early: so the compiler looks at all of them at once.
+fn eight_spaces(s: &[u8], i: usize) -> bool
+    requires { ⌜ i + 8 ≤ length (now s) ⌝ }
+    ensures { λ r. ⌜ (r ≡ true → SpacesFrom (now (s .entry)) i 8) ⌝ }
+{
+    let mut all = true;
+    let mut k: usize = 0;
+    while k < 8 {
+        all = all & (s[i + k] == 32);
+        k += 1;
+    }
+    all
+}
+
+// How many bytes are left without spaces at the end, which are taken away eight at a time.
+fn kept_eights(s: &[u8]) -> usize
+    ensures { λ r. ⌜ EndsAt (now (s .entry)) r ⌝ }
+{
+    let mut n = s.len();
+    while 8 <= n {
+        let k = n - 8;
+        if !eight_spaces(s, k) {
+            return n;
+        }
+        n = k;
+    }
+    n
+}
+
+// How many bytes are left without the spaces at the end: as `letters::read_text` finds it, but eight at a time first.
+fn kept_bytes(s: &[u8]) -> usize
+    ensures { λ r. ⌜ (r ≤ length (now (s .entry))) × (unended (now (s .entry)) ≡ take r (now (s .entry)))
+        × (allSpaces (now (s .entry)) ≡ eqb r 0) ⌝ }
+{
+    let mut n = kept_eights(s);
+    while 0 < n {
+        let k = n - 1;
+        if s[k] != 32 {
+            return n;
+        }
+        n = k;
+    }
+    n
+}
+
+// A text that is legal, in the w bytes from the place p on.
+fn send_words(bound: usize, out: &mut [u8], at: usize, bytes: &[u8], p: usize, w: usize) -> usize
+    requires { ⌜ (w ≤ 4096) × (p + w ≤ length (now bytes)) ⌝ }
+    requires { ⌜ isIllegal (textField (pick (now bytes) (run p w))) ≡ false ⌝ }
+    ensures { λ r. ⌜ Sent bound (now (out .entry)) at (fieldBytes (fieldText 0 (textField (pick (now (bytes .entry)) (run p w)))))
+        (now (out .exit)) r ⌝ }
+{
+    let e = p + w;
+    let n = kept_bytes(&bytes[p..e]);
+    send_text(bound, out, at, bytes, p, n)
+}
+
+// A truth that is legal: its byte as it stands.
+fn send_truth(bound: usize, out: &mut [u8], at: usize, b: u8) -> usize
+    requires { ⌜ isIllegal (truthField (b ∷ [])) ≡ false ⌝ }
+    ensures { λ r. ⌜ Sent bound (now (out .entry)) at (fieldBytes (fieldText 0 (truthField (b ∷ [])))) (now (out .exit)) r ⌝ }
+{
+    if b == 32 {
+        return at;
+    }
+    sink::send_byte(bound, out, at, b)
+}
+
+// The place of the first `1` of a bitstring of w bytes; w where there is none.
+fn first_set(bytes: &[u8], p: usize, w: usize) -> usize
+    requires { ⌜ p + w ≤ length (now bytes) ⌝ }
+    ensures { λ r. ⌜ FirstSet w (now (bytes .entry)) p r ⌝ }
+{
+    let mut i: usize = 0;
+    while i < w {
+        if bytes[p + i] == 49 {
+            return i;
+        }
+        i += 1;
+    }
+    i
+}
+
+// From byte c of a bitstring on, all of whose categories are defined, those that are set, each behind a semicolon.
+fn send_set_bits(
+    powers: &[u64; 16],
+    bound: usize,
+    out: &mut [u8],
+    at: usize,
+    bytes: &[u8],
+    p: usize,
+    c: usize,
+    w: usize,
+) -> usize
+    requires { ⌜ Tens (now powers) ⌝ }
+    requires { ⌜ (w ≤ 9999) × (p + w ≤ length (now bytes)) × (c ≤ w) ⌝ }
+    ensures { λ r. ⌜ Sent bound (now (out .entry)) at (codesBehind (bitsFrom w (now (bytes .entry)) p c)) (now (out .exit)) r ⌝ }
+{
+    let mut end = at;
+    let mut i = c;
+    while i < w {
+        let k = i;
+        i += 1;
+        if bytes[p + k] == 49 {
+            end = sink::send_byte(bound, out, end, 59);
+            end = send_count(powers, bound, out, end, i as u64);
+        }
+    }
+    end
+}
+
+// A bitstring that is legal and has every category from 1 to w: its first byte tells whether it is missing.
+fn send_each(
+    powers: &[u64; 16],
+    bound: usize,
+    out: &mut [u8],
+    at: usize,
+    bytes: &[u8],
+    p: usize,
+    w: usize,
+) -> usize
+    requires { ⌜ Tens (now powers) ⌝ }
+    requires { ⌜ (1 ≤ w) × (w ≤ 9999) × (p + w ≤ length (now bytes)) ⌝ }
+    requires { ⌜ isIllegal (eachField w (now bytes) p) ≡ false ⌝ }
+    ensures { λ r. ⌜ Sent bound (now (out .entry)) at (fieldBytes (fieldText 0 (eachField w (now (bytes .entry)) p))) (now (out .exit))
+        r ⌝ }
+{
+    if bytes[p] == 32 {
+        return at;
+    }
+    let c = first_set(bytes, p, w);
+    if c == w {
+        return sink::send_bytes(bound, out, at, b"none");
+    }
+    let next = c + 1;
+    let end = send_count(powers, bound, out, at, next as u64);
+    send_set_bits(powers, bound, out, end, bytes, p, next, w)
+}
+
+// Whether a row has every category from 1 to w.
+fn each_legal(t: &[i64], rows: usize, row: Row) -> bool
+    requires { ⌜ LineFacts (now t) rows row × (row .width ≤ 9999) ⌝ }
+    ensures { λ r. ⌜ (r ≡ true → EachLegal (now (t .entry)) rows row (row .width)) ⌝ }
+{
+    let w = row.width;
+    if sets::marks::range_has(row, w) {
+        return true;
+    }
+    sets::alike::lines_count(t, rows, row, w)
+}
+
+// Which rows have every category from 1 to w, a `1` for each: found once for all records.
+pub fn mark_full(t: &[i64], h: Header, full: &mut [u8; 512])
+    requires { ⌜ Tested (now t) h ⌝ }
+    ensures { λ _. ⌜ Full (now (t .entry)) (h .rows) (h .rows) (now (full .exit)) ⌝ }
+{
+    let mut i: usize = 0;
+    while i < h.rows {
+        let row = Row::read(t, i);
+        full[i] = bit_of(each_legal(t, h.rows, row));
+        i += 1;
+    }
+}
+
+// The field of row i for a record, whatever its kind, by what is read of it.
+fn send_read(
     powers: &[u64; 16],
     t: &[i64],
     h: Header,
@@ -235,4 +511,84 @@ pub fn send_row(
         return at;
     }
     send_value(powers, bound, out, at, decimals(kind), a, list, bytes)
+}
+
+// The field of row i, a spread of n subfields, which are few, of b bytes.
+fn send_few(
+    powers: &[u64; 16],
+    t: &[i64],
+    h: Header,
+    i: usize,
+    n: usize,
+    b: usize,
+    bytes: &[u8],
+    list: &mut [i64],
+    bound: usize,
+    out: &mut [u8],
+    at: usize,
+) -> usize
+    requires { ⌜ Ready (now powers) (now t) h (length (now list)) ⌝ }
+    requires { ⌜ (i < h .rows) × (h .length ≤ length (now bytes)) ⌝ }
+    requires { ⌜ (n ≤ 8) × (rowAt (now t) i .kind ≡ Multiple (Fields n b)) ⌝ }
+    ensures { λ r. ⌜ Sent bound (now (out .entry)) at (fieldBytes (rowField (now (t .entry)) (now (bytes .entry)) i)) (now (out .exit))
+        r ⌝ }
+{
+    let row = Row::read(t, i);
+    let mut room = [0usize; 8];
+    match sets::read_few(t, h.rows, row, n, b, bytes, list, &mut room) {
+        SetRead::Missing => at,
+        SetRead::Count(m) => send_set(powers, bound, out, at, list, m),
+        SetRead::Illegal => at,
+        SetRead::Short => at,
+    }
+}
+
+// The field of row i for a record in which it is legal. The row is read again where a set is read: so it need not stand in memory for
+// the other kinds.
+pub fn send_row(
+    powers: &[u64; 16],
+    t: &[i64],
+    h: Header,
+    full: &[u8; 512],
+    i: usize,
+    bytes: &[u8],
+    list: &mut [i64],
+    bound: usize,
+    out: &mut [u8],
+    at: usize,
+) -> usize
+    requires { ⌜ Ready (now powers) (now t) h (length (now list)) ⌝ }
+    requires { ⌜ (i < h .rows) × (h .length ≤ length (now bytes)) ⌝ }
+    requires { ⌜ Full (now t) (h .rows) (h .rows) (now full) ⌝ }
+    requires { ⌜ isIllegal (readingAt (now t) i (now bytes)) ≡ false ⌝ }
+    ensures { λ r. ⌜ Sent bound (now (out .entry)) at (fieldBytes (rowField (now (t .entry)) (now (bytes .entry)) i)) (now (out .exit))
+        r ⌝ }
+{
+    let row = Row::read(t, i);
+    let kind = row.kind;
+    match kind {
+        Kind::Single => send_single(powers, bound, out, at, bytes, row.finish, row.width),
+        Kind::Multiple(s) => match s {
+            Spread::Bits => {
+                if full[i] == 49 {
+                    return send_each(powers, bound, out, at, bytes, row.start - 1, row.width);
+                }
+                send_read(powers, t, h, i, bytes, list, bound, out, at)
+            }
+            Spread::Fields { count, width } => {
+                if count <= 8 {
+                    return send_few(powers, t, h, i, count, width, bytes, list, bound, out, at);
+                }
+                send_read(powers, t, h, i, bytes, list, bound, out, at)
+            }
+        },
+        Kind::Quantity(f) => {
+            send_quantity(powers, bound, out, at, f, bytes, row.finish, row.width)
+        }
+        Kind::Character => send_words(bound, out, at, bytes, row.start - 1, row.width),
+        Kind::Logical => {
+            let last = row.finish - 1;
+            send_truth(bound, out, at, bytes[last])
+        }
+    }
 }

@@ -8,7 +8,7 @@ use lib.ListN.{length}
 use Rattle.files.specs.rule.Tested.{Tested}
 use Rattle.record_lines.specs.rule.Lines.{before}
 use Rattle.exports.specs.rule.Text.{exportSaid}
-use Rattle.exports.specs.Sizes.{told-long, told-text, too-long, all-there}
+use Rattle.exports.specs.Sizes.{told-sound, told-text, too-long, all-there}
 use Rattle.exports.proofs.export_tested.Statement.{statement}
 use Rattle.exports.proofs.export_tested.Tie as tie
 
@@ -33,7 +33,7 @@ fits-requires c κs =
         (
           (
             at-powers .before .before .before .before .find-terminator .ensures,
-            told-long _ _ (at-powers .before .before .count-before .ensures) (at-powers .before .before .before .judge .ensures) g,
+            told-sound _ _ (at-powers .before .before .count-before .ensures) (at-powers .before .before .before .judge .ensures) g,
           ),
           search needs,
         ),
@@ -69,7 +69,7 @@ write-requires c κs =
         (
           (
             at-powers .before .before .before .before .find-terminator .ensures,
-            told-long _ _ (at-powers .before .before .count-before .ensures) (at-powers .before .before .before .judge .ensures) g,
+            told-sound _ _ (at-powers .before .before .count-before .ensures) (at-powers .before .before .before .judge .ensures) g,
           ),
           leb-true _ _ (sym (at-fits2 .fits2 .ensures) ∙ not-false _ (at-if1 .if1 .left)),
         ),

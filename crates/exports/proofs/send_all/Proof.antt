@@ -4,7 +4,6 @@ use native.Mathlib.Omega.{arith}
 use borrow.Author.Needs.{needs}
 use lib.ListN.{length}
 use Rattle.sink.specs.Sent.{sent-as, then}
-use Rattle.record_lines.specs.Lines.{Long}
 use Rattle.exports.specs.Sizes.{rows-stand, names-and, found-records}
 use Rattle.exports.proofs.send_all.Statement.{statement}
 use Rattle.exports.proofs.send_all.Tie as tie

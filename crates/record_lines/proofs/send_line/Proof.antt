@@ -7,6 +7,7 @@ use lib.ListN.{length}
 use Rattle.commas.specs.rule.Csv.{lineBytes}
 use Rattle.commas.specs.Csv.{lineLeft, left-next, left-end}
 use Rattle.sink.specs.Sent.{Owed, all-owed, less-owed, sent-as}
+use Rattle.files.specs.Tested.{tested-rows, tested-length}
 use Rattle.value_fields.specs.rule.Values.{rowField}
 use Rattle.record_lines.specs.rule.Lines.{recordLine}
 use Rattle.record_lines.specs.Lines.{line-whole}
@@ -14,12 +15,12 @@ use Rattle.record_lines.proofs.send_line.Statement.{statement}
 use Rattle.record_lines.proofs.send_line.Tie as tie
 
 abbrev Inv-loop : tie.InvT-loop
-Inv-loop powers t h bytes list₀ bound out₀ at end₀ i₀ list out end i =
+Inv-loop powers t h full bytes list₀ bound out₀ at end₀ i₀ list out end i =
     (i ≤ h .rows) × (length list ≡ length list₀)
     × Owed bound out₀ at (lineBytes (recordLine t bytes)) out end (lineLeft (rowField t bytes) i (h .rows - i))
 
 abbrev μ-loop : tie.MeasureT-loop
-μ-loop powers t h bytes list₀ bound out₀ at end₀ i₀ list out end i = h .rows - i
+μ-loop powers t h full bytes list₀ bound out₀ at end₀ i₀ list out end i = h .rows - i
 
 loop-holds : tie.Need-loop-holds Inv-loop μ-loop
 loop-holds c = (omega arith, refl, all-owed _ _ _ (line-whole (c .before .before .pre .0 .tested) _))
@@ -33,7 +34,10 @@ send-row-requires c κs =
         tested = p .0 .tested;
         list = at-if1 .before .before .loop .inv .1 ∙ p .0 .list;
       },
-      (at-if1 .if1 .taken, p .1),
+      (
+        (at-if1 .if1 .taken, rw (tested-length (p .0 .tested)) (p .1 .1 .long)),
+        (p .1 .0, p .1 .1 .legal _ (rw (tested-rows (p .0 .tested)) at (at-if1 .if1 .taken))),
+      ),
     )
 
 add-i : tie.Need-add-i Inv-loop μ-loop
@@ -44,13 +48,14 @@ loop-less c = omega (arith, c .before .before .before .before .before .before .b
 
 loop-again : tie.Need-loop-again Inv-loop μ-loop
 loop-again c =
-    let l = c .before .before .before .before .before .before .before .before .before .before .before .before .loop .inv in (
-      omega (arith, c .before .before .before .before .before .before .before .before .before .before .if1 .taken),
-      c .before .before .before .send-row .kept .1 .1 .1 .1 .1 .0 ∙ l .1,
-      less-owed (less-owed (l .2) (left-next _ _ _
-          (c .before .before .before .before .before .before .before .before .before .before .if1 .taken))
-          (c .before .before .before .before .before .before .before .before .send-comma .ensures)) refl
-          (c .before .before .before .send-row .ensures),
+    let at-send-row = c .before .before .before in
+    let at-send-comma = at-send-row .before .before .before .before .before in
+    let at-if1 = at-send-comma .before .before in
+    let l = at-if1 .before .before .loop .inv in (
+      omega (arith, at-if1 .if1 .taken),
+      at-send-row .send-row .kept .1 .1 .1 .1 .1 .1 .0 ∙ l .1,
+      less-owed (less-owed (l .2) (left-next _ _ _ (at-if1 .if1 .taken)) (at-send-comma .send-comma .ensures)) refl
+          (at-send-row .send-row .ensures),
     )
 
 same-length : tie.Need-same-length Inv-loop μ-loop

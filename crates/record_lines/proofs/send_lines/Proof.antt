@@ -9,50 +9,56 @@ use Rattle.cuts.specs.Records.{part, next-ended, next-unended, next-nothing, ov
 use Rattle.commas.specs.rule.Csv.{lineBytes, textBytes}
 use Rattle.sink.specs.Sent.{Owed, all-owed, less-owed, none-owed, sent-as}
 use Rattle.record_lines.specs.rule.Lines.{recordLine, linesOf}
-use Rattle.record_lines.specs.Lines.{Long, long-next, lines-next, lines-unended, lines-over, lines-none}
+use Rattle.record_lines.specs.Lines.{SoundFirst, sound-next, lines-next, lines-unended, lines-over, lines-none}
 use Rattle.record_lines.proofs.send_lines.Statement.{statement}
 use Rattle.record_lines.proofs.send_lines.Tie as tie
 
 abbrev Inv-loop : tie.InvT-loop
-Inv-loop powers t h d w n list₀ bound out₀ at end₀ from₀ k₀ list out end from k =
-    (length list ≡ length list₀) × Long (h .length) k (recordsFrom w (drop from d))
+Inv-loop powers t h d w n list₀ bound out₀ at end₀ full from₀ k₀ list out end from k =
+    (length list ≡ length list₀) × SoundFirst t k (recordsFrom w (drop from d))
     × Owed bound out₀ at (textBytes (linesOf t n (recordsFrom w d))) out end (textBytes (linesOf t k (recordsFrom w (drop from d))))
 
 abbrev μ-loop : tie.MeasureT-loop
-μ-loop powers t h d w n list₀ bound out₀ at end₀ from₀ k₀ list out end from k = k
+μ-loop powers t h d w n list₀ bound out₀ at end₀ full from₀ k₀ list out end from k = k
 
 loop-holds : tie.Need-loop-holds Inv-loop μ-loop
-loop-holds c = (refl, c .before .before .pre .1 .1, all-owed _ _ _ refl)
+loop-holds c = (refl, c .before .before .before .before .pre .1 .1, all-owed _ _ _ refl)
 
 next-from-requires : tie.Need-next-from-requires Inv-loop μ-loop
-next-from-requires c κs = c .before .before .before .before .pre .1 .0
+next-from-requires c κs = c .before .before .before .before .before .before .pre .1 .0
 
 sub-send-line : tie.Need-sub-send-line Inv-loop μ-loop
 sub-send-line c =
-    let e = next-ended (c .before .before .before .before .before .before .before .before .args .d .now)
-    (c .before .before .before .before .before .before .before .before .args .w) (c .before .before .before .before .before .loop .from)
-    (sym (c .before .before .before .next-from .ensures) ∙ c .before .start .given .1) in
+    let at-start = c .before .before in
+    let at-loop = at-start .before .before .before .before in
+    let a = at-loop .before .before .before .before .before .args in
+    let e = next-ended (a .d .now) (a .w) (at-loop .loop .from)
+    (sym (at-start .before .before .next-from .ensures) ∙ at-start .start .given .1) in
     omega (arith, e .starts, e .after, e .inside)
 
 part-send-line-start : tie.Need-part-send-line-start Inv-loop μ-loop
 part-send-line-start c =
-    let e = next-ended (c .before .before .before .before .before .before .before .before .args .d .now)
-    (c .before .before .before .before .before .before .before .before .args .w) (c .before .before .before .before .before .loop .from)
-    (sym (c .before .before .before .next-from .ensures) ∙ c .before .start .given .1) in
+    let at-start = c .before .before in
+    let at-loop = at-start .before .before .before .before in
+    let a = at-loop .before .before .before .before .before .args in
+    let e = next-ended (a .d .now) (a .w) (at-loop .loop .from)
+    (sym (at-start .before .before .next-from .ensures) ∙ at-start .start .given .1) in
     omega (arith, e .starts, e .after, e .inside)
 
 part-send-line-end : tie.Need-part-send-line-end Inv-loop μ-loop
 part-send-line-end c =
-    let e = next-ended (c .before .before .before .before .before .before .before .before .args .d .now)
-    (c .before .before .before .before .before .before .before .before .args .w) (c .before .before .before .before .before .loop .from)
-    (sym (c .before .before .before .next-from .ensures) ∙ c .before .start .given .1) in
+    let at-start = c .before .before in
+    let at-loop = at-start .before .before .before .before in
+    let a = at-loop .before .before .before .before .before .args in
+    let e = next-ended (a .d .now) (a .w) (at-loop .loop .from)
+    (sym (at-start .before .before .next-from .ensures) ∙ at-start .start .given .1) in
     omega (arith, e .starts, e .after, e .inside)
 
 send-line-requires : tie.Need-send-line-requires Inv-loop μ-loop
 send-line-requires c κs =
-    let at-start = c .before .before .before .before in
+    let at-start = c .before .before .before .before .before in
     let at-loop = at-start .before .before .before .before in
-    let start = at-loop .before .before .before in
+    let start = at-loop .before .before .before .before .before in
     let p = start .pre in
     let e = next-ended (start .args .d .now) (start .args .w) (at-loop .loop .from)
     (sym (at-start .before .before .next-from .ensures) ∙ at-start .start .given .1) in (
@@ -61,28 +67,32 @@ send-line-requires c κs =
         tested = p .0 .tested;
         list = at-loop .loop .inv .0 ∙ p .0 .list;
       },
-      rw (e .starts) (long-next (at-loop .loop .k) (at-start .before .before .before .loop-test .taken) (e .records)
-          (at-loop .loop .inv .1) .0),
+      (
+        at-loop .before .mark-full .ensures,
+        rw (e .starts) (sound-next (at-loop .loop .k) (at-start .before .before .before .loop-test .taken) (e .records)
+            (at-loop .loop .inv .1) .0),
+      ),
     )
 
 sub-k : tie.Need-sub-k Inv-loop μ-loop
-sub-k c = omega (arith, c .before .before .before .before .before .before .before .before .before .before .before .loop-test .taken)
+sub-k c = omega (arith, c .before .before .before .before .before .before .before .before .before .before .before .before .loop-test .taken)
 
 loop-less : tie.Need-loop-less Inv-loop μ-loop
-loop-less c = omega (arith, c .before .before .before .before .before .before .before .before .before .before .before .loop-test .taken)
+loop-less c = omega
+    (arith, c .before .before .before .before .before .before .before .before .before .before .before .before .loop-test .taken)
 
 loop-again : tie.Need-loop-again Inv-loop μ-loop
 loop-again c =
     let at-send-line = c .before .before .before in
-    let at-start = at-send-line .before .before .before .before .before in
+    let at-start = at-send-line .before .before .before .before .before .before in
     let at-loop-test = at-start .before .before .before in
     let at-loop = at-loop-test .before in
     let l = at-loop .loop .inv in
-    let a = at-loop .before .before .before .args in
+    let a = at-loop .before .before .before .before .before .args in
     let e = next-ended (a .d .now) (a .w) (at-loop .loop .from) (sym (at-start .before .before .next-from .ensures)
     ∙ at-start .start .given .1) in (
-      at-send-line .send-line .kept .1 .1 .1 .1 .0 ∙ l .0,
-      long-next (at-loop .loop .k) (at-loop-test .loop-test .taken) (e .records) (l .1) .1,
+      at-send-line .send-line .kept .1 .1 .1 .1 .1 .0 ∙ l .0,
+      sound-next (at-loop .loop .k) (at-loop-test .loop-test .taken) (e .records) (l .1) .1,
       less-owed (l .2) (lines-next (at-loop .loop .k) (at-loop-test .loop-test .taken) (a .t .now) (e .records))
           (sent-as (at-send-line .send-line .ensures) (ap (λ (x : ℕ). lineBytes (recordLine (a .t .now)
           (part (a .d .now) x (at-start .start .given .0 .1 .0)))) (e .starts))),
@@ -97,7 +107,7 @@ same-length-2 c = c .before .before .before .before .loop .inv .2 .same-room
 returns : tie.Need-returns Inv-loop μ-loop
 returns c =
     let at-loop = c .before .before .before .before in
-    let args = at-loop .before .before .before .args in
+    let args = at-loop .before .before .before .before .before .args in
     let u = next-unended (args .d .now) (args .w) (at-loop .loop .from)
     (sym (c .before .before .next-from .ensures) ∙ c .enum-told .given .1) in
     none-owed (at-loop .loop .inv .2) (lines-unended (at-loop .loop .k) (c .before .before .before .loop-test .taken)
@@ -112,7 +122,7 @@ same-length-4 c = c .before .before .before .before .loop .inv .2 .same-room
 returns-2 : tie.Need-returns-2 Inv-loop μ-loop
 returns-2 c =
     let at-loop = c .before .before .before .before in
-    let args = at-loop .before .before .before .args in
+    let args = at-loop .before .before .before .before .before .args in
     let d = args .d .now in
     let w = args .w in
     let o = over-past d w (at-loop .loop .from) (next-nothing d w (at-loop .loop .from)
@@ -134,6 +144,7 @@ send-lines-spec =
     (tie.spec
     Inv-loop
     μ-loop
+    (λ c κs. c .before .before .before .pre .0 .tested)
     loop-holds
     next-from-requires
     (λ c. search needs)
