@@ -2,11 +2,12 @@
 use mathlib.Core.Path.{_≡_, refl, sym, ap, _∙_}
 use mathlib.Core.Bool.{Bool, true, false, not, _&&_}
 use mathlib.Core.List.{List}
-use Prim.Native.Nat.{ℕ, _+_, _≤_, _<_}
+use Prim.Native.Nat.{ℕ, zero, suc, _+_, _≤_, _<_}
 use native.Mathlib.Omega.{arith}
 use lib.Dec.{eqb}
 use lib.ListN.{length, getD}
 use borrow.Author.Tests.{eqb-false, not-true}
+use Rattle.below.specs.rule.Below.{allBelow}
 use Rattle.below.specs.Below.{and-left, and-right}
 use Rattle.contents.specs.rule.Step.{stepOf}
 use Rattle.contents.specs.rule.Content.{contentFrom}
@@ -15,7 +16,7 @@ use Rattle.contents.specs.declared.Said.{Said}
 use Rattle.contents.specs.declared.Content.{Content}
 use Rattle.contents.specs.declared.Step.{Step}
 use Rattle.contents.specs.declared.Step.the-variants.{More, Over}
-use Rattle.contents.specs.Pass.{plainOf, Passes, Strides, more, over}
+use Rattle.contents.specs.Pass.{plainOf, allPlain, Passes, Strides, more, over}
 use Rattle.contents.proofs.Goes.{step-on, content-next, content-over}
 use Rattle.contents.proofs.Pieces.{stand, step-byte}
 
@@ -48,6 +49,15 @@ passes-next d p i x h e =
       on = omega arith;
       within = omega arith;
     }
+
+-- some at once
+pub passes-wide : (d : List ℕ) (p i n : ℕ) → Passes d p i → i + n ≤ length d → allPlain d i n ≡ true → Passes d p (i + n)
+unfolding allPlain allBelow
+passes-wide d p i zero x h e = let q : i + 0 ≡ i = omega arith in rw q x
+passes-wide d p i (suc n) x h e =
+    let q : i + suc n ≡ i + n + 1 = omega arith in
+    let f = allBelow n (λ k. plainOf (getD d (i + k) 0)) in
+    rw q (passes-next d p (i + n) (passes-wide d p i n x (omega arith) (and-left f _ e)) (omega arith) (and-right f _ e))
 
 -- a step behind them
 pub strides : (bad : Bool) (d : List ℕ) (m : ℕ) (w : List ℕ) (g : Going) (p : ℕ) (r : Step) → Passes d (g .next) p

@@ -2,9 +2,10 @@
 use mathlib.Core.Path.{_≡_}
 use mathlib.Core.Bool.{Bool, not, _&&_}
 use mathlib.Core.List.{List}
-use Prim.Native.Nat.{ℕ, _≤_, _<_}
+use Prim.Native.Nat.{ℕ, _+_, _≤_, _<_}
 use lib.Dec.{eqb}
-use lib.ListN.{length}
+use lib.ListN.{length, getD}
+use Rattle.below.specs.rule.Below.{allBelow}
 use Rattle.contents.specs.rule.Content.{contentFrom}
 use Rattle.contents.specs.declared.Going.{Going}
 use Rattle.contents.specs.declared.Said.{Said}
@@ -15,6 +16,10 @@ use Rattle.contents.specs.declared.Step.the-variants.{More, Over}
 -- no <, &, ] or carriage return
 unfoldable pub plainOf : ℕ → Bool
 plainOf b = not (eqb b 60) && (not (eqb b 38) && (not (eqb b 93) && not (eqb b 13)))
+
+-- the n bytes from i on are such
+unfoldable pub allPlain : List ℕ → ℕ → ℕ → Bool
+allPlain d i n = allBelow n (λ k. plainOf (getD d (i + k) 0))
 
 -- from p on r may be gone on from, whatever the text and wherever in it
 pub record Passes (d : List ℕ) (p r : ℕ) : Type 0 where

@@ -14,7 +14,7 @@ ghost use lib.ListN.{length, drop};
 ghost use Rattle.contents.specs.rule.Step.{heardOf, goOn, brokenAt, bracketAt, returnAt, referAt, noteAt, pairAt, breakAt};
 ghost use Rattle.contents.specs.rule.Step.{languageAt, otherAt, modeIn, kindOf, startAt, closeAt, markAt, stepOf};
 ghost use Rattle.contents.specs.rule.Content.{contentOf, begun, startOf, textFrom, textOf};
-ghost use Rattle.contents.specs.Pass.{plainOf, Passes, Strides};
+ghost use Rattle.contents.specs.Pass.{plainOf, allPlain, Passes, Strides};
 ghost use Rattle.contents.specs.Told.{Hears, Tells, wholePart, firstPart, nextPart, bytePart, partCode};
 ghost use Rattle.utf.specs.rule.Chars.{encode};
 
@@ -334,13 +334,55 @@ fn is_plain(b: u8) -> bool
     (b != 60) & ((b != 38) & ((b != 93) & (b != 13)))
 }
 
+// Whether the sixteen bytes from i on say themselves. Nothing leaves the loop early, and each mark is looked for by itself: so the compiler
+// looks at all bytes at once.
+fn all_plain(d: &[u8], i: usize) -> bool
+    requires { ⌜ i + 16 ≤ length (now d) ⌝ }
+    ensures { λ r. ⌜ r ≡ allPlain (now (d .entry)) i 16 ⌝ }
+{
+    let mut plain = true;
+    let mut k: usize = 0;
+    while k < 16 {
+        plain = plain & is_plain(d[i + k]);
+        k += 1;
+    }
+    plain
+}
+
+// A place from `at` on with none but such bytes before it, at whole steps of sixteen.
+fn pass_wide(d: &[u8], at: usize) -> usize
+    requires { ⌜ at ≤ length (now d) ⌝ }
+    ensures { λ r. ⌜ Passes (now (d .entry)) at r ⌝ }
+{
+    let n = d.len();
+    if n < 16 {
+        return at;
+    }
+    let last = n - 16;
+    let mut i = at;
+    while i <= last {
+        if !all_plain(d, i) {
+            return i;
+        }
+        i += 16;
+    }
+    i
+}
+
 // The place after the bytes from a place on that say themselves: most of a text is such bytes, and a step each would cost ten times as
 // much.
 fn pass_plain(d: &[u8], at: usize) -> usize
     requires { ⌜ at ≤ length (now d) ⌝ }
     ensures { λ r. ⌜ Passes (now (d .entry)) at r ⌝ }
 {
-    let mut i = at;
+    // a mark behind a mark
+    if d.len() <= at {
+        return at;
+    }
+    if !is_plain(d[at]) {
+        return at;
+    }
+    let mut i = pass_wide(d, at);
     while i < d.len() {
         if is_plain(d[i]) {
             i += 1;
