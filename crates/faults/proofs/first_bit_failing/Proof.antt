@@ -22,10 +22,9 @@ abbrev μ-loop : tie.MeasureT-loop
 μ-loop x t rows row bytes at w i₀ i = w - i
 
 -- whether the row allows the category of a byte that fails
-asked : (c : tie.After-is-legal Inv-loop μ-loop) → c .is-legal .result
-    ≡ legal (c .before .before .before .before .before .before .before .before .before .args .t .now)
-    (c .before .before .before .before .before .before .before .before .before .args .rows)
-    (c .before .before .before .before .before .before .before .before .before .args .row)
+asked : (c : tie.After-is-legal Inv-loop μ-loop)
+    → let args = c .before .before .before .before .before .before .before .before .before .args in
+    c .is-legal .result ≡ legal (args .t .now) (args .rows) (args .row)
     (pos (c .before .before .before .before .before .before .loop .i + 1))
 asked c =
     let args = c .before .before .before .before .before .before .before .before .before .args in

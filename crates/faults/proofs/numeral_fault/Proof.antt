@@ -21,10 +21,8 @@ back c = search needs
 zero-test : (c : tie.After-same) → c .same .result ≡ eqZ (c .before .before .said .given .0 .0) (pos 0)
 zero-test c = c .same .ensures ∙ ap (λ (z : ℤ). eqZ z (pos 0)) (back (c .before))
 
-asked : (c : tie.After-is-legal) → c .is-legal .result
-    ≡ legal (c .before .before .before .before .before .before .args .t .now)
-    (c .before .before .before .before .before .before .args .rows) (c .before .before .before .before .before .before .args .row)
-    (c .before .before .before .before .said .given .0 .0)
+asked : (c : tie.After-is-legal) → let args = c .before .before .before .before .before .before .args in
+    c .is-legal .result ≡ legal (args .t .now) (args .rows) (args .row) (c .before .before .before .before .said .given .0 .0)
 asked c =
     let args = c .before .before .before .before .before .before .args in
     c .is-legal .ensures ∙ ap (legal (args .t .now) (args .rows) (args .row)) (back (c .before .before .before))

@@ -43,13 +43,9 @@ module _ (c : tie.In-loop Inv-loop μ-loop) where
 
 -- what its bytes say
 said : (c : tie.After-numeral-fault Inv-loop μ-loop)
-    → c .numeral-fault .result ≡ valueFault (usable
-    (legal (c .before .before .before .before .before .before .args .t .now) (c .before .before .before .before .before .before .args .rows)
-    (c .before .before .before .before .before .before .args .row)))
-    (codeOf (pick (c .before .before .before .before .before .before .args .bytes .now)
-    (run (c .before .before .before .before .loop .q
-    + (c .before .before .before .before .before .before .args .b - c .before .before .before .before .before .before .args .w))
-    (c .before .before .before .before .before .before .args .w))))
+    → let args = c .before .before .before .before .before .before .args in
+    c .numeral-fault .result ≡ valueFault (usable (legal (args .t .now) (args .rows) (args .row)))
+    (codeOf (pick (args .bytes .now) (run (c .before .before .before .before .loop .q + (args .b - args .w)) (args .w))))
 unfolding numeralFault
 said c =
     let args = c .before .before .before .before .before .before .args in
@@ -58,19 +54,13 @@ said c =
 
 -- its fault, or the rest's
 step : (c : tie.After-numeral-fault Inv-loop μ-loop)
-    → orElse (c .numeral-fault .result) (spreadValue
-    (legal (c .before .before .before .before .before .before .args .t .now) (c .before .before .before .before .before .before .args .rows)
-    (c .before .before .before .before .before .before .args .row)) (c .before .before .before .before .before .before .args .w)
-    (c .before .before .before .before .before .before .args .bytes .now) (c .before .before .before .before .loop .k - 1)
-    (spreadPlaces (c .before .before .before .before .loop .q + c .before .before .before .before .before .before .args .b)
-    (c .before .before .before .before .before .before .args .b) (c .before .before .before .before .before .before .args .w)
+    → let args = c .before .before .before .before .before .before .args in
+    orElse (c .numeral-fault .result) (spreadValue (legal (args .t .now) (args .rows) (args .row)) (args .w) (args .bytes .now)
+    (c .before .before .before .before .loop .k - 1)
+    (spreadPlaces (c .before .before .before .before .loop .q + args .b) (args .b) (args .w)
     (c .before .before .before .before .loop .k - 1)))
-    ≡ spreadValue (legal (c .before .before .before .before .before .before .args .t .now)
-    (c .before .before .before .before .before .before .args .rows) (c .before .before .before .before .before .before .args .row))
-    (c .before .before .before .before .before .before .args .w) (c .before .before .before .before .before .before .args .bytes .now)
-    (c .before .before .before .before .before .before .args .n)
-    (spreadPlaces (c .before .before .before .before .before .before .args .at) (c .before .before .before .before .before .before .args .b)
-    (c .before .before .before .before .before .before .args .w) (c .before .before .before .before .before .before .args .n))
+    ≡ spreadValue (legal (args .t .now) (args .rows) (args .row)) (args .w) (args .bytes .now) (args .n)
+    (spreadPlaces (args .at) (args .b) (args .w) (args .n))
 step c =
     let at-loop = c .before .before .before .before in
     let args = at-loop .before .before .args in

@@ -41,10 +41,8 @@ judge-rows-requires c κs =
     )
 
 -- what the rows say is what the record is judged to be
-verdict : (c : tie.After-judge-rows) → judgedAs (c .judge-rows .result)
-    ≡ recordVerdict (c .before .before .before .before .before .before .before .args .t .now)
-    (c .before .before .before .before .before .before .before .args .first)
-    (c .before .before .before .before .before .before .before .args .bytes .now)
+verdict : (c : tie.After-judge-rows) → let args = c .before .before .before .before .before .before .before .args in
+    judgedAs (c .judge-rows .result) ≡ recordVerdict (args .t .now) (args .first) (args .bytes .now)
 verdict c =
     let at-if1 = c .before .before .before .before in
     let start = at-if1 .before .before .before in

@@ -29,11 +29,9 @@ loop-holds c = (omega (arith, c .before .before .pre .1 .0 .1), refl, refl)
 
 -- what was found of the record that starts here
 ended : (c : tie.After-known-told Inv-loop μ-loop)
-    → EndedAt (c .before .before .before .before .before .before .before .before .args .d .now)
-    (c .before .before .before .before .before .before .before .before .args .w) (c .before .before .before .before .before .loop .from)
-    (recordsFrom (c .before .before .before .before .before .before .before .before .args .w)
-    (drop (c .before .before .before .before .before .loop .from)
-    (c .before .before .before .before .before .before .before .before .args .d .now))) (c .before .start .given .0 .0)
+    → let args = c .before .before .before .before .before .before .before .before .args in
+    EndedAt (args .d .now) (args .w) (c .before .before .before .before .before .loop .from)
+    (recordsFrom (args .w) (drop (c .before .before .before .before .before .loop .from) (args .d .now))) (c .before .start .given .0 .0)
     (c .before .start .given .0 .1 .0) (c .before .start .given .0 .1 .1 .0)
 ended c =
     let at-next-from = c .before .before .before in
@@ -73,27 +71,22 @@ bytes-length c =
     rw (length-take, length-drop) (omega arith)
 
 -- the first record's length is known then
-first-here : (c : tie.After-first-length Inv-loop μ-loop) → c .first-length .result
-    ≡ firstLength (c .before .before .before .before .before .before .loop .n)
-    (c .before .before .before .before .before .before .loop .first)
-    (length (part (c .before .before .before .before .before .before .before .before .before .args .d .now)
-    (c .before .before .before .before .before .before .loop .from) (c .before .before .start .given .0 .1 .0)))
+first-here : (c : tie.After-first-length Inv-loop μ-loop) → let at-loop = c .before .before .before .before .before .before in
+    c .first-length .result ≡ firstLength (at-loop .loop .n) (at-loop .loop .first)
+    (length (part (c .before .before .before .before .before .before .before .before .before .args .d .now) (at-loop .loop .from)
+    (c .before .before .start .given .0 .1 .0)))
 first-here c =
     let at-loop = c .before .before .before .before .before .before in
     c .first-length .ensures ∙ ap (firstLength (at-loop .loop .n) (at-loop .loop .first)) (sym (bytes-length c))
 
-judged : (c : tie.After-judge-one Inv-loop μ-loop) → fileSaid (c .judge-one .result)
-    ≡ goOn (recordVerdict (c .before .before .before .before .before .before .before .before .before .before .before .before .args .t .now)
-    (firstLength (c .before .before .before .before .before .before .before .before .before .loop .n)
-    (c .before .before .before .before .before .before .before .before .before .loop .first)
-    (length (part (c .before .before .before .before .before .before .before .before .before .before .before .before .args .d .now)
-    (c .before .before .before .before .before .before .before .before .before .loop .from)
-    (c .before .before .before .before .before .start .given .0 .1 .0))))
-    (part (c .before .before .before .before .before .before .before .before .before .before .before .before .args .d .now)
-    (c .before .before .before .before .before .before .before .before .before .loop .from)
-    (c .before .before .before .before .before .start .given .0 .1 .0)))
-    (c .before .before .before .before .before .before .before .before .before .loop .n)
-    (soundWith (c .before .before .before .before .before .before .before .before .before .loop .n + 1))
+judged : (c : tie.After-judge-one Inv-loop μ-loop)
+    → let at-loop = c .before .before .before .before .before .before .before .before .before in
+    let args = at-loop .before .before .before .args in
+    fileSaid (c .judge-one .result) ≡ goOn (recordVerdict (args .t .now)
+    (firstLength (at-loop .loop .n) (at-loop .loop .first)
+    (length (part (args .d .now) (at-loop .loop .from) (c .before .before .before .before .before .start .given .0 .1 .0))))
+    (part (args .d .now) (at-loop .loop .from) (c .before .before .before .before .before .start .given .0 .1 .0))) (at-loop .loop .n)
+    (soundWith (at-loop .loop .n + 1))
 judged c =
     let at-start = c .before .before .before .before .before in
     let at-loop = at-start .before .before .before .before in
@@ -103,19 +96,12 @@ judged c =
     (at-start .start .given .0 .1 .0)) (ended (c .before .before .before .before) .starts))
 
 -- the file goes on where the record is sound
-going : (c : tie.After-goes-on Inv-loop μ-loop) → c .goes-on .result
-    ≡ isSound
-    (recordVerdict
-    (c .before .before .before .before .before .before .before .before .before .before .before .before .before .before .before .args .t
-    .now) (firstLength (c .before .before .before .before .before .before .before .before .before .before .before .before .loop .n)
-    (c .before .before .before .before .before .before .before .before .before .before .before .before .loop .first)
-    (length (part
-    (c .before .before .before .before .before .before .before .before .before .before .before .before .before .before .before .args .d
-    .now) (c .before .before .before .before .before .before .before .before .before .before .before .before .loop .from)
-    (c .before .before .before .before .before .before .before .before .start .given .0 .1 .0))))
-    (part (c .before .before .before .before .before .before .before .before .before .before .before .before .before .before .before .args
-    .d .now) (c .before .before .before .before .before .before .before .before .before .before .before .before .loop .from)
-    (c .before .before .before .before .before .before .before .before .start .given .0 .1 .0)))
+going : (c : tie.After-goes-on Inv-loop μ-loop) → let at-start = c .before .before .before .before .before .before .before .before in
+    let at-loop = at-start .before .before .before .before in let args = at-loop .before .before .before .args in
+    c .goes-on .result ≡ isSound (recordVerdict (args .t .now)
+    (firstLength (at-loop .loop .n) (at-loop .loop .first)
+    (length (part (args .d .now) (at-loop .loop .from) (at-start .start .given .0 .1 .0))))
+    (part (args .d .now) (at-loop .loop .from) (at-start .start .given .0 .1 .0)))
 going c =
     let at-start = c .before .before .before .before .before .before .before .before in
     let at-loop = at-start .before .before .before .before in

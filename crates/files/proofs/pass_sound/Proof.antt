@@ -29,12 +29,8 @@ next-sound-requires c κs = (
   ),
 )
 
-sound : (c : tie.Else1 Inv-loop μ-loop) → SoundNext
-    (c .before .before .before .before .before .before .before .before .before .args .t .now)
-    (c .before .before .before .before .before .before .before .before .before .args .d .now)
-    (c .before .before .before .before .before .before .before .before .before .args .w)
-    (c .before .before .before .before .before .before .before .before .before .args .first)
-    (c .before .before .before .before .before .before .loop .from)
+sound : (c : tie.Else1 Inv-loop μ-loop) → let args = c .before .before .before .before .before .before .before .before .before .args in
+    SoundNext (args .t .now) (args .d .now) (args .w) (args .first) (c .before .before .before .before .before .before .loop .from)
 sound c = c .before .before .before .next-sound .ensures (not-false _ (c .if1 .left))
 
 -- a terminator was passed

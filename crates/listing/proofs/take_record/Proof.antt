@@ -12,10 +12,9 @@ use Rattle.listing.proofs.take_record.Statement.{statement}
 use Rattle.listing.proofs.take_record.Tie as tie
 
 -- the file goes on where the record is sound
-going : (c : tie.After-goes-on) → c .goes-on .result
-    ≡ isSound (recordVerdict (c .before .before .before .before .before .before .before .before .before .before .args .t .now)
-    (c .before .before .before .before .before .first-length .result)
-    (c .before .before .before .before .before .before .before .before .before .before .args .bytes .now))
+going : (c : tie.After-goes-on) → let args = c .before .before .before .before .before .before .before .before .before .before .args in
+    c .goes-on .result ≡ isSound (recordVerdict (args .t .now) (c .before .before .before .before .before .first-length .result)
+    (args .bytes .now))
 going c =
     let a = c .before .before .before .before .before .before .before .before .before .before .args in
     c .goes-on .ensures ∙ ap soundSoFar (c .before .before .before .judge-one .ensures)

@@ -33,16 +33,14 @@ abbrev μ-loop : tie.MeasureT-loop
 
 -- the pair is the next to store
 here : (c : tie.Else3 Inv-loop μ-loop)
-    → let d = c .before .before .before .before .before .before .before .before .before .before .args .s .now in
+    → let args = c .before .before .before .before .before .before .before .before .before .before .args in let d = args .s .now in
     let i = c .before .before .before .before .before .before .before .before .loop .i in
-    Says d (Pair (c .before .before .before .before .before .before .before .before .before .before .args .o)) i
-    (Byte (pairOf (getD d i 0) (getD d (i + 1) 0))) (i + 2)
-    (Pair (c .before .before .before .before .before .before .before .before .before .before .args .o))
+    Says d (Pair (args .o)) i (Byte (pairOf (getD d i 0) (getD d (i + 1) 0))) (i + 2) (Pair (args .o))
 here c = pair-step _ _ _ (omega arith) (sym (c .before .before .before .is-hex .ensures) ∙ not-false _ (c .before .before .if2 .left))
     (sym (c .before .is-hex2 .ensures) ∙ not-false _ (c .if3 .left))
 
-room : (c : tie.Else3 Inv-loop μ-loop) → c .before .before .before .before .before .before .before .before .loop .m
-    < length (c .before .before .before .before .before .before .before .before .loop .list)
+room : (c : tie.Else3 Inv-loop μ-loop) → let at-loop = c .before .before .before .before .before .before .before .before in
+    at-loop .loop .m < length (at-loop .loop .list)
 room c =
     let at-loop = c .before .before .before .before .before .before .before .before in
     let l = at-loop .loop in let e = ap length (here c .split) in

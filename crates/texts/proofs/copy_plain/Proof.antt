@@ -40,8 +40,8 @@ form : (c : tie.Else2 Inv-loop μ-loop) → Form (c .before .before .before .bef
     (c .before .before .before .before .before .before .loop .i) (c .before .form-end .result)
 form c = was-form (c .before .form-end .ensures) (c .if2 .left)
 
-form-room : (c : tie.Else2 Inv-loop μ-loop) → c .before .before .before .before .before .before .loop .m
-    < length (c .before .before .before .before .before .before .loop .list)
+form-room : (c : tie.Else2 Inv-loop μ-loop) → let at-loop = c .before .before .before .before .before .before in
+    at-loop .loop .m < length (at-loop .loop .list)
 form-room c =
     let at-loop = c .before .before .before .before .before .before in
     let l = at-loop .loop in let e = ap length (form c .says .split) in
