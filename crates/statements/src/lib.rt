@@ -29,7 +29,8 @@ fn note_word(classes: &[u8; 256], d: &[u8], t: Reading) -> Choice
     tokens::perhaps(classes, d, t, b"NOTE")
 }
 
-// The same as notes_on, where there may be notes.
+// The same as notes_on, where there may be notes. Statements that a definition has once are read by it too: with one caller alone the
+// compiler would lay it into notes_on, which would be too large then to be laid into the readers of a variable's statements.
 fn notes_apart(classes: &[u8; 256], d: &[u8], t: Reading) -> Reading
     requires { ⌜ Classes (now classes) ⌝ }
     ensures { λ r. ⌜ r ≡ notesOn (now (d .entry)) t ⌝ }

@@ -477,7 +477,7 @@ pub fn read_value(classes: &[u8; 256], d: &[u8], at: usize) -> Value
     }
 }
 
-// The same as value_here, for a value of any form.
+// The same as value_here, for a value of any form. The second value of a range is read by it too, for the reason that string_apart has.
 fn value_apart(classes: &[u8; 256], d: &[u8], n: usize) -> Amount
     requires { ⌜ Classes (now classes) ⌝ }
     ensures { λ r. ⌜ r ≡ valueHere (now (d .entry)) (Reading.At n) ⌝ }
@@ -599,7 +599,8 @@ fn closing(d: &[u8], n: usize) -> usize
     d.len()
 }
 
-// The same as string_on, whatever the gap and the string hold.
+// The same as string_on, whatever the gap and the string hold. Notes are read by it too: with one caller alone the compiler would lay it
+// into string_on, which would be too large then to be laid into the readers of lines and texts.
 pub fn string_apart(classes: &[u8; 256], d: &[u8], n: usize) -> Phrase
     requires { ⌜ Classes (now classes) ⌝ }
     ensures { λ r. ⌜ r ≡ stringOn (now (d .entry)) (Reading.At n) ⌝ }
