@@ -5,7 +5,8 @@ use scan::Step;
 use steps::Found;
 use tokens::Reading;
 ghost use mathlib.Core.Path.{_≡_};
-ghost use mathlib.Core.Bool.{cond};
+ghost use mathlib.Core.Bool.{true, cond};
+ghost use Prim.Native.Nat.{_<_};
 ghost use Rattle.ascii.specs.Class.{Classes};
 ghost use Rattle.ascii.specs.rule.Tens.{Tens};
 ghost use Rattle.scan.specs.rule.Text.{text};
@@ -78,14 +79,32 @@ fn item_past(classes: &[u8; 256], d: &[u8], i: Item) -> usize
     s.next
 }
 
-// The statement k of the heading, if it was given, and the place behind its word. With 5 the place behind all of them.
-fn find_item(classes: &[u8; 256], d: &[u8], start: usize, k: usize) -> Found
+// Whether a place is the one behind the heading, if that is known.
+fn at_stop(stop: Found, n: usize) -> bool
+    ensures { λ r. ⌜ (r ≡ true → (stop .there ≡ true) × (stop .next ≡ n)) ⌝ }
+{
+    if !stop.there {
+        return false;
+    }
+    stop.next == n
+}
+
+// The statement k of the heading, if it was given, and the place behind its word. With 5 the place behind all of them: where it is known
+// already, what stands there is not looked at again, as comments and notes may.
+fn find_item(classes: &[u8; 256], d: &[u8], start: usize, k: usize, stop: Found) -> Found
     requires { ⌜ Classes (now classes) ⌝ }
+    requires { ⌜ (stop .there ≡ true → (k < 5) × (itemAt (now d) (stop .next) .which ≡ 5)) ⌝ }
     ensures { λ r. ⌜ r ≡ itemFound 6 (now (d .entry)) start k ⌝ }
 {
     let mut n = start;
     let mut j: usize = 0;
     while j < 6 {
+        if at_stop(stop, n) {
+            return Found {
+                there: false,
+                next: n,
+            };
+        }
         let i = item_at(classes, d, n);
         if i.which == k {
             return Found {
@@ -170,12 +189,16 @@ fn items_of(classes: &[u8; 256], d: &[u8], start: usize) -> Items
     requires { ⌜ Classes (now classes) ⌝ }
     ensures { λ r. ⌜ r ≡ itemsOf (now (d .entry)) start ⌝ }
 {
-    let date = find_item(classes, d, start, 0);
-    let time = find_item(classes, d, start, 1);
-    let origin = find_item(classes, d, start, 2);
-    let user = find_item(classes, d, start, 3);
-    let standard = find_item(classes, d, start, 4);
-    let end = find_item(classes, d, start, 5);
+    let none = Found {
+        there: false,
+        next: 0,
+    };
+    let end = find_item(classes, d, start, 5, none);
+    let date = find_item(classes, d, start, 0, end);
+    let time = find_item(classes, d, start, 1, end);
+    let origin = find_item(classes, d, start, 2, end);
+    let user = find_item(classes, d, start, 3, end);
+    let standard = find_item(classes, d, start, 4, end);
     Items {
         date,
         time,
