@@ -1,7 +1,7 @@
 // The test behind refusal 20: is a table well formed? It asks nothing of the table. Above it stand all calls on records and files,
 // which test the table by it and then use what it gives.
 ghost use mathlib.Core.Path.{_≡_};
-ghost use Prim.Native.Nat.{_+_, _*_, _≤_, _<_, max};
+ghost use Prim.Native.Nat.{_+_, _*_, _≤_, _<_, min, max};
 ghost use lib.Dec.{leb};
 ghost use lib.ListN.{length};
 ghost use mathlib.Core.Bool.{true, _&&_};
@@ -178,18 +178,27 @@ fn with_four(t: &[i64], v: usize, k: usize, l: Laid) -> Laid
     with_line(t, v, k + 3, three)
 }
 
-// Are the flags and texts of all e lines low, where those of the first k make l?
-fn rest_low(t: &[i64], v: usize, e: usize, from: usize, l: Laid) -> bool
-    requires { ⌜ Standing (now t) v 0 e × (from ≤ e) ⌝ }
-    requires { ⌜ Over (now t) v from l ⌝ }
+// The same with line k, where the table has it.
+fn with_next(t: &[i64], v: usize, e: usize, k: usize, l: Laid) -> Laid
+    requires { ⌜ Standing (now t) v 0 e ⌝ }
+    requires { ⌜ Over (now t) v (min e k) l ⌝ }
+    ensures { λ r. ⌜ Over (now (t .entry)) v (min e (k + 1)) r ⌝ }
+{
+    if e <= k {
+        return l;
+    }
+    with_line(t, v, k, l)
+}
+
+// Are the flags and texts of all e lines low, where those of all but the last three, from k on, make l?
+fn rest_low(t: &[i64], v: usize, e: usize, k: usize, l: Laid) -> bool
+    requires { ⌜ Standing (now t) v 0 e × (k ≤ e) × (e ≤ k + 3) ⌝ }
+    requires { ⌜ Over (now t) v k l ⌝ }
     ensures { λ r. ⌜ (r ≡ true → linesPlain (now (t .entry)) v 0 e ≡ true) ⌝ }
 {
-    let mut laid = l;
-    let mut k = from;
-    while k < e {
-        laid = with_line(t, v, k, laid);
-        k += 1;
-    }
+    let one = with_next(t, v, e, k, l);
+    let two = with_next(t, v, e, k + 1, one);
+    let laid = with_next(t, v, e, k + 2, two);
     (laid.special < 2) & (laid.text < 1_048_576) & (laid.text_len < 1_048_576)
 }
 

@@ -1,7 +1,7 @@
 -- `sound::lines_low` meets its contract. The invariant: what was laid lies over the first 4 k lines.
 use mathlib.Core.Path.{_≡_}
-use Prim.Native.Nat.{ℕ, _+_, _-_, _*_, _/_, _≤_}
-use native.Mathlib.Nat.{div-mul-le-self}
+use Prim.Native.Nat.{ℕ, _+_, _-_, _*_, _/_, _%_, _≤_, _<_}
+use native.Mathlib.Nat.{div-mul-le-self, div-add-mod', mod-lt}
 use native.Mathlib.Omega.{arith}
 use borrow.Author.Needs.{needs}
 use Rattle.sound.specs.Laid.{Over, over-none, over-same}
@@ -25,8 +25,10 @@ loop-again c = (omega arith, over-same (omega arith) (c .with-four .ensures))
 
 rest-low-requires : tie.Need-rest-low-requires Inv-loop μ-loop
 rest-low-requires c κs =
-    let d = div-mul-le-self (c .before .before .args .e) 4 in
-    ((c .before .before .pre, omega arith), over-same (omega (arith, c .loop-test .left)) (c .before .loop .inv .1))
+    let e = c .before .before .args .e in
+    let d = div-add-mod' e 4 in
+    let m : e % 4 < 4 = mod-lt e (omega arith) in
+    ((c .before .before .pre, omega arith, omega arith), over-same (omega (arith, c .loop-test .left)) (c .before .loop .inv .1))
 
 pub lines-low-spec : {M : Type 1} → statement M
 lines-low-spec =
