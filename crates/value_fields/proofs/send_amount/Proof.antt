@@ -34,13 +34,9 @@ send-count-requires-2 c κs = (
 )
 
 send-digits-requires : tie.Need-send-digits-requires
-send-digits-requires c κs = (
-  c .before .before .before .before .before .before .before .before .before .before .before .before .pre .0,
-  (
-    c .before .before .before .before .before .before .before .before .before .before .before .before .pre .1 .0,
-    omega (arith, c .before .before .before .before .before .before .before .before .before .before .before .before .pre .1 .1),
-  ),
-)
+send-digits-requires c κs =
+    let p = c .before .before .before .before .before .before .before .before .before .before .before .before .pre in
+    (p .0, (p .1 .0, omega (arith, p .1 .1)))
 
 returns-2 : tie.Need-returns-2
 returns-2 c =

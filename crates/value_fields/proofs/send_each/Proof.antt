@@ -41,15 +41,16 @@ send-set-bits-requires c κs =
 
 returns-3 : tie.Need-returns-3
 returns-3 c =
-    let at-first-set = c .before .before .before .before .before .before .before .before .before in
+    let at-send-set-bits = c .before .before in
+    let at-send-count = at-send-set-bits .before .before .before .before in
+    let at-first-set = at-send-count .before .before .before in
     let start = at-first-set .before .before .before .before .before in
     let a = start .args in
     let p = start .pre in
     let f = at-first-set .first-set .ensures in
     let n = at-first-set .first-set .result in
-    let l = below-of n (a .w) (f .few) (c .before .before .before .before .before .before .before .before .if2 .left) in
-    sent-as (then (sent-as (c .before .before .before .before .before .before .send-count .ensures) (count-code _))
-    (c .before .before .send-set-bits .ensures))
+    let l = below-of n (a .w) (f .few) (at-send-count .before .before .if2 .left) in
+    sent-as (then (sent-as (at-send-count .send-count .ensures) (count-code _)) (at-send-set-bits .send-set-bits .ensures))
     (text-set (a .w) n l (a .bytes .now) (a .p) (f .set l) ∙ ap setText (sym (f .same))
     ∙ each-members (a .w) (p .1 .0 .0) (a .bytes .now) (a .p) (p .1 .1) (at-first-set .before .if1 .left))
 

@@ -44,72 +44,79 @@ read-few-requires c κs =
 send-set-requires : tie.Need-send-set-requires
 unfolding setSaid illegalAnswer
 send-set-requires c κs =
-    let start = c .before .before .before .before .before .before .before .before .before .before .before .before .before in
+    let at-m = c .before .before .before in
+    let at-read-few = at-m .before .before .before .before in
+    let at-read = at-read-few .before .before .before in
+    let start = at-read .before .before .before in
     let a = start .args in
     let p = start .pre in
-    let r = c .before .before .before .before .before .before .before .before .before .before .read .result in
-    let is = c .before .before .before .before .before .before .before .before .before .before .read .ensures in
-    let q = rw (c .before .before .before .m .given .1) at
-    (row-set {p = r .start - 1} (as-spread (a .t .now) (a .h .rows) r (a .bytes .now) (a .n) (a .b)
-    (kind (c .before .before .before .before .before .before .before .before .before .before)))
-    (spread-answered _ _ _ _ _ _ _ _ refl (c .before .before .before .before .before .before .before .read-few .ensures))) in
+    let r = at-read .read .result in
+    let is = at-read .read .ensures in
+    let q = rw (at-m .m .given .1) at (row-set {p = r .start - 1} (as-spread (a .t .now) (a .h .rows) r (a .bytes .now) (a .n) (a .b)
+    (kind at-read)) (spread-answered _ _ _ _ _ _ _ _ refl (at-read-few .read-few .ensures))) in
     (p .0 .tens, set-listed _ _ (row-listable (p .0 .tested) (p .1 .0 .0) is (a .bytes .now) (p .1 .0 .1) q (p .0 .list) refl) refl)
 
 returns : tie.Need-returns
 unfolding setSaid illegalAnswer
 returns c =
-    let start = c .before .before .before .before .before .before .before .before .before .before in
+    let at-read-few = c .before .before .before .before in
+    let at-read = at-read-few .before .before .before in
+    let start = at-read .before .before .before in
     let a = start .args in
     let p = start .pre in
-    let r = c .before .before .before .before .before .before .before .read .result in
-    let is = c .before .before .before .before .before .before .before .read .ensures in
+    let r = at-read .read .result in
+    let is = at-read .read .ensures in
     let q = rw (c .enum-told .given .1) at (row-set {p = r .start - 1}
-    (as-spread (a .t .now) (a .h .rows) r (a .bytes .now) (a .n) (a .b) (kind (c .before .before .before .before .before .before .before)))
-    (spread-answered _ _ _ _ _ _ _ _ refl (c .before .before .before .before .read-few .ensures))) in
+    (as-spread (a .t .now) (a .h .rows) r (a .bytes .now) (a .n) (a .b) (kind at-read))
+    (spread-answered _ _ _ _ _ _ _ _ refl (at-read-few .read-few .ensures))) in
     sent-as (nothing-sent _ _ _) (missing-field _ Missing _ _ refl
     ∙ row-field (p .0 .tested) (p .1 .0 .0) is (a .bytes .now) (p .1 .0 .1) q (p .0 .list) refl)
 
 returns-2 : tie.Need-returns-2
 unfolding setSaid illegalAnswer
 returns-2 c =
-    let start = c .before .before .before .before .before .before .before .before .before .before .before .before .before .before .before
-    .before in
+    let at-send-set = c .before .before in
+    let at-m = at-send-set .before .before .before .before in
+    let at-read-few = at-m .before .before .before .before in
+    let at-read = at-read-few .before .before .before in
+    let start = at-read .before .before .before in
     let a = start .args in
     let p = start .pre in
-    let r = c .before .before .before .before .before .before .before .before .before .before .before .before .before .read .result in
-    let is = c .before .before .before .before .before .before .before .before .before .before .before .before .before .read .ensures in
-    let q = rw (c .before .before .before .before .before .before .m .given .1) at
-    (row-set {p = r .start - 1} (as-spread (a .t .now) (a .h .rows) r (a .bytes .now) (a .n) (a .b)
-    (kind (c .before .before .before .before .before .before .before .before .before .before .before .before .before)))
-    (spread-answered _ _ _ _ _ _ _ _ refl
-    (c .before .before .before .before .before .before .before .before .before .before .read-few .ensures))) in
-    sent-as (c .before .before .send-set .ensures)
+    let r = at-read .read .result in
+    let is = at-read .read .ensures in
+    let q = rw (at-m .m .given .1) at (row-set {p = r .start - 1} (as-spread (a .t .now) (a .h .rows) r (a .bytes .now) (a .n) (a .b)
+    (kind at-read)) (spread-answered _ _ _ _ _ _ _ _ refl (at-read-few .read-few .ensures))) in
+    sent-as (at-send-set .send-set .ensures)
     (set-field _ (Set _) _ _ refl ∙ row-field (p .0 .tested) (p .1 .0 .0) is (a .bytes .now) (p .1 .0 .1) q (p .0 .list) refl)
 
 returns-3 : tie.Need-returns-3
 unfolding setSaid illegalAnswer
 returns-3 c =
-    let start = c .before .before .before .before .before .before .before .before .before .before in
+    let at-read-few = c .before .before .before .before in
+    let at-read = at-read-few .before .before .before in
+    let start = at-read .before .before .before in
     let a = start .args in
     let p = start .pre in
-    let r = c .before .before .before .before .before .before .before .read .result in
-    let is = c .before .before .before .before .before .before .before .read .ensures in
+    let r = at-read .read .result in
+    let is = at-read .read .ensures in
     let q = rw (c .enum-told2 .given .1) at (row-set {p = r .start - 1}
-    (as-spread (a .t .now) (a .h .rows) r (a .bytes .now) (a .n) (a .b) (kind (c .before .before .before .before .before .before .before)))
-    (spread-answered _ _ _ _ _ _ _ _ refl (c .before .before .before .before .read-few .ensures))) in
+    (as-spread (a .t .now) (a .h .rows) r (a .bytes .now) (a .n) (a .b) (kind at-read))
+    (spread-answered _ _ _ _ _ _ _ _ refl (at-read-few .read-few .ensures))) in
     sent-as (nothing-sent _ _ _) (row-empty (p .0 .tested) (p .1 .0 .0) is (a .bytes .now) (p .1 .0 .1) q refl)
 
 returns-4 : tie.Need-returns-4
 unfolding setSaid illegalAnswer Listable
 returns-4 c =
-    let start = c .before .before .before .before .before .before .before .before .before .before in
+    let at-read-few = c .before .before .before .before in
+    let at-read = at-read-few .before .before .before in
+    let start = at-read .before .before .before in
     let a = start .args in
     let p = start .pre in
-    let r = c .before .before .before .before .before .before .before .read .result in
-    let is = c .before .before .before .before .before .before .before .read .ensures in
+    let r = at-read .read .result in
+    let is = at-read .read .ensures in
     let q = rw (c .enum-told3 .given .1) at (row-set {p = r .start - 1}
-    (as-spread (a .t .now) (a .h .rows) r (a .bytes .now) (a .n) (a .b) (kind (c .before .before .before .before .before .before .before)))
-    (spread-answered _ _ _ _ _ _ _ _ refl (c .before .before .before .before .read-few .ensures))) in
+    (as-spread (a .t .now) (a .h .rows) r (a .bytes .now) (a .n) (a .b) (kind at-read))
+    (spread-answered _ _ _ _ _ _ _ _ refl (at-read-few .read-few .ensures))) in
     absurd (row-listable (p .0 .tested) (p .1 .0 .0) is (a .bytes .now) (p .1 .0 .1) q (p .0 .list) refl)
 
 pub send-few-spec : {M : Type 1} → statement M

@@ -23,19 +23,17 @@ loop-holds : tie.Need-loop-holds Inv-loop μ-loop
 loop-holds c = (omega arith, c .before .pre .1 .1, all-owed _ _ _ refl)
 
 send-code-requires : tie.Need-send-code-requires Inv-loop μ-loop
-send-code-requires c κs = (
-  c .before .before .before .before .before .before .before .before .before .pre .0,
-  (
-    rw (toZ-ofZ (sfits-of (c .number .ok)), c .number .ensures)
-        (let f = c .before .before .before .before .before .before .before .before .before .pre .1 .0 .few
-        (c .before .before .before .before .before .before .before .loop .j)
-        (c .before .before .before .before .before .before .loop-test .taken) in omega arith),
-    rw (toZ-ofZ (sfits-of (c .number .ok)), c .number .ensures)
-        (c .before .before .before .before .before .before .before .before .before .pre .1 .0 .plain
-        (c .before .before .before .before .before .before .before .loop .j)
-        (c .before .before .before .before .before .before .loop-test .taken)),
-  ),
-)
+send-code-requires c κs =
+    let at-test = c .before .before .before .before .before .before in
+    let at-loop = at-test .before in
+    let p = at-loop .before .before .pre in (
+      p .0,
+      (
+        rw (toZ-ofZ (sfits-of (c .number .ok)), c .number .ensures)
+            (let f = p .1 .0 .few (at-loop .loop .j) (at-test .loop-test .taken) in omega arith),
+        rw (toZ-ofZ (sfits-of (c .number .ok)), c .number .ensures) (p .1 .0 .plain (at-loop .loop .j) (at-test .loop-test .taken)),
+      ),
+    )
 
 add-j : tie.Need-add-j Inv-loop μ-loop
 add-j c = omega (arith, c .before .before .before .before .before .before .before .before .before .loop-test .taken)
@@ -44,16 +42,18 @@ loop-less : tie.Need-loop-less Inv-loop μ-loop
 loop-less c = omega (arith, c .before .before .before .before .before .before .before .before .before .loop-test .taken)
 
 loop-again : tie.Need-loop-again Inv-loop μ-loop
-loop-again c = (
-  omega (arith, c .before .before .before .before .before .before .before .before .before .before .loop .inv .0),
-  omega (arith, c .before .before .before .before .before .before .before .before .before .loop-test .taken),
-  less-owed (less-owed (c .before .before .before .before .before .before .before .before .before .before .loop .inv .2)
-      (codes-next _ _ _ (c .before .before .before .before .before .before .before .before .before .loop-test .taken)
-      (c .before .before .before .before .before .before .before .before .before .before .before .before .pre .1 .0 .many))
-      (c .before .before .before .before .before .before .before .send-byte .ensures)) refl
-      (sent-as (c .before .before .send-code .ensures)
-      (ap (numberText 0) (toZ-ofZ (sfits-of (c .before .before .before .number .ok)) ∙ c .before .before .before .number .ensures))),
-)
+loop-again c =
+    let at-number = c .before .before .before in
+    let at-test = at-number .before .before .before .before .before .before in
+    let at-loop = at-test .before in
+    let h = at-test .loop-test .taken in (
+      omega (arith, at-loop .loop .inv .0),
+      omega (arith, h),
+      less-owed (less-owed (at-loop .loop .inv .2) (codes-next _ _ _ h (at-loop .before .before .pre .1 .0 .many))
+          (c .before .before .before .before .before .before .before .send-byte .ensures)) refl
+          (sent-as (c .before .before .send-code .ensures)
+          (ap (numberText 0) (toZ-ofZ (sfits-of (at-number .number .ok)) ∙ at-number .number .ensures))),
+    )
 
 same-length : tie.Need-same-length Inv-loop μ-loop
 same-length c = c .before .loop .inv .2 .same-room

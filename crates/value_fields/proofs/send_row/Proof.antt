@@ -58,8 +58,9 @@ send-single-requires c κs =
     )
 
 element-copy-out-if1 : tie.Need-element-copy-out-if1
-element-copy-out-if1 c = row-fits (c .before .before .before .before .before .before .before .before .pre .0 .tested)
-    (c .before .before .before .before .before .before .before .before .pre .1 .0 .0)
+element-copy-out-if1 c =
+    let the-start = c .before .before .before .before .before .before .before .before in
+    row-fits (the-start .pre .0 .tested) (the-start .pre .1 .0 .0)
 
 sub-send-each : tie.Need-sub-send-each
 sub-send-each c =
@@ -93,29 +94,32 @@ send-each-requires c κs =
 returns : tie.Need-returns
 unfolding decimalsOf
 returns c =
-    let start = c .before .before .before .before .before .before .before .before .before .before .before .before .before .before .before in
+    let at-if1 = c .before .before .before .before .before in
+    let at-enum-told2 = at-if1 .before .before in
+    let at-read = at-enum-told2 .before .before .before .before .before in
+    let start = at-read .before .before .before in
     let a = start .args in
     let p = start .pre in
-    let is = c .before .before .before .before .before .before .before .before .before .before .before .before .read .ensures in
-    let r = c .before .before .before .before .before .before .before .before .before .before .before .before .read .result in
-    let e = c .before .before .before .before .before .before .before .before .before .before .kind .given .1
-    ∙ ap Multiple (c .before .before .before .before .before .before .before .enum-told2 .given .1) in
+    let is = at-read .read .ensures in
+    let r = at-read .read .result in
+    let e = at-enum-told2 .before .before .before .kind .given .1 ∙ ap Multiple (at-enum-told2 .enum-told2 .given .1) in
     sent-as (c .before .before .send-each .ensures) (row-text (p .0 .tested) (p .1 .0 .0) is (a .bytes .now)
     (each-row (a .t .now) (a .h .rows) r (rowAt (a .t .now) (a .i)) (a .bytes .now) is e
-    (p .1 .1 .0 (a .i) (p .1 .0 .0) (c .before .before .before .before .before .if1 .taken))) (ap decimalsOf e))
+    (p .1 .1 .0 (a .i) (p .1 .0 .0) (at-if1 .if1 .taken))) (ap decimalsOf e))
 
 send-few-requires : tie.Need-send-few-requires
 send-few-requires c κs =
-    let start = c .before .before .before .before .before .before .before .before .before .before .before .before in
+    let at-s = c .before .before .before .before in
+    let at-kind = at-s .before .before .before in
+    let start = at-kind .before .before .before .before .before in
     let p = start .pre in
-    let e = c .before .before .before .before .before .before .before .kind .given .1
-    ∙ ap Multiple (c .before .before .before .before .s .given .1) in (
+    let e = at-kind .kind .given .1 ∙ ap Multiple (at-s .s .given .1) in (
       p .0,
       (
         p .1 .0,
         (
           c .before .before .if2 .taken,
-          ap (λ (r : Row). r .kind) (sym (c .before .before .before .before .before .before .before .before .before .read .ensures)) ∙ e,
+          ap (λ (r : Row). r .kind) (sym (at-kind .before .before .read .ensures)) ∙ e,
         ),
       ),
     )
@@ -190,54 +194,59 @@ send-truth-requires c κs =
 returns-3 : tie.Need-returns-3
 unfolding decimalsOf
 returns-3 c =
-    let start = c .before .before .before .before .before .before .before .before .before in
+    let at-send-single = c .before .before in
+    let at-read = at-send-single .before .before .before .before in
+    let start = at-read .before .before .before in
     let a = start .args in
     let p = start .pre in
-    let is = c .before .before .before .before .before .before .read .ensures in
-    let r = c .before .before .before .before .before .before .read .result in
-    let e = c .before .before .before .before .enum-told .given .1 in
+    let is = at-read .read .ensures in
+    let r = at-read .read .result in
+    let e = at-send-single .before .before .enum-told .given .1 in
     let s = as-single (a .t .now) (a .h .rows) r (a .bytes .now) e in
     let g = row-legal (p .0 .tested) (p .1 .0 .0) is (a .bytes .now) (p .1 .1 .1) in
-    sent-as (c .before .before .send-single .ensures (legal (a .t .now) (a .h .rows) r) (rw s at g))
+    sent-as (at-send-single .send-single .ensures (legal (a .t .now) (a .h .rows) r) (rw s at g))
     (row-text (p .0 .tested) (p .1 .0 .0) is (a .bytes .now) s (ap decimalsOf e))
 
 returns-6 : tie.Need-returns-6
 unfolding decimalsOf
 returns-6 c =
-    let start = c .before .before .before .before .before .before .before .before .before .before in
+    let at-send-quantity = c .before .before in
+    let at-read = at-send-quantity .before .before .before .before .before in
+    let start = at-read .before .before .before in
     let a = start .args in
     let p = start .pre in
-    let is = c .before .before .before .before .before .before .before .read .ensures in
-    let r = c .before .before .before .before .before .before .before .read .result in
-    let e = c .before .before .before .before .before .kind2 .given .1 in
+    let is = at-read .read .ensures in
+    let r = at-read .read .result in
+    let e = at-send-quantity .before .before .before .kind2 .given .1 in
     let s = as-quantity (a .t .now) (a .h .rows) r (a .bytes .now) _ e in
     let g = row-legal (p .0 .tested) (p .1 .0 .0) is (a .bytes .now) (p .1 .1 .1) in
-    sent-as (c .before .before .send-quantity .ensures (legal (a .t .now) (a .h .rows) r) (rw s at g))
+    sent-as (at-send-quantity .send-quantity .ensures (legal (a .t .now) (a .h .rows) r) (rw s at g))
     (row-text (p .0 .tested) (p .1 .0 .0) is (a .bytes .now) s (ap decimalsOf e))
 
 returns-7 : tie.Need-returns-7
 unfolding decimalsOf
 returns-7 c =
-    let start = c .before .before .before .before .before .before .before .before .before .before in
+    let at-send-words = c .before .before in
+    let at-read = at-send-words .before .before .before .before .before in
+    let start = at-read .before .before .before in
     let a = start .args in
     let p = start .pre in
-    let e = c .before .before .before .before .before .enum-told3 .given .1 in
-    sent-as (c .before .before .send-words .ensures)
-    (row-text (p .0 .tested) (p .1 .0 .0) (c .before .before .before .before .before .before .before .read .ensures) (a .bytes .now)
-    (as-text (a .t .now) (a .h .rows) (c .before .before .before .before .before .before .before .read .result) (a .bytes .now) e)
-    (ap decimalsOf e))
+    let e = at-send-words .before .before .before .enum-told3 .given .1 in
+    sent-as (at-send-words .send-words .ensures) (row-text (p .0 .tested) (p .1 .0 .0) (at-read .read .ensures) (a .bytes .now)
+    (as-text (a .t .now) (a .h .rows) (at-read .read .result) (a .bytes .now) e) (ap decimalsOf e))
 
 returns-8 : tie.Need-returns-8
 unfolding decimalsOf
 returns-8 c =
-    let start = c .before .before .before .before .before .before .before .before .before .before .before in
+    let at-send-truth = c .before .before in
+    let at-enum-told4 = at-send-truth .before .before .before .before in
+    let at-read = at-enum-told4 .before .before in
+    let start = at-read .before .before .before in
     let a = start .args in
     let p = start .pre in
-    let e = c .before .before .before .before .before .before .enum-told4 .given .1 in
-    sent-as (c .before .before .send-truth .ensures)
-    (row-text (p .0 .tested) (p .1 .0 .0) (c .before .before .before .before .before .before .before .before .read .ensures) (a .bytes .now)
-    (as-truth (a .t .now) (a .h .rows) (c .before .before .before .before .before .before .before .before .read .result) (a .bytes .now) e)
-    (ap decimalsOf e))
+    let e = at-enum-told4 .enum-told4 .given .1 in
+    sent-as (at-send-truth .send-truth .ensures) (row-text (p .0 .tested) (p .1 .0 .0) (at-read .read .ensures) (a .bytes .now)
+    (as-truth (a .t .now) (a .h .rows) (at-read .read .result) (a .bytes .now) e) (ap decimalsOf e))
 
 pub send-row-spec : {M : Type 1} → statement M
 send-row-spec =

@@ -30,10 +30,11 @@ returns c ok g =
 send-number-requires : tie.Need-send-number-requires
 unfolding saidOf
 send-number-requires c κs =
-    let p = c .before .before .before .before .before .before .before .pre in
-    let z = c .before .before .before .before .said .given .0 .0 in
-    let e : saidOf (c .before .before .before .before .before .before .before .args .said)
-    ≡ says z = rw (c .before .before .before .before .said .given .1) in
+    let at-said = c .before .before .before .before in
+    let start = at-said .before .before .before in
+    let p = start .pre in
+    let z = at-said .said .given .0 .0 in
+    let e : saidOf (start .args .said) ≡ says z = rw (at-said .said .given .1) in
     (p .0, (rw (back (c .before .before .before)) (p .1 .0 z e), p .1 .1))
 
 returns-2 : tie.Need-returns-2
@@ -43,10 +44,11 @@ returns-2 c ok g = sent-as (nothing-sent _ _ _) (rw (c .enum-told .given .1) (sa
 returns-3 : tie.Need-returns-3
 unfolding saidOf
 returns-3 c ok g =
-    let e = c .before .before .before .before .before .before .before .said .given .1 in
-    sent-as (c .before .before .send-number .ensures) (ap (numberText _) (back (c .before .before .before .before .before .before))
-    ∙ rw e (said-number _ ok _ _ (rw (zero-test (c .before .before .before .before .before)) at
-    (c .before .before .before .before .if1 .left)) (rw e at g)))
+    let at-send-number = c .before .before in
+    let e = at-send-number .before .before .before .before .before .said .given .1 in
+    sent-as (at-send-number .send-number .ensures) (ap (numberText _) (back (at-send-number .before .before .before .before))
+    ∙ rw e (said-number _ ok _ _ (rw (zero-test (at-send-number .before .before .before)) at
+    (at-send-number .before .before .if1 .left)) (rw e at g)))
 
 returns-4 : tie.Need-returns-4
 unfolding saidOf
