@@ -6,3 +6,4 @@ pub mod Members
 pub mod Columns
 pub mod Room
 pub mod Ones
+pub mod Rows

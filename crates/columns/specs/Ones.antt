@@ -64,6 +64,10 @@ pub record OnesMore (flags values n : ℕ) (l : List ℤ) (k : ℕ) (out out′ 
   pub at : (r : List ℕ) → out ≡ putEntries r flags values (noughts true n)
       → out′ ≡ putEntries r flags values (stretchFrom true (inList l k) 1 n)
 
+-- none of the list's first n numbers is a category from c on
+abbrev pub NoneFrom : List ℤ → ℕ → ℕ → Type 0
+NoneFrom l n c = (x : ℕ) → c ≤ x → x < 10000 → inList l n x ≡ false
+
 -- ---- marks that are set
 pub marked-start : (m : List ℕ) (from : ℕ) → from ≤ length m → Marked m from from
 marked-start m from h = record { on = omega arith; within = h; all = λ j a b. absurd (omega arith) }
@@ -294,3 +298,51 @@ put-then es xs ys r o o′ f v k n e lx h eo p = record {
       ∙ entries-then r f v xs ys (omega arith)
       ∙ ap (λ (l : List Entry). putEntries r f v l) (sym e);
 }
+
+-- ---- none of the categories behind a gap is in the list: they are all zeros
+pub none-start : (l : List ℤ) (c : ℕ) → NoneFrom l 0 c
+none-start l c x h f = any-none (λ j. eqZ (cell l j) (pos x))
+
+pub none-more : (l : List ℤ) (k c : ℕ) → NoneFrom l k c → countOf (cell l k) < c → NoneFrom l (k + 1) c
+none-more l k c a h x i f =
+    any-next (λ j. eqZ (cell l j) (pos x)) k
+    ∙ rw (a x i f, counts (cell l k) x (omega arith)) (ne-eqb (countOf (cell l k)) x (λ e. absurd (omega arith)))
+
+pub none-to : (l : List ℤ) (k n c : ℕ) → k ≡ n → NoneFrom l k c → NoneFrom l n c
+none-to l k n c e a = subst (λ (j : ℕ). NoneFrom l j c) e a
+
+zeros-from : (there : Bool) (legal present : List ℕ) (n c : ℕ) → ((x : ℕ) → c ≤ x → x < c + n → getD present x 0 ≡ 0)
+    → markedFrom there legal present c n ≡ noughts there (length (markedFrom there legal present c n))
+unfolding markedFrom noughts
+zeros-from there legal present zero c h = refl
+zeros-from there legal present (suc n) c h =
+    go (eqb (getD legal c 0) 1) (zeros-from there legal present n (suc c) (λ x i l. h x (omega arith) (omega arith)))
+  where
+    rest : List Entry
+    rest = markedFrom there legal present (suc c) n
+
+    go : (b : Bool) → rest ≡ noughts there (length rest) → cond b (markedEntry there (getD present c 0) ∷ rest) rest
+        ≡ noughts there (length (cond b (markedEntry there (getD present c 0) ∷ rest) rest))
+    go false e = e
+    go true e =
+        ap (λ (x : ℕ). markedEntry there x ∷ rest) (h c (omega arith) (omega arith))
+        ∙ ap (λ (x : Entry). x ∷ rest) (marked-nought there 0 refl)
+        ∙ ap (λ (l : List Entry). cond there (Scaled (pos 0) 1) Absent ∷ l) e
+
+pub gap-zeros : (there : Bool) (legal present : List ℕ) (l : List ℤ) (n gap : ℕ) → gap ≤ length legal → length present ≡ length legal
+    → length legal ≤ 10000 → Marks (λ z. anyBelow n (λ j. eqZ (cell l j) z)) present → NoneFrom l n gap
+    → markedLeft there legal present gap ≡ noughts there (length (markedLeft there legal present gap))
+gap-zeros there legal present l n gap h same few marks none =
+    zeros-from there legal present (length legal - gap) gap
+    (λ x i k. marks .at x (omega arith) ∙ ap flag (none x i (omega arith)))
+
+pub gap-made-zeros : (there : Bool) (legal present : List ℕ) (l : List ℤ) (n gap count : ℕ) → Marked legal 1 gap
+    → length present ≡ length legal → length legal ≤ 10000 → Marks (λ z. anyBelow n (λ j. eqZ (cell l j) z)) present → NoneFrom l n gap
+    → count ≡ length (markedEntries there legal present)
+    → markedEntries there legal present ≡ stretchFrom there (inList l n) 1 (gap - 1) ++ noughts there (count - (gap - 1))
+gap-made-zeros there legal present l n gap count m same few marks none e =
+    let left = markedLeft there legal present gap in
+    let k : length left ≡ count - (gap - 1) = omega (arith, e, gap-count there legal present l n gap m same marks) in
+    gap-made there legal present l n gap m same marks
+    ∙ ap (λ (es : List Entry). stretchFrom there (inList l n) 1 (gap - 1) ++ es)
+    (gap-zeros there legal present l n gap (m .within) same few marks none ∙ ap (noughts there) k)

@@ -20,13 +20,20 @@ ghost use Rattle.columns.specs.Reach.{shapeOf, digitsReach, bitsReach, r
 ghost use Rattle.columns.specs.Marked.{answerEntry, isSet, markedEntry, markedEntries, memberEntries};
 ghost use Rattle.columns.specs.Stretch.{Starts, Ends, markAmong, Unmarked, Alike};
 ghost use Rattle.columns.specs.Room.{Room, PutAs, Ready};
-ghost use Rattle.columns.specs.Ones.{Marked, RangeTo, markedLeft, inList, stretchFrom, OneMore, OnesMore};
+ghost use Rattle.columns.specs.Ones.{Marked, RangeTo, markedLeft, inList, stretchFrom, OneMore, OnesMore, NoneFrom};
+ghost use Rattle.columns.specs.Rows.{entriesBy, MarkedRow, MarkedSet};
 use layout::Header;
 use layout::Kind;
 use layout::Row;
 use layout::Spread;
 use matrix::Entry;
 use readings::Answer;
+
+// What was made of a row's marks: the first gap in them behind 1, and how many columns the row has.
+pub struct Marking {
+    pub gap: usize,
+    pub count: usize,
+}
 
 // How many decimals a row's numbers have.
 fn decimals_of(kind: Kind) -> usize
@@ -330,29 +337,47 @@ fn put_stretch(
     put_ones(list, n, out, past, flags, values);
 }
 
-// The entries of the categories that are marked as legal, and how many they are: those before the first gap by what the list holds, the
-// others by their marks. All before `past` are legal.
+// Whether the list's first n numbers all stand before a gap.
+fn all_before(list: &[i64], n: usize, gap: usize) -> bool
+    requires { ⌜ n ≤ length (now list) ⌝ }
+    ensures { λ r. ⌜ (r ≡ true → NoneFrom (now (list .entry)) n gap) ⌝ }
+{
+    let mut all = true;
+    let mut k: usize = 0;
+    while k < n {
+        all = all & (cells::count_of(list[k]) < gap);
+        k += 1;
+    }
+    all
+}
+
+// The entries of the categories that are marked as legal, of which there are so many: those before the first gap by what the list holds,
+// the others by their marks, or as zeros where the list holds none of them. All before the gap are legal.
 fn put_members(
     list: &[i64],
     n: usize,
-    past: usize,
+    m: Marking,
     allowed: &[u8],
     present: &[u8],
     there: bool,
     out: &mut [u8],
     flags: usize,
     values: usize,
-) -> usize
+)
     requires { ⌜ (n ≤ length (now list)) × (length (now present) ≡ length (now allowed)) × (length (now allowed) ≤ 10000) ⌝ }
-    requires { ⌜ Marked (now allowed) 1 past × Marks (λ z. anyBelow n (λ j. eqZ (cell (now list) j) z)) (now present) ⌝ }
-    requires { ⌜ Room flags values (length (now out)) (length (markedEntries there (now allowed) (now present))) ⌝ }
-    ensures { λ r. ⌜ PutAs (markedEntries there (now (allowed .entry)) (now (present .entry))) flags values (now (out .entry))
-        (now (out .exit)) r ⌝ }
+    requires { ⌜ Marked (now allowed) 1 (m .gap) × Marks (λ z. anyBelow n (λ j. eqZ (cell (now list) j) z)) (now present) ⌝ }
+    requires { ⌜ (m .count ≡ length (markedEntries there (now allowed) (now present))) × Room flags values (length (now out)) (m .count) ⌝ }
+    ensures { λ _. ⌜ now (out .exit) ≡ putEntries (now (out .entry)) flags values
+        (markedEntries there (now (allowed .entry)) (now (present .entry))) ⌝ }
 {
-    let gap = pass_marked(allowed, past);
+    let gap = m.gap;
     let k = gap - 1;
     put_stretch(list, n, gap, there, out, flags, values);
-    k + put_rest(allowed, present, there, gap, out, flags + k, values + 8 * k)
+    if all_before(list, n, gap) {
+        matrix::put_many(out, flags + k, values + 8 * k, m.count - k, there);
+        return;
+    }
+    put_rest(allowed, present, there, gap, out, flags + k, values + 8 * k);
 }
 
 // How many of the first n numbers lie below z.
@@ -434,42 +459,32 @@ fn range_past(row: Row, n: usize) -> usize
     past
 }
 
-// The entries of a multiple's categories, and how many they are. The marks reach every category of the row.
+// The entries of a multiple's categories, by the marks of its row.
 fn put_multiple(
     t: &[i64],
     rows: usize,
     row: Row,
+    m: Marking,
     bytes: &[u8],
     list: &mut [i64],
-    allowed: &mut [u8],
+    allowed: &[u8],
     present: &mut [u8],
     out: &mut [u8],
     flags: usize,
     values: usize,
-) -> usize
+)
     requires { ⌜ Readable (now t) rows row (length (now bytes)) × (length (now list) ≡ 9999) ⌝ }
-    requires { ⌜ Covered (now t) rows row (length (now allowed)) × (length (now present) ≡ length (now allowed)) ⌝ }
-    requires { ⌜ Room flags values (length (now out)) (length (defined (legal (now t) rows row) 1 9999)) ⌝ }
-    ensures { λ r. ⌜ PutAs (memberEntries (readingOf (now (t .entry)) rows row (now (bytes .entry)))
-        (defined (legal (now (t .entry)) rows row) 1 9999)) flags values (now (out .entry)) (now (out .exit)) r ⌝ }
+    requires { ⌜ MarkedSet (now t) rows row (now allowed) (m .gap) (m .count) × (length (now present) ≡ length (now allowed)) ⌝ }
+    requires { ⌜ Room flags values (length (now out)) (m .count) ⌝ }
+    ensures { λ _. ⌜ now (out .exit) ≡ putEntries (now (out .entry)) flags values
+        (memberEntries (readingOf (now (t .entry)) rows row (now (bytes .entry)))
+        (defined (legal (now (t .entry)) rows row) 1 9999)) ⌝ }
 {
     let a = readings::read_row(t, rows, row, bytes, list);
-    mark_legal(t, rows, row, allowed);
     sets::marks::clear(present);
     let n = members_in(a);
     mark_members(list, n, present);
-    let past = range_past(row, allowed.len());
-    put_members(
-        list,
-        n,
-        past,
-        allowed,
-        present,
-        is_set(a),
-        out,
-        flags,
-        values,
-    )
+    put_members(list, n, m, allowed, present, is_set(a), out, flags, values);
 }
 
 // How many columns a row of a kind has: 0 none, 1 one, 2 one for each category.
@@ -512,7 +527,7 @@ fn bits_reach(w: usize) -> usize
 }
 
 // How many marks reach every category of a row.
-fn reach_of(kind: Kind, w: usize) -> usize
+pub fn reach_of(kind: Kind, w: usize) -> usize
     ensures { λ r. ⌜ r ≡ reachBy kind w ⌝ }
 {
     match kind {
@@ -524,90 +539,6 @@ fn reach_of(kind: Kind, w: usize) -> usize
         Kind::Quantity(_) => 1,
         Kind::Character => 1,
         Kind::Logical => 1,
-    }
-}
-
-// The entries of a row, and how many they are.
-fn put_row(
-    powers: &[u64; 16],
-    t: &[i64],
-    h: Header,
-    i: usize,
-    bytes: &[u8],
-    list: &mut [i64],
-    allowed: &mut [u8],
-    present: &mut [u8],
-    out: &mut [u8],
-    flags: usize,
-    values: usize,
-) -> usize
-    requires { ⌜ Ready (now powers) (now t) h (length (now list)) (length (now allowed)) (length (now present)) ⌝ }
-    requires { ⌜ (i < h .rows) × (h .length ≤ length (now bytes)) ⌝ }
-    requires { ⌜ Room flags values (length (now out)) (length (rowColumns (now t) (h .rows) i)) ⌝ }
-    ensures { λ r. ⌜ PutAs (entriesOf (now (t .entry)) (h .rows) (now (bytes .entry)) (rowColumns (now (t .entry)) (h .rows) i)) flags
-        values (now (out .entry)) (now (out .exit)) r ⌝ }
-{
-    let row = Row::read(t, i);
-    let kind = row.kind;
-    let shape = shape_of(kind);
-    if shape == 0 {
-        return 0;
-    }
-    if shape == 1 {
-        put_number(powers, t, h.rows, row, bytes, list, out, flags, values);
-        return 1;
-    }
-    let top = reach_of(kind, row.width);
-    put_multiple(
-        t,
-        h.rows,
-        row,
-        bytes,
-        list,
-        &mut allowed[..top],
-        &mut present[..top],
-        out,
-        flags,
-        values,
-    )
-}
-
-// The entries of a record that is long enough, in column order.
-pub fn put_record(
-    powers: &[u64; 16],
-    t: &[i64],
-    h: Header,
-    bytes: &[u8],
-    list: &mut [i64],
-    allowed: &mut [u8],
-    present: &mut [u8],
-    out: &mut [u8],
-    flags: usize,
-    values: usize,
-)
-    requires { ⌜ Ready (now powers) (now t) h (length (now list)) (length (now allowed)) (length (now present)) ⌝ }
-    requires { ⌜ h .length ≤ length (now bytes) ⌝ }
-    requires { ⌜ Room flags values (length (now out)) (length (columnsFrom (now t) (h .rows) 0 (h .rows))) ⌝ }
-    ensures { λ _. ⌜ now (out .exit) ≡ putEntries (now (out .entry)) flags values
-        (entriesOf (now (t .entry)) (h .rows) (now (bytes .entry)) (columnsFrom (now (t .entry)) (h .rows) 0 (h .rows))) ⌝ }
-{
-    let mut k: usize = 0;
-    let mut i: usize = 0;
-    while i < h.rows {
-        k += put_row(
-            powers,
-            t,
-            h,
-            i,
-            bytes,
-            list,
-            allowed,
-            present,
-            out,
-            flags + k,
-            values + 8 * k,
-        );
-        i += 1;
     }
 }
 
@@ -632,10 +563,85 @@ fn count_marked(marks: &[u8]) -> usize
 fn count_categories(t: &[i64], rows: usize, row: Row, allowed: &mut [u8]) -> usize
     requires { ⌜ LineFacts (now t) rows row ⌝ }
     requires { ⌜ Covered (now t) rows row (length (now allowed)) ⌝ }
-    ensures { λ r. ⌜ r ≡ length (defined (legal (now (t .entry)) rows row) 1 9999) ⌝ }
+    ensures { λ r. ⌜ (r ≡ length (defined (legal (now (t .entry)) rows row) 1 9999))
+        × Marks (λ x. legal (now (t .entry)) rows row x) (now (allowed .exit)) ⌝ }
 {
     mark_legal(t, rows, row, allowed);
     count_marked(allowed)
+}
+
+// The same of a multiple.
+fn mark_set(t: &[i64], rows: usize, row: Row, allowed: &mut [u8]) -> Marking
+    requires { ⌜ LineFacts (now t) rows row ⌝ }
+    requires { ⌜ Covered (now t) rows row (length (now allowed)) ⌝ }
+    ensures { λ r. ⌜ MarkedSet (now (t .entry)) rows row (now (allowed .exit)) (r .gap) (r .count) ⌝ }
+{
+    let count = count_categories(t, rows, row, allowed);
+    let past = range_past(row, allowed.len());
+    let gap = pass_marked(allowed, past);
+    Marking { gap, count }
+}
+
+// The marks of a row's legal categories, and where the first gap is behind 1, and how many columns the row has: made once for all records.
+pub fn mark_row(t: &[i64], rows: usize, row: Row, allowed: &mut [u8]) -> Marking
+    requires { ⌜ LineFacts (now t) rows row ⌝ }
+    requires { ⌜ (2 ≤ shapeOf (row .kind) → Covered (now t) rows row (length (now allowed))) ⌝ }
+    ensures { λ r. ⌜ MarkedRow (now (t .entry)) rows row (now (allowed .exit)) (r .gap) (r .count) ⌝ }
+{
+    let kind = row.kind;
+    let shape = shape_of(kind);
+    if shape < 2 {
+        return Marking {
+            gap: 1,
+            count: shape,
+        };
+    }
+    mark_set(t, rows, row, allowed)
+}
+
+// The entries of a row, whose marks were made.
+pub fn put_row(
+    powers: &[u64; 16],
+    t: &[i64],
+    rows: usize,
+    row: Row,
+    m: Marking,
+    bytes: &[u8],
+    list: &mut [i64],
+    allowed: &[u8],
+    present: &mut [u8],
+    out: &mut [u8],
+    flags: usize,
+    values: usize,
+)
+    requires { ⌜ Tens (now powers) × Readable (now t) rows row (length (now bytes)) × (length (now list) ≡ 9999) ⌝ }
+    requires { ⌜ MarkedRow (now t) rows row (now allowed) (m .gap) (m .count) × (length (now present) ≡ length (now allowed)) ⌝ }
+    requires { ⌜ Room flags values (length (now out)) (m .count) ⌝ }
+    ensures { λ _. ⌜ now (out .exit) ≡ putEntries (now (out .entry)) flags values
+        (entriesBy (row .kind) (now (t .entry)) rows row (now (bytes .entry))) ⌝ }
+{
+    let kind = row.kind;
+    let shape = shape_of(kind);
+    if shape == 0 {
+        return;
+    }
+    if shape == 1 {
+        put_number(powers, t, rows, row, bytes, list, out, flags, values);
+        return;
+    }
+    put_multiple(
+        t,
+        rows,
+        row,
+        m,
+        bytes,
+        list,
+        allowed,
+        present,
+        out,
+        flags,
+        values,
+    );
 }
 
 // How many columns a row has.

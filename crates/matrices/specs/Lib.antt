@@ -4,3 +4,5 @@ pub mod Summaries
 pub mod Entries
 pub mod Good
 pub mod Written
+pub mod Blocks
+pub mod Even

@@ -45,7 +45,7 @@ record-long t first r e = go (eqb (length r) first) (leb (lengthOf t) (length r)
     go false q b g = holds-not g refl
 
 -- what goes on to a sound end was sound itself
-went-on : (v : Verdict) (n m : ℕ) (rest : FileVerdict) → goOn v n rest ≡ soundWith m → (isSound v ≡ true) × (rest ≡ soundWith m)
+pub went-on : (v : Verdict) (n m : ℕ) (rest : FileVerdict) → goOn v n rest ≡ soundWith m → (isSound v ≡ true) × (rest ≡ soundWith m)
 unfolding goOn isSound
 went-on sound n m rest e = (refl, e)
 went-on (refused k) n m rest e = let z : _≡_ {A = ℕ} 0 1 = cc in absurd (omega arith)

@@ -12,15 +12,23 @@ ghost use Rattle.summary.specs.rule.Summary.{summaryOf};
 ghost use Rattle.matrix.specs.Put.{putEntries};
 ghost use Rattle.matrix.specs.Column.{ColumnThere, columnIn};
 ghost use Rattle.matrix.specs.rule.Bytes.{totalOf};
-ghost use Rattle.columns.specs.rule.Columns.{columnsFrom};
+ghost use Rattle.ascii.specs.rule.Tens.{Tens};
+ghost use Rattle.columns.specs.rule.Columns.{rowColumns, columnsFrom};
 ghost use Rattle.columns.specs.Room.{Room, Ready};
+ghost use Rattle.columns.specs.Reach.{shapeOf, Covered};
+ghost use Rattle.columns.specs.Rows.{entriesBy, countBy, MarkedRow};
+ghost use Rattle.fields.specs.Facts.{LineFacts};
 ghost use Rattle.matrices.specs.rule.Matrix.{endedOf, allEntries, tableColumns, matrixSaid, matrixOf, MatrixWritten};
 ghost use Rattle.matrices.specs.Records.{AllLong, countIn};
+ghost use Rattle.matrices.specs.Blocks.{putColumns, putEach, EachRoom, EachReadable};
+ghost use Rattle.matrices.specs.Even.{AllOf, firstOf, Even};
 ghost use Rattle.matrices.specs.Summaries.{ColumnsThere, summariesIn, Known};
 ghost use Rattle.matrices.specs.Written.{SoundFile};
+use columns::Marking;
 use cuts::Next;
 use files::Judgement;
 use layout::Header;
+use layout::Row;
 use summary::Summary;
 
 // What becomes of the matrix of a file: it is refused as the file is, or for its size, or written.
@@ -39,12 +47,187 @@ pub enum Matrix {
 // The most bytes of a matrix.
 const MOST: usize = 16_777_216;
 
-// The presence bytes and values of all records, each by its row of columns.
+// Where a file's records stand that are all of one length: how many bytes each has, and how far behind it the next one starts.
+struct Step {
+    first: usize,
+    step: usize,
+}
+
+fn step_of(d: &[u8]) -> Step
+    requires { ⌜ AllOf (firstOf (recordsOf (now d))) (recordsOf (now d)) ⌝ }
+    ensures { λ r. ⌜ Even (now (d .entry)) (r .first) (r .step) ⌝ }
+{
+    let w = cuts::find_terminator(d);
+    match cuts::next_from(d, w, 0) {
+        Next::Ended {
+            start: _,
+            end,
+            next,
+        } => Step {
+            first: end,
+            step: next,
+        },
+        Next::Unended { start: _, end: _ } => Step { first: 0, step: 0 },
+        Next::Nothing => Step { first: 0, step: 0 },
+    }
+}
+
+// The entries of a row in all records, whose marks were made: each record's so many columns behind those of the record before.
+fn put_each(
+    powers: &[u64; 16],
+    t: &[i64],
+    rows: usize,
+    row: Row,
+    m: Marking,
+    d: &[u8],
+    s: Step,
+    records: usize,
+    columns: usize,
+    list: &mut [i64],
+    allowed: &[u8],
+    present: &mut [u8],
+    out: &mut [u8],
+    flags: usize,
+    values: usize,
+)
+    requires { ⌜ Tens (now powers) × (length (now list) ≡ 9999) × (length (now present) ≡ length (now allowed)) ⌝ }
+    requires { ⌜ MarkedRow (now t) rows row (now allowed) (m .gap) (m .count) ⌝ }
+    requires { ⌜ Even (now d) (s .first) (s .step) × (records ≡ length (endedOf (recordsOf (now d))))
+        × EachReadable (now t) rows row (endedOf (recordsOf (now d))) ⌝ }
+    requires { ⌜ (records * columns ≤ 16777216) × EachRoom flags values (length (now out)) columns (m .count) records ⌝ }
+    ensures { λ _. ⌜ now (out .exit) ≡ putEach (λ r. entriesBy (row .kind) (now (t .entry)) rows row r) columns (now (out .entry)) flags
+        values (endedOf (recordsOf (now (d .entry)))) ⌝ }
+{
+    let first = s.first;
+    let step = s.step;
+    let mut k: usize = 0;
+    let mut from: usize = 0;
+    let mut n: usize = 0;
+    while n < records {
+        let end = from + first;
+        columns::put_row(
+            powers,
+            t,
+            rows,
+            row,
+            m,
+            &d[from..end],
+            list,
+            allowed,
+            present,
+            out,
+            flags + k,
+            values + 8 * k,
+        );
+        k += columns;
+        from += step;
+        n += 1;
+    }
+}
+
+// The same with its marks, which are made once for all records; and how many columns it has.
+fn put_marked(
+    powers: &[u64; 16],
+    t: &[i64],
+    rows: usize,
+    row: Row,
+    d: &[u8],
+    s: Step,
+    records: usize,
+    columns: usize,
+    list: &mut [i64],
+    allowed: &mut [u8],
+    present: &mut [u8],
+    out: &mut [u8],
+    flags: usize,
+    values: usize,
+) -> usize
+    requires { ⌜ Tens (now powers) × (length (now list) ≡ 9999) × (length (now present) ≡ length (now allowed)) ⌝ }
+    requires { ⌜ LineFacts (now t) rows row × (2 ≤ shapeOf (row .kind) → Covered (now t) rows row (length (now allowed))) ⌝ }
+    requires { ⌜ Even (now d) (s .first) (s .step) × (records ≡ length (endedOf (recordsOf (now d))))
+        × EachReadable (now t) rows row (endedOf (recordsOf (now d))) ⌝ }
+    requires { ⌜ (records * columns ≤ 16777216)
+        × EachRoom flags values (length (now out)) columns (countBy (row .kind) (now t) rows row) records ⌝ }
+    ensures { λ r. ⌜ (r ≡ countBy (row .kind) (now (t .entry)) rows row)
+        × (now (out .exit) ≡ putEach (λ x. entriesBy (row .kind) (now (t .entry)) rows row x) columns (now (out .entry)) flags
+        values (endedOf (recordsOf (now (d .entry))))) ⌝ }
+{
+    let m = columns::mark_row(t, rows, row, allowed);
+    put_each(
+        powers,
+        t,
+        rows,
+        row,
+        m,
+        d,
+        s,
+        records,
+        columns,
+        list,
+        allowed,
+        present,
+        out,
+        flags,
+        values,
+    );
+    m.count
+}
+
+// The columns of row i, and how many they are.
+fn put_columns(
+    powers: &[u64; 16],
+    t: &[i64],
+    h: Header,
+    i: usize,
+    d: &[u8],
+    s: Step,
+    records: usize,
+    columns: usize,
+    list: &mut [i64],
+    allowed: &mut [u8],
+    present: &mut [u8],
+    out: &mut [u8],
+    flags: usize,
+    values: usize,
+) -> usize
+    requires { ⌜ Ready (now powers) (now t) h (length (now list)) (length (now allowed)) (length (now present)) ⌝ }
+    requires { ⌜ (i < h .rows) × Even (now d) (s .first) (s .step) × (records ≡ length (endedOf (recordsOf (now d))))
+        × AllLong (h .length) (endedOf (recordsOf (now d))) ⌝ }
+    requires { ⌜ (records * columns ≤ 16777216)
+        × EachRoom flags values (length (now out)) columns (length (rowColumns (now t) (h .rows) i)) records ⌝ }
+    ensures { λ r. ⌜ (r ≡ length (rowColumns (now (t .entry)) (h .rows) i))
+        × (now (out .exit) ≡ putColumns (now (t .entry)) (h .rows) columns (rowColumns (now (t .entry)) (h .rows) i) (now (out .entry))
+        flags
+        values (endedOf (recordsOf (now (d .entry))))) ⌝ }
+{
+    let row = Row::read(t, i);
+    let kind = row.kind;
+    let top = columns::reach_of(kind, row.width);
+    put_marked(
+        powers,
+        t,
+        h.rows,
+        row,
+        d,
+        s,
+        records,
+        columns,
+        list,
+        &mut allowed[..top],
+        &mut present[..top],
+        out,
+        flags,
+        values,
+    )
+}
+
+// The presence bytes and values of all records, row by row of the table.
 fn put_records(
     powers: &[u64; 16],
     t: &[i64],
     h: Header,
     d: &[u8],
+    records: usize,
     columns: usize,
     list: &mut [i64],
     allowed: &mut [u8],
@@ -55,41 +238,35 @@ fn put_records(
 )
     requires { ⌜ Ready (now powers) (now t) h (length (now list)) (length (now allowed)) (length (now present)) ⌝ }
     requires { ⌜ columns ≡ length (columnsFrom (now t) (h .rows) 0 (h .rows)) ⌝ }
-    requires { ⌜ AllLong (h .length) (endedOf (recordsOf (now d))) ⌝ }
-    requires { ⌜ Room flags values (length (now out))
-        (length (allEntries (now t) (h .rows) (columnsFrom (now t) (h .rows) 0 (h .rows)) (endedOf (recordsOf (now d))))) ⌝ }
+    requires { ⌜ AllOf (firstOf (recordsOf (now d))) (recordsOf (now d)) × (records ≡ length (endedOf (recordsOf (now d))))
+        × AllLong (h .length) (endedOf (recordsOf (now d))) ⌝ }
+    requires { ⌜ (records * columns ≤ 16777216) × (columns ≤ 16777216) × (values ≤ 16777216)
+        × Room flags values (length (now out)) (records * columns) ⌝ }
     ensures { λ _. ⌜ now (out .exit) ≡ putEntries (now (out .entry)) flags values
         (allEntries (now (t .entry)) (h .rows) (columnsFrom (now (t .entry)) (h .rows) 0 (h .rows))
         (endedOf (recordsOf (now (d .entry))))) ⌝ }
 {
-    let w = cuts::find_terminator(d);
+    let s = step_of(d);
     let mut k: usize = 0;
-    let mut from: usize = 0;
-    while from < d.len() {
-        match cuts::next_from(d, w, from) {
-            Next::Ended { start, end, next } => {
-                columns::put_record(
-                    powers,
-                    t,
-                    h,
-                    &d[start..end],
-                    list,
-                    allowed,
-                    present,
-                    out,
-                    flags + k,
-                    values + 8 * k,
-                );
-                k += columns;
-                from = next;
-            }
-            Next::Unended { start: _, end: _ } => {
-                return;
-            }
-            Next::Nothing => {
-                return;
-            }
-        }
+    let mut i: usize = 0;
+    while i < h.rows {
+        k += put_columns(
+            powers,
+            t,
+            h,
+            i,
+            d,
+            s,
+            records,
+            columns,
+            list,
+            allowed,
+            present,
+            out,
+            flags + k,
+            values + 8 * k,
+        );
+        i += 1;
     }
 }
 
@@ -209,6 +386,7 @@ fn fill(t: &[i64], h: Header, d: &[u8], records: usize, columns: usize, out: &mu
         t,
         h,
         d,
+        records,
         columns,
         &mut list,
         &mut allowed,

@@ -18,8 +18,11 @@ count-marked-requires c κs = omega (
 )
 
 returns : tie.Need-returns
-returns c = c .count-marked .ensures ∙ count-marked (c .before .before .before .before .before .before .before .pre .1) _
-    (c .before .before .before .before .mark-legal .kept .1 .1 .1 .0) (c .before .before .before .before .mark-legal .ensures)
+returns c = let marked = c .before .before .before .before .mark-legal in (
+  c .count-marked .ensures
+      ∙ count-marked (c .before .before .before .before .before .before .before .pre .1) _ (marked .kept .1 .1 .1 .0) (marked .ensures),
+  marked .ensures,
+)
 
 pub count-categories-spec : {M : Type 1} → statement M
 count-categories-spec =

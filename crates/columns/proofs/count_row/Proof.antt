@@ -69,7 +69,7 @@ returns-2 c =
     let a = c .before .before .before .before .before .before .before .before .before .args in
     let e = shaped (c .before .before .before .before .before .before) in
     let s : 2 ≤ shapeOf (rowAt (a .t .now) (a .i) .kind) = omega (arith, e, c .before .before .before .before .before .if1 .left) in
-    let n = c .before .before .count-categories .ensures in
+    let n = c .before .before .count-categories .ensures .0 in
     let w = rw (c .before .before .before .before .before .before .before .read .ensures) at n in (
       w ∙ sym (ap (λ (l : List Column). length l) (shape-many (a .t .now) (a .h .rows) (a .i) s)
           ∙ length-categories (a .i) (defined (legal (a .t .now) (a .h .rows) (rowAt (a .t .now) (a .i))) 1 9999)),

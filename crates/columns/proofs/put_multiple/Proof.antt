@@ -11,30 +11,20 @@ use Rattle.record_values.specs.rule.Record.{membersOf}
 use Rattle.record_values.specs.Members.{row-many}
 use Rattle.record_values.specs.Room.{read-members}
 use Rattle.matrix.specs.declared.Entry.{Entry}
+use Rattle.matrix.specs.Put.{putEntries}
 use Rattle.columns.specs.Reach.{readable-ready}
 use Rattle.columns.specs.Members.{multiple-made}
 use Rattle.columns.specs.Columns.{length-members}
-use Rattle.columns.specs.Room.{put-as, room-as, marks-few}
-use Rattle.columns.specs.Ones.{range-marked}
 use Rattle.sets.proofs.MarkLaws.{marks-besides}
 use mathlib.Core.Bool.{false}
 use Rattle.columns.proofs.put_multiple.Statement.{statement}
 use Rattle.columns.proofs.put_multiple.Tie as tie
 
-read-row-requires : tie.Need-read-row-requires
-read-row-requires c κs = readable-ready (c .before .before .before .before .before .pre .0 .0)
-
-mark-legal-requires : tie.Need-mark-legal-requires
-mark-legal-requires c κs =
-    let start = c .before .before .before .before .before .before .before .before in (
-      start .pre .0 .0 .facts .lines,
-      start .pre .1 .0 .0 .few,
-    )
-
 -- the list has room for the set
 room : (c : tie.After-read-row) → let a = c .before .before .before .before .before .before .args in
     length (membersOf (readingOf (a .t .now) (a .rows) (a .row) (a .bytes .now))) ≤ length (a .list .now)
-room c = let a = c .before .before .before .before .before .before .args in
+room c =
+    let a = c .before .before .before .before .before .before .args in
     omega (
       arith,
       row-many (a .t .now) (a .rows) (a .row) (a .bytes .now)
@@ -44,125 +34,62 @@ room c = let a = c .before .before .before .before .before .before .args in
 
 mark-members-requires : tie.Need-mark-members-requires
 mark-members-requires c κs =
-    let n = read-members
-    (c .before .before .before .before .before .before .before .before .before .before .before .before .read-row .ensures)
-    (room (c .before .before .before .before .before .before .before .before .before .before .before .before)) in (
-      omega (
-        arith,
-        c .before .before .members-in .ensures,
-        n,
-        room (c .before .before .before .before .before .before .before .before .before .before .before .before),
-        c .before .before .before .before .before .before .before .before .before .before .before .before .read-row .kept .1 .1 .1 .1 .0,
-      ),
-      omega (
-        arith,
-        c .before .before .before .before .before .clear .kept .0,
-        c .before .before .before .before .before .before .before .before .before .before .before .before .before .before .before .before
-            .before .before .pre .1 .0 .1,
-        c .before .before .before .before .before .before .before .before .before .before .before .before .before .before .before .before
-            .before .before .pre .1 .0 .0 .few,
-      ),
+    let at-read-row = c .before .before .before .before .before .before .before .before in
+    let p = at-read-row .before .before .before .before .before .before .pre in
+    let n = read-members (at-read-row .read-row .ensures) (room at-read-row) in (
+      omega (arith, c .before .before .members-in .ensures, n, room at-read-row, at-read-row .read-row .kept .1 .1 .1 .1 .0),
+      omega (arith, c .before .before .before .before .before .clear .kept .0, p .1 .0 .1, p .1 .0 .0 .covered .few),
     )
-
-range-past-requires : tie.Need-range-past-requires
-range-past-requires c κs =
-    let start = c .before .before .before .before .before .before .before .before .before .before .before .before .before .before .before
-    .before .before .before .before .before .before in
-    marks-few
-    (c .before .before .before .before .before .before .before .before .before .before .before .before .mark-legal .kept .1 .1 .1 .0)
-    (start .pre .1 .0 .0 .some) (start .pre .1 .0 .0 .few)
 
 put-members-requires : tie.Need-put-members-requires
 put-members-requires c κs =
-    let a = c .before .before .before .before .before .before .before .before .before .before .before .before .before .before .before
-    .before .before .before .before .before .before .before .before .before .before .before .before .args in
-    let l = c .before .before .before .before .before .before .before .before .before .before .before .before .before .before .before
-    .before .before .before .mark-legal .kept .1 .1 .1 .0 in
-    let made = multiple-made
-    (c .before .before .before .before .before .before .before .before .before .before .before .before .before .before .before .before
-    .before .before .before .before .before .before .before .before .before .before .before .pre .1 .0 .0)
-    (c .before .before .before .before .before .before .before .before .before .before .before .before .before .before .before .before
-    .before .before .before .before .before .read-row .ensures)
-    (room (c .before .before .before .before .before .before .before .before .before .before .before .before .before .before .before .before
-    .before .before .before .before .before))
-    (c .before .before .before .before .before .before .before .before .before .before .before .before .before .before .before .before
-    .before .before .mark-legal .kept .1 .1 .1 .0)
-    (c .before .before .before .before .before .before .before .before .before .before .before .before .before .before .before .before
-    .before .before .mark-legal .ensures)
-    (c .before .before .before .before .before .before .before .before .before .before .before .before .before .before .clear .ensures)
-    (c .before .before .before .before .before .before .before .before .mark-members .kept .1 .1 .0)
-    (c .before .before .before .before .before .before .before .before .before .before .before .before .before .before .clear .kept .0
-    ∙ c .before .before .before .before .before .before .before .before .before .before .before .before .before .before .before .before
-    .before .before .before .before .before .before .before .before .before .before .before .pre .1 .0 .1)
-    (c .before .before .before .before .before .before .before .before .before .before .before .members-in .ensures)
-    (c .before .before .before .before .before .before .before .before .mark-members .ensures)
+    let marked = c .before .before .before .before .before .before .mark-members in
+    let at-members-in = c .before .before .before .before .before .before .before .before .before in
+    let cleared = at-members-in .before .before .before .clear in
+    let at-read-row = at-members-in .before .before .before .before .before .before in
+    let p = at-read-row .before .before .before .before .before .before .pre in
+    let made = multiple-made (p .1 .0 .0 .covered) (at-read-row .read-row .ensures) (room at-read-row) refl (p .1 .0 .0 .marks)
+    (cleared .ensures) (marked .kept .1 .1 .0) (cleared .kept .0 ∙ p .1 .0 .1) (at-members-in .members-in .ensures) (marked .ensures)
     (c .before .is-set .ensures) in
-    let n = read-members
-    (c .before .before .before .before .before .before .before .before .before .before .before .before .before .before .before .before
-    .before .before .before .before .before .read-row .ensures)
-    (room (c .before .before .before .before .before .before .before .before .before .before .before .before .before .before .before .before
-    .before .before .before .before .before)) in (
+    let n = read-members (at-read-row .read-row .ensures) (room at-read-row) in (
       (
-        omega (
-          arith,
-          c .before .before .before .before .before .before .before .before .before .before .before .members-in .ensures,
-          n,
-          room (c .before .before .before .before .before .before .before .before .before .before .before .before .before .before .before
-              .before .before .before .before .before .before),
-          c .before .before .before .before .before .before .before .before .before .before .before .before .before .before .before .before
-              .before .before .before .before .before .read-row .kept .1 .1 .1 .1 .0,
-        ),
-        c .before .before .before .before .before .before .before .before .mark-members .kept .1 .1 .0
-            ∙ c .before .before .before .before .before .before .before .before .before .before .before .before .before .before .clear .kept
-            .0 ∙ c .before .before .before .before .before .before .before .before .before .before .before .before .before .before .before
-            .before .before .before .before .before .before .before .before .before .before .before .before .pre .1 .0 .1 ∙ sym l,
-        marks-few l
-            (c .before .before .before .before .before .before .before .before .before .before .before .before .before .before .before
-            .before .before .before .before .before .before .before .before .before .before .before .before .pre .1 .0 .0 .some)
-            (c .before .before .before .before .before .before .before .before .before .before .before .before .before .before .before
-            .before .before .before .before .before .before .before .before .before .before .before .before .pre .1 .0 .0 .few) .1,
+        omega (arith, at-members-in .members-in .ensures, n, room at-read-row, at-read-row .read-row .kept .1 .1 .1 .1 .0),
+        marked .kept .1 .1 .0 ∙ cleared .kept .0 ∙ p .1 .0 .1,
+        p .1 .0 .0 .covered .few,
       ),
       (
         (
-          range-marked (a .t .now) (a .rows) (a .row) _
-              (c .before .before .before .before .before .before .before .before .before .before .before .before .before .before .before
-              .before .before .before .mark-legal .ensures) (c .before .before .before .before .before .range-past .ensures),
-          marks-besides (λ x. false) _ _ _ (c .before .before .before .before .before .before .before .before .mark-members .kept .1 .1 .0)
-              (c .before .before .before .before .before .before .before .before .before .before .before .before .before .before .clear
-              .ensures) (c .before .before .before .before .before .before .before .before .mark-members .ensures),
+          p .1 .0 .0 .run,
+          marks-besides (λ x. false) _ _ _ (marked .kept .1 .1 .0) (cleared .ensures) (marked .ensures),
         ),
-        room-as (sym (ap (λ (es : List Entry). length es) made ∙ length-members _ _))
-            (c .before .before .before .before .before .before .before .before .before .before .before .before .before .before .before
-            .before .before .before .before .before .before .before .before .before .before .before .before .pre .1 .1),
+        (p .1 .0 .0 .many ∙ sym (ap (λ (es : List Entry). length es) made ∙ length-members _ _), p .1 .1),
       ),
     )
 
 returns : tie.Need-returns
 returns c =
-    let at-mark-members = c .before .before .before .before .before .before .before .before .before .before .before in
-    let at-members-in = at-mark-members .before .before .before in
-    let at-clear = at-members-in .before .before .before in
-    let at-mark-legal = at-clear .before .before .before .before in
-    let at-read-row = at-mark-legal .before .before .before in
+    let marked = c .before .before .before .before .before .before .before .before .before .mark-members in
+    let at-members-in = c .before .before .before .before .before .before .before .before .before .before .before .before in
+    let cleared = at-members-in .before .before .before .clear in
+    let at-read-row = at-members-in .before .before .before .before .before .before in
     let start = at-read-row .before .before .before .before .before .before in
-    put-as (multiple-made (start .pre .1 .0 .0) (at-read-row .read-row .ensures) (room at-read-row)
-    (at-mark-legal .mark-legal .kept .1 .1 .1 .0) (at-mark-legal .mark-legal .ensures) (at-clear .clear .ensures)
-    (at-mark-members .mark-members .kept .1 .1 .0) (at-clear .clear .kept .0 ∙ start .pre .1 .0 .1) (at-members-in .members-in .ensures)
-    (at-mark-members .mark-members .ensures) (c .before .before .before .before .is-set .ensures)) (c .before .before .put-members .ensures)
+    let p = start .pre in
+    let made = multiple-made (p .1 .0 .0 .covered) (at-read-row .read-row .ensures) (room at-read-row) refl (p .1 .0 .0 .marks)
+    (cleared .ensures) (marked .kept .1 .1 .0) (cleared .kept .0 ∙ p .1 .0 .1) (at-members-in .members-in .ensures) (marked .ensures)
+    (c .before .before .before .before .is-set .ensures) in
+    c .before .before .put-members .ensures
+    ∙ ap (λ (es : List Entry). putEntries (start .args .out .now) (start .args .flags) (start .args .values) es) made
 
 pub put-multiple-spec : {M : Type 1} → statement M
 put-multiple-spec =
     tie.close
     (tie.spec
-    read-row-requires
-    mark-legal-requires
+    (λ c κs. readable-ready (c .before .before .before .before .before .pre .0 .0))
     (λ c κs. search needs)
     (λ c κs. search needs)
     mark-members-requires
-    range-past-requires
     (λ c κs. search needs)
     put-members-requires
-    (λ c. search needs)
     (λ c. search needs)
     (λ c. search needs)
     (λ c. search needs)

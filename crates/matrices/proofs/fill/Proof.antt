@@ -9,7 +9,8 @@ use Rattle.cuts.specs.rule.Records.{recordsOf}
 use Rattle.files.specs.Tested.{tested-rows, tested-length}
 use Rattle.columns.specs.rule.Columns.{columnsFrom}
 use Rattle.matrices.specs.rule.Matrix.{endedOf, allEntries}
-use Rattle.matrices.specs.Records.{file-sound, length-all}
+use Rattle.matrices.specs.Records.{file-sound}
+use Rattle.matrices.specs.Even.{file-even}
 use Rattle.matrices.specs.Written.{filled, filled-there}
 use Rattle.matrices.proofs.fill.Statement.{statement}
 use Rattle.matrices.proofs.fill.Tie as tie
@@ -23,10 +24,8 @@ put-records-requires c κs =
     let a = c .before .before .before .before .before .before .before .before .before .before .before .before .args in
     let s = file-sound (a .t .now) (a .d .now) (a .records) (p .0 .1) in
     let cs = columnsFrom (a .t .now) (a .h .rows) 0 (a .h .rows) in
-    let rs = endedOf (recordsOf (a .d .now)) in
     let e : a .columns ≡ length cs = rw (tested-rows (p .0 .0)) (p .1 .0) in
-    let n : length (allEntries (a .t .now) (a .h .rows) cs rs) ≡ a .records * a .columns =
-    length-all (a .t .now) (a .h .rows) cs rs ∙ ap (λ (x : ℕ). x * length cs) (sym (s .2)) ∙ ap (λ (x : ℕ). a .records * x) (sym e) in (
+    let total = p .1 .2 in (
       record {
         tens = c .before .before .before .before .before .before .before .before .before .powers .ensures;
         tested = p .0 .0;
@@ -37,12 +36,16 @@ put-records-requires c κs =
       (
         e,
         (
-          rw (tested-length (p .0 .0)) (s .1),
-          record {
-            behind = omega (arith, n);
-            inside = omega
-                (arith, n, p .1 .3, c .before .before .before .before .before .before .before .put-header .kept .0);
-          },
+          (file-even (a .t .now) (a .d .now) (a .records) (p .0 .1), s .2, rw (tested-length (p .0 .0)) (s .1)),
+          (
+            omega (arith, total),
+            omega (arith, total),
+            omega (arith, total),
+            record {
+              behind = omega arith;
+              inside = omega (arith, p .1 .3, c .before .before .before .before .before .before .before .put-header .kept .0);
+            },
+          ),
         ),
       ),
     )
@@ -58,7 +61,7 @@ put-summaries-requires c κs =
         omega (
           arith,
           p .1 .3,
-          c .before .before .before .before .before .before .put-records .kept .1 .1 .1 .1 .1 .1 .1 .1 .0,
+          c .before .before .before .before .before .before .put-records .kept .1 .1 .1 .1 .1 .1 .1 .1 .1 .0,
           c .before .before .before .before .before .before .before .before .before .before .before .before .before .before .put-header
               .kept .0,
         ),
