@@ -14,13 +14,9 @@ variable-on-requires c κs =
     (p .0, (p .1 .0, (p .1 .1 .0, ((p .1 .1 .1 .1 .0 .1, p .1 .1 .1 .0 .1, p .1 .1 .1 .1 .0 .2), p .1 .1 .1 .1 .1))))
 
 -- the variable behind its columns
-told-here : (c : tie.After-put-row-arg) → Told (entryOf
-    (c .before .before .before .before .before .before .before .before .before .before .before .before .before .args .d .now)
-    (c .before .before .before .before .before .before .before .before .before .before .before .before .before .args .at)
-    (marked (c .before .before .before .before .before .before .before .before .before .before .before .before .before .args .seen .now))
-    (c .before .before .before .before .before .before .before .before .before .before .before .before .before .args .y .rows)
-    (c .before .before .before .before .before .before .before .before .before .before .before .before .before .args .y .lines))
-    (c .before .before .before .before .before .before .before .before .before .before .before .before .before .args .y .lines)
+told-here : (c : tie.After-put-row-arg)
+    → let args = c .before .before .before .before .before .before .before .before .before .before .before .before .before .args in
+    Told (entryOf (args .d .now) (args .at) (marked (args .seen .now)) (args .y .rows) (args .y .lines)) (args .y .lines)
     (c .before .before .columns .given .0 .0) (c .before .before .columns .given .0 .1 .0) (c .before .before .columns .given .0 .1 .1 .0)
 told-here c = told _ _ _ _ _ _ (c .before .before .before .before .before .before .before .variable-on .ensures .0)
     (c .before .before .columns .given .1)

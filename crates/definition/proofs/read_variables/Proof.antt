@@ -49,26 +49,13 @@ one-variable-requires c κs =
     )
 
 onward : (c : tie.After-known-told Inv-loop μ-loop)
-    → Onward (c .before .before .before .before .before .before .before .before .before .before .before .before .before .before .before
-    .before .args .d .now)
-    (c .before .before .before .before .before .before .before .before .before .before .before .before .before .before .before .before .args
-    .t) (c .before .before .before .before .before .before .before .before .before .before .before .before .before .before .before .before
-    .args .rows .now)
-    (c .before .before .before .before .before .before .before .before .before .before .before .before .before .before .before .before .args
-    .lines .now) (c .before .before .before .before .before .before .before .before .before .before .before .before .loop .at)
-    (c .before .before .before .before .before .before .before .before .before .before .before .before .loop .y)
-    (c .before .before .before .before .before .before .before .before .before .before .before .before .loop .seen)
-    (c .before .before .before .before .before .before .before .before .before .before .before .before .loop .rows)
-    (c .before .before .before .before .before .before .before .before .before .before .before .before .loop .lines)
-    (c .before .before .before .before .before .before .before .before .before .before .before .before .loop .inv .0)
-    (c .before .before .before .before .before .before .before .before .before .before .before .before .before .before .before .before .pre
-    .1 .1 .0)
-    (c .before .before .before .before .before .before .before .before .before .before .before .before .before .before .before .before .pre
-    .1 .1 .1 .0 .0)
-    (c .before .before .before .before .before .before .before .before .before .before .before .before .before .before .before .before .pre
-    .1 .1 .1 .0 .1) (c .before .ident .given .0 .0) (c .before .ident .given .0 .1 .0) (c .before .ident .given .0 .1 .1 .0)
-    (c .before .before .before .before .before .before .before .one-variable .last .1 .1 .1 .1 .1 .1 .0)
-    (c .before .before .before .before .before .before .before .one-variable .last .1 .1 .1 .1 .1 .1 .1 .0)
+    → let at-one-variable = c .before .before .before .before .before .before .before in
+    let at-loop = at-one-variable .before .before .before .before .before in let start = at-loop .before .before .before .before in
+    Onward (start .args .d .now) (start .args .t) (start .args .rows .now) (start .args .lines .now) (at-loop .loop .at) (at-loop .loop .y)
+    (at-loop .loop .seen) (at-loop .loop .rows) (at-loop .loop .lines) (at-loop .loop .inv .0) (start .pre .1 .1 .0)
+    (start .pre .1 .1 .1 .0 .0) (start .pre .1 .1 .1 .0 .1) (c .before .ident .given .0 .0) (c .before .ident .given .0 .1 .0)
+    (c .before .ident .given .0 .1 .1 .0) (at-one-variable .one-variable .last .1 .1 .1 .1 .1 .1 .0)
+    (at-one-variable .one-variable .last .1 .1 .1 .1 .1 .1 .1 .0)
 onward c =
     let at-one-variable = c .before .before .before .before .before .before .before in
     let at-loop = at-one-variable .before .before .before .before .before in
