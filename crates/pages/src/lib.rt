@@ -256,6 +256,7 @@ fn send_whole(
     send_framed(classes, d, bound, out, at, pre, s, post)
 }
 
+// VARIABLE, SIZE, NAME and LABEL have a function each, alike but for its word: so the compiler knows the bytes that it compares.
 fn send_ident(
     classes: &[u8; 256],
     d: &[u8],
@@ -655,6 +656,7 @@ fn send_apart(
     send_closed(classes, d, bound, out, a, text, b"\"\r\n")
 }
 
+// A line of a block, at once where it stands so in the definition.
 fn send_line(
     classes: &[u8; 256],
     d: &[u8],
@@ -688,6 +690,7 @@ fn no_end(d: &[u8], n: usize) -> bool
     d[n] != 101
 }
 
+// Whether END stands behind the notes, whatever begins here.
 fn look_end(classes: &[u8; 256], d: &[u8], n: usize) -> Found
     requires { ⌜ Classes (now classes) ⌝ }
     ensures { λ r. ⌜ r ≡ statementFound (now (d .entry)) n END ⌝ }
@@ -696,7 +699,7 @@ fn look_end(classes: &[u8; 256], d: &[u8], n: usize) -> Found
     steps::find_here(classes, d, g, b"END")
 }
 
-// Whether END stands behind the notes. In a function of its own: a literal in a loop would be one more thing that the loop keeps.
+// The same where mostly a value begins. In a function of its own: a literal in a loop would be one more thing that the loop keeps.
 fn find_end(classes: &[u8; 256], d: &[u8], n: usize) -> Found
     requires { ⌜ Classes (now classes) ⌝ }
     ensures { λ r. ⌜ r ≡ statementFound (now (d .entry)) n END ⌝ }

@@ -16,7 +16,7 @@ ghost use Rattle.ascii.specs.rule.Class.{upperOf};
 ghost use Rattle.scan.specs.rule.Word.{wordAt};
 ghost use Rattle.tokens.specs.rule.Gap.{gapAt};
 ghost use Rattle.tokens.specs.Token.{ofSkip};
-ghost use Rattle.steps.specs.Step.{placeIn, gapPast, wordPast, notesPast, statementPast, keywordPast, foundIn, wordFound};
+ghost use Rattle.steps.specs.Step.{placeIn, gapPast, wordPast, notesPast, statementPast, keywordPast, foundIn};
 ghost use Rattle.steps.specs.Step.{statementFound};
 ghost use Rattle.steps.specs.Step.{numberIn, numberSpan, phraseIn, stringSpan, valueSpan};
 ghost use Rattle.steps.specs.Quiet.{Token, Quiet};
@@ -248,15 +248,6 @@ pub fn past_keyword(classes: &[u8; 256], d: &[u8], n: usize, w: &[u8]) -> usize
 {
     let g = past_gap(classes, d, n);
     past_word(classes, d, g, w)
-}
-
-// Whether a word stands behind a gap; where it does not, the gap is passed.
-pub fn find_word(classes: &[u8; 256], d: &[u8], n: usize, w: &[u8]) -> Found
-    requires { ⌜ Classes (now classes) ⌝ }
-    ensures { λ r. ⌜ r ≡ wordFound (now (d .entry)) n (now (w .entry)) ⌝ }
-{
-    let g = past_gap(classes, d, n);
-    find_here(classes, d, g, w)
 }
 
 // Whether a statement begins with this word, behind notes; where it does not, the notes are passed.
