@@ -506,6 +506,47 @@ cut-last d c k e = rw e at k
 pub cut-torn : (d : List ℕ) {read : Page} (c : Cut) → CutAs d read c → c ≡ Torn → read ≡ torn
 cut-torn d c k e = rw e at k
 
+-- ---- a cut without its case: whether it is torn, and else whether it ends its line
+pub record SpanOf (c : Cut) (from to next : ℕ) (b ends none : Bool) : Type 0 where
+  pub torn-is : none ≡ true → c ≡ Torn
+  pub last-is : none ≡ false → ends ≡ true → c ≡ Last from to b next
+  pub comma-is : none ≡ false → ends ≡ false → c ≡ Comma from to b next
+
+-- a field that was met, whatever stops it
+pub record Met (d : List ℕ) (read : Page) (at from to : ℕ) (b : Bool) (next : ℕ) (ends : Bool) : Type 0 where
+  pub f : List ℕ
+  pub stands : Stands d from to b f
+  pub ahead : at < next
+  pub inside′ : next ≤ length d
+  pub comma-met : ends ≡ false → Found d read from to b next (λ g. more g (page fresh (drop next d)))
+  pub last-met : ends ≡ true → Found d read from to b next (λ g. last g (page start (drop next d)))
+
+pub span-met : (d : List ℕ) {read : Page} {at : ℕ} (c : Cut) {from to next : ℕ} {b ends none : Bool} → CutAs d read c × Ahead at c
+    → SpanOf c from to next b ends none → none ≡ false → Met d read at from to b next ends
+span-met d {read} {at} c {from} {to} {next} {b} {ends} {none} k s e = go ends refl
+  where
+    go : (x : Bool) → ends ≡ x → Met d read at from to b next ends
+    go true h =
+        let w = cut-last d c k (s .last-is e h) in
+        record {
+          f = w .0 .f;
+          stands = w .0 .stands;
+          ahead = w .1;
+          inside′ = w .0 .inside′;
+          comma-met = λ z. holds-not h z;
+          last-met = λ z. w .0;
+        }
+    go false h =
+        let w = cut-comma d c k (s .comma-is e h) in
+        record {
+          f = w .0 .f;
+          stands = w .0 .stands;
+          ahead = w .1;
+          inside′ = w .0 .inside′;
+          comma-met = λ z. w .0;
+          last-met = λ z. holds-not z h;
+        }
+
 -- ---- where a field is due
 module _ (d : List ℕ) (i : ℕ) where
   pub fresh-quote : i < length d → getD d i 0 ≡ 34 → page fresh (drop i d) ≡ page inside (drop (i + 1) d)

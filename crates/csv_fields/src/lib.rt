@@ -3,7 +3,7 @@ ghost use mathlib.Core.Path.{_≡_};
 ghost use Prim.Native.Nat.{_≤_};
 ghost use lib.ListN.{length, drop};
 ghost use Rattle.csv_fields.specs.rule.Page.{page, fresh, inside, bare};
-ghost use Rattle.csv_fields.specs.Page.{BareTo, QuoteTo, StopsAs, CutAs, Ahead, cutOf, quoteAt};
+ghost use Rattle.csv_fields.specs.Page.{BareTo, QuoteTo, StopsAs, CutAs, Ahead, SpanOf, cutOf, quoteAt};
 
 // A field in the text: its bytes, in which a quote is written as two, from a place to another; whether there is none; and where what
 // follows
@@ -22,6 +22,16 @@ pub enum Cut {
         next: usize,
     },
     Torn,
+}
+
+// The same without its case, for whoever treats every field alike: one call in a loop, which the compiler then puts into it.
+pub struct Span {
+    pub from: usize,
+    pub to: usize,
+    pub next: usize,
+    pub bare: bool,
+    pub ends: bool,
+    pub torn: bool,
 }
 
 // What stands where a field has ended.
@@ -149,4 +159,45 @@ pub fn next_field(d: &[u8], at: usize) -> Cut
         return quoted_field(d, at + 1);
     }
     bare_field(d, at)
+}
+
+pub fn span_of(cut: Cut) -> Span
+    ensures { λ r. ⌜ SpanOf cut (r .from) (r .to) (r .next) (r .bare) (r .ends) (r .torn) ⌝ }
+{
+    match cut {
+        Cut::Comma {
+            from,
+            to,
+            bare,
+            next,
+        } => Span {
+            from,
+            to,
+            next,
+            bare,
+            ends: false,
+            torn: false,
+        },
+        Cut::Last {
+            from,
+            to,
+            bare,
+            next,
+        } => Span {
+            from,
+            to,
+            next,
+            bare,
+            ends: true,
+            torn: false,
+        },
+        Cut::Torn => Span {
+            from: 0,
+            to: 0,
+            next: 0,
+            bare: true,
+            ends: false,
+            torn: true,
+        },
+    }
 }

@@ -12,7 +12,6 @@ ghost use Rattle.writes.specs.Write.{Ready};
 ghost use Rattle.field_values.specs.Steps.{Took};
 ghost use Rattle.import_lines.specs.Undoubled.{undoubled, stride, Undoubled};
 ghost use Rattle.import_lines.specs.Walk.{RawOf, walk-of, step, endOf, LineTaken};
-use csv_fields::Cut;
 use layout::Row;
 
 // How a line ends: with a record in the slot, and where the next line begins; with a refusal's number and column; or with the column of a
@@ -196,55 +195,30 @@ pub fn take_line(
     let mut j: usize = 0;
     let mut bad: usize = 0;
     loop {
-        match csv_fields::next_field(d, at) {
-            Cut::Comma {
-                from: p,
-                to: q,
-                bare,
-                next,
-            } => {
-                bad = take_one(
-                    powers,
-                    t,
-                    rows,
-                    len,
-                    j,
-                    bad,
-                    &d[p..q],
-                    bare,
-                    list,
-                    room,
-                    spare,
-                    bytes,
-                );
-                j += 1;
-                at = next;
-            }
-            Cut::Last {
-                from: p,
-                to: q,
-                bare,
-                next,
-            } => {
-                bad = take_one(
-                    powers,
-                    t,
-                    rows,
-                    len,
-                    j,
-                    bad,
-                    &d[p..q],
-                    bare,
-                    list,
-                    room,
-                    spare,
-                    bytes,
-                );
-                return line_end(rows, j + 1, bad, next);
-            }
-            Cut::Torn => {
-                return LineEnd::Torn(j + 1);
-            }
+        let span = csv_fields::span_of(csv_fields::next_field(d, at));
+        let p = span.from;
+        let q = span.to;
+        if span.torn {
+            return LineEnd::Torn(j + 1);
+        }
+        bad = take_one(
+            powers,
+            t,
+            rows,
+            len,
+            j,
+            bad,
+            &d[p..q],
+            span.bare,
+            list,
+            room,
+            spare,
+            bytes,
+        );
+        j += 1;
+        at = span.next;
+        if span.ends {
+            return line_end(rows, j, bad, at);
         }
     }
 }
