@@ -58,7 +58,7 @@ step-is : (d : List ℕ) (p : ℕ) → p < length d → Plain (getD d p 0) → s
 unfolding stepOf
 step-is d p h x = rw (lt-leb (length d) p h, x .no-mark, x .no-refer, x .no-bracket, x .no-return)
 
-plain-signs : (l : Bool) (d : List ℕ) (p : ℕ) → p < length d → plainOf (getD d p 0) ≡ true → signsFrom l d (begun p) ≡ Byte (getD d p 0)
+pub plain-signs : (l : Bool) (d : List ℕ) (p : ℕ) → p < length d → plainOf (getD d p 0) ≡ true → signsFrom l d (begun p) ≡ Byte (getD d p 0)
     ∷ signsFrom l d (begun (p + 1))
 unfolding signsOf
 plain-signs l d p h e =

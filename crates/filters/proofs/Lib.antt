@@ -11,3 +11,4 @@ pub mod Naming
 pub mod Joining
 pub mod Storing
 pub mod Leads
+pub mod Summing

@@ -25,12 +25,12 @@ unfolding alike agree sameSigns
 like-both true x y s t = refl
 like-both false x y s t = refl
 
-like-first : (standard : Bool) (x : Sign) (s : List Sign) → alike standard (x ∷ s) [] ≡ false
+pub like-first : (standard : Bool) (x : Sign) (s : List Sign) → alike standard (x ∷ s) [] ≡ false
 unfolding alike agree sameSigns
 like-first true x s = refl
 like-first false x s = refl
 
-like-second : (standard : Bool) (y : Sign) (t : List Sign) → alike standard [] (y ∷ t) ≡ false
+pub like-second : (standard : Bool) (y : Sign) (t : List Sign) → alike standard [] (y ∷ t) ≡ false
 unfolding alike agree sameSigns
 like-second true y t = refl
 like-second false y t = refl

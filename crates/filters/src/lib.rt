@@ -27,6 +27,7 @@ ghost use Rattle.xml_reading.specs.rule.Element.{figureOf};
 ghost use Rattle.xml_reading.specs.rule.Role.{typeAt, useAt, mayServe, signsIn, alike, sameName};
 ghost use Rattle.filters.specs.Code.{textAt, likeOf, Ready, Meets, plainOf, Leads, columnIn, nameIn, servedIn, Lying};
 ghost use Rattle.filters.specs.Code.{titleTag, titledBy, TitleSaid, NamingSaid, FilteringSaid};
+ghost use Rattle.filters.specs.Sums.{foldedOf, sumWith, sumFrom, sumIn, binOf, Adds, Summing, Known};
 ghost use Rattle.filters.specs.Code.{ServedSaid, CountSaid, FoundSaid, FilterSaid, TakenSaid, UseSaid, NamesSaid};
 
 // ---- names, sign by sign
@@ -166,6 +167,98 @@ pub fn same_name(
     same_from(latin, standard, &d[..e], &d[..f], p, q)
 }
 
+// ---- sums of names
+// Names that are one have one sum, so that names whose sums differ need not be compared. The room holds the sum of each row's name; behind
+// them stand bins, by what is left of a sum: 1 where a name with such a sum has served as a filter.
+pub const SUMS: usize = 2 * Header::MOST_ROWS;
+
+fn bin_of(sum: u16) -> usize
+    ensures { λ r. ⌜ (r ≡ binOf sum) × (mostRows ≤ r) × (r < 1024) ⌝ }
+{
+    Header::MOST_ROWS + (sum % 512) as usize
+}
+
+// A sum with one sign more: case is set aside whatever the names' rule.
+fn sum_with(sum: u16, x: u64) -> u16
+    requires { ⌜ x ≤ 256 ⌝ }
+    ensures { λ r. ⌜ r ≡ sumWith sum x ⌝ }
+{
+    ((sum as u64 * 31 + x) % 65536) as u16
+}
+
+fn folded(sign: Sign) -> u64
+    ensures { λ r. ⌜ (r ≡ foldedOf sign) × (r ≤ 256) ⌝ }
+{
+    match sign {
+        Sign::Byte(b) => wide(ascii::upper(b)),
+        Sign::Break => 256,
+    }
+}
+
+// The sum of a text's first bytes that say themselves, and the place behind them.
+pub struct Summed {
+    pub sum: u16,
+    pub next: usize,
+}
+
+fn lead_sum(d: &[u8], at: usize) -> Summed
+    requires { ⌜ at ≤ length (now d) ⌝ }
+    ensures { λ r. ⌜ Adds (now (d .entry)) at r ⌝ }
+{
+    let mut sum: u16 = 0;
+    let mut i = at;
+    while i < d.len() {
+        let b = d[i];
+        if !is_plain(b) {
+            return Summed { sum, next: i };
+        }
+        sum = sum_with(sum, wide(ascii::upper(b)));
+        i += 1;
+    }
+    Summed { sum, next: i }
+}
+
+// That of the signs from a place on, behind those of a sum.
+fn rest_sum(latin: bool, d: &[u8], at: usize, before: u16) -> u16
+    requires { ⌜ at ≤ length (now d) ⌝ }
+    ensures { λ r. ⌜ r ≡ sumFrom before (signsFrom latin (now (d .entry)) (begun at)) ⌝ }
+{
+    // most names end here
+    if d.len() <= at {
+        return before;
+    }
+    let mut c = contents::start_at(at);
+    let mut sum = before;
+    loop {
+        match contents::next_sign(latin, d, c) {
+            Part::One { sign, cursor } => {
+                sum = sum_with(sum, folded(sign));
+                c = cursor;
+            }
+            Part::Over => {
+                return sum;
+            }
+        }
+    }
+}
+
+fn sum_from(latin: bool, d: &[u8], at: usize) -> u16
+    requires { ⌜ at ≤ length (now d) ⌝ }
+    ensures { λ r. ⌜ r ≡ sumFrom 0 (signsFrom latin (now (d .entry)) (begun at)) ⌝ }
+{
+    let s = lead_sum(d, at);
+    rest_sum(latin, d, s.next, s.sum)
+}
+
+// That of the text of n bytes from p on.
+fn name_sum(latin: bool, d: &[u8], p: usize, n: usize) -> u16
+    requires { ⌜ p + n ≤ length (now d) ⌝ }
+    ensures { λ r. ⌜ r ≡ sumIn latin (now (d .entry)) (textAt p n) ⌝ }
+{
+    let e = p + n;
+    sum_from(latin, &d[..e], p)
+}
+
 // ---- the rows of the variables before
 // A number of row i.
 fn column(rows: &[i64], i: usize, k: usize) -> usize
@@ -173,6 +266,22 @@ fn column(rows: &[i64], i: usize, k: usize) -> usize
     ensures { λ r. ⌜ r ≡ columnIn (now (rows .entry)) i k ⌝ }
 {
     cells::count_at(rows, Row::SIZE * i + k)
+}
+
+// One row more: the sum of its name, and the bin of the name that filters it.
+pub fn note_row(latin: bool, d: &[u8], rows: &[i64], i: usize, sums: &mut [u16; SUMS])
+    requires { ⌜ Lying (length (now d)) (now rows) (i + 1) ⌝ }
+    requires { ⌜ Summing latin (now d) (now rows) i (now sums) ⌝ }
+    ensures { λ r. ⌜ Summing latin (now (d .entry)) (now (rows .entry)) (i + 1) (now (sums .exit)) ⌝ }
+{
+    let q = column(rows, i, Row::NAME);
+    let m = column(rows, i, Row::NAME_LEN);
+    sums[i] = name_sum(latin, d, q, m);
+    let f = column(rows, i, Row::FILTER);
+    if f != 0 {
+        let k = bin_of(sums[f - 1]);
+        sums[k] = 1;
+    }
 }
 
 // Whether the text of n bytes from p on is the name of row i.
@@ -185,11 +294,16 @@ fn is_name(
     i: usize,
     p: usize,
     n: usize,
+    sums: &[u16],
+    sum: u16,
 ) -> bool
-    requires { ⌜ Lying (length (now d)) (now rows) count ⌝ }
-    requires { ⌜ (i < count) × (p + n ≤ length (now d)) ⌝ }
+    requires { ⌜ Known latin (now d) (now rows) count (now sums) ⌝ }
+    requires { ⌜ (i < count) × (p + n ≤ length (now d)) × (sum ≡ sumIn latin (now d) (textAt p n)) ⌝ }
     ensures { λ r. ⌜ r ≡ sameName latin standard (now (d .entry)) (textAt p n) (nameIn (now (rows .entry)) i) ⌝ }
 {
+    if sums[i] != sum {
+        return false;
+    }
     let q = column(rows, i, Row::NAME);
     let m = column(rows, i, Row::NAME_LEN);
     same_name(latin, standard, d, p, n, q, m)
@@ -205,16 +319,18 @@ fn is_served(
     i: usize,
     p: usize,
     n: usize,
+    sums: &[u16],
+    sum: u16,
 ) -> bool
-    requires { ⌜ Lying (length (now d)) (now rows) count ⌝ }
-    requires { ⌜ (i < count) × (p + n ≤ length (now d)) ⌝ }
+    requires { ⌜ Known latin (now d) (now rows) count (now sums) ⌝ }
+    requires { ⌜ (i < count) × (p + n ≤ length (now d)) × (sum ≡ sumIn latin (now d) (textAt p n)) ⌝ }
     ensures { λ r. ⌜ r ≡ servedIn latin standard (now (d .entry)) (now (rows .entry)) (textAt p n) i ⌝ }
 {
     let f = column(rows, i, Row::FILTER);
     if f == 0 {
         return false;
     }
-    is_name(latin, standard, d, rows, count, f - 1, p, n)
+    is_name(latin, standard, d, rows, count, f - 1, p, n, sums, sum)
 }
 
 // Whether the text is the name of a row that has served as a filter.
@@ -226,14 +342,20 @@ pub fn has_served(
     count: usize,
     p: usize,
     n: usize,
+    sums: &[u16],
 ) -> bool
-    requires { ⌜ Lying (length (now d)) (now rows) count ⌝ }
+    requires { ⌜ Known latin (now d) (now rows) count (now sums) ⌝ }
     requires { ⌜ p + n ≤ length (now d) ⌝ }
     ensures { λ r. ⌜ ServedSaid latin standard (now (d .entry)) (now (rows .entry)) count (textAt p n) r ⌝ }
 {
+    let sum = name_sum(latin, d, p, n);
+    let bin = bin_of(sum);
+    if sums[bin] == 0 {
+        return false;
+    }
     let mut i: usize = 0;
     while i < count {
-        if is_served(latin, standard, d, rows, count, i, p, n) {
+        if is_served(latin, standard, d, rows, count, i, p, n, sums, sum) {
             return true;
         }
         i += 1;
@@ -250,9 +372,11 @@ fn count_named(
     count: usize,
     p: usize,
     n: usize,
+    sums: &[u16],
+    sum: u16,
 ) -> usize
-    requires { ⌜ Lying (length (now d)) (now rows) count ⌝ }
-    requires { ⌜ p + n ≤ length (now d) ⌝ }
+    requires { ⌜ Known latin (now d) (now rows) count (now sums) ⌝ }
+    requires { ⌜ (p + n ≤ length (now d)) × (sum ≡ sumIn latin (now d) (textAt p n)) ⌝ }
     ensures { λ r. ⌜ CountSaid latin standard (now (d .entry)) (now (rows .entry)) count (textAt p n) r ⌝ }
 {
     let mut found: usize = 0;
@@ -260,7 +384,7 @@ fn count_named(
     while i < count {
         let k = i;
         i += 1;
-        if is_name(latin, standard, d, rows, count, k, p, n) {
+        if is_name(latin, standard, d, rows, count, k, p, n, sums, sum) {
             found += 1;
         }
     }
@@ -276,14 +400,16 @@ fn find_logical(
     count: usize,
     p: usize,
     n: usize,
+    sums: &[u16],
+    sum: u16,
 ) -> usize
-    requires { ⌜ Lying (length (now d)) (now rows) count ⌝ }
-    requires { ⌜ p + n ≤ length (now d) ⌝ }
+    requires { ⌜ Known latin (now d) (now rows) count (now sums) ⌝ }
+    requires { ⌜ (p + n ≤ length (now d)) × (sum ≡ sumIn latin (now d) (textAt p n)) ⌝ }
     ensures { λ r. ⌜ FoundSaid latin standard (now (d .entry)) (now (rows .entry)) count (textAt p n) r ⌝ }
 {
     let mut i: usize = 0;
     while i < count {
-        let named = is_name(latin, standard, d, rows, count, i, p, n);
+        let named = is_name(latin, standard, d, rows, count, i, p, n, sums, sum);
         let kind = column(rows, i, Row::TYPE);
         i += 1;
         if named & (kind == 5) {
@@ -305,8 +431,9 @@ pub fn find_filter(
     usage: usize,
     p: usize,
     n: usize,
+    sums: &[u16],
 ) -> usize
-    requires { ⌜ Lying (length (now d)) (now rows) count ⌝ }
+    requires { ⌜ Known latin (now d) (now rows) count (now sums) ⌝ }
     requires { ⌜ (q + m ≤ length (now d)) × (p + n ≤ length (now d)) ⌝ }
     ensures { λ r. ⌜ FilterSaid latin standard (now (d .entry)) (now (rows .entry)) count (textAt q m) usage (textAt p n) r ⌝ }
 {
@@ -316,10 +443,11 @@ pub fn find_filter(
     if same_name(latin, standard, d, p, n, q, m) {
         return 0;
     }
-    if count_named(latin, standard, d, rows, count, p, n) != 1 {
+    let sum = name_sum(latin, d, p, n);
+    if count_named(latin, standard, d, rows, count, p, n, sums, sum) != 1 {
         return 0;
     }
-    find_logical(latin, standard, d, rows, count, p, n)
+    find_logical(latin, standard, d, rows, count, p, n, sums, sum)
 }
 
 // ---- uses
@@ -504,14 +632,15 @@ pub fn naming_at(
     count: usize,
     place: usize,
     end: usize,
+    sums: &[u16],
 ) -> Phrase
-    requires { ⌜ Lying (length (now d)) (now rows) count ⌝ }
+    requires { ⌜ Known latin (now d) (now rows) count (now sums) ⌝ }
     requires { ⌜ end ≤ length (now d) ⌝ }
     ensures { λ r. ⌜ NamingSaid bad latin standard (now (d .entry)) (now (rows .entry)) count place end r ⌝ }
 {
     match elements::text_at(bad, d, place, end, b"name", 0) {
         Phrase::Is(t) => {
-            if has_served(latin, standard, d, rows, count, t.place, t.length) {
+            if has_served(latin, standard, d, rows, count, t.place, t.length, sums) {
                 return Phrase::Not(Fault {
                     number: 52,
                     place: t.place,
@@ -542,8 +671,9 @@ pub fn filter_at(
     usage: usize,
     place: usize,
     end: usize,
+    sums: &[u16],
 ) -> Filtered
-    requires { ⌜ Lying (length (now d)) (now rows) count ⌝ }
+    requires { ⌜ Known latin (now d) (now rows) count (now sums) ⌝ }
     requires { ⌜ (q + m ≤ length (now d)) × (end ≤ length (now d)) ⌝ }
     ensures { λ r. ⌜ FilteringSaid bad latin standard (now (d .entry)) (now (rows .entry)) count (textAt q m) usage place end r ⌝ }
 {
@@ -560,6 +690,7 @@ pub fn filter_at(
                 usage,
                 t.place,
                 t.length,
+                sums,
             );
             if filter == 0 {
                 return Filtered::Not(Fault {

@@ -65,6 +65,7 @@ use Rattle.laying.proofs.Small.{small-columns}
 use Rattle.elements.specs.Code.{readOf, openOf}
 use Rattle.elements.proofs.Dues.{read-open}
 use Rattle.filters.specs.Code.{Lying}
+use Rattle.filters.specs.Sums as summed
 use Rattle.filters.specs.rule.Kept as kept
 use Rattle.filters.proofs.Rooms.{row-reads, next-row}
 use Rattle.filters.proofs.Keeping.{at-none, at-split}
@@ -85,7 +86,8 @@ use Rattle.sheets.specs.declared.Entered.{Entered}
 use Rattle.sheets.specs.declared.Entered.the-variants as entereds
 use Rattle.sheets.specs.Code.{countIn, widthIn, placelessOf, restedIn, roomy, contentBy, headOf, behindFront, siftedIn, siftedOf}
 use Rattle.sheets.specs.Code.{FrontRead, enteredOf}
-use Rattle.sheets.specs.Code.{Front, frontOf, nameIn, labelIn, positionIn, Before, Sofar, tallyOf, Rests, SiftSaid, Bodied, FrontSaid}
+use Rattle.sheets.specs.Code.{Front, frontOf, nameIn, labelIn, positionIn, Before, Sofar, Knowing, tallyOf, Rests, SiftSaid}
+use Rattle.sheets.specs.Code.{Bodied, FrontSaid}
 use Rattle.sheets.specs.Code.{frontedOf, Joined}
 
 capped-low : (n : ℕ) → n ≤ 16384 → capped n ≡ n
@@ -557,6 +559,10 @@ lies {d} {seen} {y} {rows} s =
           let z = next-row (s .read) i (omega arith) in
           omega (arith, row-reads h (z .at) .filter, filters-low (b .fine) i (z .row) (z .at));
     }
+
+pub knows : {latin : Bool} {d seen : List ℕ} {y : Tally} {rows : List ℤ} {sums : List ℕ} → Knowing latin d seen y rows sums
+    → summed.Known latin d rows (y .rows) sums
+knows k = record { lying = lies (k .sofar); summing = k .summing }
 
 lines-of : {d seen : List ℕ} {y : Tally} {rows : List ℤ} {l : List Entry} → Before d seen y rows l → y .lines ≡ linesAll (variablesOf l)
 unfolding tallyOf

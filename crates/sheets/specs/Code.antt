@@ -51,6 +51,7 @@ use Rattle.elements.specs.declared.Due.{Due}
 use Rattle.elements.specs.declared.Due.the-variants as dues
 use Rattle.elements.specs.Code.{openOf, phraseOf, Within}
 use Rattle.filters.specs.Code.{RowsOf, Idents}
+use Rattle.filters.specs.Sums.{Summing}
 use Rattle.xml_bridge.specs.Book.{quotedAs, sizeIn, blockAs}
 use Rattle.xml_bridge.specs.Table.{FineEntries}
 use Rattle.xml_laws.specs.Reads.{Positioned}
@@ -262,6 +263,11 @@ pub record Sofar (d : List ℕ) (seen : List ℕ) (y : Tally) (rows : List ℤ) 
   pub before : Before d seen y rows read
   pub seen-long : length seen ≡ 10000
   pub rows-long : length rows ≡ rowSize * mostRows
+
+-- and the room of sums has their names
+pub record Knowing (latin : Bool) (d : List ℕ) (seen : List ℕ) (y : Tally) (rows : List ℤ) (sums : List ℕ) : Type 0 where
+  pub sofar : Sofar d seen y rows
+  pub summing : Summing latin d rows (y .rows) sums
 
 -- ---- what the code says, for whatever variables stand before
 module _ (bad : Bool) (d : List ℕ) (m : Manner) (rows : List ℤ) (count : ℕ) where

@@ -49,14 +49,14 @@ ghost use Rattle.xml_reading.specs.rule.Variable.{with, variable};
 ghost use Rattle.xml_reading.specs.rule.Sheet.{variables, sheet};
 ghost use Rattle.xml_reading.specs.rule.Whole.{usedBy, settled};
 ghost use Rattle.elements.specs.Code.{readOf, dueOf, Within, phraseOf};
-ghost use Rattle.filters.specs.Code.{Lying};
+ghost use Rattle.filters.specs.Sums.{Known};
 ghost use Rattle.prefaces.specs.Code.{readingOf, ruleOf, Inside};
 ghost use Rattle.sheets.specs.declared.Fronted.the-variants as fronted;
 ghost use Rattle.sheets.specs.declared.Entered.the-variants as entered;
 ghost use Rattle.sheets.specs.Code.{dueIn, labelIn, positionIn, endIn, valuesEnded, sizeEnded, contentBy};
 ghost use Rattle.sheets.specs.Code.{DueEnds, PhraseEnds, StatedEnds, FrontEnds, NameSaid, placedOf, FrontSaid, siftedOf, FilterSaid};
 ghost use Rattle.sheets.specs.Code.{SiftSaid};
-ghost use Rattle.sheets.specs.Code.{Valued, plainOf, sizedOf, Rests, placelessOf, Before, Sofar, FrontRead, Bodied, Joined, Turned};
+ghost use Rattle.sheets.specs.Code.{Valued, plainOf, sizedOf, Rests, placelessOf, Before, Knowing, FrontRead, Bodied, Joined, Turned};
 ghost use Rattle.sheets.specs.Code.{runOf, Laid};
 ghost use Rattle.sheets.specs.Code.{NamesSettled, RoomsRead, outcomeIn};
 
@@ -121,8 +121,16 @@ fn end_in(bad: bool, d: &[u8], at: usize) -> Reading
 }
 
 // ---- a variable up to its position
-fn name_in(bad: bool, d: &[u8], m: Manner, rows: &[i64], count: usize, at: usize) -> Phrase
-    requires { ⌜ Lying (length (now d)) (now rows) count ⌝ }
+fn name_in(
+    bad: bool,
+    d: &[u8],
+    m: Manner,
+    rows: &[i64],
+    count: usize,
+    at: usize,
+    sums: &[u16],
+) -> Phrase
+    requires { ⌜ Known (m .latin) (now d) (now rows) count (now sums) ⌝ }
     requires { ⌜ at ≤ length (now d) ⌝ }
     ensures { λ r. ⌜ NameSaid bad (now (d .entry)) (ruleOf m) (now (rows .entry)) count at r ⌝ }
 {
@@ -136,6 +144,7 @@ fn name_in(bad: bool, d: &[u8], m: Manner, rows: &[i64], count: usize, at: usize
             count,
             place,
             end,
+            sums,
         ),
         Due::Not(f) => Phrase::Not(f),
     }
@@ -206,9 +215,10 @@ fn front_at(
     seen: &[u8],
     rows: &[i64],
     count: usize,
+    sums: &[u16],
 ) -> Fronted
     requires { ⌜ (end ≤ length (now d)) × (length (now seen) ≡ 10000) ⌝ }
-    requires { ⌜ Lying (length (now d)) (now rows) count ⌝ }
+    requires { ⌜ Known (m .latin) (now d) (now rows) count (now sums) ⌝ }
     ensures { λ r. ⌜ FrontSaid bad (now (d .entry)) (ruleOf m) (now (rows .entry)) count (now (seen .entry)) place end r ⌝ }
 {
     match filters::title_at(bad, d, place, end, m.old, seen, count, rows) {
@@ -217,7 +227,7 @@ fn front_at(
             kind,
             usage,
             next,
-        } => match name_in(bad, d, m, rows, count, next) {
+        } => match name_in(bad, d, m, rows, count, next, sums) {
             Phrase::Is(a) => match label_in(bad, d, m.languages, a.next) {
                 Phrase::Is(b) => place_front(bad, d, ident, kind, usage, a, b),
                 Phrase::Not(f) => Fronted::Not(f),
@@ -265,8 +275,9 @@ fn read_filter(
     usage: usize,
     place: usize,
     end: usize,
+    sums: &[u16],
 ) -> Sifted
-    requires { ⌜ Lying (length (now d)) (now rows) count ⌝ }
+    requires { ⌜ Known (m .latin) (now d) (now rows) count (now sums) ⌝ }
     requires { ⌜ (name .place + name .length ≤ length (now d)) × (end ≤ length (now d)) ⌝ }
     ensures { λ r. ⌜ FilterSaid bad (now (d .entry)) (ruleOf m) (now (rows .entry)) count
         (record { place = name .place; length = name .length }) usage place end r ⌝ }
@@ -283,6 +294,7 @@ fn read_filter(
         usage,
         place,
         end,
+        sums,
     ) {
         Filtered::Is { filter, next } => {
             let o = elements::find_open(bad, d, next, b"variable");
@@ -304,8 +316,9 @@ fn sift_in(
     name: Quoted,
     usage: usize,
     at: usize,
+    sums: &[u16],
 ) -> Sifted
-    requires { ⌜ Lying (length (now d)) (now rows) count ⌝ }
+    requires { ⌜ Known (m .latin) (now d) (now rows) count (now sums) ⌝ }
     requires { ⌜ (name .place + name .length ≤ length (now d)) × (at ≤ length (now d)) ⌝ }
     ensures { λ r. ⌜ SiftSaid bad (now (d .entry)) (ruleOf m) (now (rows .entry)) count
         (record { place = name .place; length = name .length }) usage at r ⌝ }
@@ -318,7 +331,18 @@ fn sift_in(
         return sift_by(0, o);
     }
     match elements::tag_due(bad, d, o, b"filter") {
-        Due::At { place, end } => read_filter(bad, d, m, rows, count, name, usage, place, end),
+        Due::At { place, end } => read_filter(
+            bad,
+            d,
+            m,
+            rows,
+            count,
+            name,
+            usage,
+            place,
+            end,
+            sums,
+        ),
         Due::Not(f) => Sifted {
             filter: 0,
             tag: Open::Not(f),
@@ -635,9 +659,10 @@ fn body_at(
     rows: &mut [i64],
     lines: &mut [i64],
     marks: &mut [u16],
+    sums: &[u16],
 ) -> Entered
     requires { ⌜ Tens (now powers) ⌝ }
-    requires { ⌜ (length (now d) ≤ 1048576) × Sofar (now d) (now seen) y (now rows) ⌝ }
+    requires { ⌜ (length (now d) ≤ 1048576) × Knowing (m .latin) (now d) (now seen) y (now rows) (now sums) ⌝ }
     requires { ⌜ (length (now lines) ≡ lineSize * mostLines) × (length (now marks) ≡ 16384) ⌝ }
     requires { ⌜ FrontEnds (now d) (fronted.Is h usage at) ⌝ }
     requires { ⌜ ((l : List Entry) → Before (now d) (now seen) y (now rows) l → FrontRead bad (now d) (ruleOf m) l h usage at) ⌝ }
@@ -645,7 +670,7 @@ fn body_at(
         (now (lines .entry)) (now (lines .exit)) r ⌝ }
 {
     let name = h.name;
-    let s = sift_in(bad, d, m, rows, y.rows, name, usage, at);
+    let s = sift_in(bad, d, m, rows, y.rows, name, usage, at, sums);
     let room = h.finish + 1 - h.start;
     let count = y.rows;
     let stamp = (count + 1) as u16;
@@ -680,14 +705,15 @@ pub fn variable_at(
     rows: &mut [i64],
     lines: &mut [i64],
     marks: &mut [u16],
+    sums: &[u16],
 ) -> Entered
     requires { ⌜ Tens (now powers) ⌝ }
-    requires { ⌜ (length (now d) ≤ 1048576) × (end ≤ length (now d)) × Sofar (now d) (now seen) y (now rows) ⌝ }
+    requires { ⌜ (length (now d) ≤ 1048576) × (end ≤ length (now d)) × Knowing (m .latin) (now d) (now seen) y (now rows) (now sums) ⌝ }
     requires { ⌜ (length (now lines) ≡ lineSize * mostLines) × (length (now marks) ≡ 16384) ⌝ }
     ensures { λ r. ⌜ Joined (now (d .entry)) (now (seen .entry)) y (now (rows .entry)) (now (rows .exit)) (now (lines .entry))
         (now (lines .exit)) (λ l. variable bad (now (d .entry)) (ruleOf m) l place end) r ⌝ }
 {
-    match front_at(bad, d, m, place, end, seen, rows, y.rows) {
+    match front_at(bad, d, m, place, end, seen, rows, y.rows, sums) {
         Fronted::Is { head, usage, next } => {
             body_at(
                 powers,
@@ -702,6 +728,7 @@ pub fn variable_at(
                 rows,
                 lines,
                 marks,
+                sums,
             )
         }
         Fronted::Not(f) => Entered::Not(f),

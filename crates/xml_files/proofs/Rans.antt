@@ -2,22 +2,22 @@
 use mathlib.Core.Path.{_≡_, refl, _∙_, sym, ap}
 use mathlib.Core.Bool.{Bool, true, false, _||_}
 use mathlib.Core.List.{List, [], _∷_, _++_}
-use Prim.Native.Nat.{ℕ, zero, suc, _+_, _*_, _≤_, _<_, max}
+use Prim.Native.Nat.{ℕ, zero, suc, _+_, _-_, _*_, _≤_, _<_, max}
 use native.Mathlib.Omega.{arith}
 use lib.Dec.{eqb}
-use lib.IntN.{ℤ}
-use lib.ListN.{length, take, getD, set, length-set, length-append}
-use lib.Seq.{getD-set-same, getD-set-other}
+use lib.IntN.{ℤ, pos}
+use lib.ListN.{length, take, drop, getD, set, length-set, length-append, List·getD-append}
+use lib.Seq.{getD-set-same, getD-set-other, getD-take, length-take-le}
 use borrow.Author.Tests.{eqb-true, eqb-false}
 use Rattle.below.specs.Below.{or-true}
-use Rattle.cells.specs.rule.Cell.{pasted}
+use Rattle.cells.specs.rule.Cell.{cell, countOf, pasted}
 use Rattle.layout.specs.rule.Layout.{rowSize, lineSize, mostRows, mostLines}
 use Rattle.layout.specs.declared.Columns.{Columns}
 use Rattle.scan.specs.rule.Loop.{Next, Again, Done}
 use Rattle.tokens.specs.declared.Fault.{Fault}
 use Rattle.rows.specs.rule.Cells.{rowCells}
 use Rattle.variables.specs.Ident.{marked}
-use Rattle.survey.specs.rule.Survey.{Variable}
+use Rattle.survey.specs.rule.Survey.{Text, Variable}
 use Rattle.survey.specs.rule.Width.{someOf, finishIn}
 use Rattle.survey.specs.rule.Table.{columnsOf, linesOf, linesAll, highestIn, cellsOf, allLines}
 use Rattle.reading.specs.rule.Result.{Result, Is, Not, Reader, bind, turn, repeat}
@@ -31,7 +31,9 @@ use Rattle.xml_reading.specs.rule.Whole.{columnsFor, rowsFrom}
 use Rattle.laying.specs.declared.Tally.{Tally}
 use Rattle.laying.specs.Code.{zeros, tallyWith}
 use Rattle.laying.proofs.Zeros.{zero-at}
-use Rattle.filters.specs.Code.{RowsOf, Idents}
+use Rattle.filters.specs.Code.{RowsOf, Idents, Lying, columnIn, nameIn}
+use Rattle.filters.specs.Sums.{sumIn, binOf, Summing}
+use Rattle.filters.proofs.Asked.{above}
 use Rattle.filters.proofs.Storing.{rows-none, rows-more}
 use Rattle.xml_bridge.specs.Table.{FineEntries, nothing, more, entries-few}
 use Rattle.xml_laws.specs.Entries.{due-is, Read, entry-read}
@@ -43,6 +45,7 @@ use Rattle.xml_files.specs.declared.Run.the-variants as run
 use Rattle.sheets.specs.Code.{tallyOf, Before, Sofar}
 use Rattle.xml_files.specs.Code.{Fails, Added, Over, OneMore, Turned, runOf, Laid}
 use Rattle.sheets.proofs.Few.{few}
+use Rattle.sheets.proofs.Rows9.{lies}
 use Rattle.xml_files.proofs.Turns.{another-more, another-over}
 use Rattle.xml_files.proofs.Lists.{ident-few, variables-with, lines-with, highest-with, cells-with, cells-long, some-with}
 use Rattle.xml_files.proofs.Lists.{take-pasted}
@@ -167,6 +170,38 @@ lines-more l v lines lines′ q h e =
     let u : lineSize * (linesAll (variablesOf l) + length (linesOf (v .variable))) ≡ k + length s = omega arith in
     rw (variables-with l v, lines-with (variablesOf l) (v .variable), cells-with (variablesOf l) (v .variable), u, q)
     (take-pasted lines s (allLines (variablesOf l)) k h e)
+
+-- the cells before what was written are as they were
+cell-pasted : (l s : List ℤ) (at k : ℕ) → at ≤ length l → k < at → cell (pasted l at s) k ≡ cell l k
+unfolding pasted
+cell-pasted l s at k h q =
+    let a = length-take-le at l h in
+    let b = length-append (take at l) s in
+    List·getD-append (take at l ++ s) (drop (at + length s) l) (pos 0) k (omega arith)
+    ∙ List·getD-append (take at l) s (pos 0) k (omega arith)
+    ∙ getD-take at l k (pos 0) q
+
+-- other rows that say the same of names and filters have the same sums
+sums-moved : (latin : Bool) (d : List ℕ) (rows rows′ : List ℤ) (count : ℕ) (sums : List ℕ)
+    → ((k : ℕ) → k < rowSize * count → cell rows′ k ≡ cell rows k) → Lying (length d) rows count → Summing latin d rows count sums
+    → Summing latin d rows′ count sums
+sums-moved latin d rows rows′ count sums e y s = record {
+  room = s .room;
+  names = λ i k. s .names i k ∙ ap (sumIn latin d) (sym (named i k));
+  served = λ i k n.
+      let g = columns i 19 k (omega arith) in
+      let m : columnIn rows i 19 ≡ 0 → ⊥ = λ z. n (g ∙ z) in
+      let a = above (columnIn rows i 19) m in
+      let b = y .filters i k in
+      ap (λ (x : ℕ). getD sums (binOf (sumIn latin d (nameIn rows′ (x - 1)))) 0) g
+      ∙ ap (λ (t : Text). getD sums (binOf (sumIn latin d t)) 0) (named (columnIn rows i 19 - 1) (omega arith))
+      ∙ s .served i k m;
+} where
+  columns : (i k : ℕ) → i < count → k < rowSize → columnIn rows′ i k ≡ columnIn rows i k
+  columns i k h q = ap countOf (e (rowSize * i + k) (omega arith))
+
+  named : (i : ℕ) → i < count → nameIn rows′ i ≡ nameIn rows i
+  named i h = rw (columns i 14 h (omega arith), columns i 15 h (omega arith))
 
 finish-for : (b : ℕ) (v : Entry) → columnsFor b v .finish ≡ finishIn (v .variable)
 unfolding columnsFor columnsOf
@@ -305,3 +340,25 @@ module _ (bad : Bool) (d : List ℕ) (m : Manner) (long : length d ≤ 1048576) 
         rows-laid = λ {l = a} {n = k} q. let u = sym not-is ∙ q in never cc;
         lines-laid = λ {l = a} {n = k} q. let u = sym not-is ∙ q in never cc;
       }
+
+-- what the sum of one more name is made of
+module _ (bad : Bool) (d : List ℕ) (m : Manner) (long : length d ≤ 1048576) (at₀ at : ℕ) (y : Tally) (seen : List ℕ) (rows lines : List ℤ)
+    (r : Ran bad d m at₀ at y seen rows lines) (wide : length rows ≡ rowSize * mostRows) (many : length lines ≡ lineSize * mostLines)
+    (rows′ lines′ : List ℤ) (w : Turn) (t : Turned bad d m seen y at rows rows′ lines lines′ w) (i : ℕ) (z : Tally) (n : ℕ)
+    (e : w ≡ turns.More i z n) where
+  onward : Onward bad d m long at₀ at y seen rows lines r wide many i z n rows′ lines′
+  onward = ran-more bad d m long at₀ at y seen rows lines r wide many rows′ lines′ w t i z n e
+
+  kept : (k : ℕ) → k < rowSize * y .rows → cell rows′ k ≡ cell rows k
+  kept k h =
+      let left = onward .left in
+      ap (λ (x : List ℤ). cell x k) (t .more e (r .read) (r .before) .row-is)
+      ∙ cell-pasted rows (rowCells (columnsFor (y .lines) (t .more e (r .read) (r .before) .entry))) (rowSize * y .rows) k (omega arith) h
+
+  pub noted : (latin : Bool) (sums : List ℕ) → length rows′ ≡ rowSize * mostRows → length lines′ ≡ lineSize * mostLines
+      → Summing latin d rows (y .rows) sums → Lying (length d) rows′ (y .rows + 1) × Summing latin d rows′ (y .rows) sums
+  noted latin sums wide′ many′ s =
+      let q = onward .further in (
+        rw (sym q) (lies (ran-sofar bad d m long at₀ n z (set seen i 1) rows′ lines′ (onward .ran) wide′ many′)),
+        sums-moved latin d rows rows′ (y .rows) sums kept (lies (ran-sofar bad d m long at₀ at y seen rows lines r wide many)) s,
+      )

@@ -22,7 +22,7 @@ ghost use Rattle.filters.specs.Code.{columnIn, Lying};
 ghost use Rattle.prefaces.specs.Code.{ruleOf};
 ghost use Rattle.xml_reading.specs.rule.Sheet.{variables, sheet};
 ghost use Rattle.xml_reading.specs.rule.Whole.{settled, sheetOf, outcomeOf};
-ghost use Rattle.sheets.specs.Code.{Sofar, Joined};
+ghost use Rattle.sheets.specs.Code.{Knowing, Joined};
 ghost use Rattle.xml_files.specs.Code.{begunAt, Turned, runOf, Laid, NamesSettled, RoomsRead, bodyOf};
 
 // ---- all variables
@@ -39,18 +39,32 @@ fn begin_variable(
     rows: &mut [i64],
     lines: &mut [i64],
     marks: &mut [u16],
+    sums: &[u16],
 ) -> Entered
     requires { ⌜ Tens (now powers) ⌝ }
     requires { ⌜ (length (now d) ≤ 1048576) × (place + 1 ≤ end) × (end ≤ length (now d)) ⌝ }
     requires { ⌜ (length (now lines) ≡ lineSize * mostLines) × (length (now marks) ≡ 16384) ⌝ }
-    requires { ⌜ Sofar (now d) (now seen) y (now rows) ⌝ }
+    requires { ⌜ Knowing (m .latin) (now d) (now seen) y (now rows) (now sums) ⌝ }
     ensures { λ r. ⌜ Joined (now (d .entry)) (now (seen .entry)) y (now (rows .entry)) (now (rows .exit)) (now (lines .entry))
         (now (lines .exit)) (begunAt bad (now (d .entry)) (ruleOf m) place end) r ⌝ }
 {
     if !tags::is_named(d, place + 1, end, b"variable") {
         return Entered::Not(elements::misplaced(bad, d, place, end));
     }
-    sheets::variable_at(powers, bad, d, m, place, end, seen, y, rows, lines, marks)
+    sheets::variable_at(
+        powers,
+        bad,
+        d,
+        m,
+        place,
+        end,
+        seen,
+        y,
+        rows,
+        lines,
+        marks,
+        sums,
+    )
 }
 
 // One more variable; the end of the record, at a place; or the refusal.
@@ -76,11 +90,12 @@ fn one_variable(
     rows: &mut [i64],
     lines: &mut [i64],
     marks: &mut [u16],
+    sums: &[u16],
 ) -> Turn
     requires { ⌜ Tens (now powers) ⌝ }
     requires { ⌜ (length (now d) ≤ 1048576) × (at ≤ length (now d)) ⌝ }
     requires { ⌜ (length (now lines) ≡ lineSize * mostLines) × (length (now marks) ≡ 16384) ⌝ }
-    requires { ⌜ Sofar (now d) (now seen) y (now rows) ⌝ }
+    requires { ⌜ Knowing (m .latin) (now d) (now seen) y (now rows) (now sums) ⌝ }
     ensures { λ r. ⌜ Turned bad (now (d .entry)) (ruleOf m) (now (seen .entry)) y at (now (rows .entry)) (now (rows .exit))
         (now (lines .entry)) (now (lines .exit)) r ⌝ }
 {
@@ -97,6 +112,7 @@ fn one_variable(
             rows,
             lines,
             marks,
+            sums,
         ) {
             Entered::Is { ident, tally, next } => Turn::More { ident, tally, next },
             Entered::Not(f) => Turn::Not(f),
@@ -141,9 +157,11 @@ fn read_variables(
         lines: 0,
         length: 0,
     };
+    let mut sums = [0u16; filters::SUMS];
     loop {
-        match one_variable(powers, bad, d, at, m, seen, y, rows, lines, marks) {
+        match one_variable(powers, bad, d, at, m, seen, y, rows, lines, marks, &sums) {
             Turn::More { ident, tally, next } => {
+                filters::note_row(m.latin, d, rows, y.rows, &mut sums);
                 seen[ident] = 1;
                 y = tally;
                 at = next;

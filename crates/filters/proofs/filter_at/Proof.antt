@@ -7,12 +7,12 @@ use Rattle.filters.proofs.filter_at.Statement.{statement}
 use Rattle.filters.proofs.filter_at.Tie as tie
 
 text-at-requires : tie.Need-text-at-requires
-text-at-requires c κs = c .before .before .pre .1 .1
+text-at-requires c κs = c .before .before .before .pre .1 .1
 
 find-filter-requires : tie.Need-find-filter-requires
 find-filter-requires c κs =
     let at-text-at = c .before .before .before in
-    let start = at-text-at .before .before .before in
+    let start = at-text-at .before .before .before .before in
     let a = start .args in (
       start .pre .0,
       (
@@ -23,7 +23,7 @@ find-filter-requires c κs =
 
 returns : tie.Need-returns
 returns c =
-    let a = c .before .before .before .before .before .before .before .before .args in
+    let a = c .before .before .before .before .before .before .before .before .before .args in
     filter-wrong (a .bad) (a .latin) (a .standard) (a .d .now) (a .rows .now) (a .count) (a .place) (a .end) (textAt (a .q) (a .m))
     (a .usage) _
     (text-is (a .bad) (a .d .now) FILTER 0 (a .place) (a .end) (c .before .before .before .before .before .text-at .ensures)
@@ -31,7 +31,7 @@ returns c =
 
 returns-2 : tie.Need-returns-2
 returns-2 c =
-    let a = c .before .before .before .before .before .before .before .before .args in
+    let a = c .before .before .before .before .before .before .before .before .before .args in
     filter-right (a .bad) (a .latin) (a .standard) (a .d .now) (a .rows .now) (a .count) (a .place) (a .end) (textAt (a .q) (a .m))
     (a .usage) _
     (text-is (a .bad) (a .d .now) FILTER 0 (a .place) (a .end) (c .before .before .before .before .before .text-at .ensures)
@@ -39,7 +39,7 @@ returns-2 c =
 
 returns-3 : tie.Need-returns-3
 returns-3 c =
-    let a = c .before .before .before .before .before .before .args in
+    let a = c .before .before .before .before .before .before .before .args in
     filter-not (a .bad) (a .latin) (a .standard) (a .d .now) (a .rows .now) (a .count) (a .place) (a .end) (textAt (a .q) (a .m)) (a .usage)
     _
     (text-not (a .bad) (a .d .now) FILTER 0 (a .place) (a .end) (c .before .before .before .text-at .ensures) (c .before .f .given .1))

@@ -7,34 +7,34 @@ use Rattle.filters.proofs.find_logical.Statement.{statement}
 use Rattle.filters.proofs.find_logical.Tie as tie
 
 abbrev Inv-loop : tie.InvT-loop
-Inv-loop latin standard d rows count p n i₀ i = (i ≤ count) × FoundFrom latin standard d rows count (textAt p n) i
+Inv-loop latin standard d rows count p n sums sum i₀ i = (i ≤ count) × FoundFrom latin standard d rows count (textAt p n) i
 
 abbrev μ-loop : tie.MeasureT-loop
-μ-loop latin standard d rows count p n i₀ i = count - i
+μ-loop latin standard d rows count p n sums sum i₀ i = count - i
 
 loop-holds : tie.Need-loop-holds Inv-loop μ-loop
-loop-holds c = let a = c .before .args in (
+loop-holds c = let a = c .before .before .args in (
   omega arith,
   found-begin (a .latin) (a .standard) (a .d .now) (a .rows .now) (a .count) (textAt (a .p) (a .n)),
 )
 
 is-name-requires : tie.Need-is-name-requires Inv-loop μ-loop
-is-name-requires c κs = (c .before .before .before .pre .0, (c .loop-test .taken, c .before .before .before .pre .1))
+is-name-requires c κs = let start = c .before .before .before .before in (start .pre .0, (c .loop-test .taken, start .pre .1 .0, start .pre .1 .1))
 
 column-requires : tie.Need-column-requires Inv-loop μ-loop
-column-requires c κs = let y = c .before .before .before .before .pre .0 in let f = y .few in
+column-requires c κs = let y = c .before .before .before .before .before .pre .0 .lying in let f = y .few in
     let k = c .before .loop-test .taken in (y .room, omega arith, omega arith)
 
 returns : tie.Need-returns Inv-loop μ-loop
 returns c =
-    let a = c .before .before .before .before .before .before .args in
+    let a = c .before .before .before .before .before .before .before .args in
     found-here (a .latin) (a .standard) (a .d .now) (a .rows .now) (a .count) (textAt (a .p) (a .n)) _
     (c .before .before .before .loop-test .taken) (c .before .before .before .before .loop .inv .1)
     (sym (c .if1 .taken) ∙ rw (c .before .before .is-name .ensures, c .before .column .ensures))
 
 loop-again : tie.Need-loop-again Inv-loop μ-loop
 loop-again c =
-    let a = c .before .before .before .before .before .before .args in (
+    let a = c .before .before .before .before .before .before .before .args in (
       omega arith,
       found-next (a .latin) (a .standard) (a .d .now) (a .rows .now) (a .count) (textAt (a .p) (a .n)) _
           (c .before .before .before .loop-test .taken) (c .before .before .before .before .loop .inv .1)
@@ -42,7 +42,7 @@ loop-again c =
     )
 
 returns-2 : tie.Need-returns-2 Inv-loop μ-loop
-returns-2 c = let a = c .before .before .before .args in
+returns-2 c = let a = c .before .before .before .before .args in
     found-none (a .latin) (a .standard) (a .d .now) (a .rows .now) (a .count) (textAt (a .p) (a .n)) _ (c .loop-test .left)
     (c .before .loop .inv .1)
 

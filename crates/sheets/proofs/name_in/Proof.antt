@@ -9,11 +9,11 @@ use Rattle.sheets.proofs.name_in.Tie as tie
 
 naming-at-requires : tie.Need-naming-at-requires
 naming-at-requires c κs = let v = rw (c .before .place .given .1) at
-    (c .before .before .before .next-due .ensures .1) in (c .before .before .before .before .before .before .pre .0, v .1)
+    (c .before .before .before .next-due .ensures .1) in (c .before .before .before .before .before .before .before .pre .0, v .1)
 
 returns : tie.Need-returns
 returns c =
-    let a = c .before .before .before .before .before .before .before .args in
+    let a = c .before .before .before .before .before .before .before .before .args in
     let e = sym (c .before .before .before .before .next-due .ensures .0) ∙ c .before .before .place .given .1 in
     record {
       is = λ l h. c .naming-at .ensures .is l h
@@ -23,7 +23,7 @@ returns c =
 
 returns-2 : tie.Need-returns-2
 returns-2 c =
-    let a = c .before .before .before .before .before .before .args in
+    let a = c .before .before .before .before .before .before .before .args in
     let e = sym (c .before .before .before .next-due .ensures .0) ∙ c .before .f .given .1 in
     record {
       is = λ l h. rw (due-stops (a .bad) (a .d .now) NAME (naming (a .bad) (a .d .now) (a .m .latin) (a .m .standard) l) (a .at) e);

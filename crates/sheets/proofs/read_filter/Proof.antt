@@ -20,7 +20,7 @@ find-open-requires c κs = rw (c .before .before .filter .given .1) at (c .befor
 returns : tie.Need-returns
 returns c =
     let at-filter = c .before .before .before .before in
-    let a = at-filter .before .before .before .before .args in
+    let a = at-filter .before .before .before .before .before .args in
     let f = at-filter .filter .given .0 .0 in
     let n = at-filter .filter .given .0 .1 .0 in
     let o = c .before .find-open .result in
@@ -35,7 +35,7 @@ returns c =
 
 returns-2 : tie.Need-returns-2
 returns-2 c =
-    let a = c .before .before .before .before .before .args in
+    let a = c .before .before .before .before .before .before .args in
     record {
       is = λ l h. rw (filter-not (filter (a .bad) (a .d .now) (a .m .latin) (a .m .standard) l
           (record { place = a .name .place; length = a .name .length }) (a .usage) (a .place) (a .end))

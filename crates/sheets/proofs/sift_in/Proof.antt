@@ -18,18 +18,18 @@ use Rattle.sheets.proofs.sift_in.Statement.{statement}
 use Rattle.sheets.proofs.sift_in.Tie as tie
 
 is-start-requires : tie.Need-is-start-requires
-is-start-requires c κs = let a = c .before .before .before .before .before .args in
+is-start-requires c κs = let a = c .before .before .before .before .before .before .args in
     within-first (a .d .now) (a .at) (c .before .before .find-open .result) (c .before .before .find-open .ensures .1)
 
 tag-due-requires : tie.Need-tag-due-requires
-tag-due-requires c κs = let a = c .before .before .before .before .before .before .before .before .args in
+tag-due-requires c κs = let a = c .before .before .before .before .before .before .before .before .before .args in
     within-first (a .d .now) (a .at) (c .before .before .before .before .before .find-open .result)
     (c .before .before .before .before .before .find-open .ensures .1)
 
 read-filter-requires : tie.Need-read-filter-requires
 read-filter-requires c κs =
     let at-find-open = c .before .before .before .before .before .before .before .before .before in
-    let start = at-find-open .before .before .before in
+    let start = at-find-open .before .before .before .before in
     let a = start .args in
     let o = at-find-open .find-open .result in (
       start .pre .0,
@@ -42,7 +42,7 @@ read-filter-requires c κs =
 
 returns : tie.Need-returns
 returns c =
-    let a = c .before .before .before .before .before .args in
+    let a = c .before .before .before .before .before .before .args in
     let o = c .before .before .find-open .result in
     let t : Text = record { place = a .name .place; length = a .name .length } in
     let R = ap readOf (c .before .before .find-open .ensures .0) ∙ read-open (within (a .bad) (a .d .now) VARIABLE (a .at)) in
@@ -56,7 +56,7 @@ returns c =
 
 returns-2 : tie.Need-returns-2
 returns-2 c =
-    let a = c .before .before .before .before .before .before .before .before .args in
+    let a = c .before .before .before .before .before .before .before .before .before .args in
     let o = c .before .before .before .before .before .find-open .result in
     let t : Text = record { place = a .name .place; length = a .name .length } in
     let R = ap readOf (c .before .before .before .before .before .find-open .ensures .0)
@@ -75,7 +75,7 @@ returns-3 c =
     let at-tag-due = c .before .before .before .before in
     let at-if2 = at-tag-due .before .before in
     let at-find-open = at-if2 .before .before .before .before in
-    let a = at-find-open .before .before .before .args in
+    let a = at-find-open .before .before .before .before .args in
     let o = at-find-open .find-open .result in
     let t : Text = record { place = a .name .place; length = a .name .length } in
     let R = ap readOf (at-find-open .find-open .ensures .0) ∙ read-open (within (a .bad) (a .d .now) VARIABLE (a .at)) in
@@ -91,7 +91,7 @@ returns-4 : tie.Need-returns-4
 returns-4 c =
     let at-if2 = c .before .before .before .before .before in
     let at-find-open = at-if2 .before .before .before .before in
-    let a = at-find-open .before .before .before .args in
+    let a = at-find-open .before .before .before .before .args in
     let o = at-find-open .find-open .result in
     let s : startsOf (a .d .now) o FILTER ≡ true = sym (at-if2 .before .is-start .ensures) ∙ not-false _ (at-if2 .if2 .left) in
     starts-due (a .bad) (a .d .now) FILTER o s (sym (c .before .before .before .tag-due .ensures) ∙ c .before .f .given .1)

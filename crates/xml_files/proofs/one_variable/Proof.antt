@@ -9,14 +9,14 @@ begin-variable-requires : tie.Need-begin-variable-requires
 begin-variable-requires c κs =
     let at-place = c .before .before .before .before in
     let at-find-open = at-place .before .before in
-    let start = at-find-open .before .before .before .before .before in
+    let start = at-find-open .before .before .before .before .before .before in
     let p = start .pre in
     let i = start-in (start .args .d .now) (start .args .at) _ (at-find-open .find-open .ensures .1) (at-place .place .given .1) in
     (p .0, ((p .1 .0 .0, i .0, i .1), (p .1 .1 .0, p .1 .1 .1)))
 
 returns : tie.Need-returns
 returns c =
-    let a = c .before .before .before .before .before .before .before .before .before .before .args in
+    let a = c .before .before .before .before .before .before .before .before .before .before .before .args in
     turned-none (a .bad) (a .d .now) (ruleOf (a .m)) (a .at) (a .seen .now) (a .y) (a .rows .now) _ (a .lines .now) _ _
     (c .before .before .before .before .before .find-open .ensures .0) _ _
     (c .before .before .before .place2 .given .1) (c .if1 .taken)
@@ -26,7 +26,7 @@ returns-2 c =
     let at-begin-variable = c .before .before .before .before .before .before .before in
     let at-place = at-begin-variable .before .before .before .before .before in
     let at-find-open = at-place .before .before in
-    let a = at-find-open .before .before .before .before .before .args in
+    let a = at-find-open .before .before .before .before .before .before .args in
     turned-more (a .bad) (a .d .now) (ruleOf (a .m)) (a .at) (a .seen .now) (a .y) (a .rows .now) _ (a .lines .now) _ _
     (at-find-open .find-open .ensures .0) _ _ (at-place .place .given .1) _
     (at-begin-variable .begin-variable .ensures) _ _ _ (c .before .ident .given .1)
@@ -36,21 +36,21 @@ returns-3 c =
     let at-begin-variable = c .before .before .before .before .before .before .before in
     let at-place = at-begin-variable .before .before .before .before .before in
     let at-find-open = at-place .before .before in
-    let a = at-find-open .before .before .before .before .before .args in
+    let a = at-find-open .before .before .before .before .before .before .args in
     turned-fails (a .bad) (a .d .now) (ruleOf (a .m)) (a .at) (a .seen .now) (a .y) (a .rows .now) _ (a .lines .now) _ _
     (at-find-open .find-open .ensures .0) _ _ (at-place .place .given .1) _
     (at-begin-variable .begin-variable .ensures) _ (c .before .f .given .1)
 
 returns-4 : tie.Need-returns-4
 returns-4 c =
-    let a = c .before .before .before .before .before .before .before .before .before .before .args in
+    let a = c .before .before .before .before .before .before .before .before .before .before .before .args in
     turned-over (a .bad) (a .d .now) (ruleOf (a .m)) (a .at) (a .seen .now) (a .y) (a .rows .now) _ (a .lines .now) _ _
     (c .before .before .before .before .before .find-open .ensures .0) _ _
     (c .before .before .before .place2 .given .1) (some-rows (a .y .rows) (c .if1 .left)) refl refl
 
 returns-5 : tie.Need-returns-5
 returns-5 c =
-    let a = c .before .before .before .before .before .before .before .before .args in
+    let a = c .before .before .before .before .before .before .before .before .before .args in
     turned-not (a .bad) (a .d .now) (ruleOf (a .m)) (a .at) (a .seen .now) (a .y) (a .rows .now) _ (a .lines .now) _ _
     (c .before .before .before .find-open .ensures .0) _
     (c .before .f2 .given .1)
