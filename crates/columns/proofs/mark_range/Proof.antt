@@ -45,14 +45,14 @@ same-length-2 : tie.Need-same-length-2 Inv-loop μ-loop
 same-length-2 c = c .before .loop .inv .2 ∙ c .before .before .before .before .before .before .before .before .clear .kept .0
 
 -- the row's numbers are read back from their bits as they are
-from-back : (c : tie.After-loop Inv-loop μ-loop) → toZ w64
-    (ofZ w64 (c .before .before .before .before .before .before .before .before .before .before .before .before .before .args .row .from))
-    ≡ c .before .before .before .before .before .before .before .before .before .before .before .before .before .args .row .from
+from-back : (c : tie.After-loop Inv-loop μ-loop)
+    → let args = c .before .before .before .before .before .before .before .before .before .before .before .before .before .args in
+    toZ w64 (ofZ w64 (args .row .from)) ≡ args .row .from
 from-back c = search needs
 
-to-back : (c : tie.After-loop Inv-loop μ-loop) → toZ w64
-    (ofZ w64 (c .before .before .before .before .before .before .before .before .before .before .before .before .before .args .row .to))
-    ≡ c .before .before .before .before .before .before .before .before .before .before .before .before .before .args .row .to
+to-back : (c : tie.After-loop Inv-loop μ-loop)
+    → let args = c .before .before .before .before .before .before .before .before .before .before .before .before .before .args in
+    toZ w64 (ofZ w64 (args .row .to)) ≡ args .row .to
 to-back c = search needs
 
 returns-2 : tie.Need-returns-2 Inv-loop μ-loop

@@ -37,31 +37,29 @@ low : (c : tie.In-loop Inv-loop μ-loop) → c .before .loop .n
     < length (endedOf (recordsOf (c .before .before .before .before .before .before .args .d .now)))
 low c = omega (arith, c .loop-test .taken, c .before .before .before .before .before .before .pre .1 .1 .0 .1)
 
-inside : (c : tie.In-loop Inv-loop μ-loop) → c .before .loop .from + c .before .before .before .before .before .before .args .s .first
-    ≤ length (c .before .before .before .before .before .before .args .d .now)
+inside : (c : tie.In-loop Inv-loop μ-loop) → let a = c .before .before .before .before .before .before .args in
+    c .before .loop .from + a .s .first ≤ length (a .d .now)
 inside c = omega (
   arith,
   c .before .loop .inv .2,
   c .before .before .before .before .before .before .pre .1 .1 .0 .0 .inside (c .before .loop .n) (low c),
 )
 
-there : (c : tie.In-loop Inv-loop μ-loop) → recordAt (endedOf (recordsOf (c .before .before .before .before .before .before .args .d .now)))
-    (c .before .loop .n)
-    ≡ part (c .before .before .before .before .before .before .args .d .now) (c .before .loop .from)
-    (c .before .loop .from + c .before .before .before .before .before .before .args .s .first)
+there : (c : tie.In-loop Inv-loop μ-loop) → let a = c .before .before .before .before .before .before .args in let l = c .before .loop in
+    recordAt (endedOf (recordsOf (a .d .now))) (l .n) ≡ part (a .d .now) (l .from) (l .from + a .s .first)
 there c =
-    let a = c .before .before .before .before .before .before .args in
-    c .before .before .before .before .before .before .pre .1 .1 .0 .0 .at (c .before .loop .n) (low c)
+    let start = c .before .before .before .before .before .before in
+    let a = start .args in
+    start .pre .1 .1 .0 .0 .at (c .before .loop .n) (low c)
     ∙ ap (λ (x : ℕ). part (a .d .now) x (x + a .s .first)) (sym (c .before .loop .inv .2))
 
-room : (c : tie.In-loop Inv-loop μ-loop) → Room (c .before .before .before .before .before .before .args .flags + c .before .loop .k)
-    (c .before .before .before .before .before .before .args .values + 8 * c .before .loop .k)
-    (length (c .before .before .before .before .before .before .args .out .now))
-    (c .before .before .before .before .before .before .args .m .count)
+room : (c : tie.In-loop Inv-loop μ-loop) → let a = c .before .before .before .before .before .before .args in let l = c .before .loop in
+    Room (a .flags + l .k) (a .values + 8 * l .k) (length (a .out .now)) (a .m .count)
 room c =
-    let a = c .before .before .before .before .before .before .args in
+    let start = c .before .before .before .before .before .before in
+    let a = start .args in
     subst (λ (x : ℕ). Room (a .flags + x) (a .values + 8 * x) (length (a .out .now)) (a .m .count)) (sym (c .before .loop .inv .1))
-    (c .before .before .before .before .before .before .pre .1 .1 .1 .1 (c .before .loop .n) (c .loop-test .taken))
+    (start .pre .1 .1 .1 .1 (c .before .loop .n) (c .loop-test .taken))
 
 put-row-requires : tie.Need-put-row-requires Inv-loop μ-loop
 put-row-requires c κs =
@@ -81,24 +79,26 @@ put-row-requires c κs =
 add-k : tie.Need-add-k Inv-loop μ-loop
 add-k c =
     let here = c .before .before .before .before .before .before .before .before .before .before in
-    let a = here .before .before .before .before .before .before .args in
+    let start = here .before .before .before .before .before .before in
+    let a = start .args in
     omega (
       arith,
       here .before .loop .inv .1,
       cells-below (here .before .loop .n) (a .records) (a .columns) (here .loop-test .taken),
-      here .before .before .before .before .before .before .pre .1 .1 .1 .0,
+      start .pre .1 .1 .1 .0,
     )
 
 add-from : tie.Need-add-from Inv-loop μ-loop
 add-from c =
     let here = c .before .before .before .before .before .before .before .before .before .before in
-    let a = here .before .before .before .before .before .before .args in
+    let start = here .before .before .before .before .before .before in
+    let a = start .args in
     omega (
       arith,
       here .before .loop .inv .2,
       cells-below (here .before .loop .n) (length (endedOf (recordsOf (a .d .now)))) (a .s .step) (low here),
-      here .before .before .before .before .before .before .pre .1 .1 .0 .0 .whole,
-      here .before .before .before .before .before .before .good .1 .1 .1 .1 .1 .0,
+      start .pre .1 .1 .0 .0 .whole,
+      start .good .1 .1 .1 .1 .1 .0,
     )
 
 loop-again : tie.Need-loop-again Inv-loop μ-loop

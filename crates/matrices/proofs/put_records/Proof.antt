@@ -49,6 +49,16 @@ left c =
     let l = c .before .before .before .before .before .before .loop in
     omega (arith, l .inv .5, left-count (a .t .now) (a .h .rows) [] (l .i) (c .before .before .before .before .if1 .taken))
 
+small : (c : tie.After-put-columns-arg4 Inv-loop μ-loop)
+    → let a = c .before .before .before .before .before .before .before .before .before .before .before .before .args in
+    (c .before .before .before .before .before .before .loop .k ≤ 16777216) × (a .flags ≤ 16777216) × (a .values ≤ 16777216)
+small c = let p = c .before .before .before .before .before .before .before .before .before .before .before .before .pre .1 .1 .1 in (
+  omega
+      (arith, left c, p .1),
+  omega (arith, p .2, p .3 .behind),
+  p .2,
+)
+
 put-columns-requires : tie.Need-put-columns-requires Inv-loop μ-loop
 put-columns-requires c κs =
     let l = c .before .before .before .before .before .before .loop in
@@ -114,25 +124,9 @@ put-records-spec =
     μ-loop
     (λ c κs. c .before .before .before .before .pre .1 .1 .0 .0)
     loop-holds
-    (λ c. omega (
-      arith,
-      left c,
-      c .before .before .before .before .before .before .before .before .before .before .before .before .pre .1 .1 .1 .1,
-      c .before .before .before .before .before .before .before .before .before .before .before .before .pre .1 .1 .1 .2,
-      c .before .before .before .before .before .before .before .before .before .before .before .before .pre .1 .1 .1 .3 .behind,
-    ))
-    (λ c. omega (
-      arith,
-      left c,
-      c .before .before .before .before .before .before .before .before .before .before .before .before .pre .1 .1 .1 .1,
-      c .before .before .before .before .before .before .before .before .before .before .before .before .pre .1 .1 .1 .2,
-    ))
-    (λ c. omega (
-      arith,
-      left c,
-      c .before .before .before .before .before .before .before .before .before .before .before .before .pre .1 .1 .1 .1,
-      c .before .before .before .before .before .before .before .before .before .before .before .before .pre .1 .1 .1 .2,
-    ))
+    (λ c. omega (arith, small c))
+    (λ c. omega (arith, small c))
+    (λ c. omega (arith, small c))
     put-columns-requires
     (λ c. omega (
       arith,

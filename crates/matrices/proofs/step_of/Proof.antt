@@ -8,10 +8,11 @@ use Rattle.matrices.proofs.step_of.Tie as tie
 
 returns : tie.Need-returns
 returns c =
-    let found = c .before .before .before .before .find-terminator .ensures in
-    first-ended (c .before .before .before .before .before .before .args .d .now) (found .is) (found .few)
-    (c .before .before .before .before .before .before .pre)
-    (sym (c .before .before .before .next-from .ensures) ∙ c .before .end .given .1)
+    let at-next-from = c .before .before .before in
+    let start = at-next-from .before .before .before in
+    let found = at-next-from .before .find-terminator .ensures in
+    first-ended (start .args .d .now) (found .is) (found .few) (start .pre)
+    (sym (at-next-from .next-from .ensures) ∙ c .before .end .given .1)
 
 returns-2 : tie.Need-returns-2
 returns-2 c =

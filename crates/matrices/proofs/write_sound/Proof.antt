@@ -39,11 +39,11 @@ too-large-requires c κs = (omega (arith, c .if1 .left), c .before .columns-of .
 
 returns-2 : tie.Need-returns-2
 unfolding matrixSaid
-returns-2 c = too-large (c .before .before .before .before .before .before .before .args .t .now)
-    (c .before .before .before .before .before .before .before .args .d .now)
-    (c .before .before .before .before .before .before .before .args .out .now)
-    (c .before .before .before .before .before .before .before .pre) (c .before .before .before .columns-of .ensures .0)
-    (c .before .before .if1 .left) (sym (c .before .too-large .ensures) ∙ c .if2 .taken)
+returns-2 c =
+    let at-if1 = c .before .before in
+    let start = at-if1 .before .before .before .before .before in
+    too-large (start .args .t .now) (start .args .d .now) (start .args .out .now) (start .pre) (at-if1 .before .columns-of .ensures .0)
+    (at-if1 .if1 .left) (sym (c .before .too-large .ensures) ∙ c .if2 .taken)
 
 -- it is not too large
 low : (n m : ℕ) {b : Bool} → b ≡ ltb 16777216 (totalOf n m) → b ≡ false → totalOf n m ≤ 16777216
