@@ -29,7 +29,8 @@ returns-2 c = c .before .before .before .loop .inv .1
 loop-again : tie.Need-loop-again Inv-loop μ-loop
 loop-again c = (
   omega arith,
-  passes-wide _ _ _ 16 (c .before .before .before .loop .inv .1) (omega arith) (sym (c .before .all-plain .ensures) ∙ not-false _ (c .if2 .left)),
+  passes-wide _ _ _ 16 (c .before .before .before .loop .inv .1) (omega arith)
+      (sym (c .before .all-plain .ensures) ∙ not-false _ (c .if2 .left)),
 )
 
 returns-3 : tie.Need-returns-3 Inv-loop μ-loop

@@ -21,7 +21,10 @@ loop-holds c = let a = c .before .before .args in (
 )
 
 is-name-requires : tie.Need-is-name-requires Inv-loop μ-loop
-is-name-requires c κs = let start = c .before .before .before .before in (start .pre .0, (c .loop-test .taken, start .pre .1 .0, start .pre .1 .1))
+is-name-requires c κs = let start = c .before .before .before .before in (
+  start .pre .0,
+  (c .loop-test .taken, start .pre .1 .0, start .pre .1 .1),
+)
 
 loop-again : tie.Need-loop-again Inv-loop μ-loop
 loop-again c =

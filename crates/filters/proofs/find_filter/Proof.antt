@@ -21,14 +21,18 @@ name-sum-requires : tie.Need-name-sum-requires
 name-sum-requires c κs = c .before .before .before .before .before .pre .1 .1
 
 count-named-requires : tie.Need-count-named-requires
-count-named-requires c κs = let start = c .before .before .before .before .before .before in (start .pre .0, (start .pre .1 .1, c .name-sum .ensures))
+count-named-requires c κs = let start = c .before .before .before .before .before .before in (
+  start .pre .0,
+  (start .pre .1 .1, c .name-sum .ensures),
+)
 
 returns-3 : tie.Need-returns-3
 returns-3 c =
     let at-same-name = c .before .before .before .before in
     let a = at-same-name .before .before .before .before .args in
     filter-many (a .latin) (a .standard) (a .d .now) (a .rows .now) (a .count) (textAt (a .p) (a .n)) (textAt (a .q) (a .m)) (a .usage)
-    (at-same-name .before .if1 .left) (sym (at-same-name .same-name .ensures) ∙ c .before .before .before .if2 .left) _ (c .before .count-named .ensures)
+    (at-same-name .before .if1 .left) (sym (at-same-name .same-name .ensures) ∙ c .before .before .before .if2 .left) _
+    (c .before .count-named .ensures)
     (c .if3 .taken)
 
 find-logical-requires : tie.Need-find-logical-requires
@@ -42,7 +46,8 @@ returns-4 c =
     let at-same-name = c .before .before .before .before .before in
     let a = at-same-name .before .before .before .before .args in
     filter-one (a .latin) (a .standard) (a .d .now) (a .rows .now) (a .count) (textAt (a .p) (a .n)) (textAt (a .q) (a .m)) (a .usage)
-    (at-same-name .before .if1 .left) (sym (at-same-name .same-name .ensures) ∙ c .before .before .before .before .if2 .left) _ _ (c .before .before .count-named .ensures)
+    (at-same-name .before .if1 .left) (sym (at-same-name .same-name .ensures) ∙ c .before .before .before .before .if2 .left) _ _
+    (c .before .before .count-named .ensures)
     (c .before .if3 .left) (c .find-logical .ensures)
 
 pub find-filter-spec : {M : Type 1} → statement M

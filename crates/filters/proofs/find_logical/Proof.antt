@@ -19,7 +19,10 @@ loop-holds c = let a = c .before .before .args in (
 )
 
 is-name-requires : tie.Need-is-name-requires Inv-loop μ-loop
-is-name-requires c κs = let start = c .before .before .before .before in (start .pre .0, (c .loop-test .taken, start .pre .1 .0, start .pre .1 .1))
+is-name-requires c κs = let start = c .before .before .before .before in (
+  start .pre .0,
+  (c .loop-test .taken, start .pre .1 .0, start .pre .1 .1),
+)
 
 column-requires : tie.Need-column-requires Inv-loop μ-loop
 column-requires c κs = let y = c .before .before .before .before .before .pre .0 .lying in let f = y .few in

@@ -30,7 +30,8 @@ returns c =
     let start = c .before .before .before .before .before .before in
     let a = start .args in
     let t = textAt (a .p) (a .n) in
-    let e : c .before .before .bin-of .result ≡ binOf (sumIn (a .latin) (a .d .now) t) = c .before .before .bin-of .ensures .0 ∙ ap binOf (c .before .before .before .name-sum .ensures) in
+    let e : c .before .before .bin-of .result ≡ binOf (sumIn (a .latin) (a .d .now) t) = c .before .before .bin-of .ensures .0
+    ∙ ap binOf (c .before .before .before .name-sum .ensures) in
     bin-unserved (a .latin) (a .standard) (a .d .now) (a .rows .now) (a .count) (a .sums .now) (start .pre .0) t
     (ap (λ (k : ℕ). getD (a .sums .now) k 0) (sym e) ∙ c .if1 .taken)
 
@@ -41,7 +42,10 @@ loop-holds c = let a = c .before .before .before .before .before .before .args i
 )
 
 is-served-requires : tie.Need-is-served-requires Inv-loop μ-loop
-is-served-requires c κs = let start = c .before .before .before .before .before .before .before .before in (start .pre .0, (c .loop-test .taken, start .pre .1, c .before .before .before .before .before .name-sum .ensures))
+is-served-requires c κs = let start = c .before .before .before .before .before .before .before .before in (
+  start .pre .0,
+  (c .loop-test .taken, start .pre .1, c .before .before .before .before .before .name-sum .ensures),
+)
 
 returns-2 : tie.Need-returns-2 Inv-loop μ-loop
 returns-2 c =

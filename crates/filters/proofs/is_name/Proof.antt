@@ -10,7 +10,8 @@ mul-if1 : tie.Need-mul-if1
 mul-if1 c = let f = c .before .before .pre .0 .lying .few in let h = c .before .before .pre .1 .0 in omega arith
 
 shared-slice-read-if1 : tie.Need-shared-slice-read-if1
-shared-slice-read-if1 c = let y = c .before .before .before .pre .0 in let f = y .lying .few in let r = y .summing .room in let h = c .before .before .before .pre .1 .0 in omega arith
+shared-slice-read-if1 c = let y = c .before .before .before .pre .0 in let f = y .lying .few in let r = y .summing .room in
+    let h = c .before .before .before .pre .1 .0 in omega arith
 
 returns : tie.Need-returns
 returns c =
@@ -20,10 +21,12 @@ returns c =
     (λ z. c .if1 .taken (start .pre .0 .summing .names (a .i) (start .pre .1 .0) ∙ z ∙ sym (start .pre .1 .2)))
 
 column-requires : tie.Need-column-requires
-column-requires c κs = let y = c .before .before .before .before .pre .0 .lying in let h = c .before .before .before .before .pre .1 .0 in let f = y .few in (y .room, omega arith, omega arith)
+column-requires c κs = let y = c .before .before .before .before .pre .0 .lying in let h = c .before .before .before .before .pre .1 .0 in
+    let f = y .few in (y .room, omega arith, omega arith)
 
 column-requires-2 : tie.Need-column-requires-2
-column-requires-2 c κs = let y = c .before .before .before .before .before .pre .0 .lying in let h = c .before .before .before .before .before .pre .1 .0 in let f = y .few in (y .room, omega arith, omega arith)
+column-requires-2 c κs = let y = c .before .before .before .before .before .pre .0 .lying in
+    let h = c .before .before .before .before .before .pre .1 .0 in let f = y .few in (y .room, omega arith, omega arith)
 
 same-name-requires : tie.Need-same-name-requires
 same-name-requires c κs =

@@ -28,7 +28,8 @@ mul-sums : tie.Need-mul-sums
 mul-sums c = let f = c .before .before .before .before .pre .0 .few in omega arith
 
 element-write-sums : tie.Need-element-write-sums
-element-write-sums c = let f = c .before .before .before .before .pre .0 .few in let r = c .before .before .before .before .pre .1 .room in omega arith
+element-write-sums c = let f = c .before .before .before .before .pre .0 .few in let r = c .before .before .before .before .pre .1 .room in
+    omega arith
 
 column-requires-3 : tie.Need-column-requires-3
 column-requires-3 c κs = let y = c .before .before .before .before .pre .0 in let f = y .few in (y .room, omega arith, omega arith)
@@ -39,7 +40,8 @@ sub-bin-of c = let h = above (c .before .column3 .result) (c .if1 .taken) in ome
 mul-bin-of : tie.Need-mul-bin-of
 mul-bin-of c =
     let f = c .before .before .before .before .before .before .pre .0 .few in
-    let b = c .before .before .before .before .before .before .pre .0 .filters (c .before .before .before .before .before .before .args .i) (omega arith) in
+    let b = c .before .before .before .before .before .before .pre .0 .filters (c .before .before .before .before .before .before .args .i)
+    (omega arith) in
     let e = c .before .column3 .ensures in
     omega arith
 
@@ -48,9 +50,11 @@ element-copy-out-bin-of c =
     let h = above (c .before .column3 .result) (c .if1 .taken) in
     let f = c .before .before .before .before .before .before .pre .0 .few in
     let r = c .before .before .before .before .before .before .pre .1 .room in
-    let b = c .before .before .before .before .before .before .pre .0 .filters (c .before .before .before .before .before .before .args .i) (omega arith) in
+    let b = c .before .before .before .before .before .before .pre .0 .filters (c .before .before .before .before .before .before .args .i)
+    (omega arith) in
     let e = c .before .column3 .ensures in
-    let l = length-set (c .before .before .before .before .before .before .args .sums .now) (c .before .before .before .before .before .before .args .i) (c .before .before .name-sum .result) in
+    let l = length-set (c .before .before .before .before .before .before .args .sums .now)
+    (c .before .before .before .before .before .before .args .i) (c .before .before .name-sum .result) in
     omega arith
 
 mul-sums-2 : tie.Need-mul-sums-2
@@ -59,7 +63,8 @@ mul-sums-2 c = omega (arith, c .bin-of .ensures .2)
 element-write-sums-2 : tie.Need-element-write-sums-2
 element-write-sums-2 c =
     let r = c .before .before .before .before .before .before .before .before .pre .1 .room in
-    let l = length-set (c .before .before .before .before .before .before .before .before .args .sums .now) (c .before .before .before .before .before .before .before .before .args .i) (c .before .before .before .before .name-sum .result) in
+    let l = length-set (c .before .before .before .before .before .before .before .before .args .sums .now)
+    (c .before .before .before .before .before .before .before .before .args .i) (c .before .before .before .before .name-sum .result) in
     omega (arith, c .bin-of .ensures .2)
 
 returns : tie.Need-returns
@@ -68,14 +73,19 @@ returns c =
     let a = start .args in
     let few : a .i < mostRows = omega (arith, start .pre .0 .few) in
     let is : c .before .before .before .before .name-sum .result ≡ sumIn (a .latin) (a .d .now) (nameIn (a .rows .now) (a .i)) =
-    c .before .before .before .before .name-sum .ensures ∙ rw (c .before .before .before .before .before .before .column .ensures, c .before .before .before .before .before .column2 .ensures) in
+    c .before .before .before .before .name-sum .ensures
+    ∙ rw (
+      c .before .before .before .before .before .before .column .ensures,
+      c .before .before .before .before .before .column2 .ensures,
+    ) in
     let h = above (c .before .before .before .column3 .result) (c .before .before .if1 .taken) in
     let e = c .before .before .before .column3 .ensures in
     let b = start .pre .0 .filters (a .i) (omega arith) in
     let k : c .before .before .before .column3 .result - 1 < a .i + 1 = omega arith in
     room-filtered (a .latin) (a .d .now) (a .rows .now) (a .i) (a .sums .now) (start .pre .1) few _ is _
     (c .bin-of .ensures .0 ∙ ap binOf
-    (with-names (a .latin) (a .d .now) (a .rows .now) (a .i) (a .sums .now) (start .pre .1) few _ is (c .before .before .before .column3 .result - 1) k
+    (with-names (a .latin) (a .d .now) (a .rows .now) (a .i) (a .sums .now) (start .pre .1) few _ is
+    (c .before .before .before .column3 .result - 1) k
     ∙ ap (λ (f : ℕ). sumIn (a .latin) (a .d .now) (nameIn (a .rows .now) (f - 1))) e)) (c .bin-of .ensures .2)
 
 returns-2 : tie.Need-returns-2
@@ -84,8 +94,12 @@ returns-2 c =
     let a = start .args in
     let few : a .i < mostRows = omega (arith, start .pre .0 .few) in
     let is : c .before .before .name-sum .result ≡ sumIn (a .latin) (a .d .now) (nameIn (a .rows .now) (a .i)) =
-    c .before .before .name-sum .ensures ∙ rw (c .before .before .before .before .column .ensures, c .before .before .before .column2 .ensures) in
-    room-plain (a .latin) (a .d .now) (a .rows .now) (a .i) (a .sums .now) (start .pre .1) few _ is (sym (c .before .column3 .ensures) ∙ c .if1 .left)
+    c .before .before .name-sum .ensures ∙ rw (
+      c .before .before .before .before .column .ensures,
+      c .before .before .before .column2 .ensures,
+    ) in
+    room-plain (a .latin) (a .d .now) (a .rows .now) (a .i) (a .sums .now) (start .pre .1) few _ is
+    (sym (c .before .column3 .ensures) ∙ c .if1 .left)
 
 pub note-row-spec : {M : Type 1} → statement M
 note-row-spec = tie.close (tie.spec column-requires column-requires-2 name-sum-requires mul-sums element-write-sums column-requires-3

@@ -33,7 +33,8 @@ sum-with-requires : tie.Need-sum-with-requires Inv-loop μ-loop
 sum-with-requires c κs = c .folded .ensures .1
 
 loop-less : tie.Need-loop-less Inv-loop μ-loop
-loop-less c = let s = told-one _ _ (c .before .before .before .before .before .next-sign .ensures) (c .before .before .before .sign .given .1) in omega (arith, ap length (s .split))
+loop-less c = let s = told-one _ _ (c .before .before .before .before .before .next-sign .ensures)
+    (c .before .before .before .sign .given .1) in omega (arith, ap length (s .split))
 
 loop-again : tie.Need-loop-again Inv-loop μ-loop
 loop-again c =

@@ -6,7 +6,10 @@ use Rattle.sheets.proofs.body_at.Statement.{statement}
 use Rattle.sheets.proofs.body_at.Tie as tie
 
 sift-in-requires : tie.Need-sift-in-requires
-sift-in-requires c κs = let p = c .before .before .before .before .before .before .pre in (knows (p .1 .0 .1), (p .1 .1 .1 .0 .1, p .1 .1 .1 .0 .0))
+sift-in-requires c κs = let p = c .before .before .before .before .before .before .pre in (
+  knows (p .1 .0 .1),
+  (p .1 .1 .1 .0 .1, p .1 .1 .1 .0 .0),
+)
 
 sub-room : tie.Need-sub-room
 sub-room c = let p = c .before .before .before .before .before .before .before .before .before .pre in omega (arith, p .1 .1 .1 .0 .3)

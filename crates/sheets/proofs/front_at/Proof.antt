@@ -6,7 +6,10 @@ use Rattle.sheets.proofs.front_at.Statement.{statement}
 use Rattle.sheets.proofs.front_at.Tie as tie
 
 title-at-requires : tie.Need-title-at-requires
-title-at-requires c κs = (c .before .before .before .pre .0, (c .before .before .before .pre .1 .lying .room, c .before .before .before .pre .1 .lying .few))
+title-at-requires c κs = (
+  c .before .before .before .pre .0,
+  (c .before .before .before .pre .1 .lying .room, c .before .before .before .pre .1 .lying .few),
+)
 
 name-in-requires : tie.Need-name-in-requires
 name-in-requires c κs = let v = rw (c .before .ident .given .1) at

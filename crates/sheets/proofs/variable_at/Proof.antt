@@ -4,7 +4,10 @@ use Rattle.sheets.proofs.variable_at.Statement.{statement}
 use Rattle.sheets.proofs.variable_at.Tie as tie
 
 front-at-requires : tie.Need-front-at-requires
-front-at-requires c κs = let p = c .before .before .before .before .before .pre in ((p .1 .0 .1, p .1 .0 .2 .sofar .seen-long), knows (p .1 .0 .2))
+front-at-requires c κs = let p = c .before .before .before .before .before .pre in (
+  (p .1 .0 .1, p .1 .0 .2 .sofar .seen-long),
+  knows (p .1 .0 .2),
+)
 
 body-at-requires : tie.Need-body-at-requires
 body-at-requires c κs =

@@ -77,7 +77,12 @@ note-row-requires c κs =
     (k .1 .1 .1 .1 .1 .1 .1 .0 ∙ i .1) (k .1 .1 .1 .1 .1 .1 .1 .1 .0 ∙ i .2) (i .4)
 
 slice-write-seen : tie.Need-slice-write-seen Inv-loop μ-loop
-slice-write-seen c = omega (arith, onward (c .before .before .before) .small, c .before .before .before .before .before .before .before .before .before .before .before .before .before .before .before .before .loop .inv .0 .seen-long)
+slice-write-seen c = omega (
+  arith,
+  onward (c .before .before .before) .small,
+  c .before .before .before .before .before .before .before .before .before .before .before .before .before .before .before .before .loop
+      .inv .0 .seen-long,
+)
 
 loop-less : tie.Need-loop-less Inv-loop μ-loop
 loop-less c = let o = onward (c .before .before .before) in omega (arith, o .further, o .left)
