@@ -87,42 +87,38 @@ add-total-2 c = omega (
 returns-3 : tie.Need-returns-3
 unfolding matrixSaid
 returns-3 c =
-    let the-if1 = c .before .before .before in
-    let the-start = the-if1 .before .before .before .before .before in
-    short-room (the-start .args .t .now) (the-start .args .d .now) (the-start .args .out .now) (the-start .pre)
-    (the-if1 .before .columns-of .ensures .0) (the-if1 .if1 .left) (sym (c .before .before .too-large .ensures) ∙ c .before .if2 .left)
+    short-room (c .before .before .before .before .before .before .before .before .args .t .now) (c .before .before .before .before .before .before .before .before .args .d .now) (c .before .before .before .before .before .before .before .before .args .out .now) (c .before .before .before .before .before .before .before .before .pre) (c .before .before .before .before .columns-of .ensures .0) (c .before .before .before .if1 .left) (sym (c .before .before .too-large .ensures) ∙ c .before .if2 .left)
     (omega (arith, c .if3 .taken))
 
 fill-requires : tie.Need-fill-requires
-fill-requires c κs =
-    let at-columns-of = c .before .before .before .before .before in
-    let the-start = at-columns-of .before .before .before .before in (
-      (
-        tested (at-columns-of .before),
-        the-start .pre,
-      ),
-      (
-        at-columns-of .columns-of .ensures .0,
-        omega (arith, c .before .before .before .before .if1 .left),
-        low (the-start .args .records) (at-columns-of .columns-of .result) (c .before .before .before .too-large .ensures)
-            (c .before .before .if2 .left),
-        omega (arith, c .before .if3 .left),
-      ),
-    )
+fill-requires c κs = (
+  (
+    tested (c .before .before .before .before .before .before),
+    c .before .before .before .before .before .before .before .before .before .pre,
+  ),
+  (
+    c .before .before .before .before .before .columns-of .ensures .0,
+    omega (arith, c .before .before .before .before .if1 .left),
+    low (c .before .before .before .before .before .before .before .before .before .args .records)
+        (c .before .before .before .before .before .columns-of .result) (c .before .before .before .too-large .ensures)
+        (c .before .before .if2 .left),
+    omega (arith, c .before .if3 .left),
+  ),
+)
 
 returns-4 : tie.Need-returns-4
 unfolding matrixSaid
 returns-4 c =
-    let at-if3 = c .before .before .before .before in
-    let at-columns-of = at-if3 .before .before .before .before in
-    let the-start = at-columns-of .before .before .before .before in
-    let a = the-start .args in
+    let a = c .before .before .before .before .before .before .before .before .before .before .before .before .args in
     let n = a .records in
-    let m = at-columns-of .columns-of .result in
+    let m = c .before .before .before .before .before .before .before .before .columns-of .result in
     let e : 24 + 24 * m + 9 * (n * m) ≡ totalOf n m = omega arith in
-    rw e (all-written (a .t .now) (a .d .now) (a .out .now) (the-start .pre) (at-columns-of .columns-of .ensures .0)
-    (at-if3 .before .before .before .if1 .left) (sym (at-if3 .before .before .too-large .ensures) ∙ at-if3 .before .if2 .left)
-    (omega (arith, at-if3 .if3 .left)) (c .before .before .fill .ensures))
+    rw e (all-written (a .t .now) (a .d .now) (a .out .now)
+    (c .before .before .before .before .before .before .before .before .before .before .before .before .pre)
+    (c .before .before .before .before .before .before .before .before .columns-of .ensures .0)
+    (c .before .before .before .before .before .before .before .if1 .left)
+    (sym (c .before .before .before .before .before .before .too-large .ensures) ∙ c .before .before .before .before .before .if2 .left)
+    (omega (arith, c .before .before .before .before .if3 .left)) (c .before .before .fill .ensures))
 
 pub write-sound-spec : {M : Type 1} → statement M
 write-sound-spec =
