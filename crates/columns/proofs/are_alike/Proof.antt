@@ -18,10 +18,12 @@ returns-3 c = not-alike _ _ _
 
 returns-4 : tie.Need-returns-4
 returns-4 c =
-    let a = c .before .before .before .before .before .before .before .args in
+    let at-mark-among = c .before .before in
+    let start = at-mark-among .before .before .before .before .before in
+    let a = start .args in
     are-alike (a .allowed .now) (a .present .now) (a .c) (c .all-are .result)
-    (omega (arith, c .before .before .before .if2 .left, c .before .before .before .before .before .before .before .pre .0))
-    (sym (c .before .before .mark-among .ensures) ∙ c .before .if3 .left) (c .all-are .ensures)
+    (omega (arith, at-mark-among .before .if2 .left, start .pre .0))
+    (sym (at-mark-among .mark-among .ensures) ∙ c .before .if3 .left) (c .all-are .ensures)
 
 pub are-alike-spec : {M : Type 1} → statement M
 are-alike-spec = tie.close (tie.spec returns (λ c. omega arith) returns-2 (λ c κs. omega arith) returns-3 (λ c κs. omega arith) returns-4)

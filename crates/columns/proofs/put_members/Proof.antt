@@ -96,23 +96,23 @@ put-members-spec =
     (λ c. omega (arith, c .before .before .before .pre .1 .0 .0 .on))
     put-stretch-requires
     (λ c κs. c .before .before .before .before .before .before .before .pre .0 .0)
-    (λ c. omega (
+    (λ c. let the-start = c .before .before .before .before .before .before .before .before .before .before in omega (
       arith,
       counts (c .before .before),
-      c .before .before .before .before .before .before .before .before .before .before .pre .1 .1 .1 .behind,
-      c .before .before .before .before .before .before .before .before .before .before .pre .1 .1 .1 .inside,
+      the-start .pre .1 .1 .1 .behind,
+      the-start .pre .1 .1 .1 .inside,
     ))
-    (λ c. omega (
+    (λ c. let the-start = c .before .before .before .before .before .before .before .before .before .before in omega (
       arith,
       counts (c .before .before),
-      c .before .before .before .before .before .before .before .before .before .before .pre .1 .1 .1 .behind,
-      c .before .before .before .before .before .before .before .before .before .before .pre .1 .1 .1 .inside,
+      the-start .pre .1 .1 .1 .behind,
+      the-start .pre .1 .1 .1 .inside,
     ))
-    (λ c. omega (
+    (λ c. let the-start = c .before .before .before .before .before .before .before .before .before .before in omega (
       arith,
       counts (c .before .before),
-      c .before .before .before .before .before .before .before .before .before .before .pre .1 .1 .1 .behind,
-      c .before .before .before .before .before .before .before .before .before .before .pre .1 .1 .1 .inside,
+      the-start .pre .1 .1 .1 .behind,
+      the-start .pre .1 .1 .1 .inside,
     ))
     (λ c. omega (arith, counts (c .before .before .before)))
     put-many-requires

@@ -24,12 +24,12 @@ use Rattle.columns.proofs.put_multiple.Tie as tie
 room : (c : tie.After-read-row) → let a = c .before .before .before .before .before .before .args in
     length (membersOf (readingOf (a .t .now) (a .rows) (a .row) (a .bytes .now))) ≤ length (a .list .now)
 room c =
-    let a = c .before .before .before .before .before .before .args in
+    let the-start = c .before .before .before .before .before .before in
+    let a = the-start .args in
     omega (
       arith,
-      row-many (a .t .now) (a .rows) (a .row) (a .bytes .now)
-          (readable-ready (c .before .before .before .before .before .before .pre .0 .0)),
-      c .before .before .before .before .before .before .pre .0 .1,
+      row-many (a .t .now) (a .rows) (a .row) (a .bytes .now) (readable-ready (the-start .pre .0 .0)),
+      the-start .pre .0 .1,
     )
 
 mark-members-requires : tie.Need-mark-members-requires
@@ -43,8 +43,9 @@ mark-members-requires c κs =
 
 put-members-requires : tie.Need-put-members-requires
 put-members-requires c κs =
-    let marked = c .before .before .before .before .before .before .mark-members in
-    let at-members-in = c .before .before .before .before .before .before .before .before .before in
+    let at-mark-members = c .before .before .before .before .before .before in
+    let marked = at-mark-members .mark-members in
+    let at-members-in = at-mark-members .before .before .before in
     let cleared = at-members-in .before .before .before .clear in
     let at-read-row = at-members-in .before .before .before .before .before .before in
     let p = at-read-row .before .before .before .before .before .before .pre in
@@ -68,15 +69,17 @@ put-members-requires c κs =
 
 returns : tie.Need-returns
 returns c =
-    let marked = c .before .before .before .before .before .before .before .before .before .mark-members in
-    let at-members-in = c .before .before .before .before .before .before .before .before .before .before .before .before in
+    let at-is-set = c .before .before .before .before in
+    let at-mark-members = at-is-set .before .before .before .before .before in
+    let marked = at-mark-members .mark-members in
+    let at-members-in = at-mark-members .before .before .before in
     let cleared = at-members-in .before .before .before .clear in
     let at-read-row = at-members-in .before .before .before .before .before .before in
     let start = at-read-row .before .before .before .before .before .before in
     let p = start .pre in
     let made = multiple-made (p .1 .0 .0 .covered) (at-read-row .read-row .ensures) (room at-read-row) refl (p .1 .0 .0 .marks)
     (cleared .ensures) (marked .kept .1 .1 .0) (cleared .kept .0 ∙ p .1 .0 .1) (at-members-in .members-in .ensures) (marked .ensures)
-    (c .before .before .before .before .is-set .ensures) in
+    (at-is-set .is-set .ensures) in
     c .before .before .put-members .ensures
     ∙ ap (λ (es : List Entry). putEntries (start .args .out .now) (start .args .flags) (start .args .values) es) made
 

@@ -41,14 +41,14 @@ put-entry-requires c κs =
 
 returns-3 : tie.Need-returns-3
 returns-3 c =
-    let s = c .before .before .before .before .before .before .before .before in
-    rw (c .before .before .put-entry .ensures, count (c .before .before .before .before .before .before))
+    let at-if1 = c .before .before .before .before .before in
+    let s = at-if1 .before .before .before in
+    rw (c .before .before .put-entry .ensures, count (at-if1 .before))
     (one-here (s .args .flags) (s .args .values) (s .args .past - 1) (s .args .z) (omega (arith, s .pre .0)) (s .args .out .now)
-    (omega (arith, count (c .before .before .before .before .before .before), c .before .before .before .before .before .if1 .left))
-    (omega (
+    (omega (arith, count (at-if1 .before), at-if1 .if1 .left)) (omega (
       arith,
-      count (c .before .before .before .before .before .before),
-      c .before .before .before .before .before .if1 .left,
+      count (at-if1 .before),
+      at-if1 .if1 .left,
       c .before .before .before .before .if2 .left,
     )) (s .pre .1 .behind))
 

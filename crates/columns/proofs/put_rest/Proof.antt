@@ -72,11 +72,13 @@ put-noughts-requires c κs =
     (omega (arith, sixteen c, l .inv .0, p .behind), omega (arith, sixteen c, l .inv .0, l .inv .1, p .inside))
 
 add-k : tie.Need-add-k Inv-loop μ-loop
-add-k c = let p = c .before .before .before .before .before .before .before .before .before .before .before .before .pre .1 in
+add-k c =
+    let at-loop = c .before .before .before .before .before .before .before .before in
+    let p = at-loop .before .before .before .before .pre .1 in
     omega (
       arith,
       sixteen (c .before .before .before),
-      c .before .before .before .before .before .before .before .before .loop .inv .0,
+      at-loop .loop .inv .0,
       p .behind,
       p .inside,
     )
@@ -93,20 +95,21 @@ loop-less c = omega (arith, c .before .before .before .before .before .before .b
 
 loop-again : tie.Need-loop-again Inv-loop μ-loop
 loop-again c =
-    let l = c .before .before .before .before .before .before .before .before .loop in
-    let a = c .before .before .before .before .before .before .before .before .before .before .before .before .args in
-    let p = c .before .before .before .before .before .before .before .before .before .before .before .before .pre .1 in
+    let at-if1 = c .before .before .before .before in
+    let at-loop = at-if1 .before .before .before .before in
+    let start = at-loop .before .before .before .before in
+    let l = at-loop .loop in
+    let a = start .args in
+    let p = start .pre .1 in
     let rest = markedFrom (a .there) (a .allowed .now) (a .present .now) (l .c + 16) (length (a .allowed .now) - (l .c + 16)) in
-    let e = alike-next (a .there) (c .before .before .before .before .before .are-alike .ensures)
-    (c .before .before .before .before .if1 .taken) in
+    let e = alike-next (a .there) (at-if1 .before .are-alike .ensures) (at-if1 .if1 .taken) in
     let d : l .c + 1 + 15 ≡ l .c + 16 = omega arith in
     let f : a .flags + (l .k + 16) ≡ a .flags + l .k + 16 = omega arith in
     let v : a .values + 8 * (l .k + 16) ≡ a .values + 8 * l .k + 128 = omega arith in
     rw d (
       omega (arith, sixteen (c .before .before .before), l .inv .0),
       c .before .before .put-noughts .kept .0 ∙ l .inv .1,
-      rw (c .before .before .put-noughts .ensures, f, v)
-          (noughts-then (l .out) (a .flags + l .k) (a .values + 8 * l .k) (a .there) rest
+      rw (c .before .before .put-noughts .ensures, f, v) (noughts-then (l .out) (a .flags + l .k) (a .values + 8 * l .k) (a .there) rest
           (omega (arith, sixteen (c .before .before .before), l .inv .0, p .behind))
           ∙ ap (λ (es : List Entry). putEntries (l .out) (a .flags + l .k) (a .values + 8 * l .k) es) (sym e) ∙ l .inv .2),
     )
@@ -115,11 +118,13 @@ shared-slice-read-if2 : tie.Need-shared-slice-read-if2 Inv-loop μ-loop
 shared-slice-read-if2 c = c .before .before .before .before .loop-test .taken
 
 shared-slice-read-member-entry : tie.Need-shared-slice-read-member-entry Inv-loop μ-loop
-shared-slice-read-member-entry c = omega (
-  arith,
-  c .before .before .before .before .before .before .loop-test .taken,
-  c .before .before .before .before .before .before .before .before .before .before .before .pre .0,
-)
+shared-slice-read-member-entry c =
+    let at-loop-test = c .before .before .before .before .before .before in
+    omega (
+      arith,
+      at-loop-test .loop-test .taken,
+      at-loop-test .before .before .before .before .before .pre .0,
+    )
 
 -- there is room for one entry more
 module _ (c : tie.After-put-entry-arg Inv-loop μ-loop) where
@@ -137,13 +142,12 @@ module _ (c : tie.After-put-entry-arg Inv-loop μ-loop) where
       (c .before .before .before .before .before .before .before .before .before .loop .c + 1)
       (length (c .before .before .before .before .before .before .before .before .before .before .before .before .before .args .allowed
       .now) - (c .before .before .before .before .before .before .before .before .before .loop .c + 1)))
-  one = ap (λ (es : List Entry). length es) (marked-on
-      (c .before .before .before .before .before .before .before .before .before .before .before .before .before .args .there)
-      (c .before .before .before .before .before .before .before .before .before .before .before .before .before .args .allowed .now)
-      (c .before .before .before .before .before .before .before .before .before .before .before .before .before .args .present .now)
-      (c .before .before .before .before .before .before .before .before .before .loop .c)
-      (c .before .before .before .before .before .before .before .before .loop-test .taken) (c .before .before .before .if2 .taken))
-      ∙ omega arith
+  one =
+      let at-if2 = c .before .before .before in
+      let at-loop-test = at-if2 .before .before .before .before .before in
+      let args = at-loop-test .before .before .before .before .before .args in
+      ap (λ (es : List Entry). length es) (marked-on (args .there) (args .allowed .now) (args .present .now) (at-loop-test .before .loop .c)
+      (at-loop-test .loop-test .taken) (at-if2 .if2 .taken)) ∙ omega arith
 
 add-put-entry : tie.Need-add-put-entry Inv-loop μ-loop
 add-put-entry
@@ -162,19 +166,21 @@ add-put-entry-2
 
 put-entry-requires : tie.Need-put-entry-requires Inv-loop μ-loop
 put-entry-requires c κs =
-    let l = c .before .before .before .before .before .before .before .before .before .loop in
-    let p = c .before .before .before .before .before .before .before .before .before .before .before .before .before .pre .1 in (
-      rw (c .before .member-entry .ensures) (marked-good
-          (c .before .before .before .before .before .before .before .before .before .before .before .before .before .args .there) _),
+    let at-loop = c .before .before .before .before .before .before .before .before .before in
+    let start = at-loop .before .before .before .before in
+    let l = at-loop .loop in
+    let p = start .pre .1 in (
+      rw (c .before .member-entry .ensures) (marked-good (start .args .there) _),
       (omega (arith, one c, l .inv .0, p .behind), omega (arith, one c, l .inv .0, l .inv .1, p .inside)),
     )
 
 add-k-2 : tie.Need-add-k-2 Inv-loop μ-loop
-add-k-2 c = let p = c .before .before .before .before .before .before .before .before .before .before .before .before .before .before
-    .before .before .pre .1 in omega (
+add-k-2 c =
+    let at-loop = c .before .before .before .before .before .before .before .before .before .before .before .before in
+    let p = at-loop .before .before .before .before .pre .1 in omega (
       arith,
       one (c .before .before .before),
-      c .before .before .before .before .before .before .before .before .before .before .before .before .loop .inv .0,
+      at-loop .loop .inv .0,
       p .behind,
       p .inside,
     )
@@ -184,22 +190,22 @@ loop-less-2 c = omega (arith, c .before .before .before .before .before .before 
 
 loop-again-2 : tie.Need-loop-again-2 Inv-loop μ-loop
 loop-again-2 c =
-    let l = c .before .before .before .before .before .before .before .before .before .before .before .before .loop in
-    let a = c .before .before .before .before .before .before .before .before .before .before .before .before .before .before .before
-    .before .args in
-    let p = c .before .before .before .before .before .before .before .before .before .before .before .before .before .before .before
-    .before .pre .1 in
+    let at-put-entry = c .before .before in
+    let at-if2 = at-put-entry .before .before .before .before in
+    let at-loop-test = at-if2 .before .before .before .before .before in
+    let start = at-loop-test .before .before .before .before .before in
+    let l = at-loop-test .before .loop in
+    let a = start .args in
+    let p = start .pre .1 in
     let rest = markedFrom (a .there) (a .allowed .now) (a .present .now) (l .c + 1) (length (a .allowed .now) - (l .c + 1)) in
-    let e = marked-on (a .there) (a .allowed .now) (a .present .now) (l .c)
-    (c .before .before .before .before .before .before .before .before .before .before .before .loop-test .taken)
-    (c .before .before .before .before .before .before .if2 .taken) in
+    let e = marked-on (a .there) (a .allowed .now) (a .present .now) (l .c) (at-loop-test .loop-test .taken) (at-if2 .if2 .taken) in
     let f : a .flags + (l .k + 1) ≡ a .flags + l .k + 1 = omega arith in
     let v : a .values + 8 * (l .k + 1) ≡ a .values + 8 * l .k + 8 = omega arith in (
-      omega (arith, one (c .before .before .before), l .inv .0),
-      c .before .before .put-entry .kept .0 ∙ l .inv .1,
-      rw (c .before .before .put-entry .ensures, c .before .before .before .before .member-entry .ensures, f, v)
+      omega (arith, one (at-put-entry .before), l .inv .0),
+      at-put-entry .put-entry .kept .0 ∙ l .inv .1,
+      rw (at-put-entry .put-entry .ensures, at-put-entry .before .before .member-entry .ensures, f, v)
           (entry-then (l .out) (a .flags + l .k) (a .values + 8 * l .k) (markedEntry (a .there) (getD (a .present .now) (l .c) 0)) rest
-          (omega (arith, one (c .before .before .before), l .inv .0, p .behind))
+          (omega (arith, one (at-put-entry .before), l .inv .0, p .behind))
           ∙ ap (λ (es : List Entry). putEntries (l .out) (a .flags + l .k) (a .values + 8 * l .k) es) (sym e) ∙ l .inv .2),
     )
 
@@ -211,10 +217,10 @@ loop-less-3 c = omega (arith, c .before .before .before .before .before .before 
 
 loop-again-3 : tie.Need-loop-again-3 Inv-loop μ-loop
 loop-again-3 c =
-    let l = c .before .before .before .before .before .before .before .loop in
-    let a = c .before .before .before .before .before .before .before .before .before .before .before .args in
-    let e = marked-off (a .there) (a .allowed .now) (a .present .now) (l .c)
-    (c .before .before .before .before .before .before .loop-test .taken) (c .before .if2 .left)
+    let at-loop-test = c .before .before .before .before .before .before in
+    let l = at-loop-test .before .loop in
+    let a = at-loop-test .before .before .before .before .before .args in
+    let e = marked-off (a .there) (a .allowed .now) (a .present .now) (l .c) (at-loop-test .loop-test .taken) (c .before .if2 .left)
     ∙ unmarked-same (a .there) (a .allowed .now) (a .present .now) (l .c + 1) (c .pass-unmarked .result) (c .pass-unmarked .ensures) in (
       omega (arith, ap (λ (es : List Entry). length es) e, l .inv .0),
       l .inv .1,

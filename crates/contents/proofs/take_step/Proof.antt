@@ -15,52 +15,61 @@ returns c = rw (le-leb (length (c .before .before .before .before .args .d .now)
 
 returns-2 : tie.Need-returns-2
 unfolding stepOf
-returns-2 c = rw (
-  lt-leb (length (c .before .before .before .before .before .before .args .d .now))
-      (c .before .before .before .before .before .before .args .g .next) (omega arith),
-  eq-eqb _ 60 (c .before .if2 .taken),
-) (c .step-mark .ensures)
+returns-2 c =
+    let args = c .before .before .before .before .before .before .args in
+    rw (
+      lt-leb (length (args .d .now)) (args .g .next) (omega arith),
+      eq-eqb _ 60 (c .before .if2 .taken),
+    ) (c .step-mark .ensures)
 
 returns-3 : tie.Need-returns-3
 unfolding stepOf
-returns-3 c = rw (
-  lt-leb (length (c .before .before .before .before .before .before .before .args .d .now))
-      (c .before .before .before .before .before .before .before .args .g .next) (omega arith),
-  ne-eqb _ 60 (c .before .before .if2 .left),
-  eq-eqb _ 38 (c .before .if3 .taken),
-) (c .step-refer .ensures)
+returns-3 c =
+    let at-if2 = c .before .before in
+    let args = at-if2 .before .before .before .before .before .args in
+    rw (
+      lt-leb (length (args .d .now)) (args .g .next) (omega arith),
+      ne-eqb _ 60 (at-if2 .if2 .left),
+      eq-eqb _ 38 (c .before .if3 .taken),
+    ) (c .step-refer .ensures)
 
 returns-4 : tie.Need-returns-4
 unfolding stepOf
-returns-4 c = rw (
-  lt-leb (length (c .before .before .before .before .before .before .before .before .args .d .now))
-      (c .before .before .before .before .before .before .before .before .args .g .next) (omega arith),
-  ne-eqb _ 60 (c .before .before .before .if2 .left),
-  ne-eqb _ 38 (c .before .before .if3 .left),
-  eq-eqb _ 93 (c .before .if4 .taken),
-) (c .step-bracket .ensures)
+returns-4 c =
+    let at-if2 = c .before .before .before in
+    let args = at-if2 .before .before .before .before .before .args in
+    rw (
+      lt-leb (length (args .d .now)) (args .g .next) (omega arith),
+      ne-eqb _ 60 (at-if2 .if2 .left),
+      ne-eqb _ 38 (c .before .before .if3 .left),
+      eq-eqb _ 93 (c .before .if4 .taken),
+    ) (c .step-bracket .ensures)
 
 returns-5 : tie.Need-returns-5
 unfolding stepOf
-returns-5 c = rw (
-  lt-leb (length (c .before .before .before .before .before .before .before .before .before .args .d .now))
-      (c .before .before .before .before .before .before .before .before .before .args .g .next) (omega arith),
-  ne-eqb _ 60 (c .before .before .before .before .if2 .left),
-  ne-eqb _ 38 (c .before .before .before .if3 .left),
-  ne-eqb _ 93 (c .before .before .if4 .left),
-  eq-eqb _ 13 (c .before .if5 .taken),
-) (c .step-return .ensures)
+returns-5 c =
+    let at-if2 = c .before .before .before .before in
+    let args = at-if2 .before .before .before .before .before .args in
+    rw (
+      lt-leb (length (args .d .now)) (args .g .next) (omega arith),
+      ne-eqb _ 60 (at-if2 .if2 .left),
+      ne-eqb _ 38 (c .before .before .before .if3 .left),
+      ne-eqb _ 93 (c .before .before .if4 .left),
+      eq-eqb _ 13 (c .before .if5 .taken),
+    ) (c .step-return .ensures)
 
 returns-6 : tie.Need-returns-6
 unfolding stepOf
-returns-6 c = rw (
-  lt-leb (length (c .before .before .before .before .before .before .before .before .before .args .d .now))
-      (c .before .before .before .before .before .before .before .before .before .args .g .next) (omega arith),
-  ne-eqb _ 60 (c .before .before .before .before .if2 .left),
-  ne-eqb _ 38 (c .before .before .before .if3 .left),
-  ne-eqb _ 93 (c .before .before .if4 .left),
-  ne-eqb _ 13 (c .before .if5 .left),
-) (c .go-on .ensures)
+returns-6 c =
+    let at-if2 = c .before .before .before .before in
+    let args = at-if2 .before .before .before .before .before .args in
+    rw (
+      lt-leb (length (args .d .now)) (args .g .next) (omega arith),
+      ne-eqb _ 60 (at-if2 .if2 .left),
+      ne-eqb _ 38 (c .before .before .before .if3 .left),
+      ne-eqb _ 93 (c .before .before .if4 .left),
+      ne-eqb _ 13 (c .before .if5 .left),
+    ) (c .go-on .ensures)
 
 pub take-step-spec : {M : Type 1} → statement M
 take-step-spec =

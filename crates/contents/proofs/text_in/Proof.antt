@@ -25,18 +25,20 @@ returns c = let a = c .before .before .before .before .before .before .args in
 
 loop-less : tie.Need-loop-less Inv-loop μ-loop
 loop-less c =
-    let a = c .before .before .before .before .before .before .before .before .args in
-    let o = step-on false (a .d .now) 2 [] (c .before .before .before .before .before .before .loop .g) _ _
-    (sym (c .before .before .before .step-alone .ensures) ∙ c .before .going .given .1) in
+    let at-step-alone = c .before .before .before in
+    let a = at-step-alone .before .before .before .before .before .args in
+    let o = step-on false (a .d .now) 2 [] (at-step-alone .before .before .before .loop .g) _ _
+    (sym (at-step-alone .step-alone .ensures) ∙ c .before .going .given .1) in
     omega arith
 
 loop-again : tie.Need-loop-again Inv-loop μ-loop
 loop-again c =
-    let a = c .before .before .before .before .before .before .before .before .args in
-    let e = (sym (c .before .before .before .step-alone .ensures) ∙ c .before .going .given .1) in (
-      c .before .before .before .before .before .before .loop .inv .0
-          ∙ text-next (a .d .now) (c .before .before .before .before .before .before .loop .g) _ _ (omega arith) e,
-      step-on false (a .d .now) 2 [] (c .before .before .before .before .before .before .loop .g) _ _ e .1,
+    let at-step-alone = c .before .before .before in
+    let at-loop = at-step-alone .before .before .before in
+    let a = at-loop .before .before .args in
+    let e = (sym (at-step-alone .step-alone .ensures) ∙ c .before .going .given .1) in (
+      at-loop .loop .inv .0 ∙ text-next (a .d .now) (at-loop .loop .g) _ _ (omega arith) e,
+      step-on false (a .d .now) 2 [] (at-loop .loop .g) _ _ e .1,
     )
 
 returns-2 : tie.Need-returns-2 Inv-loop μ-loop

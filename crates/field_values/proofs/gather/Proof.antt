@@ -50,15 +50,17 @@ add-count : tie.Need-add-count Inv-loop μ-loop
 add-count c = omega (arith, (c .before .before .before .if1) .left)
 
 same-length-2 : tie.Need-same-length-2 Inv-loop μ-loop
-same-length-2 c = simp length-set ((c .before .before .before .before .before .before .loop) .inv .1
-    ∙ sym (c .before .before .before .before .before .before .before .before .pre))
+same-length-2 c =
+    let at-loop = c .before .before .before .before .before .before in
+    simp length-set ((at-loop .loop) .inv .1 ∙ sym (at-loop .before .before .pre))
 
 returns-2 : tie.Need-returns-2 Inv-loop μ-loop
-returns-2 c = gathered-all ((c .before .before .before .before .before .before .loop) .inv .0)
-    ((c .before .before .before .before .before .before .loop) .inv .1) ((c .before .before .before .before .before .semi-to) .ensures)
-    (omega (arith, (c .before .before .before .before .if1) .left))
-    (toZ-ofZ (sfits-of ((c .before .cell-of) .ok)) ∙ (c .before .cell-of) .ensures ∙ rw ((c .before .before .code-of) .ensures))
-    ((c .if2) .taken)
+returns-2 c =
+    let at-code-of = c .before .before in
+    let at-loop = at-code-of .before .before .before .before in
+    gathered-all ((at-loop .loop) .inv .0) ((at-loop .loop) .inv .1) ((at-code-of .before .before .before .semi-to) .ensures)
+    (omega (arith, (at-code-of .before .before .if1) .left))
+    (toZ-ofZ (sfits-of ((c .before .cell-of) .ok)) ∙ (c .before .cell-of) .ensures ∙ rw ((at-code-of .code-of) .ensures)) ((c .if2) .taken)
 
 add-at : tie.Need-add-at Inv-loop μ-loop
 add-at c = omega (arith, (c .if2) .left)
@@ -67,14 +69,15 @@ loop-less : tie.Need-loop-less Inv-loop μ-loop
 loop-less c = omega (arith, (c .before .before .before .before .if1) .left)
 
 loop-again : tie.Need-loop-again Inv-loop μ-loop
-loop-again c = (
-  gathering-more ((c .before .before .before .before .before .before .loop) .inv .0)
-      ((c .before .before .before .before .before .before .loop) .inv .1) ((c .before .before .before .before .before .semi-to) .ensures)
-      (omega (arith, (c .before .before .before .before .if1) .left))
-      (toZ-ofZ (sfits-of ((c .before .cell-of) .ok)) ∙ (c .before .cell-of) .ensures ∙ rw ((c .before .before .code-of) .ensures))
-      (omega (arith, (c .if2) .left)),
-  simp length-set ((c .before .before .before .before .before .before .loop) .inv .1),
-)
+loop-again c =
+    let at-code-of = c .before .before in
+    let at-loop = at-code-of .before .before .before .before in (
+      gathering-more ((at-loop .loop) .inv .0) ((at-loop .loop) .inv .1) ((at-code-of .before .before .before .semi-to) .ensures)
+          (omega (arith, (at-code-of .before .before .if1) .left))
+          (toZ-ofZ (sfits-of ((c .before .cell-of) .ok)) ∙ (c .before .cell-of) .ensures ∙ rw ((at-code-of .code-of) .ensures))
+          (omega (arith, (c .if2) .left)),
+      simp length-set ((at-loop .loop) .inv .1),
+    )
 
 pub gather-spec : {M : Type 1} → statement M
 gather-spec =

@@ -20,23 +20,22 @@ number-of-requires : tie.Need-number-of-requires
 number-of-requires c κs = (c .guess-size) .ensures .1
 
 returns-2 : tie.Need-returns-2
-returns-2 c = toZ-ofZ (sfits-of ((c .number-of) .ok)) ∙ (c .number-of) .ensures
-    ∙ ap (numberOf true) ((c .before .guess-size) .ensures .0
-    ∙ ap (sizeGuess ((c .before .before .before .before .before .before .before .args) .k))
-    (rest-is ((c .before .before .before .before .before .before .before .args) .f .now) 1))
-    ∙ number-down ((c .before .before .before .before .before .before .before .args) .k)
-    ((c .before .before .before .before .before .before .before .args) .f .now) ((c .before .before .before .before .before .if1) .left)
-    ((c .before .before .before .if2) .taken)
+returns-2 c =
+    let at-if2 = c .before .before .before in
+    let args = at-if2 .before .before .before .before .args in
+    toZ-ofZ (sfits-of ((c .number-of) .ok)) ∙ (c .number-of) .ensures ∙ ap (numberOf true) ((c .before .guess-size) .ensures .0
+    ∙ ap (sizeGuess (args .k)) (rest-is (args .f .now) 1)) ∙ number-down (args .k) (args .f .now) ((at-if2 .before .before .if1) .left)
+    ((at-if2 .if2) .taken)
 
 number-of-requires-2 : tie.Need-number-of-requires-2
 number-of-requires-2 c κs = (c .guess-size2) .ensures .1
 
 returns-3 : tie.Need-returns-3
-returns-3 c = toZ-ofZ (sfits-of ((c .number-of2) .ok)) ∙ (c .number-of2) .ensures
-    ∙ ap (numberOf false) ((c .before .guess-size2) .ensures .0)
-    ∙ number-up ((c .before .before .before .before .before .before .args) .k)
-    ((c .before .before .before .before .before .before .args) .f .now) ((c .before .before .before .before .if1) .left)
-    ((c .before .before .if2) .left)
+returns-3 c =
+    let at-if2 = c .before .before in
+    let args = at-if2 .before .before .before .before .args in
+    toZ-ofZ (sfits-of ((c .number-of2) .ok)) ∙ (c .number-of2) .ensures ∙ ap (numberOf false) ((c .before .guess-size2) .ensures .0)
+    ∙ number-up (args .k) (args .f .now) ((at-if2 .before .before .if1) .left) ((at-if2 .if2) .left)
 
 pub guess-number-spec : {M : Type 1} → statement M
 guess-number-spec =

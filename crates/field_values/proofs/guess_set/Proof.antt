@@ -20,8 +20,9 @@ returns c = record {
 
 returns-2 : tie.Need-returns-2
 returns-2 c =
-    let e = set-codes ((c .before .before .before .before .before .before .args) .f .now)
-    ((c .before .before .before .before .before .before .pre) .1) ((c .before .before .before .if1) .left) in
+    let at-if1 = c .before .before .before in
+    let start = at-if1 .before .before .before in
+    let e = set-codes ((start .args) .f .now) ((start .pre) .1) ((at-if1 .if1) .left) in
     record { all = λ h. (c .before .gather) .ensures .all h ∙ e; many = λ h. rw e at ((c .before .gather) .ensures .many h) }
 
 pub guess-set-spec : {M : Type 1} → statement M

@@ -20,42 +20,38 @@ add-q : tie.Need-add-q
 add-q c = omega (arith, point-few ((c .before .before .before .before .args) .f .now), (c .before .before .point-in) .ensures)
 
 returns : tie.Need-returns
-returns c = (
-  (c .fold-zeros) .ensures .0 ∙ size-short ((c .before .before .before .before .before .before .args) .k)
-      ((c .before .before .before .before .before .before .args) .f .now) ((c .before .before .before .before .point-in) .ensures)
-      ((c .before .before .fold-digits) .ensures .0) ((c .before .if1) .taken),
-  (c .fold-zeros) .ensures .1,
-)
+returns c =
+    let at-fold-digits = c .before .before in
+    let args = at-fold-digits .before .before .before .before .args in (
+      (c .fold-zeros) .ensures .0 ∙ size-short (args .k) (args .f .now) ((at-fold-digits .before .before .point-in) .ensures)
+          ((at-fold-digits .fold-digits) .ensures .0) ((c .before .if1) .taken),
+      (c .fold-zeros) .ensures .1,
+    )
 
 returns-2 : tie.Need-returns-2
 returns-2 c =
-    let m = length-drop ((c .before .before .before .before .before .before .point-in) .result + 1)
-    ((c .before .before .before .before .before .before .before .before .args) .f .now) in (
-      sym (capped-none _ _ (omega (arith, m, (c .if2) .taken)))
-          ∙ size-long ((c .before .before .before .before .before .before .before .before .args) .k)
-          ((c .before .before .before .before .before .before .before .before .args) .f .now)
-          ((c .before .before .before .before .before .before .point-in) .ensures)
-          ((c .before .before .before .before .fold-digits) .ensures .0)
-          ((c .before .fold-digits2) .ensures .0 ∙ ap (cappedFrom ((c .before .before .before .before .fold-digits) .result))
-          (rest-is ((c .before .before .before .before .before .before .before .before .args) .f .now)
-          ((c .before .before .before .before .before .before .point-in) .result + 1))),
+    let at-fold-digits = c .before .before .before .before in
+    let at-point-in = at-fold-digits .before .before in
+    let args = at-point-in .before .before .args in
+    let m = length-drop ((at-point-in .point-in) .result + 1) (args .f .now) in (
+      sym (capped-none _ _ (omega (arith, m, (c .if2) .taken))) ∙ size-long (args .k) (args .f .now) ((at-point-in .point-in) .ensures)
+          ((at-fold-digits .fold-digits) .ensures .0)
+          ((c .before .fold-digits2) .ensures .0 ∙ ap (cappedFrom ((at-fold-digits .fold-digits) .result)) (rest-is (args .f .now)
+          ((at-point-in .point-in) .result + 1))),
       (c .before .fold-digits2) .ensures .1,
     )
 
 returns-3 : tie.Need-returns-3
 returns-3 c =
-    let m = length-drop ((c .before .before .before .before .before .before .before .point-in) .result + 1)
-    ((c .before .before .before .before .before .before .before .before .before .args) .f .now) in (
-      (c .fold-zeros2) .ensures .0 ∙ ap (λ (x : ℕ). cappedFrom ((c .before .before .fold-digits2) .result)
-          (zeros ((c .before .before .before .before .before .before .before .before .before .args) .k - x))) (sym m)
-          ∙ size-long ((c .before .before .before .before .before .before .before .before .before .args) .k)
-          ((c .before .before .before .before .before .before .before .before .before .args) .f .now)
-          ((c .before .before .before .before .before .before .before .point-in) .ensures)
-          ((c .before .before .before .before .before .fold-digits) .ensures .0)
-          ((c .before .before .fold-digits2) .ensures .0
-          ∙ ap (cappedFrom ((c .before .before .before .before .before .fold-digits) .result))
-          (rest-is ((c .before .before .before .before .before .before .before .before .before .args) .f .now)
-          ((c .before .before .before .before .before .before .before .point-in) .result + 1))),
+    let at-fold-digits2 = c .before .before in
+    let at-point-in = at-fold-digits2 .before .before .before .before .before in
+    let args = at-point-in .before .before .args in
+    let m = length-drop ((at-point-in .point-in) .result + 1) (args .f .now) in (
+      (c .fold-zeros2) .ensures .0 ∙ ap (λ (x : ℕ). cappedFrom ((at-fold-digits2 .fold-digits2) .result) (zeros (args .k - x))) (sym m)
+          ∙ size-long (args .k) (args .f .now) ((at-point-in .point-in) .ensures)
+          ((at-fold-digits2 .before .before .before .fold-digits) .ensures .0) ((at-fold-digits2 .fold-digits2) .ensures .0
+          ∙ ap (cappedFrom ((at-fold-digits2 .before .before .before .fold-digits) .result)) (rest-is (args .f .now)
+          ((at-point-in .point-in) .result + 1))),
       (c .fold-zeros2) .ensures .1,
     )
 

@@ -34,16 +34,15 @@ shared-slice-read-if2-2 : tie.Need-shared-slice-read-if2-2 Inv-loop μ-loop
 shared-slice-read-if2-2 c = omega (arith, (c .before .before .loop-test) .taken, (c .before .before .before .loop) .inv .2)
 
 returns-2 : tie.Need-returns-2 Inv-loop μ-loop
-returns-2 c = sym ((c .before .before .before .before .loop) .inv .0
-    ∙ left-other ((c .before .before .before .before .before .before .before .before .args) .k)
-    ((c .before .before .before .before .before .before .before .before .args) .s .now)
-    ((c .before .before .before .before .before .before .before .before .args) .f .now) ((c .before .before .before .before .loop) .i)
-    (omega (
+returns-2 c =
+    let at-loop = c .before .before .before .before in
+    let args = at-loop .before .before .before .before .args in
+    sym ((at-loop .loop) .inv .0 ∙ left-other (args .k) (args .s .now) (args .f .now) ((at-loop .loop) .i) (omega (
       arith,
-      (c .before .before .before .before .before .if1) .left,
+      (at-loop .before .if1) .left,
       (c .before .before .before .loop-test) .taken,
-      (c .before .before .before .before .loop) .inv .2,
-    )) (omega (arith, (c .before .before .before .loop-test) .taken, (c .before .before .before .before .loop) .inv .2)) ((c .if2) .taken))
+      (at-loop .loop) .inv .2,
+    )) (omega (arith, (c .before .before .before .loop-test) .taken, (at-loop .loop) .inv .2)) ((c .if2) .taken))
 
 add-i : tie.Need-add-i Inv-loop μ-loop
 add-i c = omega (arith, (c .before .before .before .loop-test) .taken)
@@ -52,33 +51,29 @@ loop-less : tie.Need-loop-less Inv-loop μ-loop
 loop-less c = omega (arith, (c .before .before .before .loop-test) .taken)
 
 loop-again : tie.Need-loop-again Inv-loop μ-loop
-loop-again c = (
-  (c .before .before .before .before .loop) .inv .0
-      ∙ left-next ((c .before .before .before .before .before .before .before .before .args) .k)
-      ((c .before .before .before .before .before .before .before .before .args) .s .now)
-      ((c .before .before .before .before .before .before .before .before .args) .f .now) ((c .before .before .before .before .loop) .i)
-      (omega (
+loop-again c =
+    let at-loop = c .before .before .before .before in
+    let args = at-loop .before .before .before .before .args in (
+      (at-loop .loop) .inv .0 ∙ left-next (args .k) (args .s .now) (args .f .now) ((at-loop .loop) .i) (omega (
         arith,
-        (c .before .before .before .before .before .if1) .left,
+        (at-loop .before .if1) .left,
         (c .before .before .before .loop-test) .taken,
-        (c .before .before .before .before .loop) .inv .2,
-      )) (omega (arith, (c .before .before .before .loop-test) .taken, (c .before .before .before .before .loop) .inv .2)) ((c .if2) .left),
-  omega (arith, (c .before .before .before .loop-test) .taken, (c .before .before .before .before .loop) .inv .2),
-  (c .before .before .before .before .loop) .inv .2,
-)
+        (at-loop .loop) .inv .2,
+      )) (omega (arith, (c .before .before .before .loop-test) .taken, (at-loop .loop) .inv .2)) ((c .if2) .left),
+      omega (arith, (c .before .before .before .loop-test) .taken, (at-loop .loop) .inv .2),
+      (at-loop .loop) .inv .2,
+    )
 
 returns-3 : tie.Need-returns-3 Inv-loop μ-loop
-returns-3 c = (c .tail-good) .ensures ∙ ap (tailGood ((c .before .before .before .before .before .before .before .args) .k))
-    (rest-is ((c .before .before .before .before .before .before .before .args) .s .now) _)
-    ∙ sym ((c .before .before .before .loop) .inv .0
-    ∙ left-end ((c .before .before .before .before .before .before .before .args) .k)
-    ((c .before .before .before .before .before .before .before .args) .s .now)
-    ((c .before .before .before .before .before .before .before .args) .f .now) ((c .before .before .before .loop) .i)
-    (omega (
+returns-3 c =
+    let at-loop = c .before .before .before in
+    let args = at-loop .before .before .before .before .args in
+    (c .tail-good) .ensures ∙ ap (tailGood (args .k)) (rest-is (args .s .now) _) ∙ sym ((at-loop .loop) .inv .0 ∙ left-end (args .k)
+    (args .s .now) (args .f .now) ((at-loop .loop) .i) (omega (
       arith,
       (c .before .before .loop-test) .left,
-      (c .before .before .before .loop) .inv .1,
-      (c .before .before .before .loop) .inv .2,
+      (at-loop .loop) .inv .1,
+      (at-loop .loop) .inv .2,
     )))
 
 pub left-of-spec : {M : Type 1} → statement M

@@ -15,23 +15,27 @@ returns-2 c = tail-bare ((c .before .before .before .before .before .args) .k) (
     ((c .before .before .before .if1) .left) ((c .before .if2) .taken) ((c .if3) .taken)
 
 returns-3 : tie.Need-returns-3
-returns-3 c = (c .all-zeros) .ensures ∙ ap allZeros
-    (rest-is ((c .before .before .before .before .before .before .before .before .args) .s .now) 1)
-    ∙ tail-point ((c .before .before .before .before .before .before .before .before .args) .k)
-    ((c .before .before .before .before .before .before .before .before .args) .s .now)
-    ((c .before .before .before .before .before .before .if1) .left) ((c .before .before .before .before .if2) .taken)
-    ((c .before .before .before .if3) .left) (omega
-    (arith, (c .before .before .if4) .taken, (c .before .before .before .before .before .before .if1) .left))
+returns-3 c =
+    let at-if4 = c .before .before in
+    let at-if1 = at-if4 .before .before .before .before in
+    let args = at-if1 .before .before .args in
+    (c .all-zeros) .ensures ∙ ap allZeros (rest-is (args .s .now) 1) ∙ tail-point (args .k) (args .s .now)
+    ((at-if1 .if1) .left) ((at-if4 .before .before .if2) .taken) ((at-if4 .before .if3) .left) (omega
+    (arith, (at-if4 .if4) .taken, (at-if1 .if1) .left))
 
 returns-4 : tie.Need-returns-4
-returns-4 c = tail-wrong ((c .before .before .before .before .before .before .args) .k)
-    ((c .before .before .before .before .before .before .args) .s .now) ((c .before .before .before .before .if1) .left)
-    ((c .before .before .if2) .taken) (λ e. (c .if4) .left (omega (arith, e)))
+returns-4 c =
+    let at-if2 = c .before .before in
+    let args = at-if2 .before .before .before .before .args in
+    tail-wrong (args .k) (args .s .now) ((at-if2 .before .before .if1) .left)
+    ((at-if2 .if2) .taken) (λ e. (c .if4) .left (omega (arith, e)))
 
 returns-5 : tie.Need-returns-5
-returns-5 c = (c .all-zeros2) .ensures ∙ tail-zeros ((c .before .before .before .before .before .before .args) .k)
-    ((c .before .before .before .before .before .before .args) .s .now) ((c .before .before .before .before .if1) .left)
-    ((c .before .before .if2) .left) ((c .before .if5) .taken)
+returns-5 c =
+    let at-if2 = c .before .before in
+    let args = at-if2 .before .before .before .before .args in
+    (c .all-zeros2) .ensures ∙ tail-zeros (args .k) (args .s .now) ((at-if2 .before .before .if1) .left)
+    ((at-if2 .if2) .left) ((c .before .if5) .taken)
 
 returns-6 : tie.Need-returns-6
 returns-6 c = tail-long ((c .before .before .before .before .before .args) .k) ((c .before .before .before .before .before .args) .s .now)

@@ -17,65 +17,69 @@ use Rattle.field_values.proofs.take_field.Tie as tie
 
 returns : tie.Need-returns
 unfolding valueOf
-returns c = wrote (guess-none _ ((c .before .before .before .before .before .before .before .before .before .args) .f .now)
-    ((c .before .before .before .before .before .if1) .taken))
-    (left-empty ((c .before .before .before .before .before .before .before .before .before .args) .row)
-    ((c .before .before .before .before .before .before .before .before .before .args) .f .now)
-    ((c .before .before .before .before .before .if1) .taken)) ((c .before .before .before .blank-row) .ensures) ((c .is-done) .ensures)
+returns c =
+    let at-if1 = c .before .before .before .before .before in
+    let args = at-if1 .before .before .before .before .args in
+    wrote (guess-none _ (args .f .now) ((at-if1 .if1) .taken)) (left-empty (args .row) (args .f .now)
+    ((at-if1 .if1) .taken)) ((c .before .before .before .blank-row) .ensures) ((c .is-done) .ensures)
 
 take-number-requires : tie.Need-take-number-requires
-take-number-requires c κs = let k = single-number ((c .before .before .before .before .before .before .before .args) .row)
-    ((c .before .enum-told) .given .1) in (
-      (c .before .before .before .before .before .before .before .pre) .0,
-      ((c .before .before .before .before .before .before .before .pre) .1 .0, ((c .before .before .before .if1) .left, k .0, k .1, k .2)),
+take-number-requires c κs =
+    let at-if1 = c .before .before .before in
+    let start = at-if1 .before .before .before .before in
+    let k = single-number ((start .args) .row) ((c .before .enum-told) .given .1) in (
+      (start .pre) .0,
+      ((start .pre) .1 .0, ((at-if1 .if1) .left, k .0, k .1, k .2)),
     )
 
 take-set-requires : tie.Need-take-set-requires
-take-set-requires c κs = (
-  (c .before .before .before .before .before .before .before .before .before .pre) .0,
-  (
-    (c .before .before .before .before .before .before .before .before .before .pre) .1 .0,
-    (
+take-set-requires c κs =
+    let at-if1 = c .before .before .before .before .before in
+    let start = at-if1 .before .before .before .before in (
+      (start .pre) .0,
       (
-        (c .before .before .before .before .before .if1) .left,
-        record { spread = _; is = (c .before .before .before .enum-told2) .given .1 },
+        (start .pre) .1 .0,
+        (
+          (
+            (at-if1 .if1) .left,
+            record { spread = _; is = (c .before .before .before .enum-told2) .given .1 },
+          ),
+          (start .pre) .1 .1,
+        ),
       ),
-      (c .before .before .before .before .before .before .before .before .before .pre) .1 .1,
-    ),
-  ),
-)
+    )
 
 take-number-requires-2 : tie.Need-take-number-requires-2
-take-number-requires-2 c κs = let k = quantity-number ((c .before .before .before .before .before .before .before .before .args) .row) _ _ _
-    _ ((c .before .before .kind) .given .1)
-    ((c .before .before .before .before .before .before .before .before .pre) .1
-    .0) in (
-      (c .before .before .before .before .before .before .before .before .pre) .0,
+take-number-requires-2 c κs =
+    let at-if1 = c .before .before .before .before in
+    let start = at-if1 .before .before .before .before in
+    let k = quantity-number ((start .args) .row) _ _ _ _ ((c .before .before .kind) .given .1) ((start .pre) .1 .0) in (
+      (start .pre) .0,
       (
-        (c .before .before .before .before .before .before .before .before .pre) .1 .0,
-        ((c .before .before .before .before .if1) .left, k .0, k .1, k .2),
+        (start .pre) .1 .0,
+        ((at-if1 .if1) .left, k .0, k .1, k .2),
       ),
     )
 
 take-truth-requires : tie.Need-take-truth-requires
-take-truth-requires c κs = (
-  (c .before .before .before .before .before .before .before .pre) .0,
-  (
-    (c .before .before .before .before .before .before .before .pre) .1 .0,
-    ((c .before .before .before .if1) .left, (c .before .enum-told4) .given .1),
-  ),
-)
+take-truth-requires c κs =
+    let at-if1 = c .before .before .before in
+    let start = at-if1 .before .before .before .before in (
+      (start .pre) .0,
+      (
+        (start .pre) .1 .0,
+        ((at-if1 .if1) .left, (c .before .enum-told4) .given .1),
+      ),
+    )
 
 returns-5 : tie.Need-returns-5
 unfolding valueOf
-returns-5 c = wrote (text-is ((c .before .before .before .before .before .before .before .before .before .before .before .args) .row)
-    ((c .before .before .before .before .before .before .before .before .before .before .before .args) .f .now)
-    ((c .before .before .before .before .before .before .before .if1) .left)
-    ((c .before .before .before .before .before .enum-told3) .given .1))
-    (text-left-is ((c .before .before .before .before .before .before .before .before .before .before .before .args) .row)
-    ((c .before .before .before .before .before .before .before .before .before .before .before .args) .f .now)
-    ((c .before .before .before .before .before .before .before .if1) .left)
-    ((c .before .before .before .before .before .enum-told3) .given .1)) ((c .before .before .before .write-text) .ensures)
+returns-5 c =
+    let at-enum-told3 = c .before .before .before .before .before in
+    let at-if1 = at-enum-told3 .before .before in
+    let args = at-if1 .before .before .before .before .args in
+    wrote (text-is (args .row) (args .f .now) ((at-if1 .if1) .left) ((at-enum-told3 .enum-told3) .given .1)) (text-left-is (args .row)
+    (args .f .now) ((at-if1 .if1) .left) ((at-enum-told3 .enum-told3) .given .1)) ((c .before .before .before .write-text) .ensures)
     ((c .is-done2) .ensures)
 
 pub take-field-spec : {M : Type 1} → statement M

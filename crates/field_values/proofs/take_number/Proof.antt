@@ -32,57 +32,45 @@ send-number-requires c κs = (
 )
 
 array-share-prefix-room : tie.Need-array-share-prefix-room
-array-share-prefix-room c = number-inside ((c .before .before .before .before .before .before .args) .k)
-    (toZ w64 (ofZ w64 ((c .before .before .before .guess-number) .result))) ((c .before .send-number) .ensures)
-    ((c .before .before .before .before .before .before .pre) .1 .1 .3) refl
+array-share-prefix-room c =
+    let at-guess-number = c .before .before .before in
+    let start = at-guess-number .before .before .before in
+    number-inside ((start .args) .k) (toZ w64 (ofZ w64 ((at-guess-number .guess-number) .result))) ((c .before .send-number) .ensures)
+    ((start .pre) .1 .1 .3) refl
 
 slice-aggregate-left-of : tie.Need-slice-aggregate-left-of
-slice-aggregate-left-of c = let s = number-stands ((c .before .before .before .before .before .before .before .args) .k)
-    (toZ w64 (ofZ w64 ((c .before .before .before .before .guess-number) .result))) ((c .before .before .send-number) .ensures)
-    ((c .before .before .before .before .before .before .before .pre) .1 .1 .3) refl in s .0 ∙ ap length (sym (s .1))
+slice-aggregate-left-of c =
+    let at-send-number = c .before .before in
+    let start = at-send-number .before .before .before .before .before in
+    let s = number-stands ((start .args) .k)
+    (toZ w64 (ofZ w64 ((at-send-number .before .before .guess-number) .result))) ((at-send-number .send-number) .ensures)
+    ((start .pre) .1 .1 .3) refl in s .0 ∙ ap length (sym (s .1))
 
 returns : tie.Need-returns
 returns c =
-    let s = number-stands ((c .before .before .before .before .before .before .before .before .before .args) .k)
-    (toZ w64 (ofZ w64 ((c .before .before .before .before .before .before .guess-number) .result)))
-    ((c .before .before .before .before .send-number) .ensures)
-    ((c .before .before .before .before .before .before .before .before .before .pre) .1 .1 .3) refl in
-    none-taken (left-none _ _ _ _ (number-left-is ((c .before .before .before .before .before .before .before .before .before .args) .row)
-    ((c .before .before .before .before .before .before .before .before .before .args) .f .now)
-    ((c .before .before .before .before .before .before .before .before .before .pre) .1 .1 .0)
-    ((c .before .before .before .before .before .before .before .before .before .pre) .1 .1 .1)
-    ((c .before .before .before .before .before .before .before .before .before .pre) .1 .1 .2)
-    (toZ-ofZ (sfits-of ((c .before .before .before .before .before .before .guess-number) .ok))
-    ∙ (c .before .before .before .before .before .before .guess-number) .ensures) (s .1)
-    (sym (not-true _ ((c .if1) .taken)) ∙ (c .before .left-of) .ensures)))
+    let at-send-number = c .before .before .before .before in
+    let at-guess-number = at-send-number .before .before in
+    let start = at-guess-number .before .before .before in
+    let s = number-stands ((start .args) .k) (toZ w64 (ofZ w64 ((at-guess-number .guess-number) .result)))
+    ((at-send-number .send-number) .ensures) ((start .pre) .1 .1 .3) refl in
+    none-taken (left-none _ _ _ _ (number-left-is ((start .args) .row) ((start .args) .f .now) ((start .pre) .1 .1 .0)
+    ((start .pre) .1 .1 .1) ((start .pre) .1 .1 .2) (toZ-ofZ (sfits-of ((at-guess-number .guess-number) .ok))
+    ∙ (at-guess-number .guess-number) .ensures) (s .1) (sym (not-true _ ((c .if1) .taken)) ∙ (c .before .left-of) .ensures)))
 
 returns-2 : tie.Need-returns-2
 unfolding valueOf
 returns-2 c =
-    let s = number-stands
-    ((c .before .before .before .before .before .before .before .before .before .before .before .before .before .before .args) .k)
-    (toZ w64 (ofZ w64 ((c .before .before .before .before .before .before .before .before .before .before .before .guess-number) .result)))
-    ((c .before .before .before .before .before .before .before .before .before .send-number) .ensures)
-    ((c .before .before .before .before .before .before .before .before .before .before .before .before .before .before .pre) .1 .1 .3)
-    refl in
-    wrote (number-is
-    ((c .before .before .before .before .before .before .before .before .before .before .before .before .before .before .args) .row)
-    ((c .before .before .before .before .before .before .before .before .before .before .before .before .before .before .args) .f .now)
-    ((c .before .before .before .before .before .before .before .before .before .before .before .before .before .before .pre) .1 .1 .0)
-    ((c .before .before .before .before .before .before .before .before .before .before .before .before .before .before .pre) .1 .1 .1)
-    ((c .before .before .before .before .before .before .before .before .before .before .before .before .before .before .pre) .1 .1 .2)
-    (toZ-ofZ (sfits-of ((c .before .before .before .before .before .before .before .before .before .before .before .guess-number) .ok))
-    ∙ (c .before .before .before .before .before .before .before .before .before .before .before .guess-number) .ensures))
-    (number-left-is
-    ((c .before .before .before .before .before .before .before .before .before .before .before .before .before .before .args) .row)
-    ((c .before .before .before .before .before .before .before .before .before .before .before .before .before .before .args) .f .now)
-    ((c .before .before .before .before .before .before .before .before .before .before .before .before .before .before .pre) .1 .1 .0)
-    ((c .before .before .before .before .before .before .before .before .before .before .before .before .before .before .pre) .1 .1 .1)
-    ((c .before .before .before .before .before .before .before .before .before .before .before .before .before .before .pre) .1 .1 .2)
-    (toZ-ofZ (sfits-of ((c .before .before .before .before .before .before .before .before .before .before .before .guess-number) .ok))
-    ∙ (c .before .before .before .before .before .before .before .before .before .before .before .guess-number) .ensures) (s .1)
-    (sym (not-false _ ((c .before .before .before .before .before .if1) .left))
-    ∙ (c .before .before .before .before .before .before .left-of) .ensures))
+    let at-if1 = c .before .before .before .before .before in
+    let at-left-of = at-if1 .before in
+    let at-guess-number = at-left-of .before .before .before .before .before in
+    let start = at-guess-number .before .before .before in
+    let s = number-stands ((start .args) .k) (toZ w64 (ofZ w64 ((at-guess-number .guess-number) .result)))
+    ((at-left-of .before .before .before .send-number) .ensures) ((start .pre) .1 .1 .3) refl in
+    wrote (number-is ((start .args) .row) ((start .args) .f .now) ((start .pre) .1 .1 .0) ((start .pre) .1 .1 .1) ((start .pre) .1 .1 .2)
+    (toZ-ofZ (sfits-of ((at-guess-number .guess-number) .ok)) ∙ (at-guess-number .guess-number) .ensures)) (number-left-is
+    ((start .args) .row) ((start .args) .f .now) ((start .pre) .1 .1 .0) ((start .pre) .1 .1 .1) ((start .pre) .1 .1 .2)
+    (toZ-ofZ (sfits-of ((at-guess-number .guess-number) .ok)) ∙ (at-guess-number .guess-number) .ensures) (s .1)
+    (sym (not-false _ ((at-if1 .if1) .left)) ∙ (at-left-of .left-of) .ensures))
     ((c .before .before .before .write-number) .ensures) ((c .is-done) .ensures)
 
 pub take-number-spec : {M : Type 1} → statement M

@@ -40,13 +40,16 @@ slice-aggregate-write-row c = sym (length-take-le _ _
 returns-2 : tie.Need-returns-2
 unfolding valueOf
 returns-2 c =
-    let k = c .before .before .before .before .before .before .before .before .take-codes .ensures in
-    let n = c .before .before .before .before .before .before .if1 .left in
-    let a = c .before .before .before .before .before .before .before .before .before .before .before .before .before .args in
-    let p = c .before .before .before .before .before .before .before .before .before .before .before .before .before .pre in
+    let at-write-row = c .before .before .before in
+    let at-take-codes = at-write-row .before .before .before .before .before in
+    let start = at-take-codes .before .before .before .before .before in
+    let k = at-take-codes .take-codes .ensures in
+    let n = at-write-row .before .before .before .if1 .left in
+    let a = start .args in
+    let p = start .pre in
     wrote (set-is (a .row) (a .f .now) (p .1 .1 .0 .0) (p .1 .1 .0 .1 .is) (coded-guess k n))
     (set-left-is (a .row) (a .f .now) (p .1 .1 .0 .0) (p .1 .1 .0 .1 .is) (coded-guess k n) (sym (k .text n)) (coded-left k n))
-    (c .before .before .before .write-row .ensures) (c .is-done .ensures)
+    (at-write-row .write-row .ensures) (c .is-done .ensures)
 
 pub take-set-spec : {M : Type 1} → statement M
 take-set-spec =

@@ -19,27 +19,22 @@ shared-slice-read-one : tie.Need-shared-slice-read-one
 shared-slice-read-one c = omega (arith, (c .before .before .before .pre) .1 .1 .0)
 
 returns : tie.Need-returns
-returns c = none-taken (left-none _ _ _ _ (truth-left-is ((c .before .before .before .before .before .before .before .args) .row)
-    ((c .before .before .before .before .before .before .before .args) .f .now)
-    ((c .before .before .before .before .before .before .before .pre) .1 .1 .0)
-    ((c .before .before .before .before .before .before .before .pre) .1 .1 .1) refl (rw ((c .before .before .before .bit-of) .ensures))
-    (sym (not-true _ ((c .if1) .taken)) ∙ (c .before .left-of) .ensures)))
+returns c =
+    let at-bit-of = c .before .before .before in
+    let start = at-bit-of .before .before .before .before in
+    none-taken (left-none _ _ _ _ (truth-left-is ((start .args) .row) ((start .args) .f .now) ((start .pre) .1 .1 .0)
+    ((start .pre) .1 .1 .1) refl (rw ((at-bit-of .bit-of) .ensures)) (sym (not-true _ ((c .if1) .taken)) ∙ (c .before .left-of) .ensures)))
 
 returns-2 : tie.Need-returns-2
 unfolding valueOf
 returns-2 c =
-    wrote (truth-is ((c .before .before .before .before .before .before .before .before .before .before .before .before .args) .row)
-    ((c .before .before .before .before .before .before .before .before .before .before .before .before .args) .f .now)
-    ((c .before .before .before .before .before .before .before .before .before .before .before .before .pre) .1 .1 .0)
-    ((c .before .before .before .before .before .before .before .before .before .before .before .before .pre) .1 .1 .1) refl)
-    (truth-left-is ((c .before .before .before .before .before .before .before .before .before .before .before .before .args) .row)
-    ((c .before .before .before .before .before .before .before .before .before .before .before .before .args) .f .now)
-    ((c .before .before .before .before .before .before .before .before .before .before .before .before .pre) .1 .1 .0)
-    ((c .before .before .before .before .before .before .before .before .before .before .before .before .pre) .1 .1 .1) refl
-    (rw ((c .before .before .before .before .before .before .before .before .bit-of) .ensures))
-    (sym (not-false _ ((c .before .before .before .before .before .if1) .left))
-    ∙ (c .before .before .before .before .before .before .left-of) .ensures))
-    ((c .before .before .before .write-truth) .ensures) ((c .is-done) .ensures)
+    let at-write-truth = c .before .before .before in
+    let at-bit-of = at-write-truth .before .before .before .before .before in
+    let start = at-bit-of .before .before .before .before in
+    wrote (truth-is ((start .args) .row) ((start .args) .f .now) ((start .pre) .1 .1 .0) ((start .pre) .1 .1 .1) refl)
+    (truth-left-is ((start .args) .row) ((start .args) .f .now) ((start .pre) .1 .1 .0) ((start .pre) .1 .1 .1) refl
+    (rw ((at-bit-of .bit-of) .ensures)) (sym (not-false _ ((at-write-truth .before .before .if1) .left))
+    ∙ (at-write-truth .before .before .before .left-of) .ensures)) ((at-write-truth .write-truth) .ensures) ((c .is-done) .ensures)
 
 pub take-truth-spec : {M : Type 1} → statement M
 take-truth-spec =

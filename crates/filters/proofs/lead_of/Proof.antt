@@ -37,39 +37,33 @@ returns-2 c =
 
 returns-3 : tie.Need-returns-3 Inv-loop μ-loop
 returns-3 c =
-    let v = c .before .before .before .before .before .before .before .before .before .loop .inv in
-    let x = c .before .before .before .before .is-plain .result in
+    let at-is-plain = c .before .before .before .before in
+    let the-loop = at-is-plain .before .before .before .before .before in
+    let the-start = the-loop .before .before .before in
+    let v = the-loop .loop .inv in
+    let x = at-is-plain .is-plain .result in
     let y = c .before .before .before .is-plain2 .result in
     let b : (x && y) ≡ true = not-false (x && y) (c .before .before .if2 .left) in
-    let i : c .before .before .before .before .before .before .before .before .before .before .before .before .args .p
-    + c .before .before .before .before .before .before .before .before .before .loop .k
-    < length (c .before .before .before .before .before .before .before .before .before .before .before .before .args .s .now) = omega
-    arith in
-    let j : c .before .before .before .before .before .before .before .before .before .before .before .before .args .q
-    + c .before .before .before .before .before .before .before .before .before .loop .k
-    < length (c .before .before .before .before .before .before .before .before .before .before .before .before .args .t .now) = omega
-    arith in
-    lead-apart _ _ _ _ _ _ i j (sym (c .before .before .before .before .is-plain .ensures) ∙ and-left x y b)
+    let i : the-start .args .p + the-loop .loop .k < length (the-start .args .s .now) = omega arith in
+    let j : the-start .args .q + the-loop .loop .k < length (the-start .args .t .now) = omega arith in
+    lead-apart _ _ _ _ _ _ i j (sym (at-is-plain .is-plain .ensures) ∙ and-left x y b)
     (sym (c .before .before .before .is-plain2 .ensures) ∙ and-right x y b)
     (sym (not-true _ (c .if3 .taken)) ∙ c .before .same-byte .ensures) (v .2)
 
 loop-again : tie.Need-loop-again Inv-loop μ-loop
 loop-again c =
-    let v = c .before .before .before .before .before .before .before .before .before .loop .inv in
-    let x = c .before .before .before .before .is-plain .result in
+    let at-is-plain = c .before .before .before .before in
+    let the-loop = at-is-plain .before .before .before .before .before in
+    let the-start = the-loop .before .before .before in
+    let v = the-loop .loop .inv in
+    let x = at-is-plain .is-plain .result in
     let y = c .before .before .before .is-plain2 .result in
     let b : (x && y) ≡ true = not-false (x && y) (c .before .before .if2 .left) in
-    let i : c .before .before .before .before .before .before .before .before .before .before .before .before .args .p
-    + c .before .before .before .before .before .before .before .before .before .loop .k
-    < length (c .before .before .before .before .before .before .before .before .before .before .before .before .args .s .now) = omega
-    arith in
-    let j : c .before .before .before .before .before .before .before .before .before .before .before .before .args .q
-    + c .before .before .before .before .before .before .before .before .before .loop .k
-    < length (c .before .before .before .before .before .before .before .before .before .before .before .before .args .t .now) = omega
-    arith in (
+    let i : the-start .args .p + the-loop .loop .k < length (the-start .args .s .now) = omega arith in
+    let j : the-start .args .q + the-loop .loop .k < length (the-start .args .t .now) = omega arith in (
       omega arith,
       omega arith,
-      shares-more _ _ _ _ _ _ i j (sym (c .before .before .before .before .is-plain .ensures) ∙ and-left x y b)
+      shares-more _ _ _ _ _ _ i j (sym (at-is-plain .is-plain .ensures) ∙ and-left x y b)
           (sym (c .before .before .before .is-plain2 .ensures) ∙ and-right x y b)
           (sym (not-false _ (c .if3 .left)) ∙ c .before .same-byte .ensures) (v .2),
     )

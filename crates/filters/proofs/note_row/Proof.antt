@@ -39,22 +39,22 @@ sub-bin-of c = let h = above (c .before .column3 .result) (c .if1 .taken) in ome
 
 mul-bin-of : tie.Need-mul-bin-of
 mul-bin-of c =
-    let f = c .before .before .before .before .before .before .pre .0 .few in
-    let b = c .before .before .before .before .before .before .pre .0 .filters (c .before .before .before .before .before .before .args .i)
-    (omega arith) in
+    let the-start = c .before .before .before .before .before .before in
+    let f = the-start .pre .0 .few in
+    let b = the-start .pre .0 .filters (the-start .args .i) (omega arith) in
     let e = c .before .column3 .ensures in
     omega arith
 
 element-copy-out-bin-of : tie.Need-element-copy-out-bin-of
 element-copy-out-bin-of c =
+    let at-name-sum = c .before .before in
+    let the-start = at-name-sum .before .before .before .before in
     let h = above (c .before .column3 .result) (c .if1 .taken) in
-    let f = c .before .before .before .before .before .before .pre .0 .few in
-    let r = c .before .before .before .before .before .before .pre .1 .room in
-    let b = c .before .before .before .before .before .before .pre .0 .filters (c .before .before .before .before .before .before .args .i)
-    (omega arith) in
+    let f = the-start .pre .0 .few in
+    let r = the-start .pre .1 .room in
+    let b = the-start .pre .0 .filters (the-start .args .i) (omega arith) in
     let e = c .before .column3 .ensures in
-    let l = length-set (c .before .before .before .before .before .before .args .sums .now)
-    (c .before .before .before .before .before .before .args .i) (c .before .before .name-sum .result) in
+    let l = length-set (the-start .args .sums .now) (the-start .args .i) (at-name-sum .name-sum .result) in
     omega arith
 
 mul-sums-2 : tie.Need-mul-sums-2
@@ -62,30 +62,29 @@ mul-sums-2 c = omega (arith, c .bin-of .ensures .2)
 
 element-write-sums-2 : tie.Need-element-write-sums-2
 element-write-sums-2 c =
-    let r = c .before .before .before .before .before .before .before .before .pre .1 .room in
-    let l = length-set (c .before .before .before .before .before .before .before .before .args .sums .now)
-    (c .before .before .before .before .before .before .before .before .args .i) (c .before .before .before .before .name-sum .result) in
+    let at-name-sum = c .before .before .before .before in
+    let the-start = at-name-sum .before .before .before .before in
+    let r = the-start .pre .1 .room in
+    let l = length-set (the-start .args .sums .now) (the-start .args .i) (at-name-sum .name-sum .result) in
     omega (arith, c .bin-of .ensures .2)
 
 returns : tie.Need-returns
 returns c =
-    let start = c .before .before .before .before .before .before .before .before in
+    let at-column3 = c .before .before .before in
+    let start = at-column3 .before .before .before .before .before in
     let a = start .args in
     let few : a .i < mostRows = omega (arith, start .pre .0 .few) in
-    let is : c .before .before .before .before .name-sum .result ≡ sumIn (a .latin) (a .d .now) (nameIn (a .rows .now) (a .i)) =
-    c .before .before .before .before .name-sum .ensures
-    ∙ rw (
-      c .before .before .before .before .before .before .column .ensures,
-      c .before .before .before .before .before .column2 .ensures,
+    let is : at-column3 .before .name-sum .result ≡ sumIn (a .latin) (a .d .now) (nameIn (a .rows .now) (a .i)) =
+    at-column3 .before .name-sum .ensures ∙ rw (
+      at-column3 .before .before .before .column .ensures,
+      at-column3 .before .before .column2 .ensures,
     ) in
-    let h = above (c .before .before .before .column3 .result) (c .before .before .if1 .taken) in
-    let e = c .before .before .before .column3 .ensures in
+    let h = above (at-column3 .column3 .result) (c .before .before .if1 .taken) in
+    let e = at-column3 .column3 .ensures in
     let b = start .pre .0 .filters (a .i) (omega arith) in
-    let k : c .before .before .before .column3 .result - 1 < a .i + 1 = omega arith in
-    room-filtered (a .latin) (a .d .now) (a .rows .now) (a .i) (a .sums .now) (start .pre .1) few _ is _
-    (c .bin-of .ensures .0 ∙ ap binOf
-    (with-names (a .latin) (a .d .now) (a .rows .now) (a .i) (a .sums .now) (start .pre .1) few _ is
-    (c .before .before .before .column3 .result - 1) k
+    let k : at-column3 .column3 .result - 1 < a .i + 1 = omega arith in
+    room-filtered (a .latin) (a .d .now) (a .rows .now) (a .i) (a .sums .now) (start .pre .1) few _ is _ (c .bin-of .ensures .0 ∙ ap binOf
+    (with-names (a .latin) (a .d .now) (a .rows .now) (a .i) (a .sums .now) (start .pre .1) few _ is (at-column3 .column3 .result - 1) k
     ∙ ap (λ (f : ℕ). sumIn (a .latin) (a .d .now) (nameIn (a .rows .now) (f - 1))) e)) (c .bin-of .ensures .2)
 
 returns-2 : tie.Need-returns-2

@@ -15,11 +15,13 @@ second c = let x = lead-is _ _ _ _ _ (c .before .k .given .1) (c .before .before
 
 same-rest-requires : tie.Need-same-rest-requires
 same-rest-requires c κs =
-    let x = lead-is _ _ _ _ _ (c .before .k .given .1) (c .before .before .before .lead-of .ensures) in
+    let at-lead-of = c .before .before .before in
+    let start = at-lead-of .before .before .before in
+    let x = lead-is _ _ _ _ _ (c .before .k .given .1) (at-lead-of .lead-of .ensures) in
     let i = x .first in
     let j = x .second in
-    let h = c .before .before .before .before .before .before .pre .0 in
-    let g = c .before .before .before .before .before .before .pre .1 in
+    let h = start .pre .0 in
+    let g = start .pre .1 in
     (omega arith, omega arith)
 
 returns : tie.Need-returns

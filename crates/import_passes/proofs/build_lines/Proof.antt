@@ -37,13 +37,15 @@ loop-holds c =
     )
 
 add-end : tie.Need-add-end Inv-loop μ-loop
-add-end c = omega (
-  arith,
-  room-left ((c .before .loop) .inv .0) ((c .before .before .before .before .before .before .pre) .1 .1 .1 .0)
-      ((c .before .loop) .inv .2) ((c .before .loop) .inv .3) ((c .loop-test) .taken),
-  (c .before .loop) .inv .0 .room,
-  (c .before .before .before .before .before .before .good) .1 .1 .1 .1 .1 .1 .1 .1 .1 .1 .0,
-)
+add-end c =
+    let the-start = c .before .before .before .before .before .before in
+    omega (
+      arith,
+      room-left ((c .before .loop) .inv .0) ((the-start .pre) .1 .1 .1 .0)
+          ((c .before .loop) .inv .2) ((c .before .loop) .inv .3) ((c .loop-test) .taken),
+      (c .before .loop) .inv .0 .room,
+      (the-start .good) .1 .1 .1 .1 .1 .1 .1 .1 .1 .1 .0,
+    )
 
 sub-take-record : tie.Need-sub-take-record Inv-loop μ-loop
 sub-take-record c = omega arith
@@ -59,45 +61,33 @@ part-take-record-end c = room-left ((c .before .before .before .before .loop) .i
 
 take-record-requires : tie.Need-take-record-requires Inv-loop μ-loop
 take-record-requires c κs =
-    let i = (c .before .before .before .before .before .loop) .inv in
-    let l = mid-len ((c .before .before .before .before .before .loop) .k)
-    ((c .before .before .before .before .before .loop) .k
-    + ((c .before .before .before .before .before .before .before .before .before .before .args) .len + 2))
-    ((c .before .before .before .before .before .loop) .out)
-    (room-left ((c .before .before .before .before .before .loop) .inv .0)
-    ((c .before .before .before .before .before .before .before .before .before .before .pre) .1 .1 .1 .0)
-    ((c .before .before .before .before .before .loop) .inv .2) ((c .before .before .before .before .before .loop) .inv .3)
+    let the-loop = c .before .before .before .before .before in
+    let the-start = the-loop .before .before .before .before .before in
+    let i = (the-loop .loop) .inv in
+    let l = mid-len ((the-loop .loop) .k) ((the-loop .loop) .k + ((the-start .args) .len + 2)) ((the-loop .loop) .out)
+    (room-left ((the-loop .loop) .inv .0) ((the-start .pre) .1 .1 .1 .0) ((the-loop .loop) .inv .2) ((the-loop .loop) .inv .3)
     ((c .before .before .before .before .loop-test) .taken)) in (
-      (c .before .before .before .before .before .before .before .before .before .before .pre) .0,
+      (the-start .pre) .0,
       (
-        (c .before .before .before .before .before .before .before .before .before .before .pre) .1 .0,
+        (the-start .pre) .1 .0,
         ((i .0 .passing .within, omega (arith, l)), (i .4, i .5, i .6)),
       ),
     )
 
 loop-again : tie.Need-loop-again Inv-loop μ-loop
 loop-again c =
-    let i = (c .before .before .before .before .before .before .before .before .before .before .before .before .before .before .before
-    .before .loop) .inv in
-    let k = ended-good
-    ((c .before .before .before .before .before .before .before .before .before .before .before .before .before .before .before .before
-    .before .before .before .before .before .args) .t .now)
-    ((c .before .before .before .before .before .before .before .before .before .before .before .before .before .before .before .before
-    .before .before .before .before .before .args) .d .now)
-    ((c .before .before .before .before .before .before .before .before .before .before .before .before .before .before .before .before
-    .loop) .at) _ ((c .before .before .before .before .before .before .before .before .before .before .take-record) .result)
-    ((c .before .before .before .before .before .before .before .before .before .before .take-record) .ensures)
-    ((c .before .next) .given .1) in
-    let l = (c .before .before .before .before .before .before .before .before .before .before .take-record) .kept .1 .1 .1 .1 .1 .1 in (
-      building-more (i .0)
-          ((c .before .before .before .before .before .before .before .before .before .before .before .before .before .before .before
-          .before .before .before .before .before .before .pre) .1 .1 .1 .0) (i .2) (i .3)
-          ((c .before .before .before .before .before .before .before .before .before .before .before .before .before .before .before
-          .loop-test) .taken) k,
+    let the-take-record = c .before .before .before .before .before .before .before .before .before .before in
+    let the-loop-test = the-take-record .before .before .before .before .before in
+    let the-loop = the-loop-test .before in
+    let the-start = the-loop .before .before .before .before .before in
+    let i = (the-loop .loop) .inv in
+    let k = ended-good ((the-start .args) .t .now) ((the-start .args) .d .now) ((the-loop
+    .loop) .at) _ ((the-take-record .take-record) .result) ((the-take-record .take-record) .ensures) ((c .before .next) .given .1) in
+    let l = (the-take-record .take-record) .kept .1 .1 .1 .1 .1 .1 in (
+      building-more (i .0) ((the-start .pre) .1 .1 .1 .0) (i .2) (i .3) ((the-loop-test .loop-test) .taken) k,
       omega (
         arith,
-        (c .before .before .before .before .before .before .before .before .before .before .before .before .before .before .before
-            .loop-test) .taken,
+        (the-loop-test .loop-test) .taken,
       ),
       i .2,
       i .3,

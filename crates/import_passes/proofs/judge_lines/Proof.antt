@@ -32,30 +32,27 @@ take-record-requires c κs =
     )
 
 add-n : tie.Need-add-n Inv-loop μ-loop
-add-n c = omega (
-  arith,
-  (c .before .before .before .before .before .before .before .before .before .before .before .before .before .before .before
-      .before .loop) .inv .0 .passing .on,
-  (c .before .before .before .before .before .before .before .before .before .before .before .before .before .before .before .loop-test)
-      .taken,
-)
+add-n c =
+    let the-loop-test = c .before .before .before .before .before .before .before .before .before .before .before .before .before .before
+    .before in
+    omega (
+      arith,
+      (the-loop-test .before .loop) .inv .0 .passing .on,
+      (the-loop-test .loop-test) .taken,
+    )
 
 loop-less : tie.Need-loop-less Inv-loop μ-loop
 loop-less c =
-    let k = ended-good
-    ((c .before .before .before .before .before .before .before .before .before .before .before .before .before .before .before .before
-    .before .before .before .before .before .args) .t .now)
-    ((c .before .before .before .before .before .before .before .before .before .before .before .before .before .before .before .before
-    .before .before .before .before .before .args) .d .now)
-    ((c .before .before .before .before .before .before .before .before .before .before .before .before .before .before .before .before
-    .loop) .at) _ ((c .before .before .before .before .before .before .before .before .before .before .take-record) .result)
-    ((c .before .before .before .before .before .before .before .before .before .before .take-record) .ensures)
-    ((c .before .next) .given .1) in
+    let the-take-record = c .before .before .before .before .before .before .before .before .before .before in
+    let the-loop-test = the-take-record .before .before .before .before .before in
+    let the-loop = the-loop-test .before in
+    let the-start = the-loop .before .before .before .before .before in
+    let k = ended-good ((the-start .args) .t .now) ((the-start .args) .d .now) ((the-loop
+    .loop) .at) _ ((the-take-record .take-record) .result) ((the-take-record .take-record) .ensures) ((c .before .next) .given .1) in
     omega (
       arith,
       k .good .ahead,
-      (c .before .before .before .before .before .before .before .before .before .before .before .before .before .before .before .loop-test)
-          .taken,
+      (the-loop-test .loop-test) .taken,
     )
 
 loop-again : tie.Need-loop-again Inv-loop μ-loop
@@ -76,15 +73,16 @@ loop-again c =
     )
 
 add-t28 : tie.Need-add-t28 Inv-loop μ-loop
-add-t28 c = omega (
-  arith,
-  (c .before .before .before .before .before .before .before .before .before .before .before .before .before .before .before
-      .before .loop) .inv .0 .passing .on,
-  (c .before .before .before .before .before .before .before .before .before .before .before .before .before .before .before .loop-test)
-      .taken,
-  (c .before .before .before .before .before .before .before .before .before .before .before .before .before .before .before .before .before
-      .before .before .before .before .good) .1 .1 .1 .1 .0,
-)
+add-t28 c =
+    let the-loop-test = c .before .before .before .before .before .before .before .before .before .before .before .before .before .before
+    .before in
+    let the-loop = the-loop-test .before in
+    omega (
+      arith,
+      (the-loop .loop) .inv .0 .passing .on,
+      (the-loop-test .loop-test) .taken,
+      (the-loop .before .before .before .before .before .good) .1 .1 .1 .1 .0,
+    )
 
 same-length : tie.Need-same-length Inv-loop μ-loop
 same-length c =
@@ -128,15 +126,16 @@ returns c =
     ((c .before .number) .given .1))
 
 add-t29 : tie.Need-add-t29 Inv-loop μ-loop
-add-t29 c = omega (
-  arith,
-  (c .before .before .before .before .before .before .before .before .before .before .before .before .before .before .before
-      .before .loop) .inv .0 .passing .on,
-  (c .before .before .before .before .before .before .before .before .before .before .before .before .before .before .before .loop-test)
-      .taken,
-  (c .before .before .before .before .before .before .before .before .before .before .before .before .before .before .before .before .before
-      .before .before .before .before .good) .1 .1 .1 .1 .0,
-)
+add-t29 c =
+    let the-loop-test = c .before .before .before .before .before .before .before .before .before .before .before .before .before .before
+    .before in
+    let the-loop = the-loop-test .before in
+    omega (
+      arith,
+      (the-loop .loop) .inv .0 .passing .on,
+      (the-loop-test .loop-test) .taken,
+      (the-loop .before .before .before .before .before .good) .1 .1 .1 .1 .0,
+    )
 
 same-length-5 : tie.Need-same-length-5 Inv-loop μ-loop
 same-length-5

@@ -25,33 +25,33 @@ slice-aggregate-take-line c =
     ((c .before .before .before .before .before .before .blank) .ensures)))
 
 take-line-requires : tie.Need-take-line-requires
-take-line-requires c κs = (
-  (c .before .before .before .before .before .before .before .before .before .before .before .before .pre) .0,
-  (
-    (c .before .before .before .before .before .before .before .before .before .before .before .before .pre) .1 .0,
-    (
+take-line-requires c κs =
+    let the-start = c .before .before .before .before .before .before .before .before .before .before .before .before in (
+      (the-start .pre) .0,
       (
-        (c .before .before .before .before .before .before .before .before .before .before .before .before .pre) .1 .1 .0 .0,
-        blanked ((c .before .before .before .before .before .before .before .before .before .before .before .before .args) .slot .now)
-            ((c .before .before .before .before .before .before .before .before .before .before .before .before .args) .len)
-            (omega (
+        (the-start .pre) .1 .0,
+        (
+          (
+            (the-start .pre) .1 .1 .0 .0,
+            blanked ((the-start .args) .slot .now) ((the-start .args) .len) (omega (
               arith,
-              (c .before .before .before .before .before .before .before .before .before .before .before .before .pre) .1 .1 .0 .1,
+              (the-start .pre) .1 .1 .0 .1,
             )) ((c .before .before .before .before .before .before .blank) .ensures),
+          ),
+          (the-start .pre) .1 .1 .1,
+        ),
       ),
-      (c .before .before .before .before .before .before .before .before .before .before .before .before .pre) .1 .1 .1,
-    ),
-  ),
-)
+    )
 
 add-slot : tie.Need-add-slot
-add-slot c = omega (
-  arith,
-  (c .before .before .before .before .before .before .before .before .before .before .before .before .before .before .before
-      .before .before .before .before .before .pre) .1 .1 .0 .1,
-  (c .before .before .before .before .before .before .before .before .before .before .before .before .before .before .before .before .before
-      .before .before .before .good) .1 .1 .1 .1 .1 .1 .1 .1 .1 .0,
-)
+add-slot c =
+    let the-start = c .before .before .before .before .before .before .before .before .before .before .before .before .before .before
+    .before .before .before .before .before .before in
+    omega (
+      arith,
+      (the-start .pre) .1 .1 .0 .1,
+      (the-start .good) .1 .1 .1 .1 .1 .1 .1 .1 .1 .0,
+    )
 
 slice-write-slot-2 : tie.Need-slice-write-slot-2
 slice-write-slot-2 c =

@@ -22,54 +22,39 @@ returns c = roomed-short ((c .before .before .before .before .before .pre) .1 .1
     ((c .if1) .taken)
 
 build-lines-requires : tie.Need-build-lines-requires
-build-lines-requires c κs = (
-  (c .before .before .before .before .before .before .before .before .before .pre) .0,
-  (
-    (c .before .before .before .before .before .before .before .before .before .pre) .1 .0,
-    (
+build-lines-requires c κs =
+    let at-if1 = c .before .before .before .before in
+    let the-start = at-if1 .before .before .before .before .before in (
+      (the-start .pre) .0,
       (
-        (c .before .before .before .before .before .before .before .before .before .pre) .1 .1 .0 .0,
-        roomed-fits ((c .before .before .before .before .before .before .before .before .before .pre) .1 .1 .1 .0)
-            (accepted-sized ((c .before .before .before .before .before .before .before .before .before .args) .t .now)
-            (linesOf (page start (drop ((c .before .before .before .before .before .before .before .before .before .args) .from)
-            ((c .before .before .before .before .before .before .before .before .before .args) .d .now))))
-            ((c .before .before .before .before .before .before .before .before .before .pre) .1 .1 .1 .0)
-            ((c .before .before .before .before .before .before .before .before .before .pre) .1 .0 .2)) (omega arith)
-            ((c .before .before .before .before .before .before .before .before .before .args) .out .now)
-            ((c .before .before .before .before .if1) .left),
-        (c .before .before .before .before .before .before .before .before .before .pre) .1 .1 .0 .1,
+        (the-start .pre) .1 .0,
+        (
+          (
+            (the-start .pre) .1 .1 .0 .0,
+            roomed-fits ((the-start .pre) .1 .1 .1 .0) (accepted-sized ((the-start .args) .t .now)
+                (linesOf (page start (drop ((the-start .args) .from) ((the-start .args) .d .now)))) ((the-start .pre) .1 .1 .1 .0)
+                ((the-start .pre) .1 .0 .2)) (omega arith) ((the-start .args) .out .now) ((at-if1 .if1) .left),
+            (the-start .pre) .1 .1 .0 .1,
+          ),
+          (
+            (the-start .pre) .1 .1 .1 .0,
+            (the-start .pre) .1 .1 .1 .1,
+          ),
+        ),
       ),
-      (
-        (c .before .before .before .before .before .before .before .before .before .pre) .1 .1 .1 .0,
-        (c .before .before .before .before .before .before .before .before .before .pre) .1 .1 .1 .1,
-      ),
-    ),
-  ),
-)
+    )
 
 mul-t13 : tie.Need-mul-t13
-mul-t13 c = omega (
-  arith,
-  roomed-fits
-      ((c .before .before .before .before .before .before .before .before .before .before .before .before .before .before .before .before
-      .before .pre) .1 .1 .1 .0)
-      (accepted-sized
-      ((c .before .before .before .before .before .before .before .before .before .before .before .before .before .before .before .before
-      .before .args) .t .now) (linesOf (page start
-      (drop ((c .before .before .before .before .before .before .before .before .before .before .before .before .before .before .before
-      .before .before .args) .from)
-      ((c .before .before .before .before .before .before .before .before .before .before .before .before .before .before .before .before
-      .before .args) .d .now))))
-      ((c .before .before .before .before .before .before .before .before .before .before .before .before .before .before .before .before
-      .before .pre) .1 .1 .1 .0)
-      ((c .before .before .before .before .before .before .before .before .before .before .before .before .before .before .before .before
-      .before .pre) .1 .0 .2)) (omega arith)
-      ((c .before .before .before .before .before .before .before .before .before .before .before .before .before .before .before .before
-      .before .args) .out .now)
-      ((c .before .before .before .before .before .before .before .before .before .before .before .before .if1) .left),
-  (c .before .before .before .before .before .before .before .before .before .before .before .before .before .before .before .before .before
-      .good) .1 .1 .1 .1 .1 .1 .1 .1 .1 .1 .0,
-)
+mul-t13 c =
+    let at-if1 = c .before .before .before .before .before .before .before .before .before .before .before .before in
+    let the-start = at-if1 .before .before .before .before .before in
+    omega (
+      arith,
+      roomed-fits ((the-start .pre) .1 .1 .1 .0) (accepted-sized ((the-start .args) .t .now) (linesOf (page start
+          (drop ((the-start .args) .from) ((the-start .args) .d .now)))) ((the-start .pre) .1 .1 .1 .0)
+          ((the-start .pre) .1 .0 .2)) (omega arith) ((the-start .args) .out .now) ((at-if1 .if1) .left),
+      (the-start .good) .1 .1 .1 .1 .1 .1 .1 .1 .1 .1 .0,
+    )
 
 returns-2 : tie.Need-returns-2
 unfolding importSaid

@@ -26,34 +26,34 @@ none-shared-requires c κs = let k = known ((c .before .before .before .before .
 
 returns-3 : tie.Need-returns-3
 unfolding importSaid
-returns-3 c = shared-place _ _ _ _ (sym ((c .before .before .before .before .before .before .well-formed) .ensures .says)
-    ∙ not-false _ ((c .before .before .before .before .before .if1) .left))
-    (sym ((c .before .before .before .before .yields) .ensures) ∙ not-false _ ((c .before .before .before .if2) .left))
-    (shared-said ((c .before .before .before .before .before .before .before .before .before .before .args) .t .now)
-    (sym ((c .before .before .before .before .before .before .well-formed) .ensures .says)
-    ∙ not-false _ ((c .before .before .before .before .before .if1) .left)) ((c .before .before .read) .result)
-    ((c .before .before .read) .ensures) ((c .before .none-shared) .ensures) (not-true _ ((c .if3) .taken)))
+returns-3 c =
+    let at-read = c .before .before in
+    let at-well-formed = at-read .before .before .before .before in
+    shared-place _ _ _ _ (sym ((at-well-formed .well-formed) .ensures .says) ∙ not-false _ ((at-read .before .before .before .if1) .left))
+    (sym ((at-read .before .before .yields) .ensures) ∙ not-false _ ((at-read .before .if2) .left))
+    (shared-said ((at-well-formed .before .before .before .before .args) .t .now) (sym ((at-well-formed .well-formed) .ensures .says)
+    ∙ not-false _ ((at-read .before .before .before .if1) .left)) ((at-read .read) .result)
+    ((at-read .read) .ensures) ((c .before .none-shared) .ensures) (not-true _ ((c .if3) .taken)))
 
 import-tested-requires : tie.Need-import-tested-requires
-import-tested-requires c κs = known
-    ((c .before .before .before .before .before .before .before .before .before .before .before .args) .t .now)
-    (sym ((c .before .before .before .before .before .before .before .well-formed) .ensures .says)
-    ∙ not-false _ ((c .before .before .before .before .before .before .if1) .left)) ((c .before .before .before .read) .result)
-    ((c .before .before .before .read) .ensures)
+import-tested-requires c κs =
+    let at-read = c .before .before .before in
+    let at-if1 = at-read .before .before .before in
+    known ((at-if1 .before .before .before .before .before .args) .t .now) (sym ((at-if1 .before .well-formed) .ensures .says)
+    ∙ not-false _ ((at-if1 .if1) .left)) ((at-read .read) .result) ((at-read .read) .ensures)
 
 returns-4 : tie.Need-returns-4
-returns-4 c = as-said _ _ _ _
-    (sym ((c .before .before .before .before .before .before .before .before .before .before .well-formed) .ensures .says)
-    ∙ not-false _ ((c .before .before .before .before .before .before .before .before .before .if1) .left))
-    (sym ((c .before .before .before .before .before .before .before .before .yields) .ensures)
-    ∙ not-false _ ((c .before .before .before .before .before .before .before .if2) .left))
-    (shared-said
-    ((c .before .before .before .before .before .before .before .before .before .before .before .before .before .before .args) .t .now)
-    (sym ((c .before .before .before .before .before .before .before .before .before .before .well-formed) .ensures .says)
-    ∙ not-false _ ((c .before .before .before .before .before .before .before .before .before .if1) .left))
-    ((c .before .before .before .before .before .before .read) .result) ((c .before .before .before .before .before .before .read) .ensures)
-    ((c .before .before .before .before .before .none-shared) .ensures) (not-false _ ((c .before .before .before .before .if3) .left)))
-    ((c .before .before .import-tested) .ensures)
+returns-4 c =
+    let at-import-tested = c .before .before in
+    let at-read = at-import-tested .before .before .before .before in
+    let at-if1 = at-read .before .before .before in
+    let at-well-formed = at-if1 .before in
+    as-said _ _ _ _ (sym ((at-well-formed .well-formed) .ensures .says) ∙ not-false _ ((at-if1 .if1) .left))
+    (sym ((at-read .before .before .yields) .ensures) ∙ not-false _ ((at-read .before .if2) .left)) (shared-said
+    ((at-well-formed .before .before .before .before .args) .t .now) (sym ((at-well-formed .well-formed) .ensures .says)
+    ∙ not-false _ ((at-if1 .if1) .left)) ((at-read .read) .result) ((at-read .read) .ensures)
+    ((at-import-tested .before .before .before .none-shared) .ensures) (not-false _ ((at-import-tested .before .before .if3) .left)))
+    ((at-import-tested .import-tested) .ensures)
 
 pub import-file-spec : {M : Type 1} → statement M
 import-file-spec =

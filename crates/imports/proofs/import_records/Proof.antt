@@ -14,20 +14,22 @@ use Rattle.imports.proofs.import_records.Statement.{statement}
 use Rattle.imports.proofs.import_records.Tie as tie
 
 judge-records-requires : tie.Need-judge-records-requires
-judge-records-requires c κs = (
-  (c .before .before .before .before .before .powers) .ensures,
-  (
-    (c .before .before .before .before .before .before .before .before .pre) .0,
-    (
+judge-records-requires c κs =
+    let at-powers = c .before .before .before .before .before in
+    let the-start = at-powers .before .before .before in (
+      (at-powers .powers) .ensures,
       (
-        (c .before .before .before .before .before .before .before .before .pre) .1 .0,
-        (c .before .before .before .before .before .before .before .before .pre) .1 .1,
-        search needs,
+        (the-start .pre) .0,
+        (
+          (
+            (the-start .pre) .1 .0,
+            (the-start .pre) .1 .1,
+            search needs,
+          ),
+          (search needs, search needs, search needs),
+        ),
       ),
-      (search needs, search needs, search needs),
-    ),
-  ),
-)
+    )
 
 build-records-requires : tie.Need-build-records-requires
 build-records-requires c κs = (
@@ -60,19 +62,12 @@ build-records-requires c κs = (
 
 returns : tie.Need-returns
 unfolding importSaid
-returns c = roomed-refused
-    ((c .before .before .before .before .before .before .before .before .before .before .before .before .before .before .before .before
-    .args) .out .now)
-    (judged-refused
-    (linesSay
-    ((c .before .before .before .before .before .before .before .before .before .before .before .before .before .before .before .before
-    .args) .t .now) 2
-    (linesOf (page start
-    (drop ((c .before .before .before .before .before .before .before .before .before .before .before .before .before .before .before
-    .before .args) .from)
-    ((c .before .before .before .before .before .before .before .before .before .before .before .before .before .before .before .before
-    .args) .d .now))))) ((c .before .before .before .before .before .before .before .judge-records) .result)
-    ((c .before .before .before .before .before .before .before .judge-records) .ensures) ((c .before .judged) .given .1))
+returns c =
+    let at-judge-records = c .before .before .before .before .before .before .before in
+    let the-start = at-judge-records .before .before .before .before .before .before .before .before .before in
+    roomed-refused ((the-start .args) .out .now) (judged-refused (linesSay ((the-start .args) .t .now) 2 (linesOf (page start
+    (drop ((the-start .args) .from) ((the-start .args) .d .now))))) ((at-judge-records .judge-records) .result)
+    ((at-judge-records .judge-records) .ensures) ((c .before .judged) .given .1))
 
 pub import-records-spec : {M : Type 1} → statement M
 import-records-spec =

@@ -13,64 +13,43 @@ use Rattle.imports.proofs.import_tested.Statement.{statement}
 use Rattle.imports.proofs.import_tested.Tie as tie
 
 import-records-requires : tie.Need-import-records-requires
-import-records-requires c κs = (
-  (c .before .before .before .before .before .before .before .before .before .before .pre) .0,
-  (
-    names-good (nameLine ((c .before .before .before .before .before .before .before .before .before .before .args) .def .now)
-        ((c .before .before .before .before .before .before .before .before .before .before .args) .t .now)
-        ((c .before .before .before .before .before .before .before .before .before .before .args) .rows))
-        ((c .before .before .before .before .before .before .before .before .before .before .args) .d .now)
-        ((c .before .before .before .before .judge-names) .result) ((c .before .before .before .before .judge-names) .ensures)
-        ((c .before .before .next) .given .1) .within,
-    (c .before .before .before .before .before .before .before .before .before .before .pre) .1,
-  ),
-)
+import-records-requires c κs =
+    let start = c .before .before .before .before .before .before .before .before .before .before in (
+      (start .pre) .0,
+      (
+        names-good (nameLine ((start .args) .def .now) ((start .args) .t .now) ((start .args) .rows)) ((start .args) .d .now)
+            ((c .before .before .before .before .judge-names) .result) ((c .before .before .before .before .judge-names) .ensures)
+            ((c .before .before .next) .given .1) .within,
+        (start .pre) .1,
+      ),
+    )
 
 returns : tie.Need-returns
 returns c =
-    roomed-as
-    (import-same
-    ((c .before .before .before .before .before .before .before .before .before .before .before .before .before .args) .def .now)
-    ((c .before .before .before .before .before .before .before .before .before .before .before .before .before .args) .t .now)
-    ((c .before .before .before .before .before .before .before .before .before .before .before .before .before .args) .d .now)
-    ((c .before .before .before .before .before .before .before .before .before .before .before .before .before .pre) .0 .1)
-    (names-good
-    (nameLine ((c .before .before .before .before .before .before .before .before .before .before .before .before .before .args) .def .now)
-    ((c .before .before .before .before .before .before .before .before .before .before .before .before .before .args) .t .now)
-    ((c .before .before .before .before .before .before .before .before .before .before .before .before .before .args) .rows))
-    ((c .before .before .before .before .before .before .before .before .before .before .before .before .before .args) .d .now)
-    ((c .before .before .before .before .before .before .before .judge-names) .result)
-    ((c .before .before .before .before .before .before .before .judge-names) .ensures)
-    ((c .before .before .before .before .before .next) .given .1)))
-    ((c .before .before .import-records) .ensures)
+    let at-import-records = c .before .before in
+    let at-judge-names = at-import-records .before .before .before .before .before in
+    let start = at-judge-names .before .before .before .before .before .before in
+    roomed-as (import-same ((start .args) .def .now) ((start .args) .t .now) ((start .args) .d .now) ((start .pre) .0 .1) (names-good
+    (nameLine ((start .args) .def .now) ((start .args) .t .now) ((start .args) .rows)) ((start .args) .d .now)
+    ((at-judge-names .judge-names) .result) ((at-judge-names .judge-names) .ensures)
+    ((at-import-records .before .before .before .next) .given .1))) ((at-import-records .import-records) .ensures)
 
 returns-2 : tie.Need-returns-2
 unfolding importSaid
 returns-2 c =
-    roomed-refused ((c .before .before .before .before .before .before .before .before .before .args) .out .now)
-    (import-other ((c .before .before .before .before .before .before .before .before .before .args) .def .now)
-    ((c .before .before .before .before .before .before .before .before .before .args) .t .now)
-    ((c .before .before .before .before .before .before .before .before .before .args) .d .now)
-    ((c .before .before .before .before .before .before .before .before .before .pre) .0 .1)
-    (names-bad (nameLine ((c .before .before .before .before .before .before .before .before .before .args) .def .now)
-    ((c .before .before .before .before .before .before .before .before .before .args) .t .now)
-    ((c .before .before .before .before .before .before .before .before .before .args) .rows))
-    ((c .before .before .before .before .before .before .before .before .before .args) .d .now)
+    let start = c .before .before .before .before .before .before .before .before .before in
+    roomed-refused ((start .args) .out .now) (import-other ((start .args) .def .now) ((start .args) .t .now) ((start .args) .d .now)
+    ((start .pre) .0 .1) (names-bad (nameLine ((start .args) .def .now) ((start .args) .t .now) ((start .args) .rows))
+    ((start .args) .d .now)
     ((c .before .before .before .judge-names) .result) ((c .before .before .before .judge-names) .ensures) ((c .before .column) .given .1)))
 
 returns-3 : tie.Need-returns-3
 unfolding importSaid
 returns-3 c =
-    roomed-refused ((c .before .before .before .before .before .before .before .before .before .args) .out .now)
-    (import-torn ((c .before .before .before .before .before .before .before .before .before .args) .def .now)
-    ((c .before .before .before .before .before .before .before .before .before .args) .t .now)
-    ((c .before .before .before .before .before .before .before .before .before .args) .d .now)
-    ((c .before .before .before .before .before .before .before .before .before .pre) .0 .1)
-    (names-broken (nameLine ((c .before .before .before .before .before .before .before .before .before .args) .def .now)
-    ((c .before .before .before .before .before .before .before .before .before .args) .t .now)
-    ((c .before .before .before .before .before .before .before .before .before .args) .rows))
-    ((c .before .before .before .before .before .before .before .before .before .args) .d .now)
-    ((c .before .before .before .judge-names) .result) ((c .before .before .before .judge-names) .ensures)
+    let start = c .before .before .before .before .before .before .before .before .before in
+    roomed-refused ((start .args) .out .now) (import-torn ((start .args) .def .now) ((start .args) .t .now) ((start .args) .d .now)
+    ((start .pre) .0 .1) (names-broken (nameLine ((start .args) .def .now) ((start .args) .t .now) ((start .args) .rows))
+    ((start .args) .d .now) ((c .before .before .before .judge-names) .result) ((c .before .before .before .judge-names) .ensures)
     ((c .before .column2) .given .1)))
 
 pub import-tested-spec : {M : Type 1} → statement M

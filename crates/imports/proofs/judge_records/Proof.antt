@@ -9,34 +9,33 @@ use Rattle.imports.proofs.judge_records.Statement.{statement}
 use Rattle.imports.proofs.judge_records.Tie as tie
 
 slice-aggregate-judge-lines : tie.Need-slice-aggregate-judge-lines
-slice-aggregate-judge-lines c = sym (length-take-le ((c .before .before .before .before .before .before .before .before .args) .len + 2)
-    ((c .before .before .before .before .before .before .before .before .args) .slot .now)
-    (omega (
+slice-aggregate-judge-lines c =
+    let start = c .before .before .before .before .before .before .before .before in
+    sym (length-take-le ((start .args) .len + 2) ((start .args) .slot .now) (omega (
       arith,
-      (c .before .before .before .before .before .before .before .before .pre) .1 .1 .0 .1,
-      (c .before .before .before .before .before .before .before .before .pre) .1 .1 .0 .2,
+      (start .pre) .1 .1 .0 .1,
+      (start .pre) .1 .1 .0 .2,
     )))
 
 judge-lines-requires : tie.Need-judge-lines-requires
-judge-lines-requires c κs = (
-  (c .before .before .before .before .before .before .before .before .pre) .0,
-  (
-    (c .before .before .before .before .before .before .before .before .pre) .1 .0,
-    (
+judge-lines-requires c κs =
+    let start = c .before .before .before .before .before .before .before .before in (
+      (start .pre) .0,
       (
-        (c .before .before .before .before .before .before .before .before .pre) .1 .1 .0 .0,
-        length-take-le ((c .before .before .before .before .before .before .before .before .args) .len + 2)
-            ((c .before .before .before .before .before .before .before .before .args) .slot .now)
-            (omega (
+        (start .pre) .1 .0,
+        (
+          (
+            (start .pre) .1 .1 .0 .0,
+            length-take-le ((start .args) .len + 2) ((start .args) .slot .now) (omega (
               arith,
-              (c .before .before .before .before .before .before .before .before .pre) .1 .1 .0 .1,
-              (c .before .before .before .before .before .before .before .before .pre) .1 .1 .0 .2,
+              (start .pre) .1 .1 .0 .1,
+              (start .pre) .1 .1 .0 .2,
             )),
+          ),
+          (start .pre) .1 .1 .1,
+        ),
       ),
-      (c .before .before .before .before .before .before .before .before .pre) .1 .1 .1,
-    ),
-  ),
-)
+    )
 
 pub judge-records-spec : {M : Type 1} → statement M
 judge-records-spec =

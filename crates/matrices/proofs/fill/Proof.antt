@@ -20,14 +20,16 @@ put-header-requires c κs = let p = c .before .before .before .before .pre .1 in
 
 put-records-requires : tie.Need-put-records-requires
 put-records-requires c κs =
-    let p = c .before .before .before .before .before .before .before .before .before .before .before .before .pre in
-    let a = c .before .before .before .before .before .before .before .before .before .before .before .before .args in
+    let the-put-header = c .before .before .before .before .before .before .before in
+    let the-start = the-put-header .before .before .before .before .before in
+    let p = the-start .pre in
+    let a = the-start .args in
     let s = file-sound (a .t .now) (a .d .now) (a .records) (p .0 .1) in
     let cs = columnsFrom (a .t .now) (a .h .rows) 0 (a .h .rows) in
     let e : a .columns ≡ length cs = rw (tested-rows (p .0 .0)) (p .1 .0) in
     let total = p .1 .2 in (
       record {
-        tens = c .before .before .before .before .before .before .before .before .before .powers .ensures;
+        tens = the-put-header .before .before .powers .ensures;
         tested = p .0 .0;
         room = search needs;
         marks = search needs;
@@ -43,7 +45,7 @@ put-records-requires c κs =
             omega (arith, total),
             record {
               behind = omega arith;
-              inside = omega (arith, p .1 .3, c .before .before .before .before .before .before .before .put-header .kept .0);
+              inside = omega (arith, p .1 .3, the-put-header .put-header .kept .0);
             },
           ),
         ),
@@ -52,8 +54,10 @@ put-records-requires c κs =
 
 put-summaries-requires : tie.Need-put-summaries-requires
 put-summaries-requires c κs =
-    let p = c .before .before .before .before .before .before .before .before .before .before .before .before .before .before .before
-    .before .before .before .before .pre in (
+    let at-put-records = c .before .before .before .before .before .before in
+    let the-put-header = at-put-records .before .before .before .before .before .before .before .before in
+    let the-start = the-put-header .before .before .before .before .before in
+    let p = the-start .pre in (
       (
         omega (arith, p .1 .2),
         refl,
@@ -61,23 +65,14 @@ put-summaries-requires c κs =
         omega (
           arith,
           p .1 .3,
-          c .before .before .before .before .before .before .put-records .kept .1 .1 .1 .1 .1 .1 .1 .1 .1 .0,
-          c .before .before .before .before .before .before .before .before .before .before .before .before .before .before .put-header
-              .kept .0,
+          at-put-records .put-records .kept .1 .1 .1 .1 .1 .1 .1 .1 .1 .0,
+          the-put-header .put-header .kept .0,
         ),
         omega (arith, p .1 .2),
       ),
-      filled-there (p .0 .0)
-          (c .before .before .before .before .before .before .before .before .before .before .before .before .before .before .before .before
-          .before .before .before .args .d .now)
-          (c .before .before .before .before .before .before .before .before .before .before .before .before .before .before .before .before
-          .before .before .before .args .out .now)
-          (c .before .before .before .before .before .before .before .before .before .before .before .before .before .before .before .before
-          .before .before .before .args .records)
-          (c .before .before .before .before .before .before .before .before .before .before .before .before .before .before .before .before
-          .before .before .before .args .columns) (p .0 .1) (p .1 .0) (p .1 .3)
-          (c .before .before .before .before .before .before .before .before .before .before .before .before .before .before .put-header
-          .ensures) (c .before .before .before .before .before .before .put-records .ensures),
+      filled-there (p .0 .0) (the-start .args .d .now) (the-start .args .out .now) (the-start .args .records)
+          (the-start .args .columns) (p .0 .1) (p .1 .0) (p .1 .3) (the-put-header .put-header
+          .ensures) (at-put-records .put-records .ensures),
     )
 
 returns : tie.Need-returns

@@ -119,11 +119,11 @@ loop-again c =
 
 returns : tie.Need-returns Inv-loop μ-loop
 returns c =
+    let the-start = c .before .before .before .before .before .before in
     let l = c .before .loop in
-    let a = c .before .before .before .before .before .before .args in
+    let a = the-start .args in
     each-done (λ r. entriesBy (a .row .kind) (a .t .now) (a .rows) (a .row) r) (a .columns) (endedOf (recordsOf (a .d .now))) (l .n)
-    (a .flags + l .k) (a .values + 8 * l .k) (omega
-    (arith, c .loop-test .left, c .before .before .before .before .before .before .pre .1 .1 .0 .1)) (l .inv .6)
+    (a .flags + l .k) (a .values + 8 * l .k) (omega (arith, c .loop-test .left, the-start .pre .1 .1 .0 .1)) (l .inv .6)
 
 pub put-each-spec : {M : Type 1} → statement M
 put-each-spec =

@@ -92,51 +92,54 @@ add-put-summary c = let p = c .before .before .before .before .before .before .b
 
 put-summary-requires : tie.Need-put-summary-requires Inv-loop μ-loop
 put-summary-requires c κs =
-    let a = c .before .before .before .before .before .before .before .before .args in
-    let l = c .before .before .before .before .before .before .loop in
-    let p = c .before .before .before .before .before .before .before .before .pre .0 in (
-      omega (arith, c .before .before .before .before .before .loop-test .taken, p .1, p .3, l .inv .1),
+    let at-loop-test = c .before .before .before .before .before in
+    let the-start = at-loop-test .before .before .before in
+    let a = the-start .args in
+    let l = at-loop-test .before .loop in
+    let p = the-start .pre .0 in (
+      omega (arith, at-loop-test .loop-test .taken, p .1, p .3, l .inv .1),
       rw (c .before .summary-at .ensures) (summary-plain (l .out) (a .columns) (a .flags + l .k) (a .values + 8 * l .k) (a .records)
           (here (c .before .before .before .before))),
     )
 
 add-k : tie.Need-add-k Inv-loop μ-loop
-add-k c = let p = c .before .before .before .before .before .before .before .before .before .before .before .pre .0 in
-    omega (arith, c .before .before .before .before .before .before .before .before .loop-test .taken, p .0)
+add-k c =
+    let at-loop-test = c .before .before .before .before .before .before .before .before in
+    let p = at-loop-test .before .before .before .pre .0 in
+    omega (arith, at-loop-test .loop-test .taken, p .0)
 
 loop-less : tie.Need-loop-less Inv-loop μ-loop
 loop-less c = omega (arith, c .before .before .before .before .before .before .before .before .loop-test .taken)
 
 loop-again : tie.Need-loop-again Inv-loop μ-loop
 loop-again c =
-    let a = c .before .before .before .before .before .before .before .before .before .before .before .args in
-    let l = c .before .before .before .before .before .before .before .before .before .loop in
-    let p = c .before .before .before .before .before .before .before .before .before .before .before .pre .0 in
+    let at-summary-at = c .before .before .before .before in
+    let at-loop-test = at-summary-at .before .before .before .before in
+    let the-start = at-loop-test .before .before .before in
+    let a = the-start .args in
+    let l = at-loop-test .before .loop in
+    let p = the-start .pre .0 in
     let o = a .out .now in
-    let s = c .before .before .before .before .summary-at .result in
+    let s = at-summary-at .summary-at .result in
     let rest = summariesIn o (a .columns) (a .flags + (l .k + 1)) (a .values + 8 * (l .k + 1)) (a .records) (a .columns - (l .k + 1)) in
     let q : s ≡ summaryOf (columnIn o (a .columns) (a .flags + l .k) (a .values + 8 * l .k) (a .records)) =
-    c .before .before .before .before .summary-at .ensures
-    ∙ ap summaryOf (sym (column-same (same (c .before .before .before .before .before .before .before)) (a .columns) (a .records)
+    at-summary-at .summary-at .ensures
+    ∙ ap summaryOf (sym (column-same (same (at-summary-at .before .before .before)) (a .columns) (a .records)
     (a .flags + l .k) (a .values + 8 * l .k) (omega arith) (omega (arith, p .2)))) in
     let b : 24 + 24 * (l .k + 1) ≡ 24 + 24 * l .k + 24 = omega arith in
     let n = length-summary s in (
-      omega (arith, c .before .before .before .before .before .before .before .before .loop-test .taken),
+      omega (arith, at-loop-test .loop-test .taken),
       c .before .before .put-summary .kept .0 ∙ l .inv .1,
-      ap (drop (a .flags)) (c .before .before .put-summary .ensures)
-          ∙ same-put (l .out) (a .flags) (24 + 24 * l .k) (summaryBytes s)
-          (omega (arith, n, c .before .before .before .before .before .before .before .before .loop-test .taken, p .1)) ∙ l .inv .2,
-      columns-on o (a .columns) (a .flags) (a .values) (a .records) (a .columns) (l .k)
-          (c .before .before .before .before .before .before .before .before .loop-test .taken) (l .inv .3),
+      ap (drop (a .flags)) (c .before .before .put-summary .ensures) ∙ same-put (l .out) (a .flags) (24 + 24 * l .k) (summaryBytes s)
+          (omega (arith, n, at-loop-test .loop-test .taken, p .1)) ∙ l .inv .2,
+      columns-on o (a .columns) (a .flags) (a .values) (a .records) (a .columns) (l .k) (at-loop-test .loop-test .taken) (l .inv .3),
       ap (λ (x : List ℕ). putAt x (24 + 24 * (l .k + 1)) rest) (c .before .before .put-summary .ensures)
           ∙ put-next (l .out) (24 + 24 * l .k) (summaryBytes s) (24 + 24 * (l .k + 1)) rest (omega (arith, n))
-          ∙ ap (λ (x : Summary). putAt (l .out) (24 + 24 * l .k) (summaryBytes x ++ rest)) q
-          ∙ ap (putAt (l .out) (24 + 24 * l .k)) (sym
-          (summaries-on o (a .columns) (a .flags) (a .values) (a .records) (a .columns) (l .k)
-          (c .before .before .before .before .before .before .before .before .loop-test .taken)))
+          ∙ ap (λ (x : Summary). putAt (l .out) (24 + 24 * l .k) (summaryBytes x ++ rest)) q ∙ ap (putAt (l .out) (24 + 24 * l .k)) (sym
+          (summaries-on o (a .columns) (a .flags) (a .values) (a .records) (a .columns) (l .k) (at-loop-test .loop-test .taken)))
           ∙ l .inv .4,
       known-next (known-same (same-of (sym (l .inv .1)) (sym (l .inv .2))) (omega arith) (p .2)
-          (c .before .before .before .before .before .before .count-on .ensures)),
+          (at-summary-at .before .before .count-on .ensures)),
     )
 
 same-length : tie.Need-same-length Inv-loop μ-loop

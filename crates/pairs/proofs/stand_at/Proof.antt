@@ -14,39 +14,47 @@ returns c = rw (le-leb (length (c .before .before .args .d .now)) (c .before .be
 
 returns-2 : tie.Need-returns-2
 unfolding standAt
-returns-2 c = rw (
-  lt-leb (length (c .before .before .before .before .before .before .before .before .args .d .now))
-      (c .before .before .before .before .before .before .before .before .args .n) (omega arith),
-  eq-eqb _ 60 (c .before .before .before .before .if2 .taken),
-  sym (c .before .before .before .read-angle .ensures) ∙ c .before .e .given .1,
-)
+returns-2 c =
+    let at-read-angle = c .before .before .before in
+    let args = at-read-angle .before .before .before .before .before .args in
+    rw (
+      lt-leb (length (args .d .now)) (args .n) (omega arith),
+      eq-eqb _ 60 (at-read-angle .before .if2 .taken),
+      sym (at-read-angle .read-angle .ensures) ∙ c .before .e .given .1,
+    )
 
 returns-3 : tie.Need-returns-3
 unfolding standAt
-returns-3 c = rw (
-  lt-leb (length (c .before .before .before .before .before .before .before .before .args .d .now))
-      (c .before .before .before .before .before .before .before .before .args .n) (omega arith),
-  eq-eqb _ 60 (c .before .before .before .before .if2 .taken),
-  sym (c .before .before .before .read-angle .ensures) ∙ c .before .e2 .given .1,
-)
+returns-3 c =
+    let at-read-angle = c .before .before .before in
+    let args = at-read-angle .before .before .before .before .before .args in
+    rw (
+      lt-leb (length (args .d .now)) (args .n) (omega arith),
+      eq-eqb _ 60 (at-read-angle .before .if2 .taken),
+      sym (at-read-angle .read-angle .ensures) ∙ c .before .e2 .given .1,
+    )
 
 returns-4 : tie.Need-returns-4
 unfolding standAt
-returns-4 c = rw (
-  lt-leb (length (c .before .before .before .before .before .before .before .args .d .now))
-      (c .before .before .before .before .before .before .before .args .n) (omega arith),
-  eq-eqb _ 60 (c .before .before .before .if2 .taken),
-  sym (c .before .before .read-angle .ensures) ∙ c .enum-told .given .1,
-)
+returns-4 c =
+    let at-read-angle = c .before .before in
+    let args = at-read-angle .before .before .before .before .before .args in
+    rw (
+      lt-leb (length (args .d .now)) (args .n) (omega arith),
+      eq-eqb _ 60 (at-read-angle .before .if2 .taken),
+      sym (at-read-angle .read-angle .ensures) ∙ c .enum-told .given .1,
+    )
 
 returns-5 : tie.Need-returns-5
 unfolding standAt
-returns-5 c = rw (
-  lt-leb (length (c .before .before .before .before .before .before .before .before .args .d .now))
-      (c .before .before .before .before .before .before .before .before .args .n) (omega arith),
-  eq-eqb _ 60 (c .before .before .before .before .if2 .taken),
-  sym (c .before .before .before .read-angle .ensures) ∙ c .before .p .given .1,
-)
+returns-5 c =
+    let at-read-angle = c .before .before .before in
+    let args = at-read-angle .before .before .before .before .before .args in
+    rw (
+      lt-leb (length (args .d .now)) (args .n) (omega arith),
+      eq-eqb _ 60 (at-read-angle .before .if2 .taken),
+      sym (at-read-angle .read-angle .ensures) ∙ c .before .p .given .1,
+    )
 
 returns-6 : tie.Need-returns-6
 unfolding standAt

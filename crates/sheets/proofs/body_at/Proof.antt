@@ -15,19 +15,21 @@ sub-room : tie.Need-sub-room
 sub-room c = let p = c .before .before .before .before .before .before .before .before .before .pre in omega (arith, p .1 .1 .1 .0 .3)
 
 add-stamp : tie.Need-add-stamp
-add-stamp c = let p = c .before .before .before .before .before .before .before .before .before .pre in
+add-stamp c =
+    let the-start = c .before .before .before .before .before .before .before .before .before in
+    let p = the-start .pre in
     omega (
       arith,
-      rows-left _ _ (p .1 .0 .0) _ _ (c .before .before .before .before .before .before .before .before .before .args .y) _ _ _ _
-          (p .1 .0 .1 .sofar) (p .1 .1 .1 .1),
+      rows-left _ _ (p .1 .0 .0) _ _ (the-start .args .y) _ _ _ _ (p .1 .0 .1 .sofar) (p .1 .1 .1 .1),
     )
 
 cast-stamp : tie.Need-cast-stamp
-cast-stamp c = let p = c .before .before .before .before .before .before .before .before .before .pre in
+cast-stamp c =
+    let the-start = c .before .before .before .before .before .before .before .before .before in
+    let p = the-start .pre in
     omega (
       arith,
-      rows-left _ _ (p .1 .0 .0) _ _ (c .before .before .before .before .before .before .before .before .before .args .y) _ _ _ _
-          (p .1 .0 .1 .sofar) (p .1 .1 .1 .1),
+      rows-left _ _ (p .1 .0 .0) _ _ (the-start .args .y) _ _ _ _ (p .1 .0 .1 .sofar) (p .1 .1 .1 .1),
     )
 
 rest-in-requires : tie.Need-rest-in-requires

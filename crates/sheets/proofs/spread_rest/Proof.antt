@@ -31,8 +31,9 @@ returns c =
 
 spread-at-requires : tie.Need-spread-at-requires
 spread-at-requires c κs =
-    let a = c .before .before .before .before .before .before .before .before .before .before .args in
-    let p = c .before .before .before .before .before .before .before .before .before .before .pre in (
+    let the-start = c .before .before .before .before .before .before .before .before .before .before in
+    let a = the-start .args in
+    let p = the-start .pre in (
       due-within (a .bad) (a .d .now) SPREAD (a .o) (p .0 .0)
           (sym (c .before .before .before .tag-due .ensures) ∙ c .before .place .given .1) .1,
       omega (arith, p .0 .3),

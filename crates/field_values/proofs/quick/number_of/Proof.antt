@@ -27,10 +27,11 @@ returns-2 c = number-unread _ _ _
 
 returns-3 : tie.Need-returns-3
 returns-3 c =
-    let f = c .before .before .before .before .before .before .before .before .args .f .now in
-    rw (toZ-ofZ (sfits-of (c .number-of .ok)), c .number-of .ensures)
-    (number-down f (omega (arith, c .before .before .before .before .before .before .before .before .pre))
-    (c .before .before .before .before .before .if1 .taken) (rw (rest-is f 1) at (c .before .before .before .size-of .ensures))
+    let at-size-of = c .before .before .before in
+    let start = at-size-of .before .before .before .before .before in
+    let f = start .args .f .now in
+    rw (toZ-ofZ (sfits-of (c .number-of .ok)), c .number-of .ensures) (number-down f (omega (arith, start .pre))
+    (at-size-of .before .before .if1 .taken) (rw (rest-is f 1) at (at-size-of .size-of .ensures))
     (c .before .before .if2 .left) (omega arith))
 
 returns-4 : tie.Need-returns-4
