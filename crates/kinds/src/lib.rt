@@ -1,6 +1,5 @@
-// A definition of either kind, 1.1 or XML, read into a lent table or held against one: the public calls. The rooms for rows and lines are
-// made
-// once, here, whichever reader fills them. Above it stand the face, the lister and the export.
+// A definition of either kind, 1.1 or XML, read into a lent table or held against one: the public calls. The rooms for rows and lines
+// are made once, here, whichever reader fills them. Above it stand the face, the lister and the export.
 use definition::Against;
 use definition::Answer;
 use laying::Rooms;
