@@ -244,9 +244,6 @@ module _ (d : List ℕ) where
       )
 
   -- ---- POSITION, SPREAD, and what a type has
-  optional-on : {w : List ℕ} {n m : ℕ} {o : Option Figure} → Optional d w (Number d) n o m → n ≤ m
-  optional-on (token.given k x) = omega (arith, keyword-on k, number-on x)
-  optional-on (token.absent g o) = gap-on g
 
   position-fits : {n m : ℕ} {a : Figure} {b : Option Figure} → says.Position d n a b m
       → length (lineOf (POSITION ∷ figure d a ∷ TO ∷ figure d (Option·getD b a) ∷ [])) + 3 * n ≤ 3 * m

@@ -7,4 +7,3 @@ pub mod Numbers
 pub mod Judging
 pub mod Cuts
 pub mod Goods
-pub mod Answers

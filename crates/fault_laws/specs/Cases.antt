@@ -266,7 +266,3 @@ fixed-by (Multiple s) r z h = tt
 fixed-by (Quantity f) r z h = omega (arith, whole-least f (sizeOf z))
 fixed-by Character r z h = tt
 fixed-by Logical r z h = tt
-
--- a row that allows some number
-pub fixed-of : {t : List ℤ} {v len : ℕ} {r : Row} → RowFacts t v len r → (z : ℤ) → legal t v r z ≡ true → FixedFacts (r .kind) r
-fixed-of {r = r} f z e = fixed-by (r .kind) r z (f .fits z e)

@@ -26,20 +26,6 @@ unfoldable pub standing : Bool → Format → List ℕ → ℕ → List ℕ → 
 standing q f left n [] = true
 standing q f left n (b ∷ s) = mayStand q f left (length s + n) b && standing q f (left ++ (b ∷ [])) n s
 
--- the same, byte by byte
-pub standing-each : (q : Bool) (f : Format) (left : List ℕ) (n : ℕ) (s : List ℕ) → standing q f left n s ≡ true
-    → (j : ℕ) → j < length s → mayStand q f (left ++ take j s) (length s - suc j + n) (getD s j 0) ≡ true
-unfolding standing
-standing-each q f left n [] e j h = absurd (omega arith)
-standing-each q f left n (b ∷ s) e zero h =
-    let k : suc (length s) - 1 + n ≡ length s + n = omega arith in
-    rw (append-nil left, k) (and-left (mayStand q f left (length s + n) b) (standing q f (left ++ (b ∷ [])) n s) e)
-standing-each q f left n (b ∷ s) e (suc j) h =
-    let k : suc (length s) - suc (suc j) + n ≡ length s - suc j + n = omega arith in
-    let i = standing-each q f (left ++ (b ∷ [])) n s
-    (and-right (mayStand q f left (length s + n) b) (standing q f (left ++ (b ∷ [])) n s) e) j (omega arith) in
-    rw k (rw (append-assoc left (b ∷ []) (take j s)) at i)
-
 -- THE FAULT of the bytes at the places ps: what stands before it, the byte, and what follows
 pub record Leftmost (q : Bool) (f : Format) (r left ps : List ℕ) (x : Fault) : Type 0 where
   pub before : List ℕ

@@ -241,8 +241,3 @@ table-shown l i v a =
 -- ONE-SERIAL, ONE-WEIGHT, USE-UNFILTERED and filters, as the test of a table of mark 12 asks them
 pub uses-good : (l : List Entry) → Kept l → usesGood (tableOf l) (length l) ≡ true
 uses-good l k = shown-good (tableOf l) l k (table-shown l)
-
-pub kind-good : (l : List Entry) → Kept l → specialsNone (tableOf l) (length l) (linesAll (variablesOf l)) ≡ true
-    → kindGood (tableOf l) (headerFor l) ≡ true
-unfolding kindGood xmlGood headerFor
-kind-good l k s = both-and (uses-good l k) s

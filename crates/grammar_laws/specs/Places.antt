@@ -64,10 +64,6 @@ module _ (d : List ℕ) where
   pub gap-join : {n p q : ℕ} → Gap d n p → Gap d p q → Gap d n q
   gap-join {n} g h = let e = gap-same (gap-stays g) h in rw e at g
 
-  -- a gap that may begin at either of two places
-  pub gap-after : {n p q : ℕ} → Gap d n p → Gap d n q → Gap d p q
-  gap-after g h = let e = gap-same g h in rw e (gap-stays h)
-
 -- ---- words that differ in a letter are not written at one place
 unfoldable pub differ : List ℕ → List ℕ → Bool
 differ [] v = false

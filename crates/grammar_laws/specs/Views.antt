@@ -34,9 +34,6 @@ pub then : {A B : Type 0} {P : A → ℕ → Type 0} {S : Fault → Type 0} {Q :
 then {P = P} {S = S} {Q = Q} {T = T} (reads {a = a} {m = m} p) g = recast (λ b o q. q) (λ f z. behind p z) (g a m p)
 then (halts s) g = halts (inside s)
 
-pub then-there : {A B : Type 0} {r : Result A} {a : A} {m : ℕ} (k : A → Reader B) → r ≡ Is a m → bind r k ≡ k a m
-then-there k e = rw e
-
 pub then-halted : {A B : Type 0} {P : A → ℕ → Type 0} {S : Fault → Type 0} {T : A → ℕ → Fault → Type 0} (r : Result A) (k : A → Reader B)
     → ((f : Fault) → S f → r ≡ Not f) → ((a : A) (m : ℕ) → P a m → r ≡ Is a m) → ((a : A) (m : ℕ) (f : Fault) → T a m f → k a m ≡ Not f)
     → {f : Fault} → Then S P T f → bind r k ≡ Not f

@@ -127,9 +127,6 @@ shaped-laid all-ended e = refl
 shaped-laid (ended {r} {rs} l h p s) e =
     append-assoc r (terminatorBytes e) (laid e rs) ∙ ap (λ (x : List ℕ). r ++ (terminatorBytes e ++ x)) (shaped-laid s e)
 
-shaped-least : {least n : ℕ} {r : List ℕ} {rs : Records} → Shaped least n (record-and r rs) → least ≤ n
-shaped-least (ended l h p s) = h
-
 clean-some : {w : Terminator} {r : List ℕ} {rs : Records} → Clean w (record-and r rs) → 1 ≤ w .size
 clean-some (next h n c) = h
 

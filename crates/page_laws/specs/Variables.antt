@@ -152,10 +152,6 @@ module _ (d : List ℕ) where
   abbrev end-line : List ℕ
   end-line = END ++ 32 ∷ VARIABLE ++ 13 ∷ 10 ∷ []
 
-  -- where the writer's line of POSITION stands
-  body-words : (a b c e : List ℕ) → a ++ (b ++ (c ++ e)) ≡ ((a ++ b) ++ c) ++ e
-  body-words a b c e = sym (append-assoc (a ++ b) c e ∙ append-assoc a b (c ++ e))
-
   body-page : {e f g h i m : ℕ} {s : Figure} {o : Option Figure} {t : Sort} {r : Content} → Option·getD o s .value ≤ 16384 → s .value
       ≤ Option·getD o s .value
       → length (blockIn r .lines) ≤ 4096

@@ -225,8 +225,6 @@ low-append [] s = omega arith
 low-append (b ∷ r) s = let h = low-append r s in omega arith
 
 module _ (d : List ℕ) where
-  part-none : (a : ℕ) → part d a a ≡ []
-  part-none a = let z : a - a ≡ 0 = omega arith in rw z
 
   part-split : (a i j : ℕ) → a ≤ i → i ≤ j → part d a j ≡ part d a i ++ part d i j
   part-split a i j h l =

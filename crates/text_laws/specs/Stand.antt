@@ -79,12 +79,6 @@ pub data Each {A : Type 0} (P : A → Type 0) : List A → Type 0 where
   nil : Each P []
   more : {x : A} {l : List A} → P x → Each P l → Each P (x ∷ l)
 
--- holds of the one at a place
-pub each-at : {A : Type 0} {P : A → Type 0} {l : List A} → Each P l → (z : A) (i : ℕ) → i < length l → P (getD l i z)
-each-at nil z i h = absurd (omega arith)
-each-at (more p e) z zero h = p
-each-at (more p e) z (suc i) h = each-at e z i (omega arith)
-
 -- and of one more
 each-more : {A : Type 0} {P : A → Type 0} {l : List A} (y : A) → Each P l → P y → Each P (l ++ y ∷ [])
 each-more y nil k = more k nil

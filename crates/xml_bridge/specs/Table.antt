@@ -160,10 +160,6 @@ book-nth r = record {
 }
 
 -- ---- the numbers of the table
-lines-join : (p q : List Entry) → linesAll (variablesOf (p ++ q)) ≡ linesAll (variablesOf p) + linesAll (variablesOf q)
-unfolding linesAll
-lines-join [] q = omega arith
-lines-join (v ∷ p) q = omega (arith, lines-join p q)
 
 rows-join : (b : ℕ) (p q : List Entry) → rowsFrom b (p ++ q) ≡ rowsFrom b p ++ rowsFrom (b + linesAll (variablesOf p)) q
 unfolding rowsFrom linesAll

@@ -106,15 +106,6 @@ module _ (bad : Bool) (d : List ℕ) where
     by false = bare-behind p (bareOf bad d p n) z y
   due-behind w (shut p) n c k f z y e h = refl
 
-  -- an element that may stand there
-  pub either-same : {A : Type 0} (w : List ℕ) (o : Open) (n : ℕ) (c k : ℕ → Reader A) (q r : Reader A)
-      → ((p : ℕ) → c p n ≡ k p n) → q n ≡ r n → stands.either bad d w o c q n ≡ stands.either bad d w o k r n
-  either-same {A} w (start p) n c k q r e h = by (isNamed d (p + 1) n w) where
-    by : (x : Bool) → cond x (c p n) (q n) ≡ cond x (k p n) (r n)
-    by true = e p
-    by false = h
-  either-same w (shut p) n c k q r e h = h
-
   pub either-behind : {A B E : Type 0} (w : List ℕ) (o : Open) (n : ℕ) (c : ℕ → Reader B) (k : ℕ → Reader A) (q : Reader B) (r : Reader A)
       (z : B → Reader E) (y : A → Reader E) → ((p : ℕ) → bind (c p n) z ≡ bind (k p n) y) → bind (q n) z ≡ bind (r n) y
       → bind (stands.either bad d w o c q n) z ≡ bind (stands.either bad d w o k r n) y

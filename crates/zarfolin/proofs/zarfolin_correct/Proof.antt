@@ -139,9 +139,6 @@ nearer i n l = omega arith
 within : (i m n : ℕ) → i < m → m ≤ n → i < n
 within i m n l h = omega arith
 
-no-larger : (m n k : ℕ) → m ≤ n → n < k → m < k
-no-larger m n k h l = omega arith
-
 module _ {M : Type 1} (𝓤 : URA M) (H : Heap 𝓤) (A : Atoms 𝓤) (W : Given 𝓤 H A) (mem : Memory → SProp 𝓤) (run : Routine → Fun 𝓤)
     (κ₀ κ κ′ : Lft) (q₀ q q′ : Share) (b₀ o₀ : ℕ) (γ₀ : GName) (t : List ℤ) (b o : ℕ) (γ : GName) (xs : List Correction) (b′ o′ : ℕ)
     (γ′ : GName) (ss : List ℕ) where
