@@ -27,10 +27,3 @@ module _ {S A : Type 0} (step : S → Next S A) (out : A) (μ : S → ℕ) (less
 
   pub runs-exactly : (s : S) (a : A) → (loopOf step out (suc (μ s)) s ≡ a) ↔ Runs step s a
   runs-exactly s a = (λ e. rw e at (runs (suc (μ s)) s (omega arith)), runs-to)
-
--- and they lead to one result only
-pub runs-once : {S A : Type 0} {step : S → Next S A} {s : S} {a b : A} → Runs step s a → Runs step s b → a ≡ b
-runs-once (done e) (done f) = cc
-runs-once (done e) (again f r) = let z : _≡_ {A = ℕ} 0 1 = cc in absurd (omega arith)
-runs-once (again e r) (done f) = let z : _≡_ {A = ℕ} 0 1 = cc in absurd (omega arith)
-runs-once {step = step} {b = b} (again {s′ = u} e r) (again {s′ = v} f q) = let j : u ≡ v = cc in runs-once r (rw (← j) at q)
