@@ -3,3 +3,4 @@ pub mod Exactly
 pub mod Lines
 pub mod Quoted
 pub mod Apart
+pub mod Numbers

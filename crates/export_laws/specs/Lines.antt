@@ -1,12 +1,12 @@
--- AS MANY LINES as records before the first fault, and one for the names.
+-- AS MANY LINES as records before the first fault, and one for the names; and which line is which record's.
 -- Assumes nothing.
 use mathlib.Core.Path.{_≡_, refl, sym, ap, _∙_}
 use mathlib.Core.Bool.{true}
 use mathlib.Core.List.{List, [], _∷_}
-use Prim.Native.Nat.{ℕ, zero, suc, _+_, _-_, _≤_}
+use Prim.Native.Nat.{ℕ, zero, suc, _+_, _-_, _≤_, _<_}
 use native.Mathlib.Omega.{arith}
 use lib.IntN.{ℤ}
-use lib.ListN.{length}
+use lib.ListN.{length, getD}
 use Rattle.cuts.specs.rule.Records.{Records, over, unended, record-and, recordsOf}
 use Rattle.sound.specs.rule.Sound.{wellFormed}
 use Rattle.records.specs.rule.Verdict.{Verdict, sound, refused, lowByte, badField}
@@ -48,3 +48,21 @@ export-lines def t d g =
     let n = before (recordsVerdict t 0 0 (recordsOf d)) in
     let e : n - 0 ≡ n = omega arith in
     rw g (ap suc (rw e at (counted t (recordsOf d) 0 0 .1)))
+
+-- ---- WHICH LINE IS WHICH RECORD'S
+-- record k of a file, from 0, which has its terminator
+pub data Nth : ℕ → Records → List ℕ → Type 0 where
+  this : {r : List ℕ} {rs : Records} → Nth 0 (record-and r rs) r
+  later : {k : ℕ} {q r : List ℕ} {rs : Records} → Nth k rs r → Nth (suc k) (record-and q rs) r
+
+line-is : (t : List ℤ) {k : ℕ} {rs : Records} {r : List ℕ} → Nth k rs r → (n : ℕ) → k < n → getD (linesOf t n rs) k [] ≡ recordLine t r
+unfolding linesOf
+line-is t x zero h = absurd (omega arith)
+line-is t this (suc n) h = refl
+line-is t (later x) (suc n) h = line-is t x n (omega arith)
+
+-- behind the names, line k of an export is that of record k
+pub export-line : (def : List ℕ) (t : List ℤ) (d : List ℕ) {k : ℕ} {r : List ℕ} → Nth k (recordsOf d) r → k < before (fileVerdict t d)
+    → getD (exportLines def t d) (suc k) [] ≡ recordLine t r
+unfolding exportLines linesWith
+export-line def t d x h = line-is t x (before (fileVerdict t d)) h

@@ -6,7 +6,7 @@ use Prim.Native.Nat.{ℕ, zero, suc, _+_, _-_, _*_, _≤_, _<_}
 use native.Mathlib.Nat.{zero-mul, add-mul, one-mul}
 use native.Mathlib.Omega.{arith}
 use mathlib.Core.Logic.{inl, inr}
-use borrow.Author.Tests.{le-ltb, lt-ltb, ltb-true, ltb-false}
+use borrow.Author.Tests.{le-ltb, lt-ltb, ltb-true, ltb-false, eqb-true}
 use lib.Dec.{ltb}
 use lib.IntN.{ℤ}
 use lib.ListN.{length, drop, take, getD, length-append, List·getD-append}
@@ -102,6 +102,25 @@ kept-in w v (p ∷ ps) h = let k = width-rest v p ps w h in go (isEmpty p) (k .0
     go true l a = a
     go false l a = one-in l a
 
+-- and the width is no more than that: where L and every kept record have at most w bytes, so has a line
+pub width-least : (w v : ℕ) (ps : List Piece) → v ≤ w → AllIn w (keptOf ps) → widthOf v ps ≤ w
+unfolding widthOf keptOf
+width-least w v [] h a = h
+width-least w v (p ∷ ps) h a = go (isEmpty p) refl a (width-least w (cond (ltb v (length (p .bytes))) (length (p .bytes)) v) ps)
+  where
+    wider : length (p .bytes) ≤ w → cond (ltb v (length (p .bytes))) (length (p .bytes)) v ≤ w
+    wider l = by (ltb v (length (p .bytes))) where
+      by : (q : Bool) → cond q (length (p .bytes)) v ≤ w
+      by true = l
+      by false = h
+
+    go : (q : Bool) → isEmpty p ≡ q → AllIn w (cond q (keptOf ps) (p .bytes ∷ keptOf ps))
+        → (cond (ltb v (length (p .bytes))) (length (p .bytes)) v ≤ w → AllIn w (keptOf ps)
+        → widthOf (cond (ltb v (length (p .bytes))) (length (p .bytes)) v) ps ≤ w)
+        → widthOf (cond (ltb v (length (p .bytes))) (length (p .bytes)) v) ps ≤ w
+    go true e a rest = let z = eqb-true (length (p .bytes)) 0 e in rest (wider (omega (arith, z))) a
+    go false e (one-in l a) rest = rest (wider l) a
+
 -- record k of those that are kept stands, padded, from k times a record and its terminator on
 stands : {w : ℕ} (e : Terminator) → Sized e → {rs : List (List ℕ)} → AllIn w rs → (k : ℕ) → k < length rs
     → take w (drop (k * (w + e .size)) (laidAll e (paddedAll w rs))) ≡ padded w (getD rs k [])
@@ -145,6 +164,11 @@ mapped (b ∷ r) (suc j) h = mapped r j (omega arith)
 kept-within : (t : List ℤ) (d : List ℕ) (k : ℕ) → k < length (keptOf (piecesOf d)) → length (getD (keptOf (piecesOf d)) k []) ≤ widthIn t d
 unfolding widthIn piecesOf
 kept-within t d k h = in-at (kept-in (widthOf (lengthOf t) (cutFrom 0 d)) (lengthOf t) (cutFrom 0 d) (omega arith)) k h
+
+-- "to the longest and at least to L": no width below this one holds L and every record that is kept
+pub width-fewest : (t : List ℤ) (d : List ℕ) (w : ℕ) → lengthOf t ≤ w → AllIn w (keptOf (piecesOf d)) → widthIn t d ≤ w
+unfolding widthIn
+width-fewest t d w h a = width-least w (lengthOf t) (piecesOf d) h a
 
 module _ (t : List ℤ) (d : List ℕ) (k j : ℕ) where
   -- the record's bytes in the input, and where its byte j stands in the output
