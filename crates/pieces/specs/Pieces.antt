@@ -225,7 +225,6 @@ low-append [] s = omega arith
 low-append (b ∷ r) s = let h = low-append r s in omega arith
 
 module _ (d : List ℕ) where
-
   part-split : (a i j : ℕ) → a ≤ i → i ≤ j → part d a j ≡ part d a i ++ part d i j
   part-split a i j h l =
       let e : j - a ≡ (i - a) + (j - i) = omega arith in

@@ -47,7 +47,6 @@ opens-no b h = by (eqb b 34 || eqb b 39) refl where
   by false e = refl
 
 module _ (alone public bad : Bool) (d : List ℕ) (o n : ℕ) where
-
   closed : (k : ℕ) → n < length d → Opens d n → Inside public d n k
       → Quotes alone public bad d o n (closedOf d (cutOf alone bad d o n k) (getD d n 0) k)
   unfolding closedOf
