@@ -222,26 +222,23 @@ none-behind l c u t e w f = by w f where
   by (chars.three e h k i m) f = never cc
   by (chars.four e h k i j m) f = never cc
 
+pub legal-end : (l : Bool) (d : List ℕ) (n : ℕ) {cs : List ℕ} → n ≤ length d → Chars l cs (drop n d) → firstBad l d n ≡ length d
+legal-end l d n {cs} i c =
+    utf-exactly l d n (length d) i .1
+    (record {
+      chars = cs;
+      bytes = drop n d;
+      legals = c;
+      split = rw over (sym (append-nil (drop n d)));
+      place = omega (arith, length-drop n d);
+      over = rw over (none-behind l);
+    }) where
+      over : drop (length d) d ≡ []
+      over = let o : length d ≤ length d = omega arith in drop-of-length-le d o
+
 legal-all : (l : Bool) (d : List ℕ) (n : ℕ) {cs : List ℕ} → Chars l cs (drop n d) → length d ≤ firstBad l d n
-legal-all l d n {cs} c = ⊎-elim beyond here (lt-or-le (length d) n) where
-  over : drop (length d) d ≡ []
-  over = let o : length d ≤ length d = omega arith in drop-of-length-le d o
-
-  beyond : length d < n → length d ≤ firstBad l d n
-  beyond i = omega (arith, bad-end l d n (omega arith))
-
-  here : n ≤ length d → length d ≤ firstBad l d n
-  here i =
-      let e = utf-exactly l d n (length d) i .1
-      (record {
-        chars = cs;
-        bytes = drop n d;
-        legals = c;
-        split = rw over (sym (append-nil (drop n d)));
-        place = omega (arith, length-drop n d);
-        over = rw over (none-behind l);
-      }) in
-      omega arith
+legal-all l d n c =
+    ⊎-elim (λ i. omega (arith, bad-end l d n (omega arith))) (λ i. omega (arith, legal-end l d n i c)) (lt-or-le (length d) n)
 
 -- ---- names, and a table long enough
 record Kept (d : List ℕ) (latin standard : Bool) (l : List Entry) (n : ℕ) : Type 0 where

@@ -11,7 +11,7 @@ use Rattle.tokens.specs.rule.Gap.{fault}
 use Rattle.survey.specs.rule.Survey.{Figure, Amount, Text, Content, Block, single, multiple, quantity, character, logical}
 use Rattle.survey.specs.rule.Survey as survey
 use Rattle.survey.specs.rule.Table.{linesAll}
-use Rattle.reading.specs.rule.Result.{Reader, _>>=_, give, bind}
+use Rattle.reading.specs.rule.Result.{Reader, _>>=_, give}
 use Rattle.reading.specs.rule.Least.{Charge, _when_, judged}
 use Rattle.reading.specs.rule.Statement.{positionCharges, spreadCharges, sizeCharges}
 use Rattle.reading.specs.rule.Statement as statement
