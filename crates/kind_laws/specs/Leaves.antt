@@ -1,11 +1,11 @@
--- Tags, texts, the declaration and the DOCTYPE, as the rule of XML reads them, are never refused with 3.
+-- Tags, texts, the declaration and the DOCTYPE, as the rule of XML reads them, are refused with numbers that XML has, never with 3.
 use mathlib.Core.Path.{_≡_, refl}
-use mathlib.Core.Bool.{Bool, true, false, cond}
+use mathlib.Core.Bool.{Bool, true, false, cond, not, _&&_, _||_}
 use mathlib.Core.List.{List, [], _∷_}
-use Prim.Native.Nat.{ℕ, zero, suc, _+_}
+use Prim.Native.Nat.{ℕ, zero, suc, _+_, _-_, _≤_}
+use native.Mathlib.Omega.{arith}
 use lib.Dec.{eqb, leb, ltb}
 use lib.ListN.{length, drop, getD}
-use Rattle.scan.specs.rule.Loop.{Next, Again, Done, onNext, loopOf}
 use Rattle.markup.specs.declared.Skip.{Skip}
 use Rattle.markup.specs.declared.Skip.the-variants as skip
 use Rattle.markup.specs.declared.Char.{Char}
@@ -24,7 +24,9 @@ use Rattle.tags.specs.declared.Tag.the-variants as tag
 use Rattle.tags.specs.declared.Turn.{Turn}
 use Rattle.tags.specs.declared.Turn.the-variants as turn
 use Rattle.attributes.specs.rule.Attribute.{attributeOf}
-use Rattle.tags.specs.rule.Tag.{missesOf, putOf, shutOf, turned, turnOf, onTurn, turnsOf, tagOf}
+use Rattle.tags.specs.rule.Tag.{missesOf, putOf, shutOf, turned, turnOf, turnsOf, tagOf}
+use Rattle.tags.specs.rule.Tag as tags
+use Rattle.tags.proofs.Turns.{turn-on, turns-next, turns-over}
 use Rattle.pairs.specs.declared.Stand.{Stand}
 use Rattle.pairs.specs.declared.Stand.the-variants as stand
 use Rattle.pairs.specs.declared.Pair.{Pair}
@@ -41,7 +43,9 @@ use Rattle.contents.specs.rule.Grammar.{br, text, lang}
 use Rattle.contents.specs.rule.Step.{onChar, onNote, onPair, onBreak, onLanguage, onOther, onOut, onEnd, onAngle, knowing, modeIn, kindOf}
 use Rattle.contents.specs.rule.Step.{bracketAt, returnAt, referAt, noteAt, pairAt, breakAt, languageAt, otherAt, startAt, closeAt, markAt}
 use Rattle.contents.specs.rule.Step.{stepOf}
-use Rattle.contents.specs.rule.Content.{onStep, contentFrom, contentOf}
+use Rattle.contents.specs.rule.Content.{begun, contentFrom, contentOf}
+use Rattle.contents.specs.declared.Said.{Said}
+use Rattle.contents.proofs.Goes.{step-on, content-next, content-over}
 use Rattle.prologs.specs.rule.Form.{Form, done, white, room, word, value, encoding, literal, root, bracket, perhaps, which}
 use Rattle.prologs.specs.rule.Form.{XML, DOCTYPE, UTF-8, ISO-8859-1, sss, declaration, doctype}
 use Rattle.prologs.specs.rule.Told.{startOf, amongOf, alikeOf, quotedOf, missOf, blanks, onSkip, tellOf, declarationOf, gapTo, gapOn}
@@ -52,23 +56,13 @@ use Rattle.prologs.specs.declared.Tail.{Tail}
 use Rattle.prologs.specs.declared.Tail.the-variants as tail
 use Rattle.refusals.specs.Scanned.{either}
 
--- a refusal's number is not 3
+-- the numbers that a definition in XML is refused with: 1, 2, 4 to 10, 50 to 52
+abbrev pub isNumber : ℕ → Bool
+isNumber k = (leb 1 k && (leb k 10 && not (eqb k 3))) || (leb 50 k && leb k 52)
+
+-- a refusal's number is one of them: free of 3, and of the 0 of a loop that ran out
 abbrev pub Free : ℕ → Type 0
-Free k = eqb k 3 ≡ false
-
--- ---- what holds of every answer of a step holds of the loop's
-abbrev Over : {S A : Type 0} → (A → Type 0) → Next S A → Type 0
-Over P (Again s) = Unit
-Over P (Done a) = P a
-
-loop-holds : {S A : Type 0} (P : A → Type 0) (go : S → Next S A) (out : A) → P out → ((s : S) → Over P (go s)) → (f : ℕ) (s : S)
-    → P (loopOf go out f s)
-unfolding loopOf
-loop-holds P go out o h zero s = o
-loop-holds {S} {A} P go out o h (suc f) s = by (go s) (h s) (λ r. loop-holds P go out o h f r) where
-  by : (x : Next S A) → Over P x → ((r : S) → P (loopOf go out f r)) → P (onNext x (loopOf go out f))
-  by (Again r) k w = w r
-  by (Done a) k w = k
+Free k = isNumber k ≡ true
 
 -- ---- tags
 abbrev pub TagFree : Tag → Type 0
@@ -92,16 +86,30 @@ turned-free d x y z f g k required h (attribute.One n e v w next) = put-free h _
 turned-free d x y z f g k required h (attribute.Shut empty place next) = either TagFree (missesOf required h) refl tt
 turned-free d x y z f g k required h (attribute.Faulty p) = refl
 
-on-turn : (t : Turn) → TurnFree t → Over TagFree (onTurn t)
-on-turn (turn.More h) k = tt
-on-turn (turn.Over t) k = k
+-- each turn leads on in the file, so that the loop ends with a tag's end or a fault
+module _ (bad : Bool) (d : List ℕ) (opened : ℕ) (x y z : List ℕ) (f g k required : ℕ) where
+  turn-free : (h : Held) → TurnFree (turnOf bad d opened x y z f g k required h)
+  unfolding turnOf
+  turn-free h = turned-free d x y z f g k required h (attributeOf bad d opened (h .next))
+
+  turn-by : (h : Held)
+      → ((i : Held) → turnOf bad d opened x y z f g k required h ≡ turn.More i → TagFree (turnsOf bad d opened x y z f g k required i))
+      → (r : Turn) → turnOf bad d opened x y z f g k required h ≡ r → TurnFree r → TagFree (turnsOf bad d opened x y z f g k required h)
+  turn-by h ih (turn.More i) o w = rw (turns-next bad d opened x y z f g k required h i o) (ih i o)
+  turn-by h ih (turn.Over t) o w = rw (turns-over bad d opened x y z f g k required h t o) w
+
+  turns-free : (u : ℕ) (h : Held) → length d - h .next ≤ u → TagFree (turnsOf bad d opened x y z f g k required h)
+  turns-free zero h l =
+      turn-by h (λ i o. let m = turn-on bad d opened x y z f g k required h i o in absurd (omega (arith, m .0, m .1)))
+      (turnOf bad d opened x y z f g k required h) refl (turn-free h)
+  turns-free (suc u) h l =
+      turn-by h (λ i o. let m = turn-on bad d opened x y z f g k required h i o in turns-free u i (omega (arith, m .0, m .1)))
+      (turnOf bad d opened x y z f g k required h) refl (turn-free h)
 
 pub tag-free : (bad : Bool) (d : List ℕ) (opened at : ℕ) (x y z : List ℕ) (f g k required : ℕ)
     → TagFree (tagOf bad d opened at x y z f g k required)
-unfolding turnsOf turnOf
 tag-free bad d opened at x y z f g k required =
-    loop-holds TagFree _ (tag.Fault 0 0) refl (λ h. on-turn (turnOf bad d opened x y z f g k required h)
-    (turned-free d x y z f g k required h (attributeOf bad d opened (h .next)))) _ _
+    turns-free bad d opened x y z f g k required (length d - at) (tags.nothing at) (omega arith)
 
 pub bare-free : (bad : Bool) (d : List ℕ) (p e : ℕ) → TagFree (bareOf bad d p e)
 bare-free bad d p e = tag-free bad d p e [] [] [] 0 0 0 0
@@ -205,14 +213,24 @@ module _ (bad : Bool) (d : List ℕ) (g : Going) where
       (either StepFree (eqb (getD d (g .next) 0) 93) (either StepFree (bytes.stands (93 ∷ 93 ∷ 62 ∷ []) (drop (g .next) d)) refl tt)
       (either StepFree (eqb (getD d (g .next) 0) 13) tt tt))))
 
-on-step : (s : Step) → StepFree s → Over ContentFree (onStep s)
-on-step (step.More g s) k = tt
-on-step (step.Over c) k = k
+-- each step leads on in the file
+module _ (bad : Bool) (d : List ℕ) (m : ℕ) (w : List ℕ) where
+  content-by : (g : Going) → ((h : Going) (s : Said) → stepOf bad d m w g ≡ step.More h s → ContentFree (contentFrom bad d m w h))
+      → (r : Step)
+      → stepOf bad d m w g ≡ r → StepFree r → ContentFree (contentFrom bad d m w g)
+  content-by g ih (step.More h s) o k = rw (content-next bad d m w g h s o) (ih h s o)
+  content-by g ih (step.Over c) o k = rw (content-over bad d m w g c o) k
+
+  from-free : (u : ℕ) (g : Going) → length d - g .next ≤ u → ContentFree (contentFrom bad d m w g)
+  from-free zero g l =
+      content-by g (λ h s o. let i = step-on bad d m w g h s o in absurd (omega (arith, i .0, i .1))) (stepOf bad d m w g) refl
+      (step-free bad d g m w)
+  from-free (suc u) g l =
+      content-by g (λ h s o. let i = step-on bad d m w g h s o in from-free u h (omega (arith, i .0, i .1))) (stepOf bad d m w g) refl
+      (step-free bad d g m w)
 
 pub content-free : (bad : Bool) (d : List ℕ) (m : ℕ) (w : List ℕ) (at : ℕ) → ContentFree (contentOf bad d m w at)
-unfolding contentFrom
-content-free bad d m w at = loop-holds ContentFree _ (content.Fault 0 0) refl (λ g. on-step (stepOf bad d m w g) (step-free bad d g m w)) _
-    _
+content-free bad d m w at = from-free bad d m w (length d - at) (begun at) (omega arith)
 
 -- ---- the declaration and the DOCTYPE
 abbrev pub PrologFree : Prolog → Type 0

@@ -1,11 +1,14 @@
--- Every element, and the whole file, as the rule of XML reads them: never refused with 3.
-use mathlib.Core.Path.{_≡_, refl}
+-- Every element, and the whole file, as the rule of XML reads them: refused with numbers that XML has, never with 3; and no loop runs out.
+use mathlib.Core.Path.{_≡_, refl, sym, ap, _∙_}
 use mathlib.Core.Bool.{Bool, true, false, cond}
 use mathlib.Core.List.{List, [], _∷_, _++_}
 use mathlib.Core.Option.{Option, none, some, Option·getD}
-use Prim.Native.Nat.{ℕ, zero, suc, _+_, _-_}
+use Prim.Native.Nat.{ℕ, zero, suc, _+_, _-_, _<_}
+use native.Mathlib.Omega.{arith}
 use lib.Dec.{eqb, ltb}
-use lib.ListN.{length, take, drop}
+use lib.ListN.{length, take, drop, length-append}
+use borrow.Author.Tests.{leb-false}
+use Rattle.layout.specs.rule.Layout.{mostRows, mostLines}
 use Rattle.scan.specs.rule.Loop.{Next, Again, Done}
 use Rattle.markup.specs.declared.Skip.{Skip}
 use Rattle.markup.specs.declared.Skip.the-variants as skip
@@ -34,12 +37,13 @@ use Rattle.prologs.specs.declared.Tail.{Tail}
 use Rattle.prologs.specs.declared.Tail.the-variants as tail
 use Rattle.tokens.specs.declared.Fault.{Fault}
 use Rattle.tokens.specs.rule.Gap.{fault}
-use Rattle.survey.specs.rule.Survey.{Figure, Amount, Text, Block, Content, Variable}
+use Rattle.survey.specs.rule.Survey.{Figure, Amount, Text, Line, Block, Content, Variable}
 use Rattle.survey.specs.rule.Table.{linesAll}
 use Rattle.reading.specs.rule.Result.{Result, Is, Not, Reader, _>>=_, give, bind, repeat, turn}
 use Rattle.reading.specs.rule.Least.{Charge, _when_, named, before, Finding, clean, first, lower, least, found, judged}
 use Rattle.reading.specs.rule.Statement.{Position, positionCharges, spreadCharges, sizeCharges}
-use Rattle.reading.specs.rule.Values.{lineCharges}
+use Rattle.reading.specs.rule.Values.{lineCharges, withLine}
+use Rattle.bridge.specs.Lowest.{never, Clear, clear}
 use Rattle.reading.specs.rule.Variable.{identCharges, room, variableOf, held}
 use Rattle.xml_reading.specs.rule.Word.{SSS, VERSION, OPTIONS, LANGUAGES, DATE, TIME, ORIGIN, USER, SURVEY, NAME, TITLE, RECORD, IDENT}
 use Rattle.xml_reading.specs.rule.Word.{HREF}
@@ -48,7 +52,7 @@ use Rattle.xml_reading.specs.rule.Word.{RANGE, VALUE, FROM, TO, CODE}
 use Rattle.xml_reading.specs.rule.Open.{Open, start, shut, onShut, unknownAt, opened, within, onBare, misplaced, refuse, due, over, onTag}
 use Rattle.xml_reading.specs.rule.Open.{onPair, nothing, entered}
 use Rattle.xml_reading.specs.rule.Open as opens
-use Rattle.xml_reading.specs.rule.Element.{Body, onContent, body, text, position, spread, sizeIn, size}
+use Rattle.xml_reading.specs.rule.Element.{Body, amountIn, onContent, body, text, position, spread, sizeIn, size}
 use Rattle.xml_reading.specs.rule.Block as block
 use Rattle.xml_reading.specs.rule.Role.{Entry, variablesOf, title, naming, filter}
 use Rattle.xml_reading.specs.rule.Variable.{Manner, Then, filtered, spreading, ended}
@@ -58,11 +62,13 @@ use Rattle.xml_reading.specs.rule.Sheet.{variables, cleared, closing}
 use Rattle.xml_reading.specs.rule.Sheet as sheet
 use Rattle.xml_reading.specs.rule.Whole.{Outcome, Built, Refusal, tableOf, namesOf, fitting, judgeNames, settled, sheetOf, declared}
 use Rattle.xml_reading.specs.rule.Whole.{outcomeOf}
+use Rattle.xml_laws.specs.Reads as reads
+use Rattle.xml_laws.specs.Entries as entries
 use Rattle.refusals.specs.Scanned.{either}
 use Rattle.kind_laws.specs.Leaves.{Free, TagFree, tag-free, bare-free, PairFree, pair-free, ContentFree, content-free}
 use Rattle.kind_laws.specs.Leaves.{PrologFree, declaration-free, head-free, TailFree, tail-free}
 
--- what was read has this, or what is refused is not refused with 3
+-- what was read has this, or what is refused has a number that XML has
 abbrev Having : {A : Type 0} → (A → Type 0) → Result A → Type 0
 Having P (Is a n) = P a
 Having P (Not f) = Free (f .number)
@@ -136,15 +142,18 @@ ident-frees : (l : List Variable) (n : Figure) → Frees (identCharges l n)
 unfolding identCharges
 ident-frees l n = (refl, (refl, (refl, (refl, tt))))
 
--- ---- again and again
-repeat-fine : {S A : Type 0} (go : S → Reader (Next S A)) → ((s : S) (n : ℕ) → Fine (go s n)) → (f : ℕ) (s : S) (n : ℕ)
+-- ---- again and again, in more turns than there may be
+repeat-fine : {S A : Type 0} (go : S → Reader (Next S A)) (left : S → ℕ) → ((s : S) (n : ℕ) → Fine (go s n))
+    → ((s : S) (n : ℕ) (r : S) (m : ℕ) → go s n ≡ Is (Again r) m → left r < left s) → (f : ℕ) (s : S) (n : ℕ) → left s < f
     → Fine (repeat f go s n)
 unfolding repeat
-repeat-fine go h zero s n = refl
-repeat-fine {S} {A} go h (suc f) s n = bind-fine (go s n) _ (h s n) (by (λ r m. repeat-fine go h f r m)) where
-  by : ((r : S) (m : ℕ) → Fine (repeat f go r m)) → (x : Next S A) (m : ℕ) → Fine (turn (repeat f go) x m)
-  by w (Again r) m = w r m
-  by w (Done a) m = tt
+repeat-fine go left h k zero s n l = absurd (omega arith)
+repeat-fine {S} {A} go left h k (suc f) s n l = by (λ r m i. repeat-fine go left h k f r m i) (go s n) refl (h s n) where
+  by : ((r : S) (m : ℕ) → left r < f → Fine (repeat f go r m)) → (x : Result (Next S A)) → go s n ≡ x → Fine x
+      → Fine (bind x (turn (repeat f go)))
+  by w (Is (Again r) m) e u = let z = k s n r m e in w r m (omega arith)
+  by w (Is (Done a) m) e u = tt
+  by w (Not x) e u = u
 
 module _ (bad : Bool) (d : List ℕ) where
   -- ---- where a tag is due
@@ -275,12 +284,58 @@ module _ (bad : Bool) (d : List ℕ) where
     unfolding block.another
     another-fine b n = bind-fine (within bad d VALUES n) _ (within-fine VALUES n) (on-open b)
 
+    -- a line more is one fewer to come
+    few-lines : (b : Block) (a : Amount) (l : List Charge) → Clear (lineCharges quantity before b a ++ l)
+        → before + length (b .lines) < mostLines
+    unfolding lineCharges
+    few-lines b a l (clear p (clear q (clear r (clear s (clear t u))))) = leb-false mostLines (before + length (b .lines)) t
+
+    grown : (b : Block) (l : Line) {c : Block} → withLine b l ≡ c → length (c .lines) ≡ length (b .lines) + 1
+    grown b l e = sym (ap (λ (z : Block). length (z .lines)) e) ∙ length-append (b .lines) (l ∷ [])
+
+    line-few : (b : Block) (p e : ℕ) (l : Line) (m : ℕ) → block.line bad d languages quantity before b p e ≡ Is l m
+        → before + length (b .lines) < mostLines
+    unfolding block.line
+    line-few b p e l m f =
+        let o = reads.opened bad d (tagOf bad d p e CODE [] [] 2 0 0 1) _ l m f in
+        let h = o .held in
+        let a = amountIn d (h .a) (h .ae) in
+        let t = reads.bound (body bad d VALUE (block.rich languages) (o .empty) (o .next)) _ l m (o .then-is) in
+        let c = unknownAt (h .unknown) ∷ t .value .charges in
+        few-lines b a c (reads.judged-is (lineCharges quantity before b a ++ c)
+        (record { value = a; text = t .value .text; special = false })
+        (t .place) (t .then-is) .2)
+
+    more-lines : (b : Block) (n : ℕ) (c : Block) (m : ℕ) → block.another bad d languages quantity before b n ≡ Is (Again c) m
+        → mostLines - (before + length (c .lines)) < mostLines - (before + length (b .lines))
+    unfolding block.another
+    more-lines b n c m f =
+        let a = reads.bound (within bad d VALUES n) (block.onOpen bad d languages quantity before b) (Again c) m f in
+        by (a .value) (a .place) (a .then-is) where
+          by : (o : Open) (k : ℕ) → block.onOpen bad d languages quantity before b o k ≡ Is (Again c) m
+              → mostLines - (before + length (c .lines)) < mostLines - (before + length (b .lines))
+          by (start p) k f =
+              let u = entries.due-is bad d VALUE (start p) (λ q. block.lined bad d languages quantity before b q >>= λ c. give (Again c)) k
+              f in
+              let v = reads.bound (block.lined bad d languages quantity before b (u .place) k) (λ c. give (Again c)) (Again c) m
+              (u .then-is) in
+              let w = reads.bound (block.line bad d languages quantity before b (u .place) k) (λ l. give (withLine b l)) (v .value)
+              (v .place) (v .first-is) in
+              let x = w .then-is in
+              let y = v .then-is in
+              let i : withLine b (w .value) ≡ c = cc in
+              omega (arith, line-few b (u .place) k (w .value) (w .place) (w .first-is), grown b (w .value) i)
+          by (shut p) k f = never cc
+
     first-fine : (n : ℕ) → Fine (block.first bad d languages quantity before n)
     unfolding block.first
     first-fine n =
         bind-fine (within bad d VALUES n) _ (within-fine VALUES n) λ o m.
         either-fine RANGE o _ _ m (λ p. bind-fine (block.range bad d quantity p m) _ (range-fine quantity p m) (λ r k. tt))
         (due-fine VALUE o _ m (λ p. lined-fine _ p m))
+
+    turns-enough : (b : Block) → mostLines - (before + length (b .lines)) < suc mostLines
+    turns-enough b = omega arith
 
     values-fine : (p e : ℕ) → Fine (block.values bad d languages quantity before p e)
     unfolding block.values
@@ -289,7 +344,8 @@ module _ (bad : Bool) (d : List ℕ) where
         bind-fine (entered bad d (unknownAt (h .unknown) ∷ []) tt empty q n) _
         (entered-fine (unknownAt (h .unknown) ∷ []) tt empty q n (refl, tt)) λ u m.
         bind-fine (block.first bad d languages quantity before m) _ (first-fine m) λ b k.
-        repeat-fine (block.another bad d languages quantity before) another-fine _ b k
+        repeat-fine (block.another bad d languages quantity before) (λ c. mostLines - (before + length (c .lines))) another-fine more-lines
+        (suc mostLines) b k (turns-enough b)
 
   -- ---- a variable
   title-fine : (old : Bool) (earlier : List Entry) (p e : ℕ) → Fine (title bad d old earlier p e)
@@ -451,12 +507,36 @@ module _ (bad : Bool) (d : List ℕ) where
     unfolding sheet.another
     more-fine l n = bind-fine (within bad d RECORD n) _ (within-fine RECORD n) (opens-fine l)
 
+    -- a variable more is one fewer to come
+    variable-few : (l : List Entry) (q n : ℕ) (v : Entry) (k : ℕ) → variable.variable bad d m l q n ≡ Is v k → length l < mostRows
+    unfolding variable.variable
+    variable-few l q n v k f =
+        let t = reads.bound (title bad d (m .old) l q n) _ v k f in
+        entries.title-fine bad d (m .old) l q n (t .first-is) .left
+
+    more-rows : (l : List Entry) (n : ℕ) (r : List Entry) (k : ℕ) → sheet.another bad d m l n ≡ Is (Again r) k
+        → mostRows - length r < mostRows - length l
+    unfolding sheet.another
+    more-rows l n r k f =
+        let a = reads.bound (within bad d RECORD n) (sheet.onOpen bad d m l) (Again r) k f in
+        by (a .value) (a .place) (a .then-is) where
+          by : (o : Open) (i : ℕ) → sheet.onOpen bad d m l o i ≡ Is (Again r) k → mostRows - length r < mostRows - length l
+          by (start p) i f =
+              let u = entries.due-is bad d VARIABLE (start p) (λ q. variable.variable bad d m l q >>= λ v. give (Again (l ++ v ∷ []))) i
+              f in
+              let v = reads.bound (variable.variable bad d m l (u .place) i) (λ v. give (Again (l ++ v ∷ []))) (Again r) k (u .then-is) in
+              let x = v .then-is in
+              let j : l ++ v .value ∷ [] ≡ r = cc in
+              let h = ap length j in
+              omega (arith, variable-few l (u .place) i (v .value) (v .place) (v .first-is), length-append l (v .value ∷ []))
+          by (shut p) i f = never cc
+
     variables-fine : (n : ℕ) → Fine (variables bad d m n)
     unfolding variables
     variables-fine n =
         bind-fine (within bad d RECORD n) _ (within-fine RECORD n) λ o n.
         bind-fine (due bad d VARIABLE o (variable.variable bad d m []) n) _ (due-fine VARIABLE o _ n (λ p. variable-fine m [] p n)) λ v n.
-        repeat-fine (sheet.another bad d m) more-fine _ (v ∷ []) n
+        repeat-fine (sheet.another bad d m) (λ l. mostRows - length l) more-fine more-rows (suc mostRows) (v ∷ []) n (omega arith)
 
   closing-fine : (n : ℕ) → Fine (closing bad d n)
   unfolding closing

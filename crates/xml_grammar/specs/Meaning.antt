@@ -11,7 +11,7 @@ use Rattle.tokens.specs.rule.Gap.{fault}
 use Rattle.survey.specs.rule.Survey.{Figure, Amount, Text, Content, Block, single, multiple, quantity, character, logical}
 use Rattle.survey.specs.rule.Survey as survey
 use Rattle.survey.specs.rule.Table.{linesAll}
-use Rattle.reading.specs.rule.Result.{Reader, _>>=_, give, bind}
+use Rattle.reading.specs.rule.Result.{Reader, _>>=_, give}
 use Rattle.reading.specs.rule.Least.{Charge, _when_, judged}
 use Rattle.reading.specs.rule.Statement.{positionCharges, spreadCharges, sizeCharges}
 use Rattle.reading.specs.rule.Statement as statement
@@ -138,6 +138,13 @@ thirdLater (x ∷ []) = false
 thirdLater (x ∷ y ∷ []) = false
 thirdLater (x ∷ y ∷ z ∷ l) = isLater z
 
+-- the variable that is open, once all of it was read; and what is known behind it
+abbrev pub variableIn : State → survey.Variable
+variableIn s = variableOf (s .ident) (s .name) (s .label) (s .place) (contentIn (s .sort) s)
+
+abbrev pub withEntry : State → survey.Variable → State
+withEntry s v = between (s .manner) (s .entries ++ record { variable = v; usage = s .usage; filter = s .filter } ∷ [])
+
 -- ---- elements that say something
 -- says nothing that a table has
 abbrev pub mute : Meaning State
@@ -165,6 +172,63 @@ module _ (d : List ℕ) where
   abbrev pub amountB : Held → Amount
   amountB h = amountIn d (h .b) (h .be)
 
+  -- the row, plus one, that a filter names
+  abbrev pub filterIn : State → Text → ℕ
+  filterIn s t = filterOf (s .manner .latin) (s .manner .standard) d (s .entries) (s .name) (s .usage) t
+
+  -- ---- what each element says: what is known behind it, or behind its start tag where it holds others
+  abbrev pub saysOf : Element → State → Held → Text → State
+  saysOf Sss s h t =
+      between (record {
+        old = saysWord d (h .a) (h .ae) ONE-ONE;
+        languages = not (eqb (h .c) 0);
+        standard = not (eqb (h .b) 0);
+        latin = s .manner .latin;
+      }) []
+  saysOf Date s h t = s
+  saysOf Time s h t = s
+  saysOf Origin s h t = s
+  saysOf User s h t = s
+  saysOf Survey s h t = s
+  saysOf SurveyName s h t = s
+  saysOf SurveyVersion s h t = s
+  saysOf Title s h t = s
+  saysOf Record s h t = s
+  saysOf Variable s h t =
+      begun (s .manner) (s .entries) (figureA h) (sortOf (typeAt d (h .b) (h .be))) (useAt d (h .c) (h .ce))
+  saysOf Name s h t = withName s t
+  saysOf Label s h t = withLabel s t
+  saysOf Position s h t = withPlace s (record { start = figureA h; finish = figureB h })
+  saysOf Filter s h t = withFilter s (filterIn s t)
+  saysOf Spread s h t = withSpread s (record { count = figureA h; width = figureB h })
+  saysOf Size s h t = withSize s (figureOf d (t .place) (t .place + t .length))
+  saysOf Values s h t = withBlock s (unlisted none)
+  saysOf Range s h t = withBlock s (unlisted (some (rangeFrom (amountA h) (amountB h))))
+  saysOf Value s h t = withBlock s (withLine (s .block) (record { value = amountA h; text = t; special = false }))
+
+  -- what is charged behind all else in an element: names and filters
+  abbrev pub behindOf : Element → State → Text → List Charge
+  behindOf Sss s t = []
+  behindOf Date s t = []
+  behindOf Time s t = []
+  behindOf Origin s t = []
+  behindOf User s t = []
+  behindOf Survey s t = []
+  behindOf SurveyName s t = []
+  behindOf SurveyVersion s t = []
+  behindOf Title s t = []
+  behindOf Record s t = []
+  behindOf Variable s t = []
+  behindOf Name s t = fault 52 (t .place) when hasServed (s .manner .latin) (s .manner .standard) d (s .entries) t ∷ []
+  behindOf Label s t = []
+  behindOf Position s t = []
+  behindOf Filter s t = fault 52 (t .place) when eqb (filterIn s t) 0 ∷ []
+  behindOf Spread s t = []
+  behindOf Size s t = []
+  behindOf Values s t = []
+  behindOf Range s t = []
+  behindOf Value s t = []
+
   -- "4 in XML a version not 1.1 or 1.2"; "Version 1.1 has no .. languages": the version is known only with the tag read
   abbrev pub sss : Meaning State
   sss = record {
@@ -172,12 +236,7 @@ module _ (d : List ℕ) where
     also = λ s h t.
         cond (thirdLater (ruleOf Sss .attributes)) (fault 51 (h .third) when (saysWord d (h .a) (h .ae) ONE-ONE && not (eqb (h .c) 0)) ∷ [])
         [];
-    said = λ s h t. give (between (record {
-      old = saysWord d (h .a) (h .ae) ONE-ONE;
-      languages = not (eqb (h .c) 0);
-      standard = not (eqb (h .b) 0);
-      latin = s .manner .latin;
-    }) []);
+    said = λ s h t. give (saysOf Sss s h t);
     closed = give;
   }
 
@@ -186,21 +245,17 @@ module _ (d : List ℕ) where
   variable = record {
     charges = λ s h t. identCharges (variablesOf (s .entries)) (figureA h);
     also = λ s h t. fault 52 (h .c) when useWrong (s .entries) (useAt d (h .c) (h .ce)) (typeAt d (h .b) (h .be)) ∷ [];
-    said = λ s h t. give (begun (s .manner) (s .entries) (figureA h) (sortOf (typeAt d (h .b) (h .be))) (useAt d (h .c) (h .ce)));
-    closed = λ s.
-        held (variableOf (s .ident) (s .name) (s .label) (s .place) (contentIn (s .sort) s)) >>= λ v.
-        give (between (s .manner) (s .entries ++ record { variable = v; usage = s .usage; filter = s .filter } ∷ []));
+    said = λ s h t. give (saysOf Variable s h t);
+    closed = λ s. held (variableIn s) >>= λ v. give (withEntry s v);
   }
 
   -- "A later variable with the name of a logical that has served as a filter is 52 at its name's text"
   abbrev pub named : State → Text → Reader State
-  named s t = judged (fault 52 (t .place) when hasServed (s .manner .latin) (s .manner .standard) d (s .entries) t ∷ []) (withName s t)
+  named s t = judged (behindOf Name s t) (withName s t)
 
   -- "exactly one has the decoded text as its name, and that is an earlier logical; else .. 52 at the text's place"
   abbrev pub filtered : State → Text → Reader State
-  filtered s t =
-      let f = filterOf (s .manner .latin) (s .manner .standard) d (s .entries) (s .name) (s .usage) t in
-      judged (fault 52 (t .place) when eqb f 0 ∷ []) (withFilter s f)
+  filtered s t = judged (behindOf Filter s t) (withFilter s (filterIn s t))
 
   abbrev pub meaningOf : Element → Meaning State
   meaningOf Sss = sss
@@ -217,22 +272,14 @@ module _ (d : List ℕ) where
   meaningOf Name = tells named
   meaningOf Label = tells λ s t. give (withLabel s t)
   meaningOf Position =
-      judges (λ s h t. positionCharges (figureA h) (Option·getD (figureB h) (figureA h)))
-      λ s h t. withPlace s (record { start = figureA h; finish = figureB h })
+      judges (λ s h t. positionCharges (figureA h) (Option·getD (figureB h) (figureA h))) (saysOf Position)
   meaningOf Filter = tells filtered
-  meaningOf Spread =
-      judges (λ s h t. spreadCharges (room (s .place)) (figureA h) (figureB h))
-      λ s h t. withSpread s (record { count = figureA h; width = figureB h })
-  meaningOf Size =
-      judges (λ s h t. sizeCharges (figureOf d (t .place) (t .place + t .length)))
-      λ s h t. withSize s (figureOf d (t .place) (t .place + t .length))
-  meaningOf Values = judges (λ s h t. []) λ s h t. withBlock s (unlisted none)
-  meaningOf Range =
-      judges (λ s h t. pairCharges (isQuantity (s .sort)) (amountA h) (amountB h))
-      λ s h t. withBlock s (unlisted (some (rangeFrom (amountA h) (amountB h))))
+  meaningOf Spread = judges (λ s h t. spreadCharges (room (s .place)) (figureA h) (figureB h)) (saysOf Spread)
+  meaningOf Size = judges (λ s h t. sizeCharges (figureOf d (t .place) (t .place + t .length))) (saysOf Size)
+  meaningOf Values = judges (λ s h t. []) (saysOf Values)
+  meaningOf Range = judges (λ s h t. pairCharges (isQuantity (s .sort)) (amountA h) (amountB h)) (saysOf Range)
   meaningOf Value =
-      judges (λ s h t. lineCharges (isQuantity (s .sort)) (linesBefore s) (s .block) (amountA h))
-      λ s h t. withBlock s (withLine (s .block) (record { value = amountA h; text = t; special = false }))
+      judges (λ s h t. lineCharges (isQuantity (s .sort)) (linesBefore s) (s .block) (amountA h)) (saysOf Value)
 
   -- "4,096 value lines in all", "512 variables"
   abbrev pub turnsOf : Element → ℕ

@@ -1,0 +1,9 @@
+pub mod Charges
+pub mod Table
+pub mod Tags
+pub mod Stands
+pub mod Bodies
+pub mod Read
+pub mod Fewer
+pub mod Derived
+pub mod Whole

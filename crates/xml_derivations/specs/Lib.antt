@@ -1,0 +1,3 @@
+pub mod Tag
+pub mod Derivation
+pub mod Document

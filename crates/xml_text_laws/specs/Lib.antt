@@ -1,0 +1,3 @@
+pub mod Boundaries
+pub mod Texts
+pub mod Decoded
