@@ -12,3 +12,4 @@ pub mod Joining
 pub mod Storing
 pub mod Leads
 pub mod Summing
+pub mod Passing

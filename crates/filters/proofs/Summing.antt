@@ -85,6 +85,21 @@ sum-none a e = rw e
 pub room-empty : (latin : Bool) (d : List ℕ) (rows : List ℤ) (sums : List ℕ) → length sums ≡ 1024 → Summing latin d rows 0 sums
 room-empty latin d rows sums h = record { room = h; names = λ i k. absurd (omega arith); served = λ i k. absurd (omega arith) }
 
+-- a name that none of the rows with a filter has has not served
+module _ (latin standard : Bool) (d : List ℕ) (rows : List ℤ) (count : ℕ) {n : ℕ} (y : Lying n rows count) (t : Text)
+    (row : (i : ℕ) → i < count → false
+    ≡ (ltb 0 (columnIn rows i 19) && sameName latin standard d t (nameIn rows (columnIn rows i 19 - 1)))) where
+  unserved : (i : ℕ) → i ≤ count → SomeFrom rows count (servedBy latin standard d t) i
+  unserved zero h = served-begin latin standard d rows count t
+  unserved (suc i) h =
+      let e : suc i ≡ i + 1 = omega arith in
+      rw e (some-next rows count (servedBy latin standard d t) i h (unserved i (omega arith))
+      (served-row latin standard d rows count t y i h false (row i h)))
+
+  pub rows-unserved : ServedSaid latin standard d rows count t false
+  rows-unserved = served-said latin standard d rows count t false
+      (some-over rows count (servedBy latin standard d t) count (omega arith) (unserved count (omega arith)))
+
 module _ (latin standard : Bool) (d : List ℕ) (rows : List ℤ) (count : ℕ) (sums : List ℕ) (y : Known latin d rows count sums) (t : Text)
     (empty : getD sums (binOf (sumIn latin d t)) 0 ≡ 0) where
   -- a name whose bin is empty has not served
@@ -103,16 +118,8 @@ module _ (latin standard : Bool) (d : List ℕ) (rows : List ℤ) (count : ℕ) 
         by-bin : _≡_ {A = ℕ} 1 0 → ⊥
         by-bin q = omega arith
 
-  unserved : (i : ℕ) → i ≤ count → SomeFrom rows count (servedBy latin standard d t) i
-  unserved zero h = served-begin latin standard d rows count t
-  unserved (suc i) h =
-      let e : suc i ≡ i + 1 = omega arith in
-      rw e (some-next rows count (servedBy latin standard d t) i h (unserved i (omega arith))
-      (served-row latin standard d rows count t (y .lying) i h false (row-unserved i h)))
-
   pub bin-unserved : ServedSaid latin standard d rows count t false
-  bin-unserved = served-said latin standard d rows count t false
-      (some-over rows count (servedBy latin standard d t) count (omega arith) (unserved count (omega arith)))
+  bin-unserved = rows-unserved latin standard d rows count (y .lying) t row-unserved
 
 -- ---- one row more
 module _ (latin : Bool) (d : List ℕ) (rows : List ℤ) (i : ℕ) (sums : List ℕ) (s : Summing latin d rows i sums) (few : i < mostRows)

@@ -1,10 +1,12 @@
 -- THE SUM OF A NAME. Names that are one have one sum (`proofs/Summing.antt`): those whose sums differ need not be compared.
 use mathlib.Core.Path.{_≡_}
-use mathlib.Core.Bool.{Bool}
+use mathlib.Core.Bool.{Bool, not}
 use mathlib.Core.List.{List, [], _∷_}
 use Prim.Native.Nat.{ℕ, _+_, _-_, _*_, _%_, _≤_, _<_}
+use lib.Dec.{eqb}
 use lib.IntN.{ℤ}
 use lib.ListN.{length, getD}
+use Rattle.below.specs.rule.Below.{allBelow}
 use Rattle.ascii.specs.rule.Class.{upperOf}
 use Rattle.layout.specs.rule.Layout.{mostRows}
 use Rattle.signs.specs.declared.Sign.{Sign}
@@ -45,6 +47,16 @@ pub record Summing (latin : Bool) (d : List ℕ) (rows : List ℤ) (count : ℕ)
   pub names : (i : ℕ) → i < count → getD sums i 0 ≡ sumIn latin d (nameIn rows i)
   pub served : (i : ℕ) → i < count → (columnIn rows i 19 ≡ 0 → ⊥)
       → getD sums (binOf (sumIn latin d (nameIn rows (columnIn rows i 19 - 1)))) 0 ≡ 1
+
+-- none of the n rows from i on has that sum
+unfoldable pub allApart : List ℕ → ℕ → ℕ → ℕ → Bool
+allApart sums sum i n = allBelow n (λ k. not (eqb (getD sums (i + k) 0) sum))
+
+-- none from p on before r has
+pub record Apart (sums : List ℕ) (sum count p r : ℕ) : Type 0 where
+  pub none : (j : ℕ) → p ≤ j → j < r → getD sums j 0 ≡ sum → ⊥
+  pub on : p ≤ r
+  pub within : r ≤ count
 
 -- so many rows may be asked, by their sums too
 pub record Known (latin : Bool) (d : List ℕ) (rows : List ℤ) (count : ℕ) (sums : List ℕ) : Type 0 where

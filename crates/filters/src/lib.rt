@@ -27,7 +27,7 @@ ghost use Rattle.xml_reading.specs.rule.Element.{figureOf};
 ghost use Rattle.xml_reading.specs.rule.Role.{typeAt, useAt, mayServe, signsIn, alike, sameName};
 ghost use Rattle.filters.specs.Code.{textAt, likeOf, Ready, Meets, plainOf, Leads, columnIn, nameIn, servedIn, Lying};
 ghost use Rattle.filters.specs.Code.{titleTag, titledBy, TitleSaid, NamingSaid, FilteringSaid};
-ghost use Rattle.filters.specs.Sums.{foldedOf, sumWith, sumFrom, sumIn, binOf, Adds, Summing, Known};
+ghost use Rattle.filters.specs.Sums.{foldedOf, sumWith, sumFrom, sumIn, binOf, Adds, Summing, Known, allApart, Apart};
 ghost use Rattle.filters.specs.Code.{ServedSaid, CountSaid, FoundSaid, FilterSaid, TakenSaid, UseSaid, NamesSaid};
 
 // ---- names, sign by sign
@@ -309,6 +309,55 @@ fn is_name(
     same_name(latin, standard, d, p, n, q, m)
 }
 
+// Whether none of the sixteen sums from i on is that sum. Nothing leaves the loop early: so the compiler looks at all of them at once.
+fn all_apart(sums: &[u16], i: usize, sum: u16) -> bool
+    requires { ⌜ i + 16 ≤ length (now sums) ⌝ }
+    ensures { λ r. ⌜ r ≡ allApart (now (sums .entry)) sum i 16 ⌝ }
+{
+    let mut apart = true;
+    let mut k: usize = 0;
+    while k < 16 {
+        apart = apart & (sums[i + k] != sum);
+        k += 1;
+    }
+    apart
+}
+
+// A row from a row on with none of that sum before it, at whole steps of sixteen.
+fn pass_wide(sums: &[u16], count: usize, from: usize, sum: u16) -> usize
+    requires { ⌜ (from ≤ count) × (count ≤ length (now sums)) ⌝ }
+    ensures { λ r. ⌜ Apart (now (sums .entry)) sum count from r ⌝ }
+{
+    if count < 16 {
+        return from;
+    }
+    let last = count - 16;
+    let mut i = from;
+    while i <= last {
+        if !all_apart(sums, i, sum) {
+            return i;
+        }
+        i += 16;
+    }
+    i
+}
+
+// The first row from a row on whose name has that sum; the count where none has. Most rows have another, and names are compared only
+// where sums agree: so a name is asked of all rows before at less than an instruction each.
+fn pass_apart(sums: &[u16], count: usize, from: usize, sum: u16) -> usize
+    requires { ⌜ (from ≤ count) × (count ≤ length (now sums)) ⌝ }
+    ensures { λ r. ⌜ Apart (now (sums .entry)) sum count from r ⌝ }
+{
+    let mut i = pass_wide(sums, count, from, sum);
+    while i < count {
+        if sums[i] == sum {
+            return i;
+        }
+        i += 1;
+    }
+    i
+}
+
 // Whether row i has a filter, and the text is that one's name.
 fn is_served(
     latin: bool,
@@ -353,6 +402,9 @@ pub fn has_served(
     if sums[bin] == 0 {
         return false;
     }
+    if pass_apart(sums, count, 0, sum) == count {
+        return false;
+    }
     let mut i: usize = 0;
     while i < count {
         if is_served(latin, standard, d, rows, count, i, p, n, sums, sum) {
@@ -382,8 +434,11 @@ fn count_named(
     let mut found: usize = 0;
     let mut i: usize = 0;
     while i < count {
-        let k = i;
-        i += 1;
+        let k = pass_apart(sums, count, i, sum);
+        if count <= k {
+            return found;
+        }
+        i = k + 1;
         if is_name(latin, standard, d, rows, count, k, p, n, sums, sum) {
             found += 1;
         }
@@ -409,9 +464,13 @@ fn find_logical(
 {
     let mut i: usize = 0;
     while i < count {
-        let named = is_name(latin, standard, d, rows, count, i, p, n, sums, sum);
-        let kind = column(rows, i, Row::TYPE);
-        i += 1;
+        let k = pass_apart(sums, count, i, sum);
+        if count <= k {
+            return 0;
+        }
+        let named = is_name(latin, standard, d, rows, count, k, p, n, sums, sum);
+        let kind = column(rows, k, Row::TYPE);
+        i = k + 1;
         if named & (kind == 5) {
             return i;
         }

@@ -1,7 +1,7 @@
 // White space, names, references, comments and gaps, byte by byte. The text ends where the characters do (utf::first_bad); `bad` says
 // that a bad character cuts it there, and not the file's end.
 ghost use mathlib.Core.Path.{_≡_};
-ghost use mathlib.Core.Bool.{cond};
+ghost use mathlib.Core.Bool.{true, cond};
 ghost use mathlib.Core.List.{[], _∷_};
 ghost use Prim.Native.Nat.{_+_, _-_, _≤_, _<_};
 ghost use lib.Dec.{leb, eqb};
@@ -9,7 +9,8 @@ ghost use lib.ListN.{length, drop};
 ghost use Rattle.markup.specs.rule.Bytes.{isWhite, isDigit, isHex, startsName, isName, ofKind, runOf, stands, endFault};
 ghost use Rattle.markup.specs.rule.Reference.{digitOf, pushOf, capped, figureOf, closedOf, namedOf, numberedOf, referenceOf};
 ghost use Rattle.markup.specs.rule.Reference.{digitKind};
-ghost use Rattle.markup.specs.rule.Gap.{commentOf, moveOf, gapOf};
+ghost use Rattle.markup.specs.rule.Gap.{commentOf, gapOf};
+ghost use Rattle.markup.specs.White.{Whites, Passed};
 
 pub fn is_white(b: u8) -> bool
     ensures { λ r. ⌜ r ≡ isWhite b ⌝ }
@@ -82,17 +83,25 @@ pub fn is_there(d: &[u8], at: usize, w: &[u8]) -> bool
     requires { ⌜ at ≤ length (now d) ⌝ }
     ensures { λ r. ⌜ r ≡ stands (now (w .entry)) (drop at (now (d .entry))) ⌝ }
 {
+    if d.len() - at < w.len() {
+        return false;
+    }
     let mut i: usize = 0;
     while i < w.len() {
-        if d.len() - at <= i {
-            return false;
-        }
         if d[at + i] != w[i] {
             return false;
         }
         i += 1;
     }
     true
+}
+
+// Whether four bytes stand at a place: the compiler compares them as one number.
+fn are_four(d: &[u8], at: usize, a: u8, b: u8, c: u8, e: u8) -> bool
+    requires { ⌜ at + 4 ≤ length (now d) ⌝ }
+    ensures { λ r. ⌜ r ≡ stands (a ∷ b ∷ c ∷ e ∷ []) (drop at (now (d .entry))) ⌝ }
+{
+    (d[at] == a) & ((d[at + 1] == b) & ((d[at + 2] == c) & (d[at + 3] == e)))
 }
 
 // Where the text ends too early.
@@ -184,26 +193,47 @@ fn closed(d: &[u8], n: usize, code: u64) -> Char
     Char::Bad
 }
 
+// The character whose name begins with a, or 0.
+fn with_a(d: &[u8], at: usize) -> u64
+    requires { ⌜ at ≤ length (now d) ⌝ }
+    ensures { λ r. ⌜ r ≡ cond (stands (97 ∷ 109 ∷ 112 ∷ 59 ∷ []) (drop at (now (d .entry)))) 38
+        (cond (stands (97 ∷ 112 ∷ 111 ∷ 115 ∷ 59 ∷ []) (drop at (now (d .entry)))) 39 0) ⌝ }
+{
+    if is_there(d, at, b"amp;") {
+        return 38;
+    }
+    if is_there(d, at, b"apos;") { 39 } else { 0 }
+}
+
+// The character whose name stands at a place with its semicolon; 0 where none of the five does. The first byte tells which it may be.
 fn named(d: &[u8], at: usize) -> u64
     requires { ⌜ at ≤ length (now d) ⌝ }
     ensures { λ r. ⌜ r ≡ namedOf (drop at (now (d .entry))) ⌝ }
 {
-    if is_there(d, at, b"lt;") {
-        return 60;
+    if d.len() <= at {
+        return 0;
     }
-    if is_there(d, at, b"gt;") {
-        return 62;
+    let b = d[at];
+    if b == 97 {
+        return with_a(d, at);
     }
-    if is_there(d, at, b"amp;") {
-        return 38;
+    if b == 108 {
+        return if_there(d, at, b"lt;", 60);
     }
-    if is_there(d, at, b"apos;") {
-        return 39;
+    if b == 103 {
+        return if_there(d, at, b"gt;", 62);
     }
-    if is_there(d, at, b"quot;") {
-        return 34;
+    if b == 113 {
+        return if_there(d, at, b"quot;", 34);
     }
     0
+}
+
+fn if_there(d: &[u8], at: usize, w: &[u8], code: u64) -> u64
+    requires { ⌜ at ≤ length (now d) ⌝ }
+    ensures { λ r. ⌜ r ≡ cond (stands (now (w .entry)) (drop at (now (d .entry)))) code 0 ⌝ }
+{
+    if is_there(d, at, w) { code } else { 0 }
 }
 
 // How long the name of such a character is, with its semicolon.
@@ -270,9 +300,13 @@ pub fn comment(bad: bool, d: &[u8], opened: usize, at: usize) -> Skip
 }
 
 fn two_dashes(d: &[u8], at: usize) -> bool
-    requires { ⌜ at ≤ length (now d) ⌝ }
+    requires { ⌜ at < length (now d) ⌝ }
     ensures { λ r. ⌜ r ≡ stands (45 ∷ 45 ∷ []) (drop at (now (d .entry))) ⌝ }
 {
+    // most bytes are none
+    if d[at] != 45 {
+        return false;
+    }
     is_there(d, at, b"--")
 }
 
@@ -283,33 +317,89 @@ fn dashes_close(d: &[u8], at: usize) -> bool
     is_there(d, at, b"-->")
 }
 
-// One step of a gap.
+// One step of a value or a gap.
 pub enum Move {
     Go(usize),
     Stop(Skip),
 }
 
-fn move_gap(bad: bool, d: &[u8], at: usize) -> Move
+// Whether a comment opens at a place.
+fn is_note(d: &[u8], at: usize) -> bool
     requires { ⌜ at ≤ length (now d) ⌝ }
-    ensures { λ r. ⌜ r ≡ moveOf bad at (drop at (now (d .entry))) ⌝ }
+    ensures { λ r. ⌜ r ≡ stands (60 ∷ 33 ∷ 45 ∷ 45 ∷ []) (drop at (now (d .entry))) ⌝ }
+{
+    if d.len() - at < 4 {
+        return false;
+    }
+    are_four(d, at, 60, 33, 45, 45)
+}
+
+fn four_spaces(d: &[u8], at: usize) -> bool
+    requires { ⌜ at + 4 ≤ length (now d) ⌝ }
+    ensures { λ r. ⌜ (r ≡ true → Whites (now (d .entry)) at (at + 4)) ⌝ }
+{
+    are_four(d, at, 32, 32, 32, 32)
+}
+
+// Up to sixteen spaces, by fours.
+fn pass_sixteen(d: &[u8], i: usize) -> usize
+    requires { ⌜ i + 16 ≤ length (now d) ⌝ }
+    ensures { λ r. ⌜ Whites (now (d .entry)) i r ⌝ }
+{
+    if !four_spaces(d, i) {
+        return i;
+    }
+    if !four_spaces(d, i + 4) {
+        return i + 4;
+    }
+    if !four_spaces(d, i + 8) {
+        return i + 8;
+    }
+    if four_spaces(d, i + 12) {
+        i + 16
+    } else {
+        i + 12
+    }
+}
+
+// Most of the white space between two tags: a line's end and the spaces behind it.
+fn pass_line(d: &[u8], at: usize) -> usize
+    requires { ⌜ at ≤ length (now d) ⌝ }
+    ensures { λ r. ⌜ Whites (now (d .entry)) at r ⌝ }
+{
+    if d.len() - at < 18 {
+        return at;
+    }
+    if d[at] == 10 {
+        return pass_sixteen(d, at + 1);
+    }
+    if (d[at] == 13) & (d[at + 1] == 10) {
+        return pass_sixteen(d, at + 2);
+    }
+    at
+}
+
+// The place after white space, as `run` has it: most of it at once.
+fn pass_white(d: &[u8], at: usize) -> usize
+    requires { ⌜ at ≤ length (now d) ⌝ }
+    ensures { λ r. ⌜ Passed (now (d .entry)) at r ⌝ }
 {
     if d.len() <= at {
-        return Move::Stop(Skip::Past(at));
+        return at;
     }
-    if is_white(d[at]) {
-        return Move::Go(at + 1);
+    // a mark behind a mark
+    if d[at] == 60 {
+        return at;
     }
-    if is_there(d, at, b"<!--") {
-        match comment(bad, d, at, at + 4) {
-            Skip::Past(n) => {
-                return Move::Go(n);
-            }
-            Skip::Broken(p) => {
-                return Move::Stop(Skip::Broken(p));
-            }
+    let mut i = pass_line(d, at);
+    while i < d.len() {
+        if is_white(d[i]) {
+            i += 1;
+        } else {
+            return i;
         }
     }
-    Move::Stop(Skip::Past(at))
+    i
 }
 
 // White space and comments from a place on.
@@ -319,12 +409,16 @@ pub fn gap(bad: bool, d: &[u8], at: usize) -> Skip
 {
     let mut n = at;
     loop {
-        match move_gap(bad, d, n) {
-            Move::Go(m) => {
+        let i = pass_white(d, n);
+        if !is_note(d, i) {
+            return Skip::Past(i);
+        }
+        match comment(bad, d, i, i + 4) {
+            Skip::Past(m) => {
                 n = m;
             }
-            Move::Stop(r) => {
-                return r;
+            Skip::Broken(p) => {
+                return Skip::Broken(p);
             }
         }
     }

@@ -1,10 +1,11 @@
 use mathlib.Core.Path.{_≡_, refl, sym, ap, _∙_}
 use Prim.Native.Nat.{_+_, _-_, _≤_, _<_}
-use lib.ListN.{length, drop, getD, length-drop}
+use lib.ListN.{length}
 use borrow.Author.Needs.{needs}
+use borrow.Author.Tests.{not-true, not-false}
 use native.Mathlib.Omega.{arith}
 use Rattle.markup.specs.rule.Gap.{gapOf}
-use Rattle.markup.proofs.Gaps.{move-less, gap-next, gap-stop}
+use Rattle.markup.proofs.Whites.{gap-over, note-fits, gap-noted, gap-broken}
 use Rattle.markup.proofs.gap.Statement.{statement}
 use Rattle.markup.proofs.gap.Tie as tie
 
@@ -17,28 +18,56 @@ abbrev μ-loop : tie.MeasureT-loop
 loop-holds : tie.Need-loop-holds Inv-loop μ-loop
 loop-holds c = (refl, omega arith)
 
-loop-less : tie.Need-loop-less Inv-loop μ-loop
-loop-less c =
-    let a = c .before .before .before .before .before .before .args in
-    let l = move-less (a .bad) (a .d .now) (c .before .before .before .before .loop .n) _
-    (sym (c .before .before .before .move-gap .ensures) ∙ c .before .m .given .1) in
-    omega arith
-
-loop-again : tie.Need-loop-again Inv-loop μ-loop
-loop-again c =
-    let a = c .before .before .before .before .before .before .args in
-    let e = sym (c .before .before .before .move-gap .ensures) ∙ c .before .m .given .1 in (
-      c .before .before .before .before .loop .inv .0 ∙ gap-next (a .bad) (a .d .now) (c .before .before .before .before .loop .n) _ e,
-      move-less (a .bad) (a .d .now) (c .before .before .before .before .loop .n) _ e .1,
-    )
+is-note-requires : tie.Need-is-note-requires Inv-loop μ-loop
+is-note-requires c κs = c .pass-white .ensures .whites .within
 
 returns : tie.Need-returns Inv-loop μ-loop
 returns c =
-    let a = c .before .before .before .before .before .before .args in
-    sym (c .before .before .before .before .loop .inv .0
-    ∙ gap-stop (a .bad) (a .d .now) (c .before .before .before .before .loop .n) _
-    (sym (c .before .before .before .move-gap .ensures) ∙ c .before .r .given .1))
+    let a = c .before .before .before .before .before .args in
+    sym (c .before .before .before .loop .inv .0 ∙ gap-over (a .bad) (a .d .now) _ _ (c .before .before .pass-white .ensures)
+    (sym (c .before .is-note .ensures) ∙ not-true _ (c .if1 .taken)))
+
+add-comment : tie.Need-add-comment Inv-loop μ-loop
+add-comment c =
+    let a = c .before .before .before .before .before .args in
+    omega (
+      arith,
+      note-fits (a .bad) (a .d .now) _ _ (c .before .before .pass-white .ensures)
+          (sym (c .before .is-note .ensures) ∙ not-false _ (c .if1 .left)),
+    )
+
+comment-requires : tie.Need-comment-requires Inv-loop μ-loop
+comment-requires c κs =
+    let a = c .before .before .before .before .before .args in
+    note-fits (a .bad) (a .d .now) _ _ (c .before .before .pass-white .ensures)
+    (sym (c .before .is-note .ensures) ∙ not-false _ (c .if1 .left))
+
+loop-less : tie.Need-loop-less Inv-loop μ-loop
+loop-less c =
+    let a = c .before .before .before .before .before .before .before .before .before .args in
+    let w = c .before .before .before .before .before .before .pass-white .ensures in
+    let g = gap-noted (a .bad) (a .d .now) _ _ w (sym (c .before .before .before .before .before .is-note .ensures)
+    ∙ not-false _ (c .before .before .before .before .if1 .left)) _
+    (sym (c .before .before .before .comment .ensures) ∙ c .before .m .given .1) in
+    let o = w .whites .on in
+    omega (arith, g .1, g .2)
+
+loop-again : tie.Need-loop-again Inv-loop μ-loop
+loop-again c =
+    let a = c .before .before .before .before .before .before .before .before .before .args in
+    let g = gap-noted (a .bad) (a .d .now) _ _ (c .before .before .before .before .before .before .pass-white .ensures)
+    (sym (c .before .before .before .before .before .is-note .ensures) ∙ not-false _ (c .before .before .before .before .if1 .left)) _
+    (sym (c .before .before .before .comment .ensures) ∙ c .before .m .given .1) in
+    (c .before .before .before .before .before .before .before .loop .inv .0 ∙ g .0, g .2)
+
+returns-2 : tie.Need-returns-2 Inv-loop μ-loop
+returns-2 c =
+    let a = c .before .before .before .before .before .before .before .before .before .args in
+    sym (c .before .before .before .before .before .before .before .loop .inv .0
+    ∙ gap-broken (a .bad) (a .d .now) _ _ (c .before .before .before .before .before .before .pass-white .ensures)
+    (sym (c .before .before .before .before .before .is-note .ensures) ∙ not-false _ (c .before .before .before .before .if1 .left)) _
+    (sym (c .before .before .before .comment .ensures) ∙ c .before .p .given .1))
 
 pub gap-spec : {M : Type 1} → statement M
-gap-spec = tie.close (tie.spec Inv-loop μ-loop loop-holds (λ c κs. search needs) (λ c. search needs) loop-less loop-again
-    (λ c. search needs) returns)
+gap-spec = tie.close (tie.spec Inv-loop μ-loop loop-holds (λ c κs. search needs) is-note-requires returns add-comment comment-requires
+    (λ c. search needs) loop-less loop-again (λ c. search needs) returns-2)
