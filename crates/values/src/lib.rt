@@ -317,28 +317,38 @@ fn repeated(lines: &[i64], first: usize, last: usize, z: i64) -> bool
 }
 
 // Where a number leaves its mark: equal numbers at the same place, and few others there too, since 16,381 is a prime.
-fn slot_of(z: i64) -> usize
-    ensures { λ r. ⌜ (r ≡ slotOf z) × (r < 16384) ⌝ }
+fn slot_of(v: Value) -> usize
+    ensures { λ r. ⌜ (r ≡ slotOf (scaledOf v)) × (r < 16384) ⌝ }
 {
-    (cells::signed_of(z).size % 16_381) as usize
+    (v.size % 16_381) as usize
 }
 
-fn leave_mark(marks: &mut [u16], stamp: u16, z: i64)
+fn leave_mark(marks: &mut [u16], stamp: u16, v: Value)
     requires { ⌜ length (now marks) ≡ 16384 ⌝ }
-    ensures { λ _. ⌜ now (marks .exit) ≡ set (now (marks .entry)) (slotOf z) stamp ⌝ }
+    ensures { λ _. ⌜ now (marks .exit) ≡ set (now (marks .entry)) (slotOf (scaledOf v)) stamp ⌝ }
 {
-    let slot = slot_of(z);
+    let slot = slot_of(v);
     marks[slot] = stamp;
 }
 
-// The same as repeated. A line that says z has left its mark, so that the lines are looked at only where there is one.
-fn said_before(lines: &[i64], marks: &[u16], stamp: u16, first: usize, last: usize, z: i64) -> bool
+// The same as repeated, of the number z that v says. A line that says z has left its mark, so that the lines are looked at only where there
+// is one.
+fn said_before(
+    lines: &[i64],
+    marks: &[u16],
+    stamp: u16,
+    first: usize,
+    last: usize,
+    v: Value,
+    z: i64,
+) -> bool
     requires { ⌜ (lineSize * last ≤ length (now lines)) × (first ≤ last) × (last ≤ mostLines) ⌝ }
     requires { ⌜ length (now marks) ≡ 16384 ⌝ }
     requires { ⌜ Marked (roomAt (now lines) first) (last - first) stamp (now marks) ⌝ }
+    requires { ⌜ z ≡ scaledOf v ⌝ }
     ensures { λ r. ⌜ r ≡ repeatedIn (roomAt (now (lines .entry)) first) (last - first) z ⌝ }
 {
-    let slot = slot_of(z);
+    let slot = slot_of(v);
     let mark = marks[slot];
     if mark != stamp {
         return false;
@@ -388,7 +398,7 @@ pub fn judge_line(
         });
     }
     let z = scaled(quantity, v);
-    if said_before(lines, marks, stamp, first, last, z) {
+    if said_before(lines, marks, stamp, first, last, v, z) {
         return Verdict::Bad(Fault {
             number: 6,
             place: v.place,
@@ -528,7 +538,7 @@ pub fn stand_line(
     match judge_line(lines, marks, stamp, first, last, quantity, b, v) {
         Verdict::Good(z) => {
             store(lines, last, z, s);
-            leave_mark(marks, stamp, z);
+            leave_mark(marks, stamp, v);
             Verdict::Good(z)
         }
         Verdict::Bad(f) => Verdict::Bad(f),

@@ -17,7 +17,9 @@ scaled-requires : tie.Need-scaled-requires
 scaled-requires c κs = sound-value _ _ _ (sym (c .before .line-fault .ensures) ∙ c .if1 .left) .1
 
 said-before-requires : tie.Need-said-before-requires
-said-before-requires c κs = c .before .before .before .before .pre
+said-before-requires c κs =
+    let p = c .before .before .before .before .pre in
+    (p .0, (p .1 .0, (p .1 .1, toZ-ofZ (sfits-of (c .scaled .ok)) ∙ c .scaled .ensures)))
 
 -- the lines in all
 all-lines : (first last : ℕ) → first ≤ last → first + (last - first) ≡ last

@@ -8,8 +8,9 @@ use Rattle.values.proofs.said_before.Statement.{statement}
 use Rattle.values.proofs.said_before.Tie as tie
 
 returns : tie.Need-returns
-returns c = none-marked _ _ _ _ _ _ (c .before .before .before .before .pre .1 .1)
-    (c .before .before .slot-of .ensures .0 ∙ ap slotOf (toZ-ofZ (c .before .before .before .before .fits .z))) (c .if1 .taken)
+returns c =
+    let p = c .before .before .before .before .pre in
+    none-marked _ _ _ _ _ _ (p .1 .1 .0) (c .before .before .slot-of .ensures .0 ∙ ap slotOf (sym (p .1 .1 .1))) (c .if1 .taken)
 
 returns-2 : tie.Need-returns-2
 returns-2 c = rw (c .repeated .ensures, toZ-ofZ (c .before .before .before .before .before .fits .z))

@@ -31,11 +31,12 @@ store-requires c κs =
 returns : tie.Need-returns
 returns c =
     let at-store = c .before .before .before .before .before in
-    let e = sym (at-store .before .before .before .before .before .judge-line .ensures) ∙ at-store .before .before .before .z .given .1 in (
+    let e = sym (at-store .before .before .before .before .before .judge-line .ensures) ∙ at-store .before .before .before .z .given .1 in
+    let g = good-line _ _ _ _ _ _ e in (
       rw (e, z-back (at-store .before .before)),
       (
         rw e (at-store .store .ensures),
-        rw e (c .before .before .leave-mark .ensures ∙ rw (z-back (at-store .before .before))),
+        rw e (c .before .before .leave-mark .ensures ∙ rw (g .says)),
       ),
     )
 
