@@ -1,25 +1,28 @@
 -- The columns' summaries from bytes that stand in the output: what is put before those bytes changes none of them.
 -- Assumes nothing.
-use mathlib.Core.Path.{_≡_, refl, sym, ap, _∙_}
+use mathlib.Core.Path.{_≡_, refl, sym, ap, _∙_, subst}
 use mathlib.Core.Bool.{Bool, true, false, cond, not}
-use mathlib.Core.List.{List, [], _∷_, _++_}
+use mathlib.Core.List.{List, [], _∷_, _++_, append-assoc, append-nil}
 use Prim.Native.Nat.{ℕ, zero, suc, _+_, _-_, _*_, _≤_, _<_}
+use native.Mathlib.Nat.{add-zero, zero-add}
 use native.Mathlib.Numerals.{add-one}
 use native.Mathlib.Omega.{arith}
 use lib.Dec.{T, eqb}
-use lib.ListN.{length, getD, set, take, drop}
+use lib.ListN.{length, getD, set, take, drop, length-append}
 use lib.Seq.{getD-drop, drop-drop, drop-set-lt}
 use lib.Ieee.{Float, binary64, isNan, nanBits, ofBits}
 use lib.Ieee.Bits.{nanBits-is}
 use Rattle.places.specs.rule.Places.{put, run}
 use Rattle.little.specs.rule.Bytes.{putAt}
 use Rattle.little.specs.Bytes.{numberOf, numberAt}
+use Rattle.little.specs.Runs.{put-next}
 use Rattle.summary.specs.declared.Summary.{Summary}
-use Rattle.summary.specs.rule.Summary.{none, extendOf, extendedBy, summaryOf}
+use Rattle.summary.specs.rule.Summary.{nought, none, extendOf, extendedBy, summaryOf}
 use Rattle.summary.specs.Laws.{extend-keeps}
 use Rattle.matrix.specs.rule.Bytes.{summaryBytes}
+use Rattle.matrix.specs.Bytes.{length-summary}
 use Rattle.matrix.specs.Column.{ColumnThere, columnIn}
-use Rattle.matrix.specs.Ones.{AllThere, AllTold, toldOf}
+use Rattle.matrix.specs.Ones.{AllThere, AllTold, unit, toldOf}
 
 -- k columns side by side, from these places on
 unfoldable pub ColumnsThere : List ℕ → ℕ → ℕ → ℕ → ℕ → ℕ → Type 0
@@ -35,11 +38,10 @@ pub record Same (a : ℕ) (s s′ : List ℕ) : Type 0 where
   pub long : length s ≡ length s′
   pub from : drop a s ≡ drop a s′
 
--- what is counted of the columns from k to before another: so many records have them, and so many ones each
-pub record Known (s : List ℕ) (step flags values records k until n : ℕ) (ones : List ℕ) : Type 0 where
-  pub near : until ≤ k + 16
-  pub at : (j : ℕ) → k ≤ j → j < until → toldOf n (getD ones (16 - (until - j)) 0)
-      ≡ summaryOf (columnIn s step (flags + j) (values + 8 * j) records)
+-- the summaries of m columns from the j-th on, which have n values each, by their ones
+unfoldable pub toldFrom : ℕ → List ℕ → ℕ → ℕ → List ℕ
+toldFrom n ones j zero = []
+toldFrom n ones j (suc m) = summaryBytes (toldOf n (getD ones j 0)) ++ toldFrom n ones (suc j) m
 
 pub same-of : {a : ℕ} {s s′ : List ℕ} → length s′ ≡ length s → drop a s′ ≡ drop a s → Same a s s′
 same-of l d = record { long = sym l; from = sym d }
@@ -87,33 +89,13 @@ module _ {a : ℕ} {s s′ : List ℕ} (q : Same a s s′) where
     columns-same step n m (f + 1) (v + 8) (omega arith) (omega arith) (c .1),
   )
 
-  pub known-same : {step flags values records k until n : ℕ} {ones : List ℕ} → a ≤ flags → a ≤ values
-      → Known s step flags values records k until n ones → Known s′ step flags values records k until n ones
-  known-same {step} {flags} {values} {records} h g b = record {
-    near = b .near;
-    at = λ j l u. b .at j l u ∙ ap summaryOf (column-same step records (flags + j) (values + 8 * j) (omega arith) (omega arith));
-  }
-
-pub known-none : (s : List ℕ) (step flags values records k n : ℕ) (ones : List ℕ) → Known s step flags values records k 0 n ones
-known-none s step flags values records k n ones = record { near = omega arith; at = λ j l u. absurd (omega arith) }
-
-pub known-next : {s : List ℕ} {step flags values records k until n : ℕ} {ones : List ℕ}
-    → Known s step flags values records k until n ones → Known s step flags values records (k + 1) until n ones
-known-next b = record { near = omega (arith, b .near); at = λ j l u. b .at j (omega arith) u }
-
--- sixteen columns more
-pub known-more : {s : List ℕ} {step flags values records k n : ℕ} {ones : List ℕ} {full : Bool}
-    → AllTold s step (flags + k) (values + 8 * k) records full n ones → full ≡ true → Known s step flags values records k (k + 16) n ones
-known-more {s} {step} {flags} {values} {records} {k} {n} {ones} a e = record {
-  near = omega arith;
-  at = λ j l u.
-      let i : 16 - (k + 16 - j) ≡ j - k = omega arith in
-      let f : flags + k + (j - k) ≡ flags + j = omega arith in
-      let v : values + 8 * k + 8 * (j - k) ≡ values + 8 * j = omega arith in
-      ap (λ (x : ℕ). toldOf n (getD ones x 0)) i ∙ a .at e (j - k) (omega arith)
-      ∙ ap (λ (x : ℕ). summaryOf (columnIn s step x (values + 8 * k + 8 * (j - k)) records)) f
-      ∙ ap (λ (x : ℕ). summaryOf (columnIn s step (flags + j) x records)) v;
-}
+  pub summaries-same : (step n m f v : ℕ) → a ≤ f → a ≤ v → summariesIn s step f v n m ≡ summariesIn s′ step f v n m
+  unfolding summariesIn
+  summaries-same step n zero f v h g = refl
+  summaries-same step n (suc m) f v h g = rw (
+    column-same step n f v h g,
+    summaries-same step n m (f + 1) (v + 8) (omega arith) (omega arith),
+  )
 
 there-nth : (s : List ℕ) (step f v n m j : ℕ) → j < m → ColumnsThere s step f v n m → ColumnThere s step (f + j) (v + 8 * j) n
 unfolding ColumnsThere
@@ -138,35 +120,112 @@ pub same-put : (r : List ℕ) (a b : ℕ) (xs : List ℕ) → b + length xs ≤ 
 unfolding putAt
 same-put r a b xs h = drop-put xs r a b h
 
--- ---- one column more
-module _ (s : List ℕ) (step f v n c k : ℕ) (low : k < c) where
-  left : c - k ≡ suc (c - (k + 1))
-  left = omega arith
-
-  pub summaries-on : summariesIn s step (f + k) (v + 8 * k) n (c - k)
-      ≡ summaryBytes (summaryOf (columnIn s step (f + k) (v + 8 * k) n))
-      ++ summariesIn s step (f + (k + 1)) (v + 8 * (k + 1)) n (c - (k + 1))
+-- ---- some columns, and those behind them
+module _ (s : List ℕ) (step n : ℕ) where
+  pub summaries-then : (r m f v : ℕ) → summariesIn s step f v n (r + m)
+      ≡ summariesIn s step f v n r ++ summariesIn s step (f + r) (v + 8 * r) n m
   unfolding summariesIn
-  summaries-on =
-      let x : f + k + 1 ≡ f + (k + 1) = omega arith in
-      let y : v + 8 * k + 8 ≡ v + 8 * (k + 1) = omega arith in
-      rw (left, x, y)
+  summaries-then zero m f v = rw (zero-add m, add-zero f, add-zero v)
+  summaries-then (suc r) m f v =
+      let e : suc r + m ≡ suc (r + m) = omega arith in
+      let x : f + suc r ≡ f + 1 + r = omega arith in
+      let y : v + 8 * suc r ≡ v + 8 + 8 * r = omega arith in
+      let b = summaryBytes (summaryOf (columnIn s step f v n)) in
+      rw (e, x, y) (ap (λ (l : List ℕ). b ++ l) (summaries-then r m (f + 1) (v + 8))
+      ∙ sym (append-assoc b (summariesIn s step (f + 1) (v + 8) n r) (summariesIn s step (f + 1 + r) (v + 8 + 8 * r) n m)))
 
-  pub columns-here : ColumnsThere s step (f + k) (v + 8 * k) n (c - k) → ColumnThere s step (f + k) (v + 8 * k) n
-  unfolding ColumnsThere
-  columns-here h = let w = rw left at h in w .0
+  pub length-in : (m f v : ℕ) → length (summariesIn s step f v n m) ≡ 24 * m
+  unfolding summariesIn
+  length-in zero f v = refl
+  length-in (suc m) f v =
+      let x = summaryOf (columnIn s step f v n) in
+      omega (
+        arith,
+        length-append (summaryBytes x) (summariesIn s step (f + 1) (v + 8) n m),
+        length-summary x,
+        length-in m (f + 1) (v + 8),
+      )
 
-  pub columns-on : ColumnsThere s step (f + k) (v + 8 * k) n (c - k) → ColumnsThere s step (f + (k + 1)) (v + 8 * (k + 1)) n (c - (k + 1))
+  pub columns-then : (r m f v : ℕ) → ColumnsThere s step f v n (r + m) → ColumnsThere s step (f + r) (v + 8 * r) n m
   unfolding ColumnsThere
-  columns-on h =
-      let x : f + k + 1 ≡ f + (k + 1) = omega arith in
-      let y : v + 8 * k + 8 ≡ v + 8 * (k + 1) = omega arith in
-      let w = rw left at h in
-      rw (x, y) at (w .1)
+  columns-then zero m f v c = let w : ColumnsThere s step f v n m = rw (zero-add m) at c in rw (add-zero f, add-zero v) w
+  columns-then (suc r) m f v c =
+      let e : suc r + m ≡ suc (r + m) = omega arith in
+      let x : f + suc r ≡ f + 1 + r = omega arith in
+      let y : v + 8 * suc r ≡ v + 8 + 8 * r = omega arith in
+      let w = rw e at c in
+      rw (x, y) (columns-then r m (f + 1) (v + 8) (w .1))
+
+  pub first-there : (m f v : ℕ) → 1 ≤ m → ColumnsThere s step f v n m → ColumnThere s step f v n
+  unfolding ColumnsThere
+  first-there zero f v h c = absurd (omega arith)
+  first-there (suc m) f v h c = c .0
+
+  pub one-in : (f v : ℕ) → summariesIn s step f v n 1 ≡ summaryBytes (summaryOf (columnIn s step f v n))
+  unfolding summariesIn
+  one-in f v = append-nil (summaryBytes (summaryOf (columnIn s step f v n)))
+
+-- r columns more
+module _ (s : List ℕ) (step n f v c k r : ℕ) (low : k + r ≤ c) where
+  split : c - k ≡ r + (c - (k + r))
+  split = omega arith
+
+  flag-on : f + k + r ≡ f + (k + r)
+  flag-on = omega arith
+
+  value-on : v + 8 * k + 8 * r ≡ v + 8 * (k + r)
+  value-on = omega arith
+
+  pub rest-there : ColumnsThere s step (f + k) (v + 8 * k) n (c - k)
+      → ColumnsThere s step (f + (k + r)) (v + 8 * (k + r)) n (c - (k + r))
+  rest-there a =
+      rw (flag-on, value-on) at (columns-then s step n r (c - (k + r)) (f + k) (v + 8 * k)
+      (subst (λ (i : ℕ). ColumnsThere s step (f + k) (v + 8 * k) n i) split a))
+
+  pub rest-put : (out out′ : List ℕ) → out′ ≡ putAt out (24 + 24 * k) (summariesIn s step (f + k) (v + 8 * k) n r) → {whole : List ℕ}
+      → putAt out (24 + 24 * k) (summariesIn s step (f + k) (v + 8 * k) n (c - k)) ≡ whole
+      → putAt out′ (24 + 24 * (k + r)) (summariesIn s step (f + (k + r)) (v + 8 * (k + r)) n (c - (k + r))) ≡ whole
+  rest-put out out′ e q =
+      let m = c - (k + r) in
+      let at = 24 + 24 * (k + r) in
+      let a = summariesIn s step (f + k) (v + 8 * k) n r in
+      ap (λ (l : List ℕ). putAt l at (summariesIn s step (f + (k + r)) (v + 8 * (k + r)) n m)) e
+      ∙ ap (λ (i : ℕ). putAt (putAt out (24 + 24 * k) a) at (summariesIn s step i (v + 8 * (k + r)) n m)) (sym flag-on)
+      ∙ ap (λ (i : ℕ). putAt (putAt out (24 + 24 * k) a) at (summariesIn s step (f + k + r) i n m)) (sym value-on)
+      ∙ put-next out (24 + 24 * k) a at (summariesIn s step (f + k + r) (v + 8 * k + 8 * r) n m)
+      (omega (arith, length-in s step n r (f + k) (v + 8 * k)))
+      ∙ ap (putAt out (24 + 24 * k))
+      (sym (ap (summariesIn s step (f + k) (v + 8 * k) n) split ∙ summaries-then s step n r m (f + k) (v + 8 * k)))
+      ∙ q
 
 pub summaries-none : (s : List ℕ) (step f v n c k : ℕ) → c ≤ k → summariesIn s step f v n (c - k) ≡ []
 unfolding summariesIn
 summaries-none s step f v n c k h = let e : c - k ≡ 0 = omega arith in rw e
+
+-- ---- sixteen columns that were counted
+pub told-in : {s : List ℕ} {step flags values records n : ℕ} {ones : List ℕ} {full : Bool}
+    → AllTold s step flags values records full n ones → full ≡ true → toldFrom n ones 0 16 ≡ summariesIn s step flags values records 16
+unfolding toldFrom summariesIn
+told-in {s} {step} {flags} {values} {records} {n} {ones} a e =
+    go 16 0 (omega arith)
+    ∙ ap (λ (x : ℕ). summariesIn s step x (values + 8 * 0) records 16) (add-zero flags)
+    ∙ ap (λ (x : ℕ). summariesIn s step flags x records 16) (add-zero values)
+  where
+    go : (m j : ℕ) → j + m ≡ 16 → toldFrom n ones j m ≡ summariesIn s step (flags + j) (values + 8 * j) records m
+    go zero j h = refl
+    go (suc m) j h =
+        let x : flags + j + 1 ≡ flags + suc j = omega arith in
+        let y : values + 8 * j + 8 ≡ values + 8 * suc j = omega arith in
+        rw (x, y, a .at e j (omega arith), go m (suc j) (omega arith))
+
+pub told-next : (n : ℕ) (ones : List ℕ) (j : ℕ) → j < 16
+    → toldFrom n ones j (16 - j) ≡ summaryBytes (toldOf n (getD ones j 0)) ++ toldFrom n ones (j + 1) (16 - (j + 1))
+unfolding toldFrom
+told-next n ones j h = let e : 16 - j ≡ suc (16 - (j + 1)) = omega arith in rw (e, add-one j)
+
+pub told-over : (n : ℕ) (ones : List ℕ) (j : ℕ) → 16 ≤ j → toldFrom n ones j (16 - j) ≡ []
+unfolding toldFrom
+told-over n ones j h = let e : 16 - j ≡ 0 = omega arith in rw e
 
 -- ---- no value is a NaN
 abbrev Real : Float → Type 0
@@ -200,6 +259,20 @@ pub summary-plain : (s : List ℕ) (step f v n : ℕ) → ColumnThere s step f v
     → Real (summaryOf (columnIn s step f v n) .least) × Real (summaryOf (columnIn s step f v n) .most)
 unfolding summaryOf none isNan
 summary-plain s step f v n c = extended-real (columnIn s step f v n) none tt tt (column-real s step n f v c)
+
+pub told-plain : (n o : ℕ) → Real (toldOf n o .least) × Real (toldOf n o .most)
+unfolding toldOf none isNan ofBits
+told-plain n o = go (eqb n 0) (eqb o n) (eqb o 0)
+  where
+    told : Bool → Bool → Bool → Summary
+    told a b c = cond a none (record { count = n; least = cond b unit nought; most = cond c nought unit })
+
+    go : (a b c : Bool) → Real (told a b c .least) × Real (told a b c .most)
+    go true b c = (tt, tt)
+    go false true true = (tt, tt)
+    go false true false = (tt, tt)
+    go false false true = (tt, tt)
+    go false false false = (tt, tt)
 
 pub put-nothing : (r : List ℕ) (a : ℕ) → putAt r a [] ≡ r
 unfolding putAt

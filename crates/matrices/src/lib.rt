@@ -1,16 +1,14 @@
 // A data file as a matrix of 64-bit floats: judged first, then counted, then written record by record, and the columns' summaries from what
 // was written. Nothing in memory grows with records or columns. Above it stands the face.
 ghost use mathlib.Core.Path.{_≡_};
-ghost use Prim.Native.Nat.{_+_, _-_, _*_, _≤_, _<_};
+ghost use Prim.Native.Nat.{_+_, _*_, _≤_, _<_};
 ghost use lib.Dec.{ltb};
 ghost use lib.ListN.{length};
 ghost use Rattle.little.specs.rule.Bytes.{putAt};
 ghost use Rattle.cuts.specs.rule.Records.{recordsOf};
 ghost use Rattle.files.specs.rule.File.{fileSaid};
 ghost use Rattle.files.specs.rule.Tested.{Tested};
-ghost use Rattle.summary.specs.rule.Summary.{summaryOf};
 ghost use Rattle.matrix.specs.Put.{putEntries};
-ghost use Rattle.matrix.specs.Column.{ColumnThere, columnIn};
 ghost use Rattle.matrix.specs.rule.Bytes.{totalOf};
 ghost use Rattle.ascii.specs.rule.Tens.{Tens};
 ghost use Rattle.columns.specs.rule.Columns.{rowColumns, columnsFrom};
@@ -22,14 +20,13 @@ ghost use Rattle.matrices.specs.rule.Matrix.{endedOf, allEntries, tableC
 ghost use Rattle.matrices.specs.Records.{AllLong, countIn};
 ghost use Rattle.matrices.specs.Blocks.{putColumns, putEach, EachRoom, EachReadable};
 ghost use Rattle.matrices.specs.Even.{AllOf, firstOf, Even};
-ghost use Rattle.matrices.specs.Summaries.{ColumnsThere, summariesIn, Known};
+ghost use Rattle.matrices.specs.Summaries.{ColumnsThere, summariesIn, toldFrom};
 ghost use Rattle.matrices.specs.Written.{SoundFile};
 use columns::Marking;
 use cuts::Next;
 use files::Judgement;
 use layout::Header;
 use layout::Row;
-use summary::Summary;
 
 // What becomes of the matrix of a file: it is refused as the file is, or for its size, or written.
 pub enum Matrix {
@@ -270,68 +267,44 @@ fn put_records(
     }
 }
 
-// Sixteen columns counted together: the column behind the last of them, how many records have them, and the ones of each.
-struct Stretch {
-    until: usize,
-    count: u64,
-    ones: [u64; 16],
+// The summaries of sixteen columns of zeros and ones, which have so many values each, by their ones.
+fn put_told(out: &mut [u8], at: usize, n: u64, ones: &[u64; 16])
+    requires { ⌜ at + 384 ≤ length (now out) ⌝ }
+    ensures { λ _. ⌜ now (out .exit) ≡ putAt (now (out .entry)) at (toldFrom n (now (ones .entry)) 0 16) ⌝ }
+{
+    let mut j: usize = 0;
+    while j < 16 {
+        matrix::put_summary(out, at + 24 * j, matrix::told(n, ones[j]));
+        j += 1;
+    }
 }
 
-// What is counted of column k on: what was, or sixteen columns more, where there are so many and they can be counted.
-fn count_on(
-    out: &[u8],
+// The summaries of the next columns, and how many they are: sixteen, where so many are left and can be counted, else one.
+fn put_some(
+    out: &mut [u8],
     records: usize,
     columns: usize,
+    left: usize,
+    at: usize,
     flags: usize,
     values: usize,
-    b: Stretch,
-    k: usize,
-) -> Stretch
-    requires { ⌜ (columns ≤ 16777216) × (k < columns) × (flags ≤ values) × (values ≤ 16777216) ⌝ }
-    requires { ⌜ ColumnsThere (now out) columns (flags + k) (values + 8 * k) records (columns - k) ⌝ }
-    requires { ⌜ Known (now out) columns flags values records k (b .until) (b .count) (b .ones) ⌝ }
-    ensures { λ r. ⌜ Known (now (out .entry)) columns flags values records k (r .until) (r .count) (r .ones) ⌝ }
+) -> usize
+    requires { ⌜ (columns ≤ 16777216) × (1 ≤ left) × (at + 24 * left ≤ length (now out)) ⌝ }
+    requires { ⌜ ColumnsThere (now out) columns flags values records left ⌝ }
+    ensures { λ r. ⌜ (1 ≤ r) × (r ≤ left)
+        × (now (out .exit) ≡ putAt (now (out .entry)) at (summariesIn (now (out .entry)) columns flags values records r)) ⌝ }
 {
-    if k < b.until {
-        return b;
+    if 16 <= left {
+        let b = matrix::count_ones(out, flags, values, columns, records);
+        if b.full {
+            let ones = b.ones;
+            put_told(out, at, b.count, &ones);
+            return 16;
+        }
     }
-    if columns - k < 16 {
-        return b;
-    }
-    let n = matrix::count_ones(out, flags + k, values + 8 * k, columns, records);
-    if n.full {
-        let ones = n.ones;
-        return Stretch {
-            until: k + 16,
-            count: n.count,
-            ones,
-        };
-    }
-    b
-}
-
-// The summary of column k: by what is counted of it, or from what stands in the output.
-fn summary_at(
-    out: &[u8],
-    records: usize,
-    columns: usize,
-    flags: usize,
-    values: usize,
-    b: Stretch,
-    k: usize,
-) -> Summary
-    requires { ⌜ (columns ≤ 16777216) × (k < columns) × (flags ≤ values) × (values ≤ 16777216) ⌝ }
-    requires { ⌜ ColumnThere (now out) columns (flags + k) (values + 8 * k) records ⌝ }
-    requires { ⌜ Known (now out) columns flags values records k (b .until) (b .count) (b .ones) ⌝ }
-    ensures { λ r. ⌜ r ≡ summaryOf (columnIn (now (out .entry)) columns (flags + k) (values + 8 * k) records) ⌝ }
-{
-    let until = b.until;
-    if k < until {
-        let ones = b.ones;
-        let j = 16 - (until - k);
-        return matrix::told(b.count, ones[j]);
-    }
-    matrix::column_summary(out, flags + k, values + 8 * k, columns, records)
+    let s = matrix::column_summary(out, flags, values, columns, records);
+    matrix::put_summary(out, at, s);
+    1
 }
 
 // The summaries of all columns, from what stands in the output behind them.
@@ -341,17 +314,17 @@ fn put_summaries(out: &mut [u8], records: usize, columns: usize, flags: usize, v
     requires { ⌜ ColumnsThere (now out) columns flags values records columns ⌝ }
     ensures { λ _. ⌜ now (out .exit) ≡ putAt (now (out .entry)) 24 (summariesIn (now (out .entry)) columns flags values records columns) ⌝ }
 {
-    let mut b = Stretch {
-        until: 0,
-        count: 0,
-        ones: [0u64; 16],
-    };
     let mut k: usize = 0;
     while k < columns {
-        b = count_on(out, records, columns, flags, values, b, k);
-        let s = summary_at(out, records, columns, flags, values, b, k);
-        matrix::put_summary(out, 24 + 24 * k, s);
-        k += 1;
+        k += put_some(
+            out,
+            records,
+            columns,
+            columns - k,
+            24 + 24 * k,
+            flags + k,
+            values + 8 * k,
+        );
     }
 }
 
