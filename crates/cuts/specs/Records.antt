@@ -3,7 +3,7 @@ use mathlib.Core.Path.{_≡_, refl, sym, ap, _∙_}
 use mathlib.Core.Logic.{⊎-elim}
 use mathlib.Core.Bool.{Bool, true, false, cond, _&&_}
 use mathlib.Core.List.{List, [], _∷_, _++_, append-assoc, append-nil}
-use Prim.Native.Nat.{ℕ, zero, suc, _+_, _-_, _≤_, _<_}
+use Prim.Native.Nat.{ℕ, zero, suc, _+_, _-_, _*_, _≤_, _<_}
 use native.Mathlib.Numerals.{add-one}
 use native.Mathlib.Omega.{arith}
 use borrow.Author.Tests.{eqb-true}
@@ -239,18 +239,30 @@ module _ (d : List ℕ) (w : Terminator) (from size : ℕ) where
   part-length : from + size < length d → length (part d from (from + size)) ≡ size
   part-length h = rw (length-take, length-drop) (omega arith)
 
-  pub plain-next : w .first < 32 → from + size < length d → beginsAt w (drop (from + size) d) ≡ true
-      → Clear (part d from (from + size)) 0 (length (part d from (from + size))) → PlainNext d w from size
-  plain-next low h e c =
+  -- a byte that is not below 32 in the file is none in the record
+  pub plain-there : w .first < 32 → from + size < length d → beginsAt w (drop (from + size) d) ≡ true → Clear d from (from + size)
+      → PlainNext d w from size
+  plain-there low h e u =
       let l = part-length h in
-      let there : (j : ℕ) → from ≤ j → j < from + size → lowAt d j
-      ≡ false = λ j a b. rw (byte-there j a b) at (c .plain (j - from) (omega arith) (omega arith)) in
-      let u : Clear d from (from + size) = record { on = omega arith; within = omega arith; plain = there } in
       record {
         inside = h;
         long = l;
         ends =
             next-some d from w (omega arith) ∙ end-unbroken d w from from (from + size) (unbroken-plain d w from (from + size) low u)
             ∙ end-here d (from + size) w from h e;
-        plain = λ j b. c .plain j (omega arith) b;
+        plain = λ j b. let q : from + j - from ≡ j = omega arith in
+            rw (q) at (rw (← byte-there (from + j) (omega arith) (omega arith)) at (u .plain (from + j) (omega arith) (omega arith)));
       }
+
+  pub plain-next : w .first < 32 → from + size < length d → beginsAt w (drop (from + size) d) ≡ true
+      → Clear (part d from (from + size)) 0 (length (part d from (from + size))) → PlainNext d w from size
+  plain-next low h e c =
+      let l = part-length h in
+      let there : (j : ℕ) → from ≤ j → j < from + size → lowAt d j
+      ≡ false = λ j a b. rw (byte-there j a b) at (c .plain (j - from) (omega arith) (omega arith)) in
+      plain-there low h e (record { on = omega arith; within = omega arith; plain = there })
+
+-- so many such records from a place on, one behind the other
+pub record PlainRun (d : List ℕ) (w : Terminator) (from size n : ℕ) : Type 0 where
+  pub reach : from + n * (size + w .size) ≤ length d + 1
+  pub each : (k : ℕ) → k < n → PlainNext d w (from + k * (size + w .size)) size

@@ -5,7 +5,7 @@ ghost use Prim.Native.Nat.{_+_, _≤_, _<_};
 ghost use lib.ListN.{length, drop};
 ghost use Rattle.cuts.specs.rule.Cut.{terminatorAt, terminatorOf, wholeAt, beginsAt, nextFrom, NextFound, Found};
 ghost use Rattle.cuts.specs.Cut.{Unbroken, Ending};
-ghost use Rattle.cuts.specs.Records.{PlainNext};
+ghost use Rattle.cuts.specs.Records.{PlainNext, PlainRun};
 
 // A file's terminator: one byte or two, and how many; none where the file has no CR and no LF.
 pub struct Terminator {
@@ -146,6 +146,40 @@ pub fn next_plain(d: &[u8], w: Terminator, from: usize, size: usize) -> bool
         return lows::all_plain(&d[from..end]);
     }
     false
+}
+
+// The same of a record of sixteen bytes or more, for many records one after the other.
+fn next_short(d: &[u8], w: Terminator, from: usize, size: usize) -> bool
+    requires { ⌜ Ending w × (16 ≤ size) ⌝ }
+    requires { ⌜ from ≤ length (now d) ⌝ }
+    ensures { λ r. ⌜ (r ≡ true → PlainNext (now (d .entry)) w from size) ⌝ }
+{
+    if d.len() - from <= size {
+        return false;
+    }
+    if begins_at(d, w, from + size) {
+        return lows::plain_short(d, from, size);
+    }
+    false
+}
+
+// How many records from a place on have so many bytes, sixteen or more, none of them below 32: up to so many.
+pub fn plain_run(d: &[u8], w: Terminator, from: usize, size: usize, most: usize) -> usize
+    requires { ⌜ Ending w × (16 ≤ size) ⌝ }
+    requires { ⌜ (size < length (now d)) × (from ≤ length (now d)) ⌝ }
+    ensures { λ r. ⌜ PlainRun (now (d .entry)) w from size r ⌝ }
+{
+    let step = size + w.size;
+    let mut at = from;
+    let mut k: usize = 0;
+    while (k < most) & (at < d.len()) {
+        if !next_short(d, w, at, size) {
+            return k;
+        }
+        at += step;
+        k += 1;
+    }
+    k
 }
 
 // The next record from a place on. The terminator is found from the start of the data, whatever the place.

@@ -2,7 +2,8 @@
 use mathlib.Core.Path.{_≡_, refl, sym, ap, _∙_}
 use mathlib.Core.Bool.{Bool, true, false, cond}
 use mathlib.Core.List.{List}
-use Prim.Native.Nat.{ℕ, _+_, _-_, _≤_, _<_}
+use Prim.Native.Nat.{ℕ, zero, suc, _+_, _-_, _*_, _≤_, _<_}
+use native.Mathlib.Nat.{zero-mul, suc-mul}
 use native.Mathlib.Omega.{arith}
 use borrow.Author.Tests.{eqb-true, leb-true, ne-eqb}
 use lib.Dec.{eqb, leb}
@@ -26,6 +27,7 @@ pub record SoundNext (t : List ℤ) (d : List ℕ) (w : Terminator) (first from 
 -- from one place of a file to another: the verdict on the records that are left, each after its count of others, is the same
 pub record Passed (t : List ℤ) (d : List ℕ) (w : Terminator) (first : ℕ) (a b : Place) : Type 0 where
   pub on : a .from ≤ b .from
+  pub more : a .n ≤ b .n
   pub fewer : b .n ≤ b .from + 1
   pub same : recordsVerdict t (a .n) first (recordsFrom w (drop (a .from) d))
       ≡ recordsVerdict t (b .n) first (recordsFrom w (drop (b .from) d))
@@ -42,6 +44,16 @@ sound-next t d w first from p l e s = record {
   sound = ap isSound (verdict-rows t first (part d from (from + first)) (p .long) (rw (p .long) l) ∙ sym e) ∙ s;
 }
 
+-- one way behind the other
+pub passed-on : {t : List ℤ} {d : List ℕ} {w : Terminator} {first : ℕ} {a b c : Place} → Passed t d w first a b → Passed t d w first b c
+    → Passed t d w first a c
+passed-on p q = record {
+  on = omega (arith, p .on, q .on);
+  more = omega (arith, p .more, q .more);
+  fewer = q .fewer;
+  same = p .same ∙ q .same;
+}
+
 -- a sound record is passed
 pub sound-on : (t : List ℤ) (d : List ℕ) (w : Terminator) (first from n : ℕ) → 1 ≤ n → SoundNext t d w first from
     → recordsVerdict t n first (recordsFrom w (drop from d))
@@ -53,6 +65,22 @@ sound-on t d w first from n h s =
     records-next t n first (recordsFrom w (drop from d)) (e .records)
     ∙ rw f (go-sound (recordVerdict t first r) n (recordsVerdict t (n + 1) first (recordsFrom w (drop (from + first + w .size) d)))
     (s .sound))
+
+-- many sound records, one behind the other, are passed
+pub sound-many : (t : List ℤ) (d : List ℕ) (w : Terminator) (first from n : ℕ) → 1 ≤ n → (m : ℕ)
+    → ((k : ℕ) → k < m → SoundNext t d w first (from + k * (first + w .size)))
+    → recordsVerdict t n first (recordsFrom w (drop from d))
+    ≡ recordsVerdict t (n + m) first (recordsFrom w (drop (from + m * (first + w .size)) d))
+sound-many t d w first from n h zero s =
+    let a : n + 0 ≡ n = omega arith in
+    let b : from + 0 * (first + w .size) ≡ from = omega (arith, zero-mul (first + w .size)) in
+    rw (a, b)
+sound-many t d w first from n h (suc m) s =
+    let a : n + m + 1 ≡ n + suc m = omega arith in
+    let b : from + m * (first + w .size) + first + w .size ≡ from + suc m * (first + w .size) =
+    omega (arith, suc-mul m (first + w .size)) in
+    sound-many t d w first from n h m (λ k l. s k (omega arith))
+    ∙ sound-on t d w first (from + m * (first + w .size)) (n + m) (omega arith) (s m (omega arith)) ∙ rw (a, b)
 
 -- a sound record is long enough, and as long as the first
 pub sound-long : (t : List ℤ) (first : ℕ) (r : List ℕ) → isSound (recordVerdict t first r) ≡ true → lengthOf t ≤ first

@@ -15,6 +15,7 @@ ghost use Rattle.sound.specs.rule.Rows.{lengthOf};
 use cuts::Next;
 use cuts::Terminator;
 use layout::Header;
+use readings::many::Batch;
 use records::Judged;
 
 // What a file is judged to be: sound, with the count of its records; or the first fault, with its record from 1.
@@ -113,8 +114,8 @@ fn next_sound(
     false
 }
 
-// Passes the sound records from a place on, as far as that goes quickly. The first record's length is known there.
-fn pass_sound(
+// Passes the sound records from a place on, one by one, as far as that goes quickly. The first record's length is known there.
+fn pass_each(
     t: &[i64],
     h: Header,
     d: &[u8],
@@ -138,6 +139,83 @@ fn pass_sound(
         n += 1;
     }
     Place { from, n }
+}
+
+// How many records, each so many bytes behind the one before, to judge together: no more than were passed before, so that a file with an
+// early fault is not looked at far behind it, and 16 KiB at most, which stay at hand. None of long ones, whose rows are many.
+fn together(n: usize, step: usize) -> usize {
+    if 4096 < step {
+        return 0;
+    }
+    if step == 0 {
+        return 0;
+    }
+    let most = 16384 / step;
+    if n < most { n } else { most }
+}
+
+// The same, many at a time.
+fn pass_batches(
+    t: &[i64],
+    h: Header,
+    d: &[u8],
+    w: Terminator,
+    first: usize,
+    at: Place,
+    scratch: &mut [u8],
+) -> Place
+    requires { ⌜ Tested (now t) h × (lengthOf (now t) ≤ first) ⌝ }
+    requires { ⌜ Ending w × (1 ≤ at .n) × (at .n ≤ at .from + 1) ⌝ }
+    requires { ⌜ length (now scratch) ≤ 10000 ⌝ }
+    ensures { λ r. ⌜ Passed (now (t .entry)) (now (d .entry)) w first at r ⌝ }
+{
+    // Short ones are not looked at sixteen bytes at a time.
+    if first < 16 {
+        return at;
+    }
+    if d.len() <= first {
+        return at;
+    }
+    let step = first + w.size;
+    let mut from = at.from;
+    let mut n = at.n;
+    while from < d.len() {
+        let count = cuts::plain_run(d, w, from, first, together(n, step));
+        if count == 0 {
+            return Place { from, n };
+        }
+        let batch = Batch {
+            from,
+            size: first,
+            step,
+            count,
+        };
+        if !records::batch_sound(t, h.rows, d, batch, scratch) {
+            return Place { from, n };
+        }
+        from = from + count * step;
+        n += count;
+    }
+    Place { from, n }
+}
+
+// The same, many at a time as far as that goes, and the rest one by one.
+fn pass_sound(
+    t: &[i64],
+    h: Header,
+    d: &[u8],
+    w: Terminator,
+    first: usize,
+    at: Place,
+    scratch: &mut [u8],
+) -> Place
+    requires { ⌜ Tested (now t) h × (lengthOf (now t) ≤ first) ⌝ }
+    requires { ⌜ Ending w × (1 ≤ at .n) × (at .n ≤ at .from + 1) ⌝ }
+    requires { ⌜ length (now scratch) ≤ 10000 ⌝ }
+    ensures { λ r. ⌜ Passed (now (t .entry)) (now (d .entry)) w first at r ⌝ }
+{
+    let ran = pass_batches(t, h, d, w, first, at, scratch);
+    pass_each(t, h, d, w, first, ran, scratch)
 }
 
 // The records of some data, by a table that was tested and the file's terminator: from the file's start, or behind one record, whose

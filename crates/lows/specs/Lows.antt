@@ -60,11 +60,16 @@ clear-next s from i c e h = record {
   plain = λ j a b. ⊎-elim (λ l. c .plain j a l) (λ l. let q : j ≡ i = omega arith in rw q e) (lt-or-le j i);
 }
 
+-- as far as the last of n bytes, if none is among them
+pub clear-last : (s : List ℕ) (from i last n : ℕ) → Clear s from i → lowAmong s last n ≡ false → last ≤ i → from ≤ last + n
+    → last + n ≤ length s → Clear s from (last + n)
+clear-last s from i last n c e h f l = record {
+  on = f;
+  within = l;
+  plain = λ j a b. ⊎-elim (λ m. c .plain j a m) (λ m. none-at s last n e j (omega arith) b) (lt-or-le j i);
+}
+
 -- to the end, if none is among the last n bytes
 pub clear-end : (s : List ℕ) (from i last n : ℕ) → Clear s from i → lowAmong s last n ≡ false → last ≤ i → last + n ≡ length s
     → Clear s from (length s)
-clear-end s from i last n c e h l = record {
-  on = omega (arith, c .on, c .within);
-  within = omega arith;
-  plain = λ j a b. ⊎-elim (λ m. c .plain j a m) (λ m. none-at s last n e j (omega arith) (omega arith)) (lt-or-le j i);
-}
+clear-end s from i last n c e h l = rw l at (clear-last s from i last n c e h (omega (arith, c .on, c .within)) (omega arith))

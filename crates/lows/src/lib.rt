@@ -88,3 +88,23 @@ pub fn all_plain(s: &[u8]) -> bool
     }
     true
 }
+
+// Is none of the n bytes from a place on below 32, of sixteen or more? For short stretches of long data, which need no part of their own.
+pub fn plain_short(s: &[u8], from: usize, n: usize) -> bool
+    requires { ⌜ (16 ≤ n) × (from + n ≤ length (now s)) ⌝ }
+    ensures { λ r. ⌜ (r ≡ true → Clear (now (s .entry)) from (from + n)) ⌝ }
+{
+    let last = from + (n - 16);
+    let mut i = from;
+    while i < last {
+        if low_among(s, i) {
+            return false;
+        }
+        i += 16;
+    }
+    // What is left is among the last sixteen.
+    if low_among(s, last) {
+        return false;
+    }
+    true
+}

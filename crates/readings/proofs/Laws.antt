@@ -82,6 +82,15 @@ text-legal bytes a w h l = rw (plain-run bytes a w h l) (go (allSpaces (pick byt
     go true = refl
     go false = refl
 
+-- a spread whose subfields are all good is legal
+pub spread-legal : (ok : ℤ → Bool) (w n : ℕ) (s : List ℕ) → allEntries ok w n s ≡ true → isIllegal (spreadField ok w n s) ≡ false
+unfolding isIllegal spreadField
+spread-legal ok w n s e = rw e (go (allSpaces s))
+  where
+    go : (c : Bool) → isIllegal (cond c (holds missing) (holds (members (spreadSet w n s)))) ≡ false
+    go true = refl
+    go false = refl
+
 -- ---- a field that is no set keeps the list
 number-keeps : (ok : ℤ → Bool) (z : ℤ) (list : List ℤ) → listAfter (numberField ok z) list ≡ list
 unfolding listAfter numberField

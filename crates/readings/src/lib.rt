@@ -26,6 +26,8 @@ use letters::Truth;
 use numbers::Numeral;
 use sets::SetRead;
 
+pub mod many;
+
 // A row's value: a scaled number, a set's count, a text's place and length, a truth; or why there is none.
 pub enum Answer {
     Missing,
@@ -68,7 +70,7 @@ fn numeral_answer(t: &[i64], rows: usize, row: Row, said: Numeral, zero_is_missi
     }
 }
 
-fn single(t: &[i64], rows: usize, row: Row, bytes: &[u8]) -> Answer
+pub fn single(t: &[i64], rows: usize, row: Row, bytes: &[u8]) -> Answer
     requires { ⌜ NumberFacts 17 (now t) rows row (length (now bytes)) ⌝ }
     ensures { λ r. ⌜ ((p n : ℕ) → r ≡ answerOf p n (singleField (legal (now (t .entry)) rows row) (pick (now (bytes .entry)) (run (row .finish - row .width) (row .width))))) ⌝ }
 {
@@ -103,7 +105,7 @@ fn text(bytes: &[u8], at: usize, w: usize) -> Answer
     }
 }
 
-fn truth(b: u8) -> Answer
+pub fn truth(b: u8) -> Answer
     ensures { λ r. ⌜ ((p n : ℕ) → r ≡ answerOf p n (truthField (b ∷ []))) ⌝ }
 {
     match letters::read_truth(b) {
@@ -203,7 +205,7 @@ pub fn is_illegal(a: Answer) -> bool
 }
 
 // Whether a quantity is illegal. It asks for the number by itself: so only what is read of the row need be at hand, and no whole row.
-fn quantity_illegal(t: &[i64], rows: usize, row: Row, f: Format, bytes: &[u8]) -> bool
+pub fn quantity_illegal(t: &[i64], rows: usize, row: Row, f: Format, bytes: &[u8]) -> bool
     requires { ⌜ NumberFacts 17 (now t) rows row (length (now bytes)) ⌝ }
     requires { ⌜ FormatFacts f ⌝ }
     ensures { λ r. ⌜ r ≡ isIllegal (quantityField f (legal (now (t .entry)) rows row)

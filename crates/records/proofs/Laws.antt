@@ -23,10 +23,10 @@ use Rattle.faults.specs.rule.Fault.{faultOf}
 use Rattle.sound.specs.rule.Sound.{wellFormed}
 use Rattle.sound.specs.rule.Rows.{rowsOf, lengthOf}
 use Rattle.lows.specs.rule.Lows.{lowAt}
-use Rattle.records.specs.rule.First.{firstFrom}
+use Rattle.records.specs.rule.First.{firstFrom, badRow}
 use Rattle.records.specs.rule.Value.{said, readAs, listAs, readingAt, ValueRead}
 use Rattle.records.specs.Value.{saidBy, said-answer}
-use Rattle.records.specs.rule.Verdict.{Verdict, rowsVerdict, verdictOf, refused, RecordJudged}
+use Rattle.records.specs.rule.Verdict.{Verdict, rowsVerdict, rowVerdict, byteVerdict, verdictOf, sound, refused, RecordJudged}
 use Rattle.records.specs.Tables.{TableReady, table-ready}
 use Rattle.records.specs.declared.Found.the-variants.{At, Nothing}
 use Rattle.records.specs.declared.Reading.{Reading}
@@ -93,6 +93,15 @@ pub first-of-plain : (bytes : List ℕ) → Plain bytes → firstFrom (lowAt byt
 first-of-plain bytes h =
     let n = length bytes in
     sym (first-clear (lowAt bytes) n n (omega arith) (λ j a b. h j b)) ∙ first-none (lowAt bytes) n n (omega arith)
+
+-- a record without a byte below 32 in which every row is legal is sound
+pub all-legal : (t : List ℤ) (v : ℕ) (bytes : List ℕ) → Plain bytes → ((i : ℕ) → i < v → badRow t v bytes i ≡ false)
+    → rowsVerdict t v bytes ≡ sound
+unfolding rowsVerdict byteVerdict rowVerdict
+all-legal t v bytes p h =
+    let e : firstFrom (badRow t v bytes) 0 v ≡ Nothing =
+    sym (first-clear (badRow t v bytes) v v (omega arith) (λ j a b. h j b)) ∙ first-none (badRow t v bytes) v v (omega arith) in
+    rw (first-of-plain bytes p, e)
 
 -- ---- reading one row
 module _ (t : List ℤ) (i : ℕ) (bytes : List ℕ) (list : List ℤ) where

@@ -2,9 +2,10 @@
 // inner function, which whoever has tested a table may call many times. Above it stand files, the lister and the face.
 ghost use mathlib.Core.Path.{_≡_};
 ghost use mathlib.Core.Bool.{true};
-ghost use Prim.Native.Nat.{_-_, _≤_, _<_};
+ghost use Prim.Native.Nat.{ℕ, _-_, _≤_, _<_};
 ghost use lib.ListN.{length};
 ghost use Rattle.readings.specs.Ready.{Plain, RowReady};
+ghost use Rattle.readings.specs.Many.{Standing, AllPlain, bytesOf};
 ghost use Rattle.faults.specs.rule.Fault.{faultOf};
 ghost use Rattle.lows.specs.rule.Lows.{lowAt};
 ghost use Rattle.records.specs.rule.First.{firstFrom, badRow};
@@ -16,6 +17,7 @@ use faults::Fault;
 use layout::Header;
 use layout::Row;
 use readings::Answer;
+use readings::many::Batch;
 
 // What a record is judged to be: sound; or the test that it fails, with the place of the first byte below 32, or the lowest illegal row
 // and what is wrong with it.
@@ -47,7 +49,7 @@ pub enum Found {
 }
 
 // The first byte below 32.
-fn low_byte(bytes: &[u8]) -> Found
+pub fn low_byte(bytes: &[u8]) -> Found
     ensures { λ r. ⌜ r ≡ firstFrom (lowAt (now (bytes .entry))) 0 (length (now (bytes .entry))) ⌝ }
 {
     let mut i = lows::plain_to(bytes, 0);
@@ -61,7 +63,7 @@ fn low_byte(bytes: &[u8]) -> Found
 }
 
 // The lowest row that is illegal, in a record without a byte below 32.
-fn illegal_row(t: &[i64], rows: usize, bytes: &[u8], scratch: &mut [u8]) -> Found
+pub fn illegal_row(t: &[i64], rows: usize, bytes: &[u8], scratch: &mut [u8]) -> Found
     requires { ⌜ TableReady (now t) rows (length (now bytes)) ⌝ }
     requires { ⌜ Plain (now bytes) ⌝ }
     requires { ⌜ length (now scratch) ≤ 10000 ⌝ }
@@ -88,6 +90,24 @@ pub fn plain_sound(t: &[i64], rows: usize, bytes: &[u8], scratch: &mut [u8]) -> 
         Found::At(_) => false,
         Found::Nothing => true,
     }
+}
+
+// Whether many such records are, row by row. A no is no verdict: whoever gets it asks record by record.
+pub fn batch_sound(t: &[i64], rows: usize, d: &[u8], batch: Batch, scratch: &mut [u8]) -> bool
+    requires { ⌜ TableReady (now t) rows (batch .size) ⌝ }
+    requires { ⌜ Standing (now d) batch × AllPlain (now d) batch ⌝ }
+    requires { ⌜ length (now scratch) ≤ 10000 ⌝ }
+    ensures { λ r. ⌜ (r ≡ true → (k : ℕ) → k < batch .count → rowsVerdict (now (t .entry)) rows (bytesOf (now (d .entry)) batch k)
+        ≡ sound) ⌝ }
+{
+    let mut i: usize = 0;
+    while i < rows {
+        if !readings::many::row_legal(t, rows, i, d, batch, scratch) {
+            return false;
+        }
+        i += 1;
+    }
+    true
 }
 
 // A record that is long enough and has no byte below 32, by a table that was tested: what is wrong is asked of the lowest illegal row

@@ -119,7 +119,7 @@ fn fill_each(bytes: &[u8], at: usize, w: usize, list: &mut [i64])
 
 // Whether all bytes of the position are `0` and `1`, or all spaces: then the bitstring is legal, whatever its categories are. Many are
 // looked at together, so that this is worth a try unless there are few lines.
-fn position_alike(bytes: &[u8], at: usize, w: usize, lines: usize) -> bool
+pub fn position_alike(bytes: &[u8], at: usize, w: usize, lines: usize) -> bool
     requires { ⌜ BitsRoom at w (length (now bytes)) ⌝ }
     ensures { λ r. ⌜ (r ≡ true → (ok : ℤ → Bool) → false ≡ isIllegal (bitsFieldAt (defined ok 1 w) at (now (bytes .entry)))) ⌝ }
 {

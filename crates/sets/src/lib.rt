@@ -10,10 +10,10 @@ ghost use Rattle.sets.specs.rule.Sets.{isIllegal};
 use layout::Row;
 
 pub mod alike;
-mod bits;
+pub mod bits;
 mod few;
 pub mod marks;
-mod spread;
+pub mod spread;
 
 // What was read: nothing, so many members in the list, a field that isn't legal, or a set longer than the list.
 pub enum SetRead {
@@ -99,6 +99,14 @@ fn reach(w: usize) -> usize
     if w == 4 { 10000 } else { 1 }
 }
 
+// How many numbers to mark for a spread of n subfields, with so much room.
+pub fn marks_for(row: Row, n: usize, room: usize) -> usize
+    requires { ⌜ (row .lines ≤ 4096) × (row .width ≤ 4) × (n ≤ 16384) ⌝ }
+    ensures { λ r. ⌜ r ≤ room ⌝ }
+{
+    marks_worth(row.lines, n, reach(row.width), room)
+}
+
 // Whether a spread of n subfields of b bytes is illegal.
 pub fn spread_illegal(
     t: &[i64],
@@ -116,7 +124,7 @@ pub fn spread_illegal(
 {
     let w = row.width;
     let at = row.start - 1;
-    let k = marks_worth(row.lines, n, reach(w), scratch.len());
+    let k = marks_for(row, n, scratch.len());
     spread::judge(t, rows, row, &mut scratch[..k], bytes, at, b, w, n)
 }
 

@@ -20,26 +20,19 @@ room c = record {
       omega arith;
 }
 
-marks-worth-requires : tie.Need-marks-worth-requires
-marks-worth-requires c κs = let l = c .before .before .before .before .pre .0 .lines .few-lines in
-    let w = c .before .before .before .before .pre .0 .fields in (omega arith, omega arith)
-
-few : (c : tie.After-marks-worth) → c .marks-worth .result ≤ length (c .before .before .before .before .before .args .scratch .now)
-few c =
-    let r : c .before .reach .result ≤ 10 ^ 4 = rw (c .before .reach .ensures)
-    (pow-le-pow-right {n = 10} (omega arith) (c .before .before .before .before .before .pre .0 .few)) in
-    let s = c .before .before .before .before .before .pre .1 in omega (arith, c .marks-worth .ensures)
+few : (c : tie.After-marks-for) → c .marks-for .result ≤ length (c .before .before .before .before .args .scratch .now)
+few c = c .marks-for .ensures
 
 slice-aggregate-judge : tie.Need-slice-aggregate-judge
 slice-aggregate-judge c = sym (length-take-le _ _ (few (c .before)))
 
 judge-requires : tie.Need-judge-requires
 judge-requires c κs =
-    let start = c .before .before .before .before .before .before in
+    let start = c .before .before .before .before .before in
     let f = few (c .before) in let s = start .pre .1 in (
       start .pre .0 .lines,
       (
-        rw (length-take-le (c .before .marks-worth .result) (start .args .scratch .now) f) (omega arith),
+        rw (length-take-le (c .before .marks-for .result) (start .args .scratch .now) f) (omega arith),
         room start,
       ),
     )
@@ -49,8 +42,7 @@ spread-illegal-spec =
     tie.close
     (tie.spec
     (λ c. let h = c .before .before .before .pre .0 .from-one in omega arith)
-    (λ c κs. c .before .before .before .pre .0 .few)
-    marks-worth-requires
+    (λ c κs. let p = c .before .before .before .pre .0 in (let l = p .lines .few-lines in omega arith, p .few, p .fields))
     (λ c. few c)
     slice-aggregate-judge
     judge-requires
