@@ -1,3 +1,4 @@
 pub mod Turns
 pub mod Exactly
+mod Usuals
 mod Samples
