@@ -18,6 +18,7 @@ use Rattle.reading.specs.rule.Result.{Result, Is, Not, Reader, give, repeat, bi
 use Rattle.reading.specs.rule.Least.{Charge, judged}
 use Rattle.bridge.specs.Lowest.{never}
 use Rattle.elements.proofs.Bounds.{tag-within}
+use Rattle.xml_laws.specs.Reads.{Bound, bound}
 use Rattle.grammar.specs.Faults.{Clean}
 use Rattle.grammar_laws.specs.Views.{clean-both, clean-left, clean-right}
 use Rattle.xml_reading.specs.rule.Open.{Open, start, shut, within, unknownAt, onBare, misplaced, enter}
@@ -36,17 +37,6 @@ use Rattle.xml_derivation_laws.specs.Table.{word-name}
 use Rattle.xml_derivation_laws.specs.Tags.{tag-by, start-sound}
 use Rattle.xml_derivation_laws.specs.Stands.{found-gap, found-start, found-end}
 use Rattle.xml_derivation_laws.specs.Bodies.{nothing-read, text-read}
-
--- ---- one reader behind another
-pub record Bound {A B : Type 0} (r : Result A) (k : A → Reader B) (b : B) (m : ℕ) : Type 0 where
-  pub it : A
-  pub at : ℕ
-  pub read : r ≡ Is it at
-  pub rest : k it at ≡ Is b m
-
-pub bound : {A B : Type 0} (r : Result A) (k : A → Reader B) {b : B} {m : ℕ} → bind r k ≡ Is b m → Bound r k b m
-bound (Is a n) k e = record { it = a; at = n; read = refl; rest = e }
-bound (Not f) k e = never cc
 
 -- derived, with nothing charged
 pub record Told (d : List ℕ) (x : Thing) (s : State) (n : ℕ) (t : State) (m : ℕ) : Type 0 where
@@ -86,9 +76,9 @@ module _ (bad : Bool) (d : List ℕ) where
         → ((u : State) (j : ℕ) → K u j ≡ Is t m → Told d (inside w (k ++ l)) u j t m) → bind (C x s p e) K ≡ Is t m
         → Told d (inside w (q ∷ l)) s n t m
     takes {x = x} s {n = n} {p = p} {e = e} t m K c f i g r =
-        let b = bound (C x s p e) K r in
-        let y = S x s p e (b .it) (b .at) (found-start bad d w n (ruleOf x .word) f i) (b .read) in
-        let z = g (b .it) (b .at) (b .rest) in
+        let b = bound (C x s p e) K t m r in
+        let y = S x s p e (b .value) (b .place) (found-start bad d w n (ruleOf x .word) f i) (b .first-is) in
+        let z = g (b .value) (b .place) (b .then-is) in
         record {
           charges = y .charges ++ z .charges;
           says = derivation.next c (found-gap bad d w f) (y .says) (z .says);
@@ -209,7 +199,8 @@ module _ (bad : Bool) (d : List ℕ) where
     -- ---- all of them
     look : (l : List Part) → AtRead l → (s : State) (n : ℕ) (t : State) (m : ℕ) → bind (within bad d w n) (steps-of l .at s) ≡ Is t m
         → Told d (inside w l) s n t m
-    look l at s n t m r = let b = bound (within bad d w n) (steps-of l .at s) r in at s n (b .it) (b .at) t m (b .read) (b .rest)
+    look l at s n t m r = let b = bound (within bad d w n) (steps-of l .at s) t m r in
+        at s n (b .value) (b .place) t m (b .first-is) (b .then-is)
 
     both : (l : List Part) → AtRead l × GoRead l
     unfolding steps
@@ -238,9 +229,9 @@ module _ (bad : Bool) (d : List ℕ) where
     settled y l {n} {t} {m} r =
         let a = meaningOf d x .charges s h y in
         let c = meaningOf d x .also s h y in
-        let b = bound (judged (a ++ unknownAt (h .unknown) ∷ (c ++ l)) (tt {0}) n) (λ u. meaningOf d x .said s h y) r in
-        let j = judged-read (a ++ unknownAt (h .unknown) ∷ (c ++ l)) (tt {0}) n (b .read) in
-        let i = judged-read (behindOf d x s y) (saysOf d x s h y) (b .at) (sym (said-is d x s h y (b .at)) ∙ b .rest) in
+        let b = bound (judged (a ++ unknownAt (h .unknown) ∷ (c ++ l)) (tt {0}) n) (λ u. meaningOf d x .said s h y) t m r in
+        let j = judged-read (a ++ unknownAt (h .unknown) ∷ (c ++ l)) (tt {0}) n (b .first-is) in
+        let i = judged-read (behindOf d x s y) (saysOf d x s h y) (b .place) (sym (said-is d x s h y (b .place)) ∙ b .then-is) in
         let k = known (h .unknown) (c ++ l) (clean-right a (unknownAt (h .unknown) ∷ (c ++ l)) (j .clean)) in
         record {
           unknown = k .0;
@@ -273,19 +264,19 @@ module _ (bad : Bool) (d : List ℕ) where
     nothing-held : ruleOf x .holds ≡ nothing → bind (stands.nothing bad d w em n) (judging bad d (meanings d) x s h noText) ≡ Is t m
         → Told d (the x) s p t m
     nothing-held i r =
-        let b = bound (stands.nothing bad d w em n) (judging bad d (meanings d) x s h noText) r in
-        let j = settled x s h noText (b .it) (b .rest) in
-        let y = nothing-read bad d w em (word-name x) (within-file .0) (b .read) (j .others) in
+        let b = bound (stands.nothing bad d w em n) (judging bad d (meanings d) x s h noText) t m r in
+        let j = settled x s h noText (b .value) (b .then-is) in
+        let y = nothing-read bad d w em (word-name x) (within-file .0) (b .first-is) (j .others) in
         moved (j .same) (j .place)
         (record { charges = chargesOf d x s h noText; says = derivation.empty i (started (j .unknown)) y; clean = j .charges })
 
     text-held : {r : Holds} {mode : ℕ} → ruleOf x .holds ≡ r → Texts (s .manner .languages) r mode
         → bind (body bad d w mode em n) (λ b. judging bad d (meanings d) x s h (b .text) (b .charges)) ≡ Is t m → Told d (the x) s p t m
     text-held {r} {mode} i o r′ =
-        let b = bound (body bad d w mode em n) (λ b. judging bad d (meanings d) x s h (b .text) (b .charges)) r′ in
-        let y = b .it in
-        let j = settled x s h (y .text) (y .charges) (b .rest) in
-        let v = text-read bad d w (s .manner .latin) mode em (word-name x) (within-file .0) (within-file .1) (b .read) (j .others) in
+        let b = bound (body bad d w mode em n) (λ b. judging bad d (meanings d) x s h (b .text) (b .charges)) t m r′ in
+        let y = b .value in
+        let j = settled x s h (y .text) (y .charges) (b .then-is) in
+        let v = text-read bad d w (s .manner .latin) mode em (word-name x) (within-file .0) (within-file .1) (b .first-is) (j .others) in
         moved (j .same) (j .place)
         (record {
           charges = chargesOf d x s h (y .text);
@@ -296,22 +287,22 @@ module _ (bad : Bool) (d : List ℕ) where
     number-held : ruleOf x .holds ≡ number → bind (body bad d w 0 em n) (counting bad d (meanings d) x s h) ≡ Is t m
         → Told d (the x) s p t m
     unfolding stretchFits
-    number-held i r = on (bound (body bad d w 0 em n) (counting bad d (meanings d) x s h) r) where
+    number-held i r = on (bound (body bad d w 0 em n) (counting bad d (meanings d) x s h) t m r) where
       on : Bound (body bad d w 0 em n) (counting bad d (meanings d) x s h) t m → Told d (the x) s p t m
-      on b = by (y .whole) (stretchFits 1 d v (v + y .text .length)) refl refl (b .rest) where
+      on b = by (y .whole) (stretchFits 1 d v (v + y .text .length)) refl refl (b .then-is) where
         y : Body
-        y = b .it
+        y = b .value
 
         v : ℕ
         v = y .text .place
 
         by : (a c : Bool) → y .whole ≡ a → stretchFits 1 d v (v + y .text .length) ≡ c
-            → cond a (cond c (judging bad d (meanings d) x s h (y .text) (y .charges) (b .at)) (Not (fault 2 v)))
-            (bind (judged (unknownAt (h .unknown) ∷ y .charges) (tt {0}) (b .at)) λ u. meaningOf d x .said s h (y .text)) ≡ Is t m
+            → cond a (cond c (judging bad d (meanings d) x s h (y .text) (y .charges) (b .place)) (Not (fault 2 v)))
+            (bind (judged (unknownAt (h .unknown) ∷ y .charges) (tt {0}) (b .place)) λ u. meaningOf d x .said s h (y .text)) ≡ Is t m
             → Told d (the x) s p t m
         by true true o z r =
             let j = settled x s h (y .text) (y .charges) r in
-            let k = text-read bad d w (s .manner .latin) 0 em (word-name x) (within-file .0) (within-file .1) (b .read) (j .others) in
+            let k = text-read bad d w (s .manner .latin) 0 em (word-name x) (within-file .0) (within-file .1) (b .first-is) (j .others) in
             moved (j .same) (j .place)
             (record {
               charges = chargesOf d x s h (y .text);
@@ -320,9 +311,10 @@ module _ (bad : Bool) (d : List ℕ) where
             })
         by true false o z r = never cc
         by false c o z r =
-            let a = bound (judged (unknownAt (h .unknown) ∷ y .charges) (tt {0}) (b .at)) (λ u. meaningOf d x .said s h (y .text)) r in
-            let j = judged-read (unknownAt (h .unknown) ∷ y .charges) (tt {0}) (b .at) (a .read) in
-            let k = text-read bad d w (s .manner .latin) 0 em (word-name x) (within-file .0) (within-file .1) (b .read)
+            let a = bound (judged (unknownAt (h .unknown) ∷ y .charges) (tt {0}) (b .place)) (λ u. meaningOf d x .said s h (y .text)) t m
+            r in
+            let j = judged-read (unknownAt (h .unknown) ∷ y .charges) (tt {0}) (b .place) (a .first-is) in
+            let k = text-read bad d w (s .manner .latin) 0 em (word-name x) (within-file .0) (within-file .1) (b .first-is)
             (known (h .unknown) (y .charges) (j .clean) .1) in
             let z = k .whole in
             never cc
@@ -359,16 +351,17 @@ module _ (bad : Bool) (d : List ℕ) where
           let a = meaningOf d x .charges s h noText in
           let b = meaningOf d x .also s h noText in
           let v = known (h .unknown) b (clean-right a (unknownAt (h .unknown) ∷ b) c) in
-          let b1 = bound (meaningOf d x .said s h noText k) ending e in
-          let i1 = judged-read (behindOf d x s noText) begun k (sym (said-is d x s h noText k) ∙ b1 .read) in
-          let b2 = bound (steps bad d (meanings d) child w (ps (b1 .it)) .go (b1 .it) (b1 .at)) (meaningOf d x .closed) (b1 .rest) in
-          let y = parts-read child S w (ps (b1 .it)) (b1 .it) (b1 .at) (b2 .it) (b2 .at) (b2 .read) in
-          let i2 = judged-read (closingOf (ruleOf x .holds) (b2 .it)) (closed (ruleOf x .holds) (b2 .it)) (b2 .at)
-          (sym (closed-is d x (b2 .it) (b2 .at)) ∙ b2 .rest) in
-          let place : n ≡ b1 .at = j ∙ i1 .place in
-          let y′ : Told d (inside w (ps begun)) begun n (b2 .it) (b2 .at) = rw (i1 .same, place) y in
-          let c′ : Clean (closingOf r (b2 .it)) = rw (← i) (i2 .clean) in
-          let t′ : closed r (b2 .it) ≡ t = rw (← i) (i2 .same) in
+          let b1 = bound (meaningOf d x .said s h noText k) ending t m e in
+          let i1 = judged-read (behindOf d x s noText) begun k (sym (said-is d x s h noText k) ∙ b1 .first-is) in
+          let b2 = bound (steps bad d (meanings d) child w (ps (b1 .value)) .go (b1 .value) (b1 .place)) (meaningOf d x .closed) t m
+          (b1 .then-is) in
+          let y = parts-read child S w (ps (b1 .value)) (b1 .value) (b1 .place) (b2 .value) (b2 .place) (b2 .first-is) in
+          let i2 = judged-read (closingOf (ruleOf x .holds) (b2 .value)) (closed (ruleOf x .holds) (b2 .value)) (b2 .place)
+          (sym (closed-is d x (b2 .value) (b2 .place)) ∙ b2 .then-is) in
+          let place : n ≡ b1 .place = j ∙ i1 .place in
+          let y′ : Told d (inside w (ps begun)) begun n (b2 .value) (b2 .place) = rw (i1 .same, place) y in
+          let c′ : Clean (closingOf r (b2 .value)) = rw (← i) (i2 .clean) in
+          let t′ : closed r (b2 .value) ≡ t = rw (← i) (i2 .same) in
           moved t′ (i2 .place)
           (parts-done z (v .0)
           (clean-both a (b ++ behindOf d x s noText) (clean-left a (unknownAt (h .unknown) ∷ b) c)
@@ -376,16 +369,17 @@ module _ (bad : Bool) (d : List ℕ) where
 
       parts-held : entering bad d (meanings d) x s h child ps em q n ≡ Is t m → Told d (the x) s p t m
       parts-held e =
-          let b = bound (enter bad d front em q n) saying e in
-          on em refl (b .it) (b .at) (bound (judged front (tt {0}) n) (λ a m. cond em (Not (fault 2 q)) (Is a m)) (b .read)) (b .rest) where
+          let b = bound (enter bad d front em q n) saying t m e in
+          on em refl (b .value) (b .place) (bound (judged front (tt {0}) n) (λ a m. cond em (Not (fault 2 q)) (Is a m)) (b .value)
+          (b .place) (b .first-is)) (b .then-is) where
             on : (c : Bool) → em ≡ c → (u : Unit {0}) (k : ℕ)
                 → Bound (judged front (tt {0}) n) (λ a m. cond c (Not (fault 2 q)) (Is a m)) u k
                 → saying u k ≡ Is t m → Told d (the x) s p t m
-            on true z u k b e = let y = b .rest in never cc
+            on true z u k b e = let y = b .then-is in never cc
             on false z u k b e =
-                let y = b .rest in
-                let j = judged-read front (tt {0}) n (b .read) in
-                let a : b .at ≡ k = cc in
+                let y = b .then-is in
+                let j = judged-read front (tt {0}) n (b .first-is) in
+                let a : b .place ≡ k = cc in
                 parts-behind k z (j .place ∙ a) (j .clean) e
 
     held-read : (r : Holds) → ruleOf x .holds ≡ r → holding bad d (meanings d) x s h (element bad d (meanings d) f) r em q n ≡ Is t m

@@ -41,6 +41,7 @@ use Rattle.prologs.proofs.Whole as prologs
 use Rattle.reading.specs.rule.Result.{Result, Is, Not, Reader, bind}
 use Rattle.reading.specs.rule.Least.{Charge}
 use Rattle.bridge.specs.Lowest.{never}
+use Rattle.xml_laws.specs.Reads.{Bound, bound}
 use Rattle.grammar.specs.Faults.{Clean}
 use Rattle.names.specs.rule.Standard.{nameFault}
 use Rattle.xml_reading.specs.rule.Word.{SSS}
@@ -56,7 +57,7 @@ use Rattle.xml_grammar.specs.Whole.{depth, last, sheet-is}
 use Rattle.xml_derivations.specs.Derivation.{the, Says}
 use Rattle.xml_derivations.specs.Document.{unsaid, surveyOf, Document, document, definition, Taken, taken}
 use Rattle.xml_derivation_laws.specs.Table.{word-name}
-use Rattle.xml_derivation_laws.specs.Read.{Bound, bound, Told, element-read}
+use Rattle.xml_derivation_laws.specs.Read.{Told, element-read}
 use Rattle.xml_derivation_laws.specs.Derived.{derived-read}
 
 -- ---- the root
@@ -165,14 +166,14 @@ module _ (bad latin : Bool) (d : List ℕ) (n : ℕ) (s : Survey) (m : ℕ) wher
   behind-root : {p e j : ℕ} {t : State} → RootRead bad latin d n p e → element bad d (meanings d) (depth bad d) Sss (unsaid latin) p e
       ≡ Is t j
       → last bad d t j ≡ Is s m → (bad ≡ false) × Derivation latin d n s m
-  behind-root {p} {e} {j} {t} r f g = on (bound (cleared bad d (tailOf bad d j) j) (λ u n. Is (surveyOf t) n) g) where
+  behind-root {p} {e} {j} {t} r f g = on (bound (cleared bad d (tailOf bad d j) j) (λ u n. Is (surveyOf t) n) s m g) where
     y : Told d (the Sss) (unsaid latin) p t j
     y = element-read bad d (depth bad d) Sss (unsaid latin) p e t j (r .name) f
 
     on : Bound (cleared bad d (tailOf bad d j) j) (λ u n. Is (surveyOf t) n) s m → (bad ≡ false) × Derivation latin d n s m
     on b =
-        let z = tail-read bad d j (tailOf bad d j) {k = b .at} refl (b .read) in
-        let o = b .rest in
+        let z = tail-read bad d j (tailOf bad d j) {k = b .place} refl (b .first-is) in
+        let o = b .then-is in
         let i = z .1 in
         let a : surveyOf t ≡ s = cc in
         let k : j ≡ m = cc in (
@@ -181,14 +182,14 @@ module _ (bad latin : Bool) (d : List ℕ) (n : ℕ) (s : Survey) (m : ℕ) wher
         )
 
   pub sheet-derived : sheet bad d latin n ≡ Is s m → (bad ≡ false) × Derivation latin d n s m
-  sheet-derived e = on (bound (root bad d latin n) behind (sym (sheet-is bad d latin n) ∙ e)) where
+  sheet-derived e = on (bound (root bad d latin n) behind s m (sym (sheet-is bad d latin n) ∙ e)) where
     behind : ℕ → Reader Survey
     behind p n = bind (element bad d (meanings d) (depth bad d) Sss (unsaid latin) p n) (last bad d)
 
     on : Bound (root bad d latin n) behind s m → (bad ≡ false) × Derivation latin d n s m
     on a =
-        let b = bound (element bad d (meanings d) (depth bad d) Sss (unsaid latin) (a .it) (a .at)) (last bad d) (a .rest) in
-        behind-root (root-read bad latin d (a .read)) (b .read) (b .rest)
+        let b = bound (element bad d (meanings d) (depth bad d) Sss (unsaid latin) (a .value) (a .place)) (last bad d) s m (a .then-is) in
+        behind-root (root-read bad latin d (a .first-is)) (b .first-is) (b .then-is)
 
 pub derived-sheet : (latin : Bool) {d : List ℕ} {n m : ℕ} {s : Survey} {c : List Charge} → Document latin d n c s m → Clean c
     → sheet false d latin n ≡ Is s m
@@ -322,3 +323,7 @@ module _ (d : List ℕ) (n : ℕ) where
   -- it is charged, its names are good where that is asked, and the table is long enough
   pub taken-exactly : (k : List Entry) → (outcomeOf d n ≡ Built k) ↔ Taken d n k
   taken-exactly k = (taken-of, of-taken)
+
+-- a definition is taken as one list of variables alone
+pub taken-once : {d : List ℕ} {n : ℕ} {k l : List Entry} → Taken d n k → Taken d n l → k ≡ l
+taken-once {d} {n} x y = let e = of-taken d n x in let f = of-taken d n y in cc

@@ -1,3 +1,4 @@
 pub mod Boundaries
 pub mod Texts
 pub mod Decoded
+pub mod Sample
