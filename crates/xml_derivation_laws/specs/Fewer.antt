@@ -15,9 +15,10 @@ use Rattle.reading.specs.rule.Least.{Charge}
 use Rattle.reading.specs.rule.Values.{lineCharges}
 use Rattle.reading.specs.rule.Variable.{identCharges, Sort}
 use Rattle.bridge.specs.Lowest.{never}
+use Rattle.xml_bridge.specs.Table.{entries-count}
 use Rattle.grammar.specs.Faults.{Clean}
 use Rattle.grammar_laws.specs.Views.{clean-left}
-use Rattle.xml_reading.specs.rule.Role.{Entry, variablesOf}
+use Rattle.xml_reading.specs.rule.Role.{variablesOf}
 use Rattle.xml_grammar.specs.Grammar.{Element, Part, Holds, nothing, plain, number, texts, parts, typed, ruleOf}
 use Rattle.xml_grammar.specs.Grammar.{Sss, Date, Time, Origin, User, Survey, SurveyName, SurveyVersion, Title, Record}
 use Rattle.xml_grammar.specs.Grammar.{Variable, Name, Label, Position, Filter, Spread, Size, Values, Range, Value}
@@ -154,10 +155,6 @@ keeps {d} (derivation.next {l = l} o g y z) = λ k h f.
 keeps {d} (derivation.pass {l = l} o y) = λ k h f. keeps y k h (passes-fits d k l o f)
 
 -- ---- one fewer
-length-map : (l : List Entry) → length (variablesOf l) ≡ length l
-length-map [] = refl
-length-map (v ∷ l) = ap suc (length-map l)
-
 variable-few : (d : List ℕ) (s : State) (h : Held) → Clean (chargesOf d Variable s h noText) → length (s .entries) < mostRows
 unfolding identCharges
 variable-few d s h c =
@@ -167,7 +164,7 @@ variable-few d s h c =
     let e = clean-first _ _ _ b .1 in
     let f = clean-first _ _ _ e .1 in
     let g = clean-first _ _ _ f .0 in
-    omega (arith, leb-false mostRows (length v) g, length-map (s .entries))
+    omega (arith, leb-false mostRows (length v) g, entries-count (s .entries))
 
 value-few : (d : List ℕ) (s : State) (h : Held) (t : Text) → Clean (chargesOf d Value s h t)
     → linesBefore s + length (s .block .lines) < mostLines
