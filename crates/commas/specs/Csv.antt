@@ -34,6 +34,17 @@ pub over-special : (s : List ℕ) (i : ℕ) → length s ≤ i → holdsSpecial 
 unfolding holdsSpecial
 over-special s i h = ap holdsSpecial (over-byte s i h)
 
+or-join : (a b c : Bool) → (a || (b || c)) ≡ ((a || b) || c)
+or-join true b c = refl
+or-join false b c = refl
+
+-- one byte more of eight
+pub eight-step : (s : List ℕ) (i k : ℕ) (some sp h : Bool) → i + k < length s → sp ≡ isSpecial (getD s (i + k) 0)
+    → h ≡ (some || holdsSpecial (drop (i + k) s)) → h ≡ ((some || sp) || holdsSpecial (drop (i + (k + 1)) s))
+eight-step s i k some sp h l e q =
+    let j : i + (k + 1) ≡ i + k + 1 = omega arith in
+    q ∙ rw (next-special s (i + k) l, ← e, j) (or-join some sp (holdsSpecial (drop (i + k + 1) s)))
+
 -- ---- a field by whether it is quoted
 pub field-quoted : (f : List ℕ) → holdsSpecial f ≡ true → (34 ∷ []) ++ (doubled f ++ (34 ∷ [])) ≡ fieldBytes f
 unfolding fieldBytes

@@ -1,2 +1,3 @@
 pub mod rule
 pub mod Sent
+pub mod Stored

@@ -5,3 +5,5 @@ pub mod Ends
 pub mod Legal
 pub mod Rows
 pub mod Numeral
+pub mod Bare
+pub mod Few

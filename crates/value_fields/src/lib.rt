@@ -16,7 +16,7 @@ ghost use Rattle.layout.specs.declared.Spread.the-variants.{Fields};
 ghost use Rattle.layout.specs.rule.Row.{rowAt};
 ghost use Rattle.fields.specs.Facts.{LineFacts};
 ghost use Rattle.fields.specs.rule.Field.{unended, singleField, quantityField, textField, truthField};
-ghost use Rattle.fields.specs.rule.Number.{padded, allSpaces, codeOf, quantityOf};
+ghost use Rattle.fields.specs.rule.Number.{padded, allSpaces, wrong, codeOf, quantityOf, amountForm, amountSize};
 ghost use Rattle.numbers.specs.Numeral.{saidOf};
 ghost use Rattle.numbers.specs.rule.Format.{FormatFacts};
 ghost use Rattle.sets.specs.rule.Sets.{isIllegal};
@@ -31,6 +31,7 @@ ghost use Rattle.commas.specs.rule.Csv.{fieldBytes};
 ghost use Rattle.sink.specs.rule.Sent.{Sent};
 ghost use Rattle.value_fields.specs.rule.Values.{amountText, numberText, codesBehind, setText, valueText, fieldText, decimalsOf};
 ghost use Rattle.value_fields.specs.rule.Values.{rowField};
+ghost use Rattle.few_codes.specs.Few.{above};
 ghost use Rattle.value_fields.specs.Ends.{SpacesFrom, EndsAt};
 ghost use Rattle.value_fields.specs.Legal.{Told, bitsFrom, eachField, FirstSet, Full};
 use layout::Format;
@@ -40,7 +41,6 @@ use layout::Row;
 use layout::Spread;
 use numbers::Numeral;
 use readings::Answer;
-use sets::SetRead;
 
 // The last w digits of n. Where they are only measured, none is made.
 fn send_digits(
@@ -272,24 +272,65 @@ fn send_said(
 }
 
 // A SINGLE that is legal: its w bytes end before the place e.
-fn send_single(
-    powers: &[u64; 16],
-    bound: usize,
-    out: &mut [u8],
-    at: usize,
-    bytes: &[u8],
-    e: usize,
-    w: usize,
-) -> usize
-    requires { ⌜ Tens (now powers) ⌝ }
-    requires { ⌜ (w ≤ 17) × (w ≤ e) × (e ≤ length (now bytes)) ⌝ }
+fn send_single(bound: usize, out: &mut [u8], at: usize, bytes: &[u8], e: usize, w: usize) -> usize
+    requires { ⌜ (w ≤ e) × (e ≤ length (now bytes)) ⌝ }
     requires { ⌜ Told (codeOf (pick (now bytes) (run (e - w) w))) ⌝ }
     ensures { λ r. ⌜ ((ok : ℤ → Bool) → isIllegal (singleField ok (pick (now (bytes .entry)) (run (e - w) w))) ≡ false
         → Sent bound (now (out .entry)) at (fieldBytes (fieldText 0 (singleField ok (pick (now (bytes .entry)) (run (e - w) w)))))
         (now (out .exit)) r) ⌝ }
 {
     let a = e - w;
-    send_said(powers, bound, out, at, 0, numbers::code(&bytes[a..e]), true)
+    bare_digits::send_code(bound, out, at, &bytes[a..e])
+}
+
+// Where the text of a size ends in its n bytes, of which k stand before the point: there is no point where there are no decimals.
+fn text_end(f: Format, n: usize, k: usize) -> usize
+    ensures { λ r. ⌜ r ≡ cond (eqb (f .decimals) 0) k n ⌝ }
+{
+    if f.decimals == 0 { k } else { n }
+}
+
+// The digits of a size, with its point and decimals: before the point no zeros in front, and a zero where there is nothing else.
+fn send_size(bound: usize, out: &mut [u8], at: usize, f: Format, s: &[u8]) -> usize
+    requires { ⌜ FormatFacts f × (length (now s) ≤ 17) ⌝ }
+    requires { ⌜ (amountForm f (now s) ≡ true) × (amountSize f (now s) < 10 ^ 16) ⌝ }
+    ensures { λ r. ⌜ Sent bound (now (out .entry)) at (amountText (f .decimals) (amountSize f (now (s .entry)))) (now (out .exit)) r ⌝ }
+{
+    let k = s.len() - widths::tail(f);
+    let z = bare_digits::leading(&s[..k], 48);
+    let e = text_end(f, s.len(), k);
+    if z < k {
+        return sink::send_bytes(bound, out, at, &s[z..e]);
+    }
+    let end = sink::send_byte(bound, out, at, 48);
+    sink::send_bytes(bound, out, end, &s[z..e])
+}
+
+// A quantity's bytes, which are legal. One with a minus goes by its number, since minus zero is zero.
+fn send_signed(
+    powers: &[u64; 16],
+    bound: usize,
+    out: &mut [u8],
+    at: usize,
+    f: Format,
+    s: &[u8],
+) -> usize
+    requires { ⌜ Tens (now powers) ⌝ }
+    requires { ⌜ FormatFacts f × (length (now s) ≤ 17) ⌝ }
+    requires { ⌜ Told (quantityOf f (now s)) × (quantityOf f (now s) ≡ wrong → ⊥) ⌝ }
+    ensures { λ r. ⌜ ((ok : ℤ → Bool) → isIllegal (quantityField f ok (now (s .entry))) ≡ false
+        → Sent bound (now (out .entry)) at (fieldBytes (fieldText (f .decimals) (quantityField f ok (now (s .entry))))) (now (out .exit))
+        r) ⌝ }
+{
+    let p = bare_digits::leading(s, 32);
+    if s.len() <= p {
+        return at;
+    }
+    if s[p] == 45 {
+        let k = f.decimals;
+        return send_said(powers, bound, out, at, k, numbers::quantity(f, s), false);
+    }
+    send_size(bound, out, at, f, &s[p..])
 }
 
 // A quantity that is legal.
@@ -305,22 +346,14 @@ fn send_quantity(
 ) -> usize
     requires { ⌜ Tens (now powers) ⌝ }
     requires { ⌜ (w ≤ 17) × (w ≤ e) × (e ≤ length (now bytes)) ⌝ }
-    requires { ⌜ FormatFacts f × Told (quantityOf f (pick (now bytes) (run (e - w) w))) ⌝ }
+    requires { ⌜ FormatFacts f × Told (quantityOf f (pick (now bytes) (run (e - w) w)))
+        × (quantityOf f (pick (now bytes) (run (e - w) w)) ≡ wrong → ⊥) ⌝ }
     ensures { λ r. ⌜ ((ok : ℤ → Bool) → isIllegal (quantityField f ok (pick (now (bytes .entry)) (run (e - w) w))) ≡ false
         → Sent bound (now (out .entry)) at
         (fieldBytes (fieldText (f .decimals) (quantityField f ok (pick (now (bytes .entry)) (run (e - w) w))))) (now (out .exit)) r) ⌝ }
 {
     let a = e - w;
-    let k = f.decimals;
-    send_said(
-        powers,
-        bound,
-        out,
-        at,
-        k,
-        numbers::quantity(f, &bytes[a..e]),
-        false,
-    )
+    send_signed(powers, bound, out, at, f, &bytes[a..e])
 }
 
 // Whether the eight bytes from i on are spaces. Nothing leaves the loop early: so the compiler looks at all of them at once.
@@ -513,7 +546,30 @@ fn send_read(
     send_value(powers, bound, out, at, decimals(kind), a, list, bytes)
 }
 
-// The field of row i, a spread of n subfields, which are few, of b bytes.
+// Behind a code those above it, each with its semicolon.
+fn send_above(
+    powers: &[u64; 16],
+    bound: usize,
+    out: &mut [u8],
+    at: usize,
+    room: &[u16],
+    first: u16,
+) -> usize
+    requires { ⌜ Tens (now powers) × (length (now room) ≡ 8) ⌝ }
+    ensures { λ r. ⌜ Sent bound (now (out .entry)) at (codesBehind (above (now (room .entry)) first)) (now (out .exit)) r ⌝ }
+{
+    let mut end = at;
+    let mut c = few_codes::next_above(room, first);
+    while c < 65535 {
+        end = sink::send_byte(bound, out, end, 59);
+        end = send_count(powers, bound, out, end, c as u64);
+        c = few_codes::next_above(room, c);
+    }
+    end
+}
+
+// The field of row i, a spread of n subfields, which are few, of b bytes, in which it is legal. Where none holds a code, what is read of
+// it tells missing from the empty set.
 fn send_few(
     powers: &[u64; 16],
     t: &[i64],
@@ -530,17 +586,19 @@ fn send_few(
     requires { ⌜ Ready (now powers) (now t) h (length (now list)) ⌝ }
     requires { ⌜ (i < h .rows) × (h .length ≤ length (now bytes)) ⌝ }
     requires { ⌜ (n ≤ 8) × (rowAt (now t) i .kind ≡ Multiple (Fields n b)) ⌝ }
+    requires { ⌜ isIllegal (readingAt (now t) i (now bytes)) ≡ false ⌝ }
     ensures { λ r. ⌜ Sent bound (now (out .entry)) at (fieldBytes (rowField (now (t .entry)) (now (bytes .entry)) i)) (now (out .exit))
         r ⌝ }
 {
     let row = Row::read(t, i);
-    let mut room = [0usize; 8];
-    match sets::read_few(t, h.rows, row, n, b, bytes, list, &mut room) {
-        SetRead::Missing => at,
-        SetRead::Count(m) => send_set(powers, bound, out, at, list, m),
-        SetRead::Illegal => at,
-        SetRead::Short => at,
+    let mut room = [0u16; 8];
+    few_codes::gather(bytes, row.start - 1, b, row.width, n, &mut room);
+    let c = few_codes::next_above(&room, 0);
+    if c == 65535 {
+        return send_read(powers, t, h, i, bytes, list, bound, out, at);
     }
+    let end = send_count(powers, bound, out, at, c as u64);
+    send_above(powers, bound, out, end, &room, c)
 }
 
 // The field of row i for a record in which it is legal. The row is read again where a set is read: so it need not stand in memory for
@@ -567,7 +625,7 @@ pub fn send_row(
     let row = Row::read(t, i);
     let kind = row.kind;
     match kind {
-        Kind::Single => send_single(powers, bound, out, at, bytes, row.finish, row.width),
+        Kind::Single => send_single(bound, out, at, bytes, row.finish, row.width),
         Kind::Multiple(s) => match s {
             Spread::Bits => {
                 if full[i] == 49 {

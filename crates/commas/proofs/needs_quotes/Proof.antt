@@ -1,42 +1,29 @@
 -- `commas::needs_quotes` meets its contract. The invariant: no byte so far is one of the four.
 use mathlib.Core.Path.{_≡_, refl, sym, ap, _∙_}
+use mathlib.Core.Bool.{_||_}
+use Prim.Native.Nat.{_-_, _≤_}
 use native.Mathlib.Omega.{arith}
 use borrow.Author.Needs.{needs}
-use Prim.Native.Nat.{_-_}
 use lib.ListN.{length, drop}
 use Rattle.commas.specs.rule.Csv.{holdsSpecial}
-use Rattle.commas.specs.Csv.{next-special, over-special}
 use Rattle.commas.proofs.needs_quotes.Statement.{statement}
 use Rattle.commas.proofs.needs_quotes.Tie as tie
 
 abbrev Inv-loop : tie.InvT-loop
-Inv-loop s i₀ i = holdsSpecial s ≡ holdsSpecial (drop i s)
+Inv-loop s i₀ i = (i ≤ length s) × (holdsSpecial s ≡ holdsSpecial (drop i s))
 
 abbrev μ-loop : tie.MeasureT-loop
 μ-loop s i₀ i = length s - i
 
-loop-holds : tie.Need-loop-holds Inv-loop μ-loop
-loop-holds c = refl
-
-shared-slice-read-special : tie.Need-shared-slice-read-special Inv-loop μ-loop
-shared-slice-read-special c = omega (arith, c .before .loop-test .taken)
-
 returns : tie.Need-returns Inv-loop μ-loop
-returns c = sym (c .before .before .before .before .loop .inv ∙ next-special _ _ (c .before .before .before .loop-test .taken)
-    ∙ rw (sym (c .before .special .ensures), c .if1 .taken))
-
-add-i : tie.Need-add-i Inv-loop μ-loop
-add-i c = omega (arith, c .before .before .before .loop-test .taken)
-
-loop-less : tie.Need-loop-less Inv-loop μ-loop
-loop-less c = omega (arith, c .before .before .before .loop-test .taken)
+returns c = let l = c .before .before .before .loop in sym (l .inv .1 ∙ c .before .eight-special .ensures ∙ rw (c .if1 .taken))
 
 loop-again : tie.Need-loop-again Inv-loop μ-loop
-loop-again c = c .before .before .before .before .loop .inv ∙ next-special _ _ (c .before .before .before .loop-test .taken)
-    ∙ rw (sym (c .before .special .ensures), c .if1 .left)
+loop-again c = let l = c .before .before .before .loop in
+    (omega arith, l .inv .1 ∙ c .before .eight-special .ensures ∙ rw (c .if1 .left))
 
 returns-2 : tie.Need-returns-2 Inv-loop μ-loop
-returns-2 c = sym (c .before .loop .inv ∙ over-special _ _ (c .loop-test .left))
+returns-2 c = c .some-special .ensures ∙ sym (c .before .before .loop .inv .1)
 
 pub needs-quotes-spec : {M : Type 1} → statement M
 needs-quotes-spec =
@@ -44,11 +31,12 @@ needs-quotes-spec =
     (tie.spec
     Inv-loop
     μ-loop
-    loop-holds
-    shared-slice-read-special
-    (λ c κs. search needs)
+    (λ c. (omega arith, refl))
+    (λ c. omega arith)
+    (λ c κs. omega arith)
     returns
-    add-i
-    loop-less
+    (λ c. omega arith)
+    (λ c. omega arith)
     loop-again
+    (λ c κs. search needs)
     returns-2)

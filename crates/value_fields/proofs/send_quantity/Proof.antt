@@ -3,29 +3,26 @@ use mathlib.Core.Path.{_≡_, refl, sym, ap, _∙_}
 use native.Mathlib.Omega.{arith}
 use borrow.Author.Needs.{needs}
 use Prim.Native.Nat.{_-_}
-use Rattle.places.specs.rule.Places.{pick, run}
-use Rattle.fields.specs.rule.Number.{quantityOf}
-use Rattle.numbers.specs.Numeral.{saidOf}
-use Rattle.readings.specs.Answer.{numeralField}
+use lib.ListN.{length, length-take}
 use Rattle.readings.proofs.Laws.{last-bytes}
 use Rattle.value_fields.proofs.send_quantity.Statement.{statement}
 use Rattle.value_fields.proofs.send_quantity.Tie as tie
 
--- what the value places say
-said : (c : tie.After-quantity) → let a = c .before .before .before .before .before .args in
-    saidOf (c .quantity .result) ≡ quantityOf (a .f) (pick (a .bytes .now) (run (a .e - a .w) (a .w)))
-said c = let a = c .before .before .before .before .before .args in let p = c .before .before .before .before .before .pre .1 .0 in
-    c .quantity .ensures ∙ ap (quantityOf (a .f)) (last-bytes (a .bytes .now) (a .e) (a .w) (p .1) (p .2))
-
-send-said-requires : tie.Need-send-said-requires
-send-said-requires c κs = let p = c .before .before .before .before .before .pre in (
-  p .0,
-  (λ z e. p .1 .1 .1 z (sym (said c) ∙ e), p .1 .1 .0 .few),
-)
+send-signed-requires : tie.Need-send-signed-requires
+send-signed-requires c κs =
+    let start = c .before .before .before .before in
+    let a = start .args in
+    let p = start .pre in
+    let q = last-bytes (a .bytes .now) (a .e) (a .w) (p .1 .0 .1) (p .1 .0 .2) in
+    (p .0, ((p .1 .1 .0, simp length-take (omega arith)), (rw q (p .1 .1 .1), rw q (p .1 .1 .2))))
 
 returns : tie.Need-returns
-unfolding numeralField
-returns c ok g = let e = said (c .before .before .before) in rw e at (c .before .before .send-said .ensures ok (rw e g))
+returns c ok g =
+    let start = c .before .before .before .before .before .before .before in
+    let a = start .args in
+    let p = start .pre in
+    let q = last-bytes (a .bytes .now) (a .e) (a .w) (p .1 .0 .1) (p .1 .0 .2) in
+    rw q at (c .before .before .send-signed .ensures ok (rw q g))
 
 pub send-quantity-spec : {M : Type 1} → statement M
 send-quantity-spec =
@@ -35,7 +32,6 @@ send-quantity-spec =
     (λ c. search needs)
     (λ c. search needs)
     (λ c. search needs)
-    (λ c κs. search needs)
-    send-said-requires
+    send-signed-requires
     (λ c. search needs)
     returns)

@@ -26,6 +26,7 @@ use Rattle.listing.specs.RowLaws.{row-stands, row-ready}
 use Rattle.sink.specs.Sent.{sent-as}
 use Rattle.value_fields.specs.rule.Values.{decimalsOf}
 use Rattle.value_fields.specs.Legal.{Told, eachField, told-of, row-fits, row-small, row-legal, row-text}
+use Rattle.value_fields.specs.Bare.{well-of}
 use Rattle.value_fields.proofs.send_row.Statement.{statement}
 use Rattle.value_fields.proofs.send_row.Tie as tie
 
@@ -49,12 +50,9 @@ send-single-requires c κs =
     let e = c .before .enum-told .given .1 in
     let f = single-ready (row-ready (p .0 .tested) (p .1 .0 .0) is (a .bytes .now) (p .1 .0 .1)) e in
     let g = row-legal (p .0 .tested) (p .1 .0 .0) is (a .bytes .now) (p .1 .1 .1) in (
-      p .0 .tens,
-      (
-        (f .few, f .reach, f .inside),
-        told-of (legal (a .t .now) (a .h .rows) r) (row-small (p .0 .tested) (p .1 .0 .0) is) true _
-            (rw (as-single (a .t .now) (a .h .rows) r (a .bytes .now) e) at g),
-      ),
+      (f .reach, f .inside),
+      told-of (legal (a .t .now) (a .h .rows) r) (row-small (p .0 .tested) (p .1 .0 .0) is) true _
+          (rw (as-single (a .t .now) (a .h .rows) r (a .bytes .now) e) at g),
     )
 
 element-copy-out-if1 : tie.Need-element-copy-out-if1
@@ -118,8 +116,11 @@ send-few-requires c κs =
       (
         p .1 .0,
         (
-          c .before .before .if2 .taken,
-          ap (λ (r : Row). r .kind) (sym (at-kind .before .before .read .ensures)) ∙ e,
+          (
+            c .before .before .if2 .taken,
+            ap (λ (r : Row). r .kind) (sym (at-kind .before .before .read .ensures)) ∙ e,
+          ),
+          p .1 .1 .1,
         ),
       ),
     )
@@ -134,14 +135,15 @@ send-quantity-requires c κs =
     let r = c .before .before .before .before .read .result in
     let e = c .before .before .kind2 .given .1 in
     let f = quantity-ready (row-ready (p .0 .tested) (p .1 .0 .0) is (a .bytes .now) (p .1 .0 .1)) e in
-    let g = row-legal (p .0 .tested) (p .1 .0 .0) is (a .bytes .now) (p .1 .1 .1) in (
+    let g = row-legal (p .0 .tested) (p .1 .0 .0) is (a .bytes .now) (p .1 .1 .1) in
+    let l = rw (as-quantity (a .t .now) (a .h .rows) r (a .bytes .now) _ e) at g in (
       p .0 .tens,
       (
         (f .0 .few, f .0 .reach, f .0 .inside),
         (
           f .1,
-          told-of (legal (a .t .now) (a .h .rows) r) (row-small (p .0 .tested) (p .1 .0 .0) is) false _
-              (rw (as-quantity (a .t .now) (a .h .rows) r (a .bytes .now) _ e) at g),
+          told-of (legal (a .t .now) (a .h .rows) r) (row-small (p .0 .tested) (p .1 .0 .0) is) false _ l,
+          well-of false (legal (a .t .now) (a .h .rows) r) _ l,
         ),
       ),
     )

@@ -1,31 +1,24 @@
--- `value_fields::send_single` meets its contract: what the last w bytes of the position say.
+-- `value_fields::send_single` meets its contract: the digits of the last w bytes of the position.
 use mathlib.Core.Path.{_≡_, refl, sym, ap, _∙_}
 use native.Mathlib.Omega.{arith}
 use borrow.Author.Needs.{needs}
-use Prim.Native.Nat.{_-_}
-use Rattle.places.specs.rule.Places.{pick, run}
-use Rattle.fields.specs.rule.Number.{codeOf}
-use Rattle.numbers.specs.Numeral.{saidOf}
-use Rattle.readings.specs.Answer.{numeralField}
+use mathlib.Core.List.{List}
+use Prim.Native.Nat.{ℕ}
+use Rattle.fields.specs.rule.Number.{unspaced}
 use Rattle.readings.proofs.Laws.{last-bytes}
+use Rattle.sink.specs.Sent.{sent-as}
+use Rattle.bare_digits.specs.Bare.{unled}
+use Rattle.value_fields.specs.Bare.{single-bare}
 use Rattle.value_fields.proofs.send_single.Statement.{statement}
 use Rattle.value_fields.proofs.send_single.Tie as tie
 
--- what the value places say
-said : (c : tie.After-code) → let a = c .before .before .before .before .before .args in
-    saidOf (c .code .result) ≡ codeOf (pick (a .bytes .now) (run (a .e - a .w) (a .w)))
-said c = let a = c .before .before .before .before .before .args in let p = c .before .before .before .before .before .pre .1 .0 in
-    c .code .ensures ∙ ap (codeOf) (last-bytes (a .bytes .now) (a .e) (a .w) (p .1) (p .2))
-
-send-said-requires : tie.Need-send-said-requires
-send-said-requires c κs = let p = c .before .before .before .before .before .pre in (
-  p .0,
-  (λ z e. p .1 .1 z (sym (said c) ∙ e), omega arith),
-)
-
 returns : tie.Need-returns
-unfolding numeralField
-returns c ok g = let e = said (c .before .before .before) in rw e at (c .before .before .send-said .ensures ok (rw e g))
+returns c ok g =
+    let start = c .before .before .before .before .before .before .before in
+    let a = start .args in
+    let p = start .pre in
+    sent-as (c .before .before .send-code .ensures)
+    (ap (λ (x : List ℕ). unled 48 (unspaced x)) (last-bytes (a .bytes .now) (a .e) (a .w) (p .0 .0) (p .0 .1)) ∙ single-bare ok _ (p .1) g)
 
 pub send-single-spec : {M : Type 1} → statement M
 send-single-spec =
@@ -36,6 +29,5 @@ send-single-spec =
     (λ c. search needs)
     (λ c. search needs)
     (λ c κs. search needs)
-    send-said-requires
     (λ c. search needs)
     returns)
