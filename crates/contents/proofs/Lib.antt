@@ -4,4 +4,5 @@ pub mod Goes
 pub mod Pieces
 mod Passing
 pub mod Exactly
+mod Walking
 pub mod Tellings

@@ -59,16 +59,15 @@ passes-wide d p i (suc n) x h e =
     let f = allBelow n (λ k. plainOf (getD d (i + k) 0)) in
     rw q (passes-next d p (i + n) (passes-wide d p i n x (omega arith) (and-left f _ e)) (omega arith) (and-right f _ e))
 
--- a step behind them
-pub strides : (bad : Bool) (d : List ℕ) (m : ℕ) (w : List ℕ) (g : Going) (p : ℕ) (r : Step) → Passes d (g .next) p
-    → stepOf bad d m w (stand (g .inside) (g .unknown) p) ≡ r → Strides bad d m w g r
-strides bad d m w g p (More h s) x e =
+-- a step behind what was passed
+pub strides : (bad : Bool) (d : List ℕ) (m : ℕ) (w : List ℕ) (g : Going) (p : ℕ) (r : Step) → contentFrom bad d m w g
+    ≡ contentFrom bad d m w (stand (g .inside) (g .unknown) p)
+    → g .next ≤ p → stepOf bad d m w (stand (g .inside) (g .unknown) p) ≡ r → Strides bad d m w g r
+strides bad d m w g p (More h s) x a e =
     let k = stand (g .inside) (g .unknown) p in
     let o = step-on bad d m w k h s e in
-    let a = x .on in
-    more (x .again bad m w (g .inside) (g .unknown) ∙ content-next bad d m w k h s e) (omega (arith, o .0)) (o .1)
-strides bad d m w g p (Over c) x e =
-    over (x .again bad m w (g .inside) (g .unknown) ∙ content-over bad d m w (stand (g .inside) (g .unknown) p) c e)
+    more (x ∙ content-next bad d m w k h s e) (omega (arith, o .0)) (o .1)
+strides bad d m w g p (Over c) x a e = over (x ∙ content-over bad d m w (stand (g .inside) (g .unknown) p) c e)
 
 -- what the stride's answer tells
 pub more-same : {bad : Bool} {d : List ℕ} {m : ℕ} {w : List ℕ} {g h : Going} {s : Said} {r : Step} → r ≡ More h s → Strides bad d m w g r

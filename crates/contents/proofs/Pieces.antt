@@ -99,17 +99,18 @@ module _ (l bad : Bool) (d : List ℕ) (m : ℕ) (w : List ℕ) where
     by true i = let c = eqb-true b 93 i in step-93 g h (f ∙ c) none ∙ rw c
     by false i = step-byte g b h f x y z i
 
-  step-return : (g : Going) (q : Bool) → g .next < length d → getD d (g .next) 0 ≡ 13 → stands (10 ∷ []) (drop (g .next + 1) d) ≡ q
+  pub step-return : (g : Going) (q : Bool) → g .next < length d → getD d (g .next) 0 ≡ 13 → stands (10 ∷ []) (drop (g .next + 1) d) ≡ q
       → stepOf bad d m w g ≡ goOn g (g .next + 1) (cond q said.Nothing (said.Byte 10))
   unfolding stepOf returnAt
   step-return g q h f e = rw (lt-leb (length d) (g .next) h, f, e)
 
-  step-refer : (g : Going) (c n : ℕ) → g .next < length d → getD d (g .next) 0 ≡ 38 → referenceOf (g .next) (drop (g .next + 1) d)
+  pub step-refer : (g : Going) (c n : ℕ) → g .next < length d → getD d (g .next) 0 ≡ 38 → referenceOf (g .next) (drop (g .next + 1) d)
       ≡ char.Is c n → stepOf bad d m w g ≡ goOn g n (said.Code c)
   unfolding stepOf referAt
   step-refer g c n h f e = rw (lt-leb (length d) (g .next) h, f, e)
 
-  step-note : (g : Going) (n : ℕ) → g .next < length d → getD d (g .next) 0 ≡ 60 → stands (60 ∷ 33 ∷ 45 ∷ 45 ∷ []) (drop (g .next) d) ≡ true
+  pub step-note : (g : Going) (n : ℕ) → g .next < length d → getD d (g .next) 0 ≡ 60 → stands (60 ∷ 33 ∷ 45 ∷ 45 ∷ []) (drop (g .next) d)
+      ≡ true
       → commentOf bad (g .next) (g .next + 4) (drop (g .next + 4) d) ≡ skip.Past n → stepOf bad d m w g ≡ goOn g n said.Nothing
   unfolding stepOf markAt noteAt
   step-note g n h f x e = rw (lt-leb (length d) (g .next) h, f, x, e)

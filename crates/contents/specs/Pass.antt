@@ -6,6 +6,11 @@ use Prim.Native.Nat.{ℕ, _+_, _≤_, _<_}
 use lib.Dec.{eqb}
 use lib.ListN.{length, getD}
 use Rattle.below.specs.rule.Below.{allBelow}
+use Rattle.markup.specs.declared.Skip.the-variants.{Past}
+use Rattle.angles.specs.rule.Angle.{angleOf}
+use Rattle.angles.specs.declared.Angle.the-variants.{Close}
+use Rattle.pairs.specs.rule.Stand.{shutOf}
+use Rattle.contents.specs.rule.Step.{modeIn}
 use Rattle.contents.specs.rule.Content.{contentFrom}
 use Rattle.contents.specs.declared.Going.{Going}
 use Rattle.contents.specs.declared.Said.{Said}
@@ -28,6 +33,23 @@ pub record Passes (d : List ℕ) (p r : ℕ) : Type 0 where
       ≡ contentFrom bad d m w (record { inside = inside; unknown = unknown; next = r })
   pub on : p ≤ r
   pub within : r ≤ length d
+
+-- the same in a text whose mode there is k
+pub record Walks (bad : Bool) (d : List ℕ) (k p r : ℕ) : Type 0 where
+  pub again : (m : ℕ) (w : List ℕ) (inside : Bool) (unknown : ℕ) → modeIn m inside ≡ k
+      → contentFrom bad d m w (record { inside = inside; unknown = unknown; next = p })
+      ≡ contentFrom bad d m w (record { inside = inside; unknown = unknown; next = r })
+  pub on : p ≤ r
+  pub within : r ≤ length d
+
+-- at p the end tag of w stands, and n is the place behind it
+pub record Closes (d : List ℕ) (p : ℕ) (w : List ℕ) (n : ℕ) : Type 0 where
+  pub end : ℕ
+  pub inside : p + 1 < length d
+  pub less : getD d p 0 ≡ 60
+  pub slash : getD d (p + 1) 0 ≡ 47
+  pub opens : (bad : Bool) → angleOf bad d p ≡ Close end
+  pub shuts : (bad : Bool) → shutOf bad d p end w ≡ Past n
 
 -- what such bytes and the step behind them come to
 pub data Strides (bad : Bool) (d : List ℕ) (m : ℕ) (w : List ℕ) (g : Going) : Step → Type 0 where

@@ -10,11 +10,11 @@ ghost use mathlib.Core.Path.{_≡_};
 ghost use mathlib.Core.Bool.{Bool, true, false, cond, _&&_};
 ghost use mathlib.Core.List.{[], _∷_};
 ghost use Prim.Native.Nat.{_+_, _-_, _≤_, _<_};
-ghost use lib.ListN.{length, drop};
+ghost use lib.ListN.{length, drop, getD};
 ghost use Rattle.contents.specs.rule.Step.{heardOf, goOn, brokenAt, bracketAt, returnAt, referAt, noteAt, pairAt, breakAt};
 ghost use Rattle.contents.specs.rule.Step.{languageAt, otherAt, modeIn, kindOf, startAt, closeAt, markAt, stepOf};
 ghost use Rattle.contents.specs.rule.Content.{contentOf, begun, startOf, textFrom, textOf};
-ghost use Rattle.contents.specs.Pass.{plainOf, allPlain, Passes, Strides};
+ghost use Rattle.contents.specs.Pass.{plainOf, allPlain, Passes, Walks, Closes, Strides};
 ghost use Rattle.contents.specs.Told.{Hears, Tells, wholePart, firstPart, nextPart, bytePart, partCode};
 ghost use Rattle.utf.specs.rule.Chars.{encode};
 
@@ -375,13 +375,6 @@ fn pass_plain(d: &[u8], at: usize) -> usize
     requires { ⌜ at ≤ length (now d) ⌝ }
     ensures { λ r. ⌜ Passes (now (d .entry)) at r ⌝ }
 {
-    // a mark behind a mark
-    if d.len() <= at {
-        return at;
-    }
-    if !is_plain(d[at]) {
-        return at;
-    }
     let mut i = pass_wide(d, at);
     while i < d.len() {
         if is_plain(d[i]) {
@@ -393,18 +386,147 @@ fn pass_plain(d: &[u8], at: usize) -> usize
     i
 }
 
-// A step behind the bytes that say themselves.
+// The place after the reference at a place; that place where it is bad.
+fn pass_reference(d: &[u8], at: usize) -> usize
+    requires { ⌜ (at < length (now d)) × (getD (now d) at 0 ≡ 38) ⌝ }
+    ensures { λ r. ⌜ Passes (now (d .entry)) at r ⌝ }
+{
+    match markup::reference(d, at) {
+        Char::Is { code: _, next } => next,
+        Char::Bad => at,
+    }
+}
+
+// The place after a comment, or after <br/> where a break may stand; that place where neither is there, or the comment is broken.
+fn pass_open(bad: bool, d: &[u8], mode: usize, at: usize) -> usize
+    requires { ⌜ (at < length (now d)) × (getD (now d) at 0 ≡ 60) ⌝ }
+    ensures { λ r. ⌜ Walks bad (now (d .entry)) mode at r ⌝ }
+{
+    if markup::is_there(d, at, b"<!--") {
+        match markup::comment(bad, d, at, at + 4) {
+            Skip::Past(n) => {
+                return n;
+            }
+            Skip::Broken(_) => {
+                return at;
+            }
+        }
+    }
+    let br = markup::is_there(d, at, b"<br/>");
+    if (1 <= mode) & br { at + 5 } else { at }
+}
+
+// The place after what is passed at a look: bytes that say themselves, a line's end, a reference, a comment, a break.
+fn pass_one(bad: bool, d: &[u8], mode: usize, at: usize) -> usize
+    requires { ⌜ at ≤ length (now d) ⌝ }
+    ensures { λ r. ⌜ Walks bad (now (d .entry)) mode at r ⌝ }
+{
+    if d.len() <= at {
+        return at;
+    }
+    let b = d[at];
+    if b == 60 {
+        return pass_open(bad, d, mode, at);
+    }
+    if b == 38 {
+        return pass_reference(d, at);
+    }
+    if b == 13 {
+        return at + 1;
+    }
+    pass_plain(d, at)
+}
+
+// The place after all that is passed so. Numbers alone go in and out: a step has to hold what it says.
+fn pass_marks(bad: bool, d: &[u8], mode: usize, at: usize) -> usize
+    requires { ⌜ at ≤ length (now d) ⌝ }
+    ensures { λ r. ⌜ Walks bad (now (d .entry)) mode at r ⌝ }
+{
+    let mut i = at;
+    loop {
+        let n = pass_one(bad, d, mode, i);
+        if n == i {
+            return i;
+        }
+        i = n;
+    }
+}
+
+// The place after the end tag of w at a place, if it has no white space in it; 0 where another tag or none stands there.
+fn end_behind(d: &[u8], at: usize, w: &[u8]) -> usize
+    requires { ⌜ at ≤ length (now d) ⌝ }
+    ensures { λ r. ⌜ ((r ≡ 0 → ⊥) → Closes (now (d .entry)) at (now (w .entry)) r) ⌝ }
+{
+    if d.len() - at < 3 {
+        return 0;
+    }
+    if d[at] != 60 {
+        return 0;
+    }
+    if d[at + 1] != 47 {
+        return 0;
+    }
+    if !markup::starts_name(d[at + 2]) {
+        return 0;
+    }
+    let e = markup::run(1, d, at + 2);
+    if d.len() <= e {
+        return 0;
+    }
+    if d[e] != 62 {
+        return 0;
+    }
+    if tags::is_named(d, at + 2, e, w) {
+        e + 1
+    } else {
+        0
+    }
+}
+
+// A step behind what is passed at a look.
 fn pass_step(bad: bool, d: &[u8], mode: usize, w: &[u8], g: Going) -> Step
     requires { ⌜ g .next ≤ length (now d) ⌝ }
     ensures { λ r. ⌜ Strides bad (now (d .entry)) mode (now (w .entry)) g r ⌝ }
 {
-    let next = pass_plain(d, g.next);
+    let within = mode_in(mode, g.inside);
+    let next = pass_marks(bad, d, within, g.next);
     let k = Going {
         inside: g.inside,
         unknown: g.unknown,
         next,
     };
+    if k.inside {
+        return leave_text(bad, d, mode, w, k);
+    }
+    let behind = end_behind(d, next, w);
+    if behind != 0 {
+        return Step::Over(Content::Read {
+            end: next,
+            next: behind,
+            unknown: g.unknown,
+        });
+    }
     take_step(bad, d, mode, w, k)
+}
+
+// A step inside <text>: most end it.
+fn leave_text(bad: bool, d: &[u8], mode: usize, w: &[u8], g: Going) -> Step
+    requires { ⌜ (g .next ≤ length (now d)) × (g .inside ≡ true) ⌝ }
+    ensures { λ r. ⌜ r ≡ stepOf bad (now (d .entry)) mode (now (w .entry)) g ⌝ }
+{
+    let at = g.next;
+    let behind = end_behind(d, at, b"text");
+    if behind != 0 {
+        return Step::More {
+            going: Going {
+                inside: false,
+                unknown: g.unknown,
+                next: behind,
+            },
+            said: Said::Nothing,
+        };
+    }
+    take_step(bad, d, mode, w, g)
 }
 
 // The text of an element w from behind its start tag on, with its end tag. Mode 0: characters, references and comments; 1: breaks too;
