@@ -28,7 +28,7 @@ fn item_at(classes: &[u8; 256], d: &[u8], n: usize) -> Item
     requires { ⌜ Classes (now classes) ⌝ }
     ensures { λ r. ⌜ r ≡ itemAt (now (d .entry)) n ⌝ }
 {
-    let g = steps::notes_behind(classes, d, n);
+    let g = steps::past_notes(classes, d, n);
     let date = steps::find_here(classes, d, g, b"DATE");
     if date.there {
         return Item {

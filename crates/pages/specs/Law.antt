@@ -5,13 +5,14 @@ use mathlib.Core.List.{List, [], _∷_, _++_}
 use Prim.Native.Nat.{ℕ, zero, suc, _+_, _-_, _*_, _/_, _^_, _≤_, _<_}
 use native.Mathlib.Nat.{div-add-mod', mul-le-mul-left, mul-one}
 use native.Mathlib.Omega.{arith}
-use lib.Dec.{eqb, ltb, leb}
+use lib.Dec.{eqb, ltb}
 use lib.ListN.{length, getD}
 use borrow.Author.Tests.{ltb-false, eqb-false, ne-eqb, lt-leb, le-leb}
 use Rattle.ascii.specs.rule.Class.{upperOf}
 use Rattle.scan.specs.rule.Text.{Text, stop, sign, text}
 use Rattle.scan.specs.rule.Word.{wordOf, wordAt}
 use Rattle.scan.proofs.Texts.{text-kept, kept-byte}
+use Rattle.scan.proofs.Words.{upper-miss}
 use Rattle.clean_text.specs.rule.Span.{upTo, spanOf}
 use Rattle.sink.specs.rule.Sent.{Sent}
 use Rattle.sink.specs.Sent as sent
@@ -80,14 +81,6 @@ unfolding upTo
 span-end end p t e = rw e
 
 -- ---- where a byte begins neither a gap nor a note, nor END
-upper-miss : (b x : ℕ) → (b ≡ x → ⊥) → (b ≡ x + 32 → ⊥) → upperOf b ≡ x → ⊥
-unfolding upperOf
-upper-miss b x f g = by (ltb b 97) (leb b 122) refl where
-  by : (p q : Bool) → ltb b 97 ≡ p → cond p b (cond q (b - 32) b) ≡ x → ⊥
-  by true q i e = f e
-  by false true i e = let h = ltb-false b 97 i in g (omega arith)
-  by false false i e = f e
-
 pub no-end : (d : List ℕ) (n : ℕ) → Quiet d n → (getD d n 0 ≡ 69 → ⊥) → (getD d n 0 ≡ 101 → ⊥) → statementFound d n END ≡ found false n
 unfolding statementFound foundIn wordAt wordOf
 no-end d n q f g = rw (

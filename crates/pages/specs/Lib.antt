@@ -1,5 +1,4 @@
 pub mod Page
 pub mod Law
 pub mod Digit
-pub mod Plain
 pub mod Stand

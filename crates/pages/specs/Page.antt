@@ -6,6 +6,7 @@ use mathlib.Core.Bool.{Bool, true, false, cond, not, _&&_}
 use mathlib.Core.List.{List, [], _∷_, _++_}
 use Prim.Native.Nat.{ℕ, zero, suc, _+_, _-_, _/_}
 use lib.Dec.{eqb, ltb}
+use lib.ListN.{take, drop}
 use Rattle.sink.specs.rule.Sent.{Sent}
 use Rattle.statements.specs.rule.Words.{VARIABLE, NAME, LABEL, TYPE, SINGLE, MULTIPLE, QUANTITY, CHARACTER, LOGICAL, POSITION, TO, SPREAD}
 use Rattle.statements.specs.rule.Words.{OF}
@@ -41,6 +42,10 @@ then p f = before (p .text) (f (p .next))
 pub record Paged (bound : ℕ) (out : List ℕ) (at : ℕ) (out′ : List ℕ) (r : Walked) (p : Page) : Type 0 where
   pub sent : Sent bound out at (p .text) out′ (r .at)
   pub stands : r .next ≡ p .next
+
+-- what stands from g to before e, and reading goes on at its line's end
+unfoldable pub stretchPage : List ℕ → ℕ → ℕ → Page
+stretchPage d g e = page (take (e - g) (drop g d)) (e - 2)
 
 unfoldable pub framed : List ℕ → List ℕ → Span → List ℕ → List ℕ
 framed d pre s post = pre ++ (spanOf d (s .from) (s .end) ++ post)

@@ -13,14 +13,17 @@ ghost use Rattle.ascii.specs.Class.{Classes};
 ghost use Rattle.ascii.specs.rule.Tens.{Tens};
 ghost use Rattle.fields.specs.rule.Number.{padded};
 ghost use Rattle.sink.specs.rule.Sent.{Sent};
-ghost use Rattle.statements.specs.rule.Words.{VARIABLE, NAME, LABEL, SIZE, VALUES, END};
+ghost use Rattle.tokens.specs.rule.Gap.{gapAt};
+ghost use Rattle.statements.specs.rule.Words.{VARIABLE, VALUES, END};
 ghost use Rattle.steps.specs.Step.{statementFound, keywordPast};
-ghost use Rattle.steps.specs.Law.{found};
 ghost use Rattle.clean_text.specs.rule.Span.{spanOf};
 ghost use Rattle.clean_text.specs.rule.Clean.{plainDigits};
-ghost use Rattle.pages.specs.Plain.{Plain};
-ghost use Rattle.pages.specs.Stand.{Stands, Between, Framed, Standing};
-ghost use Rattle.pages.specs.Page.{Paged, framed, numberPage, phrasePage, typeAt, typeText, positionAt, positionText, roomOf};
+ghost use Rattle.looks.specs.Stand.{Stands};
+ghost use Rattle.looks.specs.Each.{ValueAt};
+ghost use Rattle.looks.specs.Look.{NumberLine, PhraseLine};
+ghost use Rattle.pages.specs.Stand.{Between, Standing, Ran};
+ghost use Rattle.pages.specs.Page.{Paged, stretchPage, framed, numberPage, phrasePage, typeAt, typeText, positionAt, positionText};
+ghost use Rattle.pages.specs.Page.{roomOf};
 ghost use Rattle.pages.specs.Page.{spreadAt, evenOf, spreadText};
 ghost use Rattle.pages.specs.Page.{lineAt, lineText, linesPage, rangeAt, rangeText, blockPage, valuesPage, restPage, endPage};
 ghost use Rattle.pages.specs.Page.{titlesPage, variablePage};
@@ -33,55 +36,11 @@ pub struct Walked {
 }
 
 // ---- bytes
-// Whether no byte of a stretch is dropped: then its kept bytes are all of them, as they stand.
-fn plain(d: &[u8], from: usize, end: usize) -> bool
-    ensures { λ r. ⌜ (r ≡ true → Plain (now (d .entry)) from end) ⌝ }
-{
-    if end < from {
-        return false;
-    }
-    if d.len() < end {
-        return false;
-    }
-    lows::all_plain(&d[from..end])
-}
-
-// Whether bytes stand just as they are given, from a place on. Nothing leaves the loop early: so the compiler compares bytes that it
-// knows all at once.
-fn same_at(d: &[u8], at: usize, w: &[u8]) -> bool
-    requires { ⌜ at + length (now w) ≤ length (now d) ⌝ }
-    ensures { λ r. ⌜ (r ≡ true → Stands (now (d .entry)) at (now (w .entry)) (at + length (now (w .entry)))) ⌝ }
-{
-    let mut same = true;
-    let mut i: usize = 0;
-    while i < w.len() {
-        same = same & (d[at + i] == w[i]);
-        i += 1;
-    }
-    same
-}
-
-// Where bytes end that stand just as they are given, from a place on; 0 if they don't.
-fn stands_to(d: &[u8], at: usize, w: &[u8]) -> usize
-    ensures { λ r. ⌜ (0 < r → Stands (now (d .entry)) at (now (w .entry)) r) ⌝ }
-{
-    if d.len() < at {
-        return 0;
-    }
-    if d.len() - at < w.len() {
-        return 0;
-    }
-    if same_at(d, at, w) {
-        return at + w.len();
-    }
-    0
-}
-
 // Whether a stretch stands right behind a literal.
 fn follows(d: &[u8], at: usize, w: &[u8], s: Span) -> bool
     ensures { λ r. ⌜ (r ≡ true → Stands (now (d .entry)) at (now (w .entry)) (s .from)) ⌝ }
 {
-    let e = stands_to(d, at, w);
+    let e = looks::stands_to(d, at, w);
     if e == 0 {
         return false;
     }
@@ -101,7 +60,7 @@ fn between(d: &[u8], a: Span, w: &[u8], b: Span) -> bool
     if b.end < b.from {
         return false;
     }
-    plain(d, a.from, b.end)
+    looks::plain(d, a.from, b.end)
 }
 
 // The kept bytes of a stretch, one by one.
@@ -148,7 +107,7 @@ pub fn send_span(
     requires { ⌜ Classes (now classes) ⌝ }
     ensures { λ r. ⌜ Sent bound (now (out .entry)) at (spanOf (now (d .entry)) from end) (now (out .exit)) r ⌝ }
 {
-    if plain(d, from, end) {
+    if looks::plain(d, from, end) {
         return sink::send_bytes(bound, out, at, &d[from..end]);
     }
     send_kept(classes, d, bound, out, at, from, end)
@@ -220,126 +179,74 @@ fn send_count(powers: &[u64; 16], bound: usize, out: &mut [u8], at: usize, n: u6
 }
 
 // ---- statements of a word and a number, or a word and a string
-// Where the literal behind a stretch ends, if it stands there and the literal before it does too; else 0.
-fn frame_at(d: &[u8], g: usize, pre: &[u8], s: Span, post: &[u8]) -> usize
-    ensures { λ r. ⌜ (0 < r → Framed (now (d .entry)) g (now (pre .entry)) s (now (post .entry)) r) ⌝ }
+// What stands in the definition just as it is to be written, from g to before e, is sent at once, from there; behind it reading goes on at
+// its line's end.
+fn send_whole(d: &[u8], g: usize, e: usize, bound: usize, out: &mut [u8], at: usize) -> Walked
+    requires { ⌜ (g ≤ e) × (e ≤ length (now d)) × (2 ≤ e) ⌝ }
+    ensures { λ r. ⌜ Paged bound (now (out .entry)) at (now (out .exit)) r (stretchPage (now (d .entry)) g e) ⌝ }
 {
-    if !follows(d, g, pre, s) {
-        return 0;
+    let end = sink::send_bytes(bound, out, at, &d[g..e]);
+    Walked {
+        at: end,
+        next: e - 2,
     }
-    stands_to(d, s.end, post)
 }
 
-// A stretch between two literals, at once where they stand so in the definition, up to e.
-fn send_whole(
+// A statement of a word and a number; from g to before e, if e is not 0, it stands just as it is to be written. The callers look whether it
+// does: so the compiler knows the word that it compares.
+fn send_number(
     classes: &[u8; 256],
     d: &[u8],
-    bound: usize,
-    out: &mut [u8],
-    at: usize,
+    n: usize,
     g: usize,
     e: usize,
-    pre: &[u8],
-    s: Span,
-    post: &[u8],
-) -> usize
+    w: &[u8],
+    bound: usize,
+    out: &mut [u8],
+    at: usize,
+) -> Walked
     requires { ⌜ Classes (now classes) ⌝ }
-    requires { ⌜ (0 < e → Framed (now d) g (now pre) s (now post) e) ⌝ }
-    ensures { λ r. ⌜ Sent bound (now (out .entry)) at (framed (now (d .entry)) (now (pre .entry)) s (now (post .entry))) (now (out .exit))
-        r ⌝ }
+    requires { ⌜ (0 < e → NumberLine (now d) g (now w) e) × (gapAt (now d) n ≡ gapAt (now d) g) ⌝ }
+    ensures { λ r. ⌜ Paged bound (now (out .entry)) at (now (out .exit)) r
+        (numberPage (now (d .entry)) n (now (w .entry)) (now (w .entry) ++ 32 ∷ [])) ⌝ }
 {
     if 0 < e {
-        if plain(d, s.from, s.end) {
-            return sink::send_bytes(bound, out, at, &d[g..e]);
-        }
+        return send_whole(d, g, e, bound, out, at);
     }
-    send_framed(classes, d, bound, out, at, pre, s, post)
+    let a = steps::past_statement(classes, d, n, w);
+    let x = steps::number_span(classes, d, a);
+    let b = sink::send_bytes(bound, out, at, w);
+    let end = send_framed(classes, d, bound, out, b, b" ", x, b"\r\n");
+    Walked {
+        at: end,
+        next: x.next,
+    }
 }
 
-// VARIABLE, SIZE, NAME and LABEL have a function each, alike but for its word: so the compiler knows the bytes that it compares.
-fn send_ident(
+// The same for a word and a string.
+fn send_phrase(
     classes: &[u8; 256],
     d: &[u8],
     n: usize,
+    g: usize,
+    e: usize,
+    w: &[u8],
     bound: usize,
     out: &mut [u8],
     at: usize,
 ) -> Walked
     requires { ⌜ Classes (now classes) ⌝ }
+    requires { ⌜ (0 < e → PhraseLine (now d) g (now w) e) × (gapAt (now d) n ≡ gapAt (now d) g) ⌝ }
     ensures { λ r. ⌜ Paged bound (now (out .entry)) at (now (out .exit)) r
-        (numberPage (now (d .entry)) n VARIABLE (VARIABLE ++ 32 ∷ [])) ⌝ }
+        (phrasePage (now (d .entry)) n (now (w .entry)) (now (w .entry) ++ 32 ∷ 34 ∷ [])) ⌝ }
 {
-    let g = steps::notes_behind(classes, d, n);
-    let a = steps::past_word(classes, d, g, b"VARIABLE");
-    let x = steps::number_span(classes, d, a);
-    let e = frame_at(d, g, b"VARIABLE ", x, b"\r\n");
-    let end = send_whole(classes, d, bound, out, at, g, e, b"VARIABLE ", x, b"\r\n");
-    Walked {
-        at: end,
-        next: x.next,
+    if 0 < e {
+        return send_whole(d, g, e, bound, out, at);
     }
-}
-
-fn send_size(
-    classes: &[u8; 256],
-    d: &[u8],
-    n: usize,
-    bound: usize,
-    out: &mut [u8],
-    at: usize,
-) -> Walked
-    requires { ⌜ Classes (now classes) ⌝ }
-    ensures { λ r. ⌜ Paged bound (now (out .entry)) at (now (out .exit)) r (numberPage (now (d .entry)) n SIZE (SIZE ++ 32 ∷ [])) ⌝ }
-{
-    let g = steps::notes_behind(classes, d, n);
-    let a = steps::past_word(classes, d, g, b"SIZE");
-    let x = steps::number_span(classes, d, a);
-    let e = frame_at(d, g, b"SIZE ", x, b"\r\n");
-    let end = send_whole(classes, d, bound, out, at, g, e, b"SIZE ", x, b"\r\n");
-    Walked {
-        at: end,
-        next: x.next,
-    }
-}
-
-fn send_name(
-    classes: &[u8; 256],
-    d: &[u8],
-    n: usize,
-    bound: usize,
-    out: &mut [u8],
-    at: usize,
-) -> Walked
-    requires { ⌜ Classes (now classes) ⌝ }
-    ensures { λ r. ⌜ Paged bound (now (out .entry)) at (now (out .exit)) r (phrasePage (now (d .entry)) n NAME (NAME ++ 32 ∷ 34 ∷ [])) ⌝ }
-{
-    let g = steps::notes_behind(classes, d, n);
-    let a = steps::past_word(classes, d, g, b"NAME");
+    let a = steps::past_statement(classes, d, n, w);
     let x = steps::string_span(classes, d, a);
-    let e = frame_at(d, g, b"NAME \"", x, b"\"\r\n");
-    let end = send_whole(classes, d, bound, out, at, g, e, b"NAME \"", x, b"\"\r\n");
-    Walked {
-        at: end,
-        next: x.next,
-    }
-}
-
-fn send_label(
-    classes: &[u8; 256],
-    d: &[u8],
-    n: usize,
-    bound: usize,
-    out: &mut [u8],
-    at: usize,
-) -> Walked
-    requires { ⌜ Classes (now classes) ⌝ }
-    ensures { λ r. ⌜ Paged bound (now (out .entry)) at (now (out .exit)) r (phrasePage (now (d .entry)) n LABEL (LABEL ++ 32 ∷ 34 ∷ [])) ⌝ }
-{
-    let g = steps::notes_behind(classes, d, n);
-    let a = steps::past_word(classes, d, g, b"LABEL");
-    let x = steps::string_span(classes, d, a);
-    let e = frame_at(d, g, b"LABEL \"", x, b"\"\r\n");
-    let end = send_whole(classes, d, bound, out, at, g, e, b"LABEL \"", x, b"\"\r\n");
+    let b = sink::send_bytes(bound, out, at, w);
+    let end = send_framed(classes, d, bound, out, b, b" \"", x, b"\"\r\n");
     Walked {
         at: end,
         next: x.next,
@@ -359,7 +266,7 @@ fn send_end(
     ensures { λ r. ⌜ Paged bound (now (out .entry)) at (now (out .exit)) r
         (endPage (now (d .entry)) n VARIABLE (END ++ 32 ∷ VARIABLE ++ 13 ∷ 10 ∷ [])) ⌝ }
 {
-    let g = steps::notes_behind(classes, d, n);
+    let g = steps::past_notes(classes, d, n);
     let a = steps::past_word(classes, d, g, b"END");
     let h = steps::past_gap(classes, d, a);
     let next = steps::past_word(classes, d, h, b"VARIABLE");
@@ -378,7 +285,7 @@ fn type_at(classes: &[u8; 256], d: &[u8], n: usize) -> Sort
     requires { ⌜ Classes (now classes) ⌝ }
     ensures { λ r. ⌜ r ≡ typeAt (now (d .entry)) n ⌝ }
 {
-    let f = steps::notes_behind(classes, d, n);
+    let f = steps::past_notes(classes, d, n);
     let a = steps::past_word(classes, d, f, b"TYPE");
     let g = steps::past_gap(classes, d, a);
     let one = steps::find_here(classes, d, g, b"SINGLE");
@@ -442,7 +349,7 @@ fn position_at(classes: &[u8; 256], d: &[u8], n: usize) -> Places
     requires { ⌜ Classes (now classes) ⌝ }
     ensures { λ r. ⌜ r ≡ positionAt (now (d .entry)) n ⌝ }
 {
-    let g = steps::notes_behind(classes, d, n);
+    let g = steps::past_notes(classes, d, n);
     let a = steps::past_word(classes, d, g, b"POSITION");
     let x = steps::number_span(classes, d, a);
     let h = steps::past_gap(classes, d, x.next);
@@ -477,7 +384,7 @@ fn position_end(d: &[u8], p: Places) -> usize
     if !between(d, start, b" TO ", finish) {
         return 0;
     }
-    stands_to(d, finish.end, b"\r\n")
+    looks::stands_to(d, finish.end, b"\r\n")
 }
 
 fn send_position(
@@ -620,23 +527,8 @@ fn line_at(classes: &[u8; 256], d: &[u8], n: usize) -> LineParts
     }
 }
 
-// Where a line ends that stands just as it is to be written; else 0.
-fn line_end(d: &[u8], l: LineParts) -> usize
-    ensures { λ r. ⌜ (0 < r → Stands (now (d .entry)) (l .value .from) (lineText (now (d .entry)) l) r) ⌝ }
-{
-    let value = l.value;
-    let text = l.text;
-    if !between(d, value, b" \"", text) {
-        return 0;
-    }
-    if l.special {
-        return stands_to(d, text.end, b"\" SPECIAL\r\n");
-    }
-    stands_to(d, text.end, b"\"\r\n")
-}
-
 // A line's things, one by one.
-fn send_apart(
+fn send_line(
     classes: &[u8; 256],
     d: &[u8],
     bound: usize,
@@ -656,41 +548,7 @@ fn send_apart(
     send_closed(classes, d, bound, out, a, text, b"\"\r\n")
 }
 
-// A line of a block, at once where it stands so in the definition.
-fn send_line(
-    classes: &[u8; 256],
-    d: &[u8],
-    bound: usize,
-    out: &mut [u8],
-    at: usize,
-    l: LineParts,
-) -> usize
-    requires { ⌜ Classes (now classes) ⌝ }
-    ensures { λ r. ⌜ Sent bound (now (out .entry)) at (lineText (now (d .entry)) l) (now (out .exit)) r ⌝ }
-{
-    let end = line_end(d, l);
-    if 0 < end {
-        let value = l.value;
-        let from = value.from;
-        return sink::send_bytes(bound, out, at, &d[from..end]);
-    }
-    send_apart(classes, d, bound, out, at, l)
-}
-
-// Whether neither a gap nor a note begins here, nor END.
-fn no_end(d: &[u8], n: usize) -> bool
-    ensures { λ r. ⌜ (r ≡ true → statementFound (now (d .entry)) n END ≡ found false n) ⌝ }
-{
-    if !steps::passed(d, n) {
-        return false;
-    }
-    if d[n] == 69 {
-        return false;
-    }
-    d[n] != 101
-}
-
-// Whether END stands behind the notes, whatever begins here.
+// Whether END stands behind the notes.
 fn look_end(classes: &[u8; 256], d: &[u8], n: usize) -> Found
     requires { ⌜ Classes (now classes) ⌝ }
     ensures { λ r. ⌜ r ≡ statementFound (now (d .entry)) n END ⌝ }
@@ -699,26 +557,127 @@ fn look_end(classes: &[u8; 256], d: &[u8], n: usize) -> Found
     steps::find_here(classes, d, g, b"END")
 }
 
-// The same where mostly a value begins. In a function of its own: a literal in a loop would be one more thing that the loop keeps.
-fn find_end(classes: &[u8; 256], d: &[u8], n: usize) -> Found
-    requires { ⌜ Classes (now classes) ⌝ }
-    ensures { λ r. ⌜ r ≡ statementFound (now (d .entry)) n END ⌝ }
-{
-    if no_end(d, n) {
-        return Found {
-            there: false,
-            next: n,
-        };
-    }
-    look_end(classes, d, n)
-}
-
 fn past_values(classes: &[u8; 256], d: &[u8], n: usize) -> usize
     requires { ⌜ Classes (now classes) ⌝ }
     ensures { λ r. ⌜ r ≡ keywordPast (now (d .entry)) n VALUES ⌝ }
 {
     let g = steps::past_gap(classes, d, n);
     steps::past_word(classes, d, g, b"VALUES")
+}
+
+// How far lines of a block were sent, how many they are with those before, and whether the block is over.
+pub struct Run {
+    pub at: usize,
+    pub next: usize,
+    pub count: usize,
+    pub over: bool,
+}
+
+// Whether the byte at a place is one of a value.
+fn value_at(classes: &[u8; 256], d: &[u8], n: usize) -> bool
+    requires { ⌜ Classes (now classes) ⌝ }
+    ensures { λ r. ⌜ (r ≡ true → ValueAt (now (d .entry)) n) ⌝ }
+{
+    if d.len() <= n {
+        return false;
+    }
+    scan::of_value(classes, d[n])
+}
+
+// A place from which a block's lines are sent as from another: where a value stands behind blanks, its own.
+fn first_line(classes: &[u8; 256], d: &[u8], start: usize) -> usize
+    requires { ⌜ Classes (now classes) ⌝ }
+    ensures { λ r. ⌜ linesPage 4096 (now (d .entry)) start ≡ linesPage 4096 (now (d .entry)) r ⌝ }
+{
+    let m = tokens::pass_blanks(d, start);
+    if value_at(classes, d, m) {
+        return m;
+    }
+    start
+}
+
+// Lines that stand just as they are to be written, each sent at once, as long as a value follows.
+fn send_run(
+    classes: &[u8; 256],
+    d: &[u8],
+    start: usize,
+    count: usize,
+    bound: usize,
+    out: &mut [u8],
+    at: usize,
+) -> Run
+    requires { ⌜ Classes (now classes) ⌝ }
+    requires { ⌜ count ≤ 4096 ⌝ }
+    ensures { λ r. ⌜ Ran bound (now (out .entry)) at (now (out .exit)) (now (d .entry)) start count r ⌝ }
+    ensures { λ r. ⌜ r .over ≡ false ⌝ }
+{
+    let mut n = start;
+    let mut p = at;
+    let mut k = count;
+    while k < 4096 {
+        let e = looks::value_line(classes, d, n);
+        let h = tokens::pass_blanks(d, e);
+        if (e == 0) | !value_at(classes, d, h) {
+            return Run {
+                at: p,
+                next: n,
+                count: k,
+                over: false,
+            };
+        }
+        p = sink::send_bytes(bound, out, p, &d[n..e]);
+        n = h;
+        k += 1;
+    }
+    Run {
+        at: p,
+        next: n,
+        count: k,
+        over: false,
+    }
+}
+
+// One line more, whatever stands in it, and whether the block is over.
+fn send_next(
+    classes: &[u8; 256],
+    d: &[u8],
+    n: usize,
+    k: usize,
+    bound: usize,
+    out: &mut [u8],
+    at: usize,
+) -> Run
+    requires { ⌜ Classes (now classes) ⌝ }
+    requires { ⌜ k ≤ 4096 ⌝ }
+    ensures { λ r. ⌜ Ran bound (now (out .entry)) at (now (out .exit)) (now (d .entry)) n k r ⌝ }
+    ensures { λ r. ⌜ (k < 4096 → r .count ≡ k + 1) ⌝ }
+{
+    if 4096 <= k {
+        return Run {
+            at,
+            next: n,
+            count: k,
+            over: false,
+        };
+    }
+    let l = line_at(classes, d, n);
+    let p = send_line(classes, d, bound, out, at, l);
+    let e = look_end(classes, d, l.next);
+    if e.there {
+        let next = past_values(classes, d, e.next);
+        return Run {
+            at: p,
+            next,
+            count: k + 1,
+            over: true,
+        };
+    }
+    Run {
+        at: p,
+        next: l.next,
+        count: k + 1,
+        over: false,
+    }
 }
 
 // The lines of a block, from the place behind VALUES or WITH.
@@ -733,19 +692,21 @@ fn send_lines(
     requires { ⌜ Classes (now classes) ⌝ }
     ensures { λ r. ⌜ Paged bound (now (out .entry)) at (now (out .exit)) r (linesPage 4096 (now (d .entry)) start) ⌝ }
 {
-    let mut n = start;
+    let mut n = first_line(classes, d, start);
     let mut p = at;
     let mut k: usize = 0;
     while k < 4096 {
-        let l = line_at(classes, d, n);
-        p = send_line(classes, d, bound, out, p, l);
-        let e = find_end(classes, d, l.next);
-        if e.there {
-            let next = past_values(classes, d, e.next);
-            return Walked { at: p, next };
+        let r = send_run(classes, d, n, k, bound, out, p);
+        let l = send_next(classes, d, r.next, r.count, bound, out, r.at);
+        if l.over {
+            return Walked {
+                at: l.at,
+                next: l.next,
+            };
         }
         n = l.next;
-        k += 1;
+        p = l.at;
+        k = l.count;
     }
     Walked { at: p, next: n }
 }
@@ -842,7 +803,7 @@ pub fn send_values(
     requires { ⌜ Classes (now classes) ⌝ }
     ensures { λ w. ⌜ Paged bound (now (out .entry)) at (now (out .exit)) w (valuesPage (now (d .entry)) n) ⌝ }
 {
-    let g = steps::notes_behind(classes, d, n);
+    let g = steps::past_notes(classes, d, n);
     let a = steps::past_word(classes, d, g, b"VALUES");
     let r = range_at(classes, d, a);
     let b = sink::send_bytes(bound, out, at, b"VALUES\r\n");
@@ -877,7 +838,9 @@ fn send_rest(
         return Walked { at, next: n };
     }
     if kind == 4 {
-        return send_size(classes, d, n, bound, out, at);
+        let g = tokens::pass_blanks(d, n);
+        let e = looks::number_line(classes, d, g, b"SIZE");
+        return send_number(classes, d, n, g, e, b"SIZE", bound, out, at);
     }
     if kind == 2 {
         let p = spread_at(classes, d, n);
@@ -898,9 +861,15 @@ fn send_titles(
     requires { ⌜ Classes (now classes) ⌝ }
     ensures { λ w. ⌜ Paged bound (now (out .entry)) at (now (out .exit)) w (titlesPage (now (d .entry)) n) ⌝ }
 {
-    let a = send_ident(classes, d, n, bound, out, at);
-    let b = send_name(classes, d, a.next, bound, out, a.at);
-    send_label(classes, d, b.next, bound, out, b.at)
+    let i = tokens::pass_blanks(d, n);
+    let e = looks::number_line(classes, d, i, b"VARIABLE");
+    let a = send_number(classes, d, n, i, e, b"VARIABLE", bound, out, at);
+    let j = tokens::pass_blanks(d, a.next);
+    let f = looks::phrase_line(d, j, b"NAME");
+    let b = send_phrase(classes, d, a.next, j, f, b"NAME", bound, out, a.at);
+    let k = tokens::pass_blanks(d, b.next);
+    let h = looks::phrase_line(d, k, b"LABEL");
+    send_phrase(classes, d, b.next, k, h, b"LABEL", bound, out, b.at)
 }
 
 pub fn send_variable(

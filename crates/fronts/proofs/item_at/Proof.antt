@@ -9,7 +9,7 @@ returns : tie.Need-returns
 unfolding itemAt statementFound
 returns c =
     rw (
-      ← c .before .before .before .notes-behind .ensures,
+      ← c .before .before .before .past-notes .ensures,
       ← c .before .find-here .ensures,
       c .if1 .taken,
     )
@@ -19,7 +19,7 @@ unfolding itemAt statementFound
 returns-2 c =
     let at-if1 = c .before .before .before in
     rw (
-      ← at-if1 .before .before .before .notes-behind .ensures,
+      ← at-if1 .before .before .before .past-notes .ensures,
       ← at-if1 .before .find-here .ensures,
       at-if1 .if1 .left,
       ← c .before .find-here2 .ensures,
@@ -32,7 +32,7 @@ returns-3 c =
     let at-if2 = c .before .before .before in
     let at-if1 = at-if2 .before .before .before in
     rw (
-      ← at-if1 .before .before .before .notes-behind .ensures,
+      ← at-if1 .before .before .before .past-notes .ensures,
       ← at-if1 .before .find-here .ensures,
       at-if1 .if1 .left,
       ← at-if2 .before .find-here2 .ensures,
@@ -47,7 +47,7 @@ returns-4 c =
     let at-if2 = at-if3 .before .before .before in
     let at-if1 = at-if2 .before .before .before in
     rw (
-      ← at-if1 .before .before .before .notes-behind .ensures,
+      ← at-if1 .before .before .before .past-notes .ensures,
       ← at-if1 .before .find-here .ensures,
       at-if1 .if1 .left,
       ← at-if2 .before .find-here2 .ensures,
@@ -67,7 +67,7 @@ returns-5 c =
     let at-if2 = at-if3 .before .before .before in
     let at-if1 = at-if2 .before .before .before in
     rw (
-      ← at-if1 .before .before .before .notes-behind .ensures,
+      ← at-if1 .before .before .before .past-notes .ensures,
       ← at-if1 .before .find-here .ensures,
       at-if1 .if1 .left,
       ← at-if2 .before .find-here2 .ensures,
@@ -89,7 +89,7 @@ returns-6 c =
     let at-if2 = at-if3 .before .before .before in
     let at-if1 = at-if2 .before .before .before in
     rw (
-      ← at-if1 .before .before .before .notes-behind .ensures,
+      ← at-if1 .before .before .before .past-notes .ensures,
       ← at-if1 .before .find-here .ensures,
       at-if1 .if1 .left,
       ← at-if2 .before .find-here2 .ensures,

@@ -13,9 +13,9 @@ returns c =
     let at-past-gap = at-find-here .before .before in
     let at-number-span = at-past-gap .before in
     let at-past-word = at-number-span .before in
-    let at-notes-behind = at-past-word .before .before in
+    let at-past-notes = at-past-word .before .before in
     rw (
-      ← at-notes-behind .notes-behind .ensures,
+      ← at-past-notes .past-notes .ensures,
       ← at-past-word .past-word .ensures,
       ← at-number-span .number-span .ensures,
       ← at-past-gap .past-gap .ensures,
@@ -31,9 +31,9 @@ returns-2 c =
     let at-past-gap = at-find-here .before .before in
     let at-number-span = at-past-gap .before in
     let at-past-word = at-number-span .before in
-    let at-notes-behind = at-past-word .before .before in
+    let at-past-notes = at-past-word .before .before in
     rw (
-      ← at-notes-behind .notes-behind .ensures,
+      ← at-past-notes .past-notes .ensures,
       ← at-past-word .past-word .ensures,
       ← at-number-span .number-span .ensures,
       ← at-past-gap .past-gap .ensures,

@@ -12,14 +12,14 @@ returns c =
     let at-past-word2 = at-send-bytes .before .before .before in
     let at-past-gap = at-past-word2 .before .before in
     let at-past-word = at-past-gap .before in
-    let at-notes-behind = at-past-word .before .before in
+    let at-past-notes = at-past-word .before .before in
     record {
       sent = at-send-bytes .send-bytes .ensures;
       stands = rw (
         at-past-word2 .past-word2 .ensures,
         at-past-gap .past-gap .ensures,
         at-past-word .past-word .ensures,
-        at-notes-behind .notes-behind .ensures,
+        at-past-notes .past-notes .ensures,
       );
     }
 

@@ -1,65 +1,73 @@
+-- `pages::send_lines` meets its contract. The invariant: with what was sent the block's page is what is left from here on.
 use mathlib.Core.Path.{_≡_, refl, sym, ap, _∙_}
+use mathlib.Core.Bool.{false}
+use mathlib.Core.Logic.{⊎-elim}
+use Prim.Native.Nat.{_-_, _≤_}
 use native.Mathlib.Omega.{arith}
 use borrow.Author.Needs.{needs}
-use Prim.Native.Nat.{_-_, _≤_}
-use Rattle.sink.specs.Sent.{Owed, all-owed, less-owed, none-owed, owed-as}
-use Rattle.pages.specs.Page.{Page, linesPage, lineText}
-use Rattle.pages.specs.Law.{lines-out, lines-done, lines-more}
+use Rattle.below.specs.Below.{lt-or-le}
+use Rattle.pages.specs.Page.{linesPage}
+use Rattle.pages.specs.Law.{lines-out}
+use Rattle.pages.specs.Stand.{Ran, ran-none, ran-then, ran-left, ran-paged}
 use Rattle.pages.proofs.send_lines.Statement.{statement}
 use Rattle.pages.proofs.send_lines.Tie as tie
 
 abbrev Inv-loop : tie.InvT-loop
 Inv-loop classes d start bound out₀ at n₀ p₀ k₀ out n p k =
-    (k ≤ 4096) × Owed bound out₀ at (linesPage 4096 d start .text) out p (linesPage (4096 - k) d n .text)
-    × (linesPage 4096 d start .next ≡ linesPage (4096 - k) d n .next)
+    Ran bound out₀ at out d n₀ 0 (record { at = p; next = n; count = k; over = false }) × (linesPage 4096 d start ≡ linesPage 4096 d n₀)
 
 abbrev μ-loop : tie.MeasureT-loop
 μ-loop classes d start bound out₀ at n₀ p₀ k₀ out n p k = 4096 - k
 
 loop-holds : tie.Need-loop-holds Inv-loop μ-loop
-loop-holds c = (omega arith, all-owed _ _ _ refl, refl)
+loop-holds c = (ran-none _ _ _ _ _ _ (omega arith), c .first-line .ensures)
+
+send-run-requires : tie.Need-send-run-requires Inv-loop μ-loop
+send-run-requires c κs =
+    (c .before .before .before .before .before .before .pre, omega (arith, c .before .loop-test .taken))
+
+send-next-requires : tie.Need-send-next-requires Inv-loop μ-loop
+send-next-requires c κs =
+    let at-send-run = c .before .before .before in
+    (at-send-run .before .before .before .before .before .before .before .pre, at-send-run .send-run .ensures .0 .most)
 
 same-length : tie.Need-same-length Inv-loop μ-loop
-same-length c = c .before .before .before .before .before .send-line .ensures .room
-    ∙ c .before .before .before .before .before .before .before .before .before .loop .inv .1 .same-room
+same-length c =
+    let at-send-next = c .before .before .before in
+    let at-send-run = at-send-next .before .before .before .before in
+    at-send-next .send-next .ensures .0 .sent .room ∙ at-send-run .send-run .ensures .0 .sent .room
+    ∙ at-send-run .before .before .before .loop .inv .0 .sent .room
 
 returns : tie.Need-returns Inv-loop μ-loop
 returns c =
-    let at-send-line = c .before .before .before .before .before in
-    let at-loop = at-send-line .before .before .before .before in
-    let q = lines-done _ _ _ (at-send-line .before .before .before .loop-test .taken) _
-    (at-send-line .before .before .line-at .ensures) _ (c .before .before .find-end .ensures) (c .before .if1 .taken) in
-    record {
-      sent = none-owed (less-owed (at-loop .loop .inv .1) (ap (λ (p : Page). p .text) q) (at-send-line .send-line .ensures)) refl;
-      stands = c .past-values .ensures ∙ sym (at-loop .loop .inv .2 ∙ ap (λ (p : Page). p .next) q);
-    }
-
-add-k : tie.Need-add-k Inv-loop μ-loop
-add-k c = omega (arith, c .before .before .before .before .before .before .before .loop-test .taken)
+    let at-send-next = c .before .before .before in
+    let at-send-run = at-send-next .before .before .before .before in
+    let inv = at-send-run .before .before .before .loop .inv in
+    ran-paged _ (ran-then (ran-then (inv .0) refl (at-send-run .send-run .ensures .0)) (at-send-run .send-run .ensures .1)
+    (at-send-next .send-next .ensures .0)) (rw (c .if1 .taken)) (inv .1)
 
 loop-less : tie.Need-loop-less Inv-loop μ-loop
-loop-less c = omega (arith, c .before .before .before .before .before .before .before .loop-test .taken)
+loop-less c =
+    let at-send-next = c .before .before .before in
+    let at-send-run = at-send-next .before .before .before .before in
+    let r = at-send-run .send-run .ensures .0 in
+    let l = at-send-next .send-next .ensures in
+    let t = at-send-run .before .before .loop-test .taken in
+    ⊎-elim (λ h. omega (arith, r .more, l .1 h, t, l .0 .most)) (λ h. omega (arith, l .0 .more, l .0 .most, t))
+    (lt-or-le (at-send-run .send-run .result .count) 4096)
 
 loop-again : tie.Need-loop-again Inv-loop μ-loop
 loop-again c =
-    let q = lines-more _ _ _ (c .before .before .before .before .before .before .before .loop-test .taken) _
-    (c .before .before .before .before .before .before .line-at .ensures) _ (c .before .find-end .ensures) (c .if1 .left) in (
-      omega (arith, c .before .before .before .before .before .before .before .loop-test .taken),
-      less-owed (c .before .before .before .before .before .before .before .before .loop .inv .1) (ap (λ (p : Page). p .text) q)
-          (c .before .before .before .before .send-line .ensures),
-      c .before .before .before .before .before .before .before .before .loop .inv .2 ∙ ap (λ (p : Page). p .next) q,
+    let at-send-next = c .before .before .before in
+    let at-send-run = at-send-next .before .before .before .before in
+    let inv = at-send-run .before .before .before .loop .inv in (
+      ran-left (ran-then (ran-then (inv .0) refl (at-send-run .send-run .ensures .0)) (at-send-run .send-run .ensures .1)
+          (at-send-next .send-next .ensures .0)) (c .if1 .left),
+      inv .1,
     )
 
-same-length-2 : tie.Need-same-length-2 Inv-loop μ-loop
-same-length-2 c = c .before .loop .inv .1 .same-room
-
 returns-2 : tie.Need-returns-2 Inv-loop μ-loop
-returns-2 c =
-    let q = lines-out _ _ _ (c .loop-test .left) in
-    record {
-      sent = none-owed (c .before .loop .inv .1) (ap (λ (p : Page). p .text) q);
-      stands = sym (c .before .loop .inv .2 ∙ ap (λ (p : Page). p .next) q);
-    }
+returns-2 c = ran-paged _ (c .before .loop .inv .0) (lines-out _ _ _ (c .loop-test .left)) (c .before .loop .inv .1)
 
 pub send-lines-spec : {M : Type 1} → statement M
 send-lines-spec =
@@ -67,15 +75,13 @@ send-lines-spec =
     (tie.spec
     Inv-loop
     μ-loop
+    (λ c κs. search needs)
     loop-holds
-    (λ c κs. search needs)
-    (λ c κs. search needs)
-    (λ c κs. c .before .before .before .before .before .before .before .before .before .pre)
-    (λ c κs. c .before .before .before .before .before .before .before .before .before .before .before .pre)
+    send-run-requires
+    send-next-requires
     same-length
     returns
-    add-k
     loop-less
     loop-again
-    same-length-2
+    (λ c. c .before .loop .inv .0 .sent .room)
     returns-2)

@@ -1,6 +1,7 @@
 use mathlib.Core.Path.{_≡_, refl, sym, ap, _∙_}
 use Rattle.sink.specs.Sent.{then, sent-as, nothing-sent}
 use borrow.Author.Tests.{eq-eqb, ne-eqb}
+use Rattle.looks.specs.Look.{opens, letters}
 use Rattle.pages.specs.Page.{restPage}
 use Rattle.pages.specs.Law.{even-small, paged-before}
 use borrow.Author.Needs.{needs}
@@ -12,13 +13,24 @@ unfolding restPage
 returns c =
     rw (eq-eqb _ _ (c .if1 .taken)) (record { sent = nothing-sent _ _ _; stands = refl })
 
+number-line-requires : tie.Need-number-line-requires
+unfolding opens letters
+number-line-requires c κs = (c .before .before .before .before .before .before .pre .0, refl)
+
+send-number-requires : tie.Need-send-number-requires
+send-number-requires c κs =
+    let at-number-line = c .before .before in
+    let at-pass-blanks = at-number-line .before .before in
+    let start = at-pass-blanks .before .before .before .before .before in
+    (start .pre .0, (at-number-line .number-line .ensures, at-pass-blanks .pass-blanks .ensures .0))
+
 returns-2 : tie.Need-returns-2
 unfolding restPage
 returns-2 c =
-    let at-send-size = c .before .before in
-    let at-if2 = at-send-size .before .before in
+    let at-send-number = c .before .before in
+    let at-if2 = at-send-number .before .before .before .before .before .before in
     let at-if1 = at-if2 .before in
-    rw (ne-eqb _ _ (at-if1 .if1 .left), eq-eqb _ _ (at-if2 .if2 .taken)) (at-send-size .send-size .ensures)
+    rw (ne-eqb _ _ (at-if1 .if1 .left), eq-eqb _ _ (at-if2 .if2 .taken)) (at-send-number .send-number .ensures)
 
 send-spread-requires : tie.Need-send-spread-requires
 send-spread-requires c κs =
@@ -56,7 +68,11 @@ send-rest-spec =
     tie.close
     (tie.spec
     returns
-    (λ c κs. c .before .before .before .before .before .pre .0)
+    (λ c κs. search needs)
+    (λ c. search needs)
+    number-line-requires
+    (λ c. search needs)
+    send-number-requires
     (λ c. search needs)
     returns-2
     (λ c κs. c .before .before .before .before .before .pre .0)

@@ -2,7 +2,7 @@ use mathlib.Core.Path.{sym}
 use native.Mathlib.Omega.{arith}
 use borrow.Author.Needs.{needs}
 use Rattle.sink.specs.Sent.{sent-as}
-use Rattle.pages.specs.Plain.{plain-bytes}
+use Rattle.looks.specs.Plain.{plain-bytes}
 use Rattle.pages.proofs.send_span.Statement.{statement}
 use Rattle.pages.proofs.send_span.Tie as tie
 

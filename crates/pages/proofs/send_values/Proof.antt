@@ -15,8 +15,8 @@ returns c =
     let at-send-bytes = at-send-range .before .before .before .before in
     let at-range-at = at-send-bytes .before .before .before in
     let at-past-word = at-range-at .before in
-    let at-notes-behind = at-past-word .before .before in
-    rw (← at-notes-behind .notes-behind .ensures, ← at-past-word .past-word .ensures, ← at-range-at .range-at .ensures)
+    let at-past-notes = at-past-word .before .before in
+    rw (← at-past-notes .past-notes .ensures, ← at-past-word .past-word .ensures, ← at-range-at .range-at .ensures)
     (record {
       sent = then (at-send-bytes .send-bytes .ensures)
           (then (at-send-range .send-range .ensures)

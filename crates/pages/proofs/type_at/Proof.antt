@@ -11,9 +11,9 @@ returns c =
     let at-find-here = c .before in
     let at-past-gap = at-find-here .before .before in
     let at-past-word = at-past-gap .before in
-    let at-notes-behind = at-past-word .before .before in
+    let at-past-notes = at-past-word .before .before in
     rw (
-      ← at-notes-behind .notes-behind .ensures,
+      ← at-past-notes .past-notes .ensures,
       ← at-past-word .past-word .ensures,
       ← at-past-gap .past-gap .ensures,
       ← at-find-here .find-here .ensures,
@@ -28,9 +28,9 @@ returns-2 c =
     let at-find-here = at-if1 .before in
     let at-past-gap = at-find-here .before .before in
     let at-past-word = at-past-gap .before in
-    let at-notes-behind = at-past-word .before .before in
+    let at-past-notes = at-past-word .before .before in
     rw (
-      ← at-notes-behind .notes-behind .ensures,
+      ← at-past-notes .past-notes .ensures,
       ← at-past-word .past-word .ensures,
       ← at-past-gap .past-gap .ensures,
       ← at-find-here .find-here .ensures,
@@ -49,9 +49,9 @@ returns-3 c =
     let at-find-here = at-if1 .before in
     let at-past-gap = at-find-here .before .before in
     let at-past-word = at-past-gap .before in
-    let at-notes-behind = at-past-word .before .before in
+    let at-past-notes = at-past-word .before .before in
     rw (
-      ← at-notes-behind .notes-behind .ensures,
+      ← at-past-notes .past-notes .ensures,
       ← at-past-word .past-word .ensures,
       ← at-past-gap .past-gap .ensures,
       ← at-find-here .find-here .ensures,
@@ -74,9 +74,9 @@ returns-4 c =
     let at-find-here = at-if1 .before in
     let at-past-gap = at-find-here .before .before in
     let at-past-word = at-past-gap .before in
-    let at-notes-behind = at-past-word .before .before in
+    let at-past-notes = at-past-word .before .before in
     rw (
-      ← at-notes-behind .notes-behind .ensures,
+      ← at-past-notes .past-notes .ensures,
       ← at-past-word .past-word .ensures,
       ← at-past-gap .past-gap .ensures,
       ← at-find-here .find-here .ensures,
@@ -102,9 +102,9 @@ returns-5 c =
     let at-find-here = at-if1 .before in
     let at-past-gap = at-find-here .before .before in
     let at-past-word = at-past-gap .before in
-    let at-notes-behind = at-past-word .before .before in
+    let at-past-notes = at-past-word .before .before in
     rw (
-      ← at-notes-behind .notes-behind .ensures,
+      ← at-past-notes .past-notes .ensures,
       ← at-past-word .past-word .ensures,
       ← at-past-gap .past-gap .ensures,
       ← at-find-here .find-here .ensures,

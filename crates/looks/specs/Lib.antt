@@ -1,0 +1,4 @@
+pub mod Plain
+pub mod Stand
+pub mod Each
+pub mod Look
