@@ -386,75 +386,33 @@ pub fn read_tag(
 {
     let end = end_at(d, at);
     if end != 0 {
-        return shut(required, hold(0, 0, 0, 0, at), end == 2, at, at + end);
+        let h = hold(0, 0, 0, 0, at);
+        return shut(required, h, end == 2, at, at + end);
     }
     let ae = usual_end(d, at, x, f);
     if ae == 0 {
-        return read_turns(
-            bad,
-            d,
-            opened,
-            x,
-            y,
-            z,
-            f,
-            g,
-            k,
-            required,
-            hold(0, 0, 0, 0, at),
-        );
+        let h = hold(0, 0, 0, 0, at);
+        return read_turns(bad, d, opened, x, y, z, f, g, k, required, h);
     }
     let a = at + x.len() + 3;
     let next = ae + 1;
     let end = end_at(d, next);
     if end != 0 {
-        return shut(
-            required,
-            hold(a, ae, 0, 0, next),
-            end == 2,
-            next,
-            next + end,
-        );
+        let h = hold(a, ae, 0, 0, next);
+        return shut(required, h, end == 2, next, next + end);
     }
     let be = second_end(d, next, x, y, g);
     if be == 0 {
-        return read_turns(
-            bad,
-            d,
-            opened,
-            x,
-            y,
-            z,
-            f,
-            g,
-            k,
-            required,
-            hold(a, ae, 0, 0, next),
-        );
+        let h = hold(a, ae, 0, 0, next);
+        return read_turns(bad, d, opened, x, y, z, f, g, k, required, h);
     }
     let b = next + y.len() + 3;
     let last = be + 1;
     let end = end_at(d, last);
     if end != 0 {
-        return shut(
-            required,
-            hold(a, ae, b, be, last),
-            end == 2,
-            last,
-            last + end,
-        );
+        let h = hold(a, ae, b, be, last);
+        return shut(required, h, end == 2, last, last + end);
     }
-    read_turns(
-        bad,
-        d,
-        opened,
-        x,
-        y,
-        z,
-        f,
-        g,
-        k,
-        required,
-        hold(a, ae, b, be, last),
-    )
+    let h = hold(a, ae, b, be, last);
+    read_turns(bad, d, opened, x, y, z, f, g, k, required, h)
 }
