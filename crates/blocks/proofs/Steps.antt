@@ -86,7 +86,11 @@ pub none-lines : (quantity : Bool) (before : ℕ) (start : List ℤ) (stamp : �
     → before ≤ 4096 → length start ≡ 16384 → length marks ≡ 16384 → Kept b (unlisted r)
     → Lines quantity before start start stamp marks before b (unlisted r)
 unfolding told Small someOf
-none-lines quantity before start stamp marks h i j k = record { holds = none-held before start stamp marks h i j; kept = k; small = refl }
+none-lines quantity before start stamp marks h i j k = record {
+  holds = none-held 16384 before start stamp marks h (omega arith) i j;
+  kept = k;
+  small = refl;
+}
 
 -- ---- a line more
 module _ {quantity : Bool} {before : ℕ} {start room : List ℤ} {stamp : ℕ} {marks : List ℕ} {last : ℕ} {b : books.Block} {c : Block}
@@ -130,7 +134,8 @@ module _ {quantity : Bool} {before : ℕ} {start room : List ℤ} {stamp : ℕ} 
   unfolding scaledOf
   stands f =
       let k = grown-is f in
-      let m = one-more (h .holds) (saidOf x) (omega (arith, h .holds .count, told-count (c .lines), f .few)) in
+      let few : last < 4096 = omega (arith, h .holds .count, told-count (c .lines), f .few) in
+      let m = one-more (h .holds) (saidOf x) few (omega arith) in
       record {
         holds = rw (cells-same, number-same f, told-more (c .lines) x) m;
         kept = rw (← kept-is k) k;

@@ -4,10 +4,10 @@ use mathlib.Core.Path.{_≡_}
 use mathlib.Core.Bool.{Bool, false, cond}
 use mathlib.Core.List.{List, [], _∷_}
 use mathlib.Core.Option.{none, some}
-use Prim.Native.Nat.{ℕ, suc, _+_, _≤_}
+use Prim.Native.Nat.{ℕ, suc, _+_, _*_, _≤_}
 use lib.IntN.{ℤ}
 use lib.ListN.{length}
-use Rattle.layout.specs.rule.Layout.{mostLines}
+use Rattle.layout.specs.rule.Layout.{lineSize, mostLines}
 use Rattle.tags.specs.rule.Tag.{tagOf}
 use Rattle.tokens.specs.declared.Fault.{Fault}
 use Rattle.values.specs.declared.Block as books
@@ -52,7 +52,7 @@ wording bad d languages p e =
 -- ---- the code's b, and the rule's c, behind `before` lines: `start` is the room as it was before the block's first line
 pub record Lines (quantity : Bool) (before : ℕ) (start room : List ℤ) (stamp : ℕ) (marks : List ℕ) (last : ℕ) (b : books.Block)
     (c : Block) : Type 0 where
-  pub holds : Holds before start room stamp marks last (told (c .lines))
+  pub holds : Holds (lineSize * mostLines) before start room stamp marks last (told (c .lines))
   pub kept : Kept b c
   pub small : Small quantity (c .lines)
 

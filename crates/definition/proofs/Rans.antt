@@ -24,6 +24,7 @@ use Rattle.statements.specs.rule.Words.{END}
 use Rattle.statements.specs.Note.{notesOn}
 use Rattle.rows.specs.rule.Cells.{rowCells}
 use Rattle.values.specs.Line.{cellsOf}
+use Rattle.values.proofs.Rooms.{paste-fits}
 use Rattle.variables.specs.Ident.{marked}
 use Rattle.measures.specs.Survey.{Variable, linesIn, columnsIn, linesAll, highestIn, identMet, rowsFrom, allLines}
 use Rattle.measures.specs.Good.{Good, GoodVariable}
@@ -44,13 +45,18 @@ use Rattle.definition.specs.Books as variables
 use Rattle.laying.specs.Code.{zeros, tallyWith}
 use Rattle.laying.proofs.Overs.{at-start}
 use Rattle.laying.proofs.Zeros.{zero-at}
-use Rattle.definition.specs.Code.{tallyOf, turnOr, followed, turnAfter, RowStored, runOf, Laid}
+use Rattle.definition.specs.Code.{tallyOf, turnOr, followed, turnAfter, RowStored, runOf, Laid, Lacking, in-rows, in-lines}
 use Rattle.definition.proofs.Small.{row-ident, row-finish, ident-few}
 use Rattle.definition.proofs.Courses.{next-entry, entry-same, from-again, from-done}
 use Rattle.built.specs.Nth.{few-rows, few-lines}
 
-none : {A : Type 0} → _≡_ {A = ℕ} 0 1 → A
+pub none : {A : Type 0} → _≡_ {A = ℕ} 0 1 → A
 none e = absurd (omega arith)
+
+-- rooms as long as others lack as much
+pub lacking-kept : {a b s t : List ℤ} → length a ≡ length b → length s ≡ length t → Lacking a s → Lacking b t
+lacking-kept e f (in-rows h) = in-rows (omega (arith, h, e))
+lacking-kept e f (in-lines h) = in-lines (omega (arith, h, f))
 
 -- ---- what a turn says of the variable before it
 module _ (d : List ℕ) (y : Tally) where
@@ -162,8 +168,8 @@ module _ (d : List ℕ) (t₀ : Reading) (rows₀ lines₀ : List ℤ) (at : Rea
     not-here f i = same ∙ from-done d (course at l) (variables.Not f) (rw (sym entry-here ∙ not-of d y here f i))
 
     -- one variable more
-    module _ (v : Variable) (n : ℕ) (e : here ≡ entry.Is v n) (long : length d ≤ 1048576) (wide : length rows₀ ≡ rowSize * mostRows)
-        (many : length lines₀ ≡ lineSize * mostLines) where
+    module _ (v : Variable) (n : ℕ) (e : here ≡ entry.Is v n) (long : length d ≤ 1048576) (wide : rowSize * length l ≤ length rows₀)
+        (many : lineSize * linesAll l ≤ length lines₀) where
       read-good : EntryGood (marked seen) (y .rows) (y .lines) v
       read-good = entry-good d at (marked seen) (y .rows) (y .lines) v n long (few-here .1) e
 
@@ -207,7 +213,7 @@ module _ (d : List ℕ) (t₀ : Reading) (rows₀ lines₀ : List ℤ) (at : Rea
           s .row-stored e
           ∙ rw (rows-are, tally, rows-with 0 l v, z)
           (at-start rows₀ (rowsFrom 0 l) (rowCells (columnsIn (linesAll l) v)) (rowSize * length l) (sym k)
-          (omega (arith, k, few-rows sound)))
+          (omega (arith, k, wide)))
 
       pub lines-more : (end : List ℤ) → Stored (y .lines) here lines end → end ≡ pasted lines₀ 0 (allLines (added l v))
       unfolding tallyOf
@@ -215,7 +221,7 @@ module _ (d : List ℕ) (t₀ : Reading) (rows₀ lines₀ : List ℤ) (at : Rea
           let k : length (allLines l) ≡ lineSize * linesAll l = lines-length l in
           s .stored e
           ∙ rw (lines-are, tally, cells-with l v)
-          (at-start lines₀ (allLines l) (cellsOf (linesIn v)) (lineSize * linesAll l) (sym k) (omega (arith, k, few-lines sound)))
+          (at-start lines₀ (allLines l) (cellsOf (linesIn v)) (lineSize * linesAll l) (sym k) (omega (arith, k, many)))
 
       pub met-more : (k : ℕ) → k < 10000 → marked (set seen (columnsIn (y .lines) v .ident) 1) k ≡ identMet (added l v) k
       met-more k h =
@@ -234,9 +240,28 @@ module _ (d : List ℕ) (t₀ : Reading) (rows₀ lines₀ : List ℤ) (at : Rea
 -- ---- carried on: another variable, the END behind the last, a refusal
 module _ (d : List ℕ) (t₀ : Reading) (rows₀ lines₀ : List ℤ) (at : Reading) (y : Tally) (seen : List ℕ) (rows lines : List ℤ)
     (r : Ran d t₀ rows₀ lines₀ at y seen rows lines)
-    (long : length d ≤ 1048576) (wide : length rows₀ ≡ rowSize * mostRows) (many : length lines₀ ≡ lineSize * mostLines) where
+    (long : length d ≤ 1048576) (rows-kept : length rows ≡ length rows₀) (lines-kept : length lines ≡ length lines₀) where
   abbrev entry-now : Entry
   entry-now = entryOf d at (marked seen) (y .rows) (y .lines)
+
+  -- the rooms are long enough for what stands in them
+  wide : rowSize * length (r .read) ≤ length rows₀
+  wide = omega (
+    arith,
+    paste-fits rows₀ (rowsFrom 0 (r .read)) 0 (omega arith) (sym (ap length (r .rows-are)) ∙ rows-kept),
+    rows-length 0 (r .read),
+  )
+
+  many : lineSize * linesAll (r .read) ≤ length lines₀
+  many = omega (
+    arith,
+    paste-fits lines₀ (allLines (r .read)) 0 (omega arith) (sym (ap length (r .lines-are)) ∙ lines-kept),
+    lines-length (r .read),
+  )
+
+  pub lines-fit : lineSize * y .lines ≤ length lines
+  unfolding tallyOf
+  lines-fit = omega (arith, many, lines-kept, ap (λ (z : Tally). z .lines) (r .tally))
 
   pub ran-few : (y .rows ≤ 512) × (y .lines ≤ 4096)
   ran-few = few-here d t₀ rows₀ lines₀ at y seen rows lines (r .read) (r .same) (r .tally) (r .met) (r .rows-are) (r .lines-are) (r .good)

@@ -9,7 +9,7 @@ use native.Mathlib.Nat.{le-of-suc-le-suc, not-suc-le-zero}
 use borrow.Author.Tests.{lt-ltb, le-ltb}
 use lib.Dec.{ltb}
 use lib.IntN.{ℤ, pos}
-use lib.ListN.{length, take, getD}
+use lib.ListN.{length, take, getD, length-take}
 use lib.Seq.{getD-append-add, getD-take}
 use Rattle.cells.specs.rule.Cell.{cell, countOf, pasted}
 use Rattle.scan.specs.rule.Text.{text}
@@ -20,7 +20,7 @@ use Rattle.rows.specs.rule.Cells.{rowCells, headerCells}
 use Rattle.names.specs.rule.Standard.{nameAt, nameFault}
 use Rattle.measures.specs.Width.{fullColumns, widened, plainColumns}
 use Rattle.measures.specs.Survey.{Variable, linesIn, columnsIn, linesAll, highestIn, headerFor, rowsFrom, allLines, tableOf}
-use Rattle.measures.proofs.Snoc.{row-length, table-length}
+use Rattle.measures.proofs.Snoc.{row-length, rows-length, lines-length, table-length}
 use Rattle.laying.specs.declared.Tally.{Tally}
 use Rattle.definition.specs.declared.Answer.{Answer}
 use Rattle.definition.specs.declared.Answer.the-variants as answer
@@ -64,6 +64,10 @@ unfolding namesOf
 names-count d [] = refl
 names-count d (v ∷ l) = ap suc (names-count d l)
 
+-- as many numbers as were taken stand there
+take-fits : (n : ℕ) (s : List ℤ) → length (take n s) ≡ n → n ≤ length s
+take-fits n s e = omega (arith, rw (length-take n s) at e)
+
 -- ---- what the rooms hold
 module _ (d : List ℕ) (y : Tally) (rows lines : List ℤ) (l : List Variable) (h : Held l y rows lines) where
   pub count-is : y .rows ≡ length l
@@ -73,6 +77,17 @@ module _ (d : List ℕ) (y : Tally) (rows lines : List ℤ) (l : List Variable) 
   pub lines-is : y .lines ≡ linesAll l
   unfolding tallyOf
   lines-is = ap (λ (z : Tally). z .lines) (h .tally)
+
+  -- the rooms are long enough for what they hold
+  pub rows-fit : rowSize * y .rows ≤ length rows
+  rows-fit =
+      let e : length (take (rowSize * length l) rows) ≡ rowSize * length l = ap length (h .rows-held) ∙ rows-length 0 l in
+      rw count-is (take-fits (rowSize * length l) rows e)
+
+  pub lines-fit : lineSize * y .lines ≤ length lines
+  lines-fit =
+      let e : length (take (lineSize * linesAll l) lines) ≡ lineSize * linesAll l = ap length (h .lines-held) ∙ lines-length l in
+      rw lines-is (take-fits (lineSize * linesAll l) lines e)
 
   place-here : (i : ℕ) → i < length l → countOf (cell rows (rowSize * i + 14)) ≡ placeAt l i
   place-here i k =

@@ -28,16 +28,22 @@ use Rattle.laying.specs.declared.Rooms.the-variants as rooms
 use Rattle.definition.specs.Books.{Variables, course, variablesFrom, endsOn, Read, Whole, Faulty, ended, closed, surveyOf}
 use Rattle.definition.specs.Books.{Outcome, Built, Refusal, fitting, named, judged, outcomeIn, answerIn, tableIn}
 use Rattle.definition.specs.Books as variables
-use Rattle.definition.specs.Code.{tallyOf, runOf, Laid, Held, NamesSettled, Standing, RoomsRead, fillSays, comparedBy}
+use Rattle.definition.specs.Code.{tallyOf, runOf, Laid, Held, NamesSettled, Standing, RoomsRead, fillSays, comparedBy, Lacking}
+use Rattle.definition.specs.Code.{in-rows, in-lines}
 use Rattle.laying.specs.rule.Begins.{begins}
 use Rattle.laying.specs.Code.{cellsIn, filledOver}
 use Rattle.definition.proofs.Bridge.{heldIn}
-use Rattle.definition.proofs.Settles.{count-is, lines-is, cells-are, says-fit, leaves-fit}
+use Rattle.definition.proofs.Settles.{count-is, lines-is, rows-fit, lines-fit, cells-are, says-fit, leaves-fit}
 use Rattle.definition.proofs.Goods.{AllGood, variables-good}
 use Rattle.definition.proofs.Lows.{highest-low}
 
 none : {A : Type 0} → _≡_ {A = ℕ} 0 1 → A
 none e = absurd (omega arith)
+
+-- rooms for the most rows and lines
+pub none-lacking : {rows lines : List ℤ} → length rows ≡ rowSize * mostRows → length lines ≡ lineSize * mostLines → Lacking rows lines → ⊥
+none-lacking e f (in-rows h) = omega (arith, h, e)
+none-lacking e f (in-lines h) = omega (arith, h, f)
 
 take-pasted : (t s : List ℤ) (n : ℕ) → n ≡ length s → take n (pasted t 0 s) ≡ s
 unfolding pasted
@@ -84,6 +90,9 @@ module _ (d : List ℕ) (long : length d ≤ 1048576) (t : Reading) (front : t �
     small-here y m e =
         let s = stands y m e in
         rw (s .held .tally) (few-rows (s .held .good), few-lines (s .held .good), highest-low (s .held .good))
+
+    pub stands-fit : (y : Tally) (m : ℕ) → q ≡ run.Is y m → rowSize * y .rows ≤ length rows′
+    stands-fit y m e = let s = stands y m e in rows-fit d y rows′ lines′ (s .read) (s .held)
 
     module _ (n : ℕ) where
       -- and the ENDs behind them
@@ -138,6 +147,9 @@ module _ (d : List ℕ) (long : length d ≤ 1048576) (t : Reading) (front : t �
 
 -- ---- what is done with them
 module _ (d : List ℕ) (rows lines : List ℤ) (y : Tally) (s : Standing d rows lines y) where
+  pub rooms-fit : (rowSize * y .rows ≤ length rows) × (lineSize * y .lines ≤ length lines)
+  rooms-fit = (rows-fit d y rows lines (s .read) (s .held), lines-fit d y rows lines (s .read) (s .held))
+
   pub filled-says : (t : List ℤ) → fillSays y (length t) ≡ answerIn (judged d (length t) (surveyOf d))
   filled-says t = says-fit d y rows lines (s .read) (s .held) t ∙ ap answerIn (sym (s .outcome (length t)))
 

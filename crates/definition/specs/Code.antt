@@ -42,6 +42,11 @@ use Rattle.definition.specs.declared.Answer.the-variants as answer
 use Rattle.definition.specs.declared.Against.{Against}
 use Rattle.definition.specs.declared.Against.the-variants as against
 
+-- ---- rooms: too small for the most rows, or for the most lines
+pub data Lacking (rows lines : List ℤ) : Type 0 where
+  in-rows : length rows < rowSize * mostRows → Lacking rows lines
+  in-lines : length lines < lineSize * mostLines → Lacking rows lines
+
 -- ---- counts
 unfoldable pub tallyOf : List Variable → Tally
 tallyOf l = record { rows = length l; lines = linesAll l; length = highestIn l }

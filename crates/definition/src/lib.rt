@@ -18,6 +18,7 @@ ghost use Rattle.ascii.specs.rule.Tens.{Tens};
 ghost use Rattle.cells.specs.rule.Cell.{cell, countOf};
 ghost use Rattle.layout.specs.rule.Layout.{markXml, rowSize, lineSize, mostRows, mostLines};
 ghost use Rattle.rows.specs.Cells.{nameColumn};
+ghost use Rattle.values.specs.Room.{short, Unless};
 ghost use Rattle.variables.specs.Ident.{marked};
 ghost use Rattle.entries.specs.Entry.{entryOf, Stored};
 ghost use Rattle.laying.specs.rule.Begins.{begins};
@@ -26,7 +27,7 @@ ghost use Rattle.definition.specs.rule.Definition.{DefinitionRead};
 ghost use Rattle.definition.specs.rule.Against.{againstOf};
 ghost use Rattle.definition.specs.Books.{course, variablesFrom, endsOn};
 ghost use Rattle.definition.specs.Code.{followed, turnAfter, RowStored, runOf, Laid, NamesJudged, NamesSettled, RoomsRead};
-ghost use Rattle.definition.specs.Code.{fillSays, comparedBy};
+ghost use Rattle.definition.specs.Code.{fillSays, comparedBy, Lacking};
 
 // The outcome: how many variables and value lines were read; or the refusal's number and place.
 pub enum Answer {
@@ -63,7 +64,7 @@ fn follow(classes: &[u8; 256], d: &[u8], ident: usize, y: Tally, next: usize) ->
     }
 }
 
-// One variable: read, its row and lines stored behind those before, and what follows it.
+// One variable: read, its row and lines stored behind those before, and what follows it. A room too small for it is said by 0.
 fn one_variable(
     classes: &[u8; 256],
     powers: &[u64; 16],
@@ -79,13 +80,13 @@ fn one_variable(
     requires { ⌜ Tens (now powers) ⌝ }
     requires { ⌜ length (now d) ≤ 1048576 ⌝ }
     requires { ⌜ (y .rows ≤ mostRows) × (y .lines ≤ mostLines) ⌝ }
-    requires { ⌜ (length (now rows) ≡ rowSize * mostRows) × (length (now lines) ≡ lineSize * mostLines) × (length (now marks) ≡ 16384) ⌝ }
+    requires { ⌜ (lineSize * y .lines ≤ length (now lines)) × (length (now marks) ≡ 16384) ⌝ }
     requires { ⌜ length (now seen) ≡ 10000 ⌝ }
-    ensures { λ r. ⌜ r ≡ turnAfter (now (d .entry)) y (entryOf (now (d .entry)) at (marked (now (seen .entry))) (y .rows) (y .lines)) ⌝ }
-    ensures { λ r. ⌜ RowStored y (entryOf (now (d .entry)) at (marked (now (seen .entry))) (y .rows) (y .lines)) (now (rows .entry))
-        (now (rows .exit)) ⌝ }
-    ensures { λ r. ⌜ Stored (y .lines) (entryOf (now (d .entry)) at (marked (now (seen .entry))) (y .rows) (y .lines)) (now (lines .entry))
-        (now (lines .exit)) ⌝ }
+    ensures { λ r. ⌜ Unless (r ≡ Turn.Not short) (Lacking (now (rows .entry)) (now (lines .entry)))
+        ((r ≡ turnAfter (now (d .entry)) y (entryOf (now (d .entry)) at (marked (now (seen .entry))) (y .rows) (y .lines)))
+        × RowStored y (entryOf (now (d .entry)) at (marked (now (seen .entry))) (y .rows) (y .lines)) (now (rows .entry)) (now (rows .exit))
+        × Stored (y .lines) (entryOf (now (d .entry)) at (marked (now (seen .entry))) (y .rows) (y .lines)) (now (lines .entry))
+        (now (lines .exit))) ⌝ }
 {
     let count = y.rows;
     let stamp = (count + 1) as u16;
@@ -106,6 +107,12 @@ fn one_variable(
             last,
             next,
         } => {
+            if rows.len() < Row::SIZE * count + Row::SIZE {
+                return Turn::Not(Fault {
+                    number: 0,
+                    place: 0,
+                });
+            }
             rows::put_row(rows, Row::SIZE * count, columns);
             let more = laying::tally_with(y, columns, last);
             follow(classes, d, columns.ident, more, next)
@@ -133,11 +140,12 @@ fn read_variables(
     requires { ⌜ Classes (now classes) ⌝ }
     requires { ⌜ Tens (now powers) ⌝ }
     requires { ⌜ length (now d) ≤ 1048576 ⌝ }
-    requires { ⌜ (length (now rows) ≡ rowSize * mostRows) × (length (now lines) ≡ lineSize * mostLines) × (length (now marks) ≡ 16384) ⌝ }
+    requires { ⌜ length (now marks) ≡ 16384 ⌝ }
     requires { ⌜ now seen ≡ zeros 10000 ⌝ }
-    ensures { λ r. ⌜ r ≡ runOf (variablesFrom (now (d .entry)) (course t [])) ⌝ }
-    ensures { λ r. ⌜ Laid (variablesFrom (now (d .entry)) (course t [])) (now (rows .entry)) (now (rows .exit)) (now (lines .entry))
-        (now (lines .exit)) ⌝ }
+    ensures { λ r. ⌜ Unless (r ≡ Run.Not short) (Lacking (now (rows .entry)) (now (lines .entry)))
+        ((r ≡ runOf (variablesFrom (now (d .entry)) (course t [])))
+        × Laid (variablesFrom (now (d .entry)) (course t [])) (now (rows .entry)) (now (rows .exit)) (now (lines .entry))
+        (now (lines .exit))) ⌝ }
 {
     let mut at = t;
     let mut y = Tally {
@@ -180,7 +188,7 @@ fn read_ends(classes: &[u8; 256], d: &[u8], next: usize) -> Reading
 
 // The place of a row's name.
 fn name_place(rows: &[i64], i: usize) -> usize
-    requires { ⌜ (i < mostRows) × (length (now rows) ≡ rowSize * mostRows) ⌝ }
+    requires { ⌜ (i < mostRows) × (rowSize * i + rowSize ≤ length (now rows)) ⌝ }
     ensures { λ r. ⌜ r ≡ countOf (cell (now (rows .entry)) (rowSize * i + nameColumn)) ⌝ }
 {
     cells::count_at(rows, Row::SIZE * i + Row::NAME)
@@ -189,7 +197,7 @@ fn name_place(rows: &[i64], i: usize) -> usize
 // The first row whose name breaks STANDARD NAMES; the count where none does.
 fn names_fault(classes: &[u8; 256], d: &[u8], rows: &[i64], count: usize) -> usize
     requires { ⌜ Classes (now classes) ⌝ }
-    requires { ⌜ (count ≤ mostRows) × (length (now rows) ≡ rowSize * mostRows) ⌝ }
+    requires { ⌜ (count ≤ mostRows) × (rowSize * count ≤ length (now rows)) ⌝ }
     ensures { λ r. ⌜ NamesJudged (now (d .entry)) (now (rows .entry)) count r ⌝ }
 {
     let mut keys = [0u64; Header::MOST_ROWS];
@@ -211,7 +219,7 @@ fn quote_before(place: usize) -> usize
 // After END SSS: 9.
 fn settle(classes: &[u8; 256], d: &[u8], standard: bool, y: Tally, rows: &[i64]) -> Rooms
     requires { ⌜ Classes (now classes) ⌝ }
-    requires { ⌜ (y .rows ≤ mostRows) × (length (now rows) ≡ rowSize * mostRows) ⌝ }
+    requires { ⌜ (y .rows ≤ mostRows) × (rowSize * y .rows ≤ length (now rows)) ⌝ }
     ensures { λ r. ⌜ NamesSettled (now (d .entry)) standard y (now (rows .entry)) r ⌝ }
 {
     if !standard {
@@ -227,7 +235,8 @@ fn settle(classes: &[u8; 256], d: &[u8], standard: bool, y: Tally, rows: &[i64])
     Rooms::Held(y)
 }
 
-// The whole definition, with rooms for rows and lines: those of the call, which may read a definition of the other kind into them.
+// The whole definition, with rooms for rows and lines: those of the call, which may read a definition of the other kind into them. They
+// may be of any length: 0 at 0 says that it has more rows or lines than they hold.
 pub fn read_in(
     classes: &[u8; 256],
     powers: &[u64; 16],
@@ -240,9 +249,10 @@ pub fn read_in(
     requires { ⌜ Classes (now classes) ⌝ }
     requires { ⌜ Tens (now powers) ⌝ }
     requires { ⌜ length (now d) ≤ 1048576 ⌝ }
-    requires { ⌜ (length (now rows) ≡ rowSize * mostRows) × (length (now lines) ≡ lineSize * mostLines) × (length (now marks) ≡ 16384) ⌝ }
+    requires { ⌜ length (now marks) ≡ 16384 ⌝ }
     requires { ⌜ now seen ≡ zeros 10000 ⌝ }
-    ensures { λ r. ⌜ RoomsRead (now (d .entry)) (now (rows .exit)) (now (lines .exit)) r ⌝ }
+    ensures { λ r. ⌜ Unless (r ≡ Rooms.Refused 0 0) (Lacking (now (rows .entry)) (now (lines .entry)))
+        (RoomsRead (now (d .entry)) (now (rows .exit)) (now (lines .exit)) r) ⌝ }
 {
     let front = heading::read_front(classes, d);
     let h = front.heading;
@@ -266,7 +276,7 @@ pub fn read_in(
 pub fn fill(mark: usize, rows: &[i64], lines: &[i64], y: Tally, table: &mut [i64]) -> Answer
     requires { ⌜ mark ≤ markXml ⌝ }
     requires { ⌜ (y .rows ≤ mostRows) × (y .lines ≤ mostLines) × (y .length ≤ 16384) ⌝ }
-    requires { ⌜ (length (now rows) ≡ rowSize * mostRows) × (length (now lines) ≡ lineSize * mostLines) ⌝ }
+    requires { ⌜ (rowSize * y .rows ≤ length (now rows)) × (lineSize * y .lines ≤ length (now lines)) ⌝ }
     ensures { λ r. ⌜ r ≡ fillSays y (length (now (table .entry))) ⌝ }
     ensures { λ r. ⌜ now (table .exit) ≡ filledOver mark y (now (rows .entry)) (now (lines .entry)) (now (table .entry)) ⌝ }
 {
@@ -324,7 +334,7 @@ pub enum Against {
 pub fn compare(mark: usize, rows: &[i64], lines: &[i64], y: Tally, t: &[i64]) -> Against
     requires { ⌜ mark ≤ markXml ⌝ }
     requires { ⌜ (y .rows ≤ mostRows) × (y .lines ≤ mostLines) × (y .length ≤ 16384) ⌝ }
-    requires { ⌜ (length (now rows) ≡ rowSize * mostRows) × (length (now lines) ≡ lineSize * mostLines) ⌝ }
+    requires { ⌜ (rowSize * y .rows ≤ length (now rows)) × (lineSize * y .lines ≤ length (now lines)) ⌝ }
     ensures { λ r. ⌜ r ≡ comparedBy (begins (cellsIn mark y (now (rows .entry)) (now (lines .entry))) (now (t .entry))) ⌝ }
 {
     if laying::matches(mark, rows, lines, y, t) {

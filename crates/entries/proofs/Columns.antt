@@ -101,12 +101,9 @@ module _ (h : Head) (x : Telling) (before : ℕ) (g : GoodHead h) (s : GoodTelli
       (λ j l. rw (same j l) (number-fits (numberAt (x .lines) j) (s .lines .limited j l) (s .near j l)))
 
   -- all that measuring asks for, where the lines stand in the room
-  module _ (room : List ℤ) (long : length room ≡ 16384) where
+  module _ (room : List ℤ) (stands : 4 * (before + length (x .lines)) ≤ length room) where
     abbrev pub filled : List ℤ
     filled = pasted room (4 * before) (cellsOf (x .lines))
-
-    stands : 4 * (before + length (x .lines)) ≤ length room
-    stands = omega (arith, s .lines .few)
 
     kept : length filled ≡ length room
     kept = length-pasted room (cellsOf (x .lines)) (4 * before) (rw (cells-length (x .lines)) (omega (arith, stands)))

@@ -21,6 +21,7 @@ use Rattle.values.specs.Line.{numberAt, cellsOf}
 use Rattle.variables.specs.declared.Head.{Head}
 use Rattle.cells.specs.rule.Cell.{pasted}
 use Rattle.values.proofs.Goods.{values-good}
+use Rattle.values.proofs.Rooms.{cells-length, paste-fits}
 use Rattle.variables.specs.declared.Rest.{Rest}
 use Rattle.variables.specs.declared.Rested.{Rested}
 use Rattle.variables.specs.declared.Rested.the-variants as rested
@@ -67,9 +68,9 @@ module _ (r : Row) (f g : ℕ → ℤ) (same : (i : ℕ) → i < r .lines → f 
   width-same Logical size = refl
 
 module _ (h : Head) (x : Telling) (before : ℕ) (g : GoodHead h) (s : GoodTelling (h .kind) before x) (room : List ℤ)
-    (long : length room ≡ 16384) where
+    (stands : 4 * (before + length (x .lines)) ≤ length room) where
   abbrev here : List ℤ
-  here = filled h x before g s room long
+  here = filled h x before g s room stands
 
   full-same : fullColumns (numberIn here before) h (countedIn before x) before ≡ columnsIn before (variable h x)
   unfolding columnsIn fullColumns countedIn plainColumns rowOf
@@ -78,7 +79,7 @@ module _ (h : Head) (x : Telling) (before : ℕ) (g : GoodHead h) (s : GoodTelli
       ap (λ (w : ℕ). widened w c) (width-same (rowOf c) (numberIn here before) (numberAt (x .lines)) same (kindOf c) (x .size))
     where
       same : (i : ℕ) → i < rowOf (plainColumns h (countedIn before x) before) .lines → numberIn here before i ≡ numberAt (x .lines) i
-      same i l = in-room h x before g s room long i (omega arith)
+      same i l = in-room h x before g s room stands i (omega arith)
 
   pub settled-is : (end : Reading) → settledBy (numberIn here before) h (countedIn before x) before end
       ≡ stoodOf before (ended end (heldBy before (variable h x)))
@@ -104,7 +105,27 @@ module _ (d : List ℕ) (h : Head) (before : ℕ) where
     pub stored : after ≡ pasted room (4 * before) (cellsOf (telling .lines))
     pub good : GoodTelling (h .kind) before telling
 
-  module _ (long : length d ≤ 1048576) (few : before ≤ 4096) (g : GoodHead h) (room after : List ℤ) (wide : length room ≡ 16384) where
+  -- a refusal stays
+  pub stood-not : (q : Rested) (f : Fault) → q ≡ restedOf before told-of → q ≡ rested.Not f → stood.Not f
+      ≡ stoodOf before (restThen d before h)
+  unfolding restedOf restThen stoodOf
+  stood-not q f e i = by told-of (sym e ∙ i) where
+    by : (t : Told) → restedOf before t ≡ rested.Not f → stood.Not f
+        ≡ stoodOf before (toldThen t (λ x. ended (endVariable d (x .next)) (heldBy before (variable h x))))
+    by (told.Is x) j = none cc
+    by (told.Not g) j = let k : g ≡ f = cc in rw k
+
+  pub stored-not : (room after : List ℤ) (q : Rested) (f : Fault) → q ≡ restedOf before told-of → q ≡ rested.Not f
+      → Stored before (restThen d before h) room after
+  unfolding restedOf restThen
+  stored-not room after q f e i = by told-of (sym e ∙ i) where
+    by : (t : Told) → restedOf before t ≡ rested.Not f
+        → Stored before (toldThen t (λ x. ended (endVariable d (x .next)) (heldBy before (variable h x)))) room after
+    by (told.Is x) j = none cc
+    by (told.Not g) j = record { stored = λ e. none cc }
+
+  module _ (long : length d ≤ 1048576) (few : before ≤ 4096) (g : GoodHead h) (room after : List ℤ) (wide : 4 * before ≤ length room)
+      (kept : length after ≡ length room) where
     pub known : (q : Rested) (r : Rest) → q ≡ restedOf before told-of → told.Stored before told-of room after → q ≡ rested.Is r
         → Known room after r
     unfolding restedOf countedIn
@@ -126,8 +147,16 @@ module _ (d : List ℕ) (h : Head) (before : ℕ) where
           none cc
 
     module _ (r : Rest) (k : Known room after r) where
+      -- the room was long enough for the lines that stand in it
+      stands : 4 * (before + length (k .telling .lines)) ≤ length room
+      stands = omega (
+        arith,
+        paste-fits room (cellsOf (k .telling .lines)) (4 * before) wide (sym (ap length (k .stored)) ∙ kept),
+        cells-length (k .telling .lines),
+      )
+
       pub measure-here : Measurable after h r before
-      measure-here = rw (k .stored, k .counted) (measurable h (k .telling) before g (k .good) room wide)
+      measure-here = rw (k .stored, k .counted) (measurable h (k .telling) before g (k .good) room stands)
 
       rest-is : restThen d before h ≡ ended (endVariable d (k .telling .next)) (heldBy before (variable h (k .telling)))
       unfolding restThen
@@ -138,7 +167,7 @@ module _ (d : List ℕ) (h : Head) (before : ℕ) where
       unfolding countedIn
       stood-here s end e i =
           i ∙ rw (e, k .stored, k .counted, rest-is)
-          (settled-is h (k .telling) before g (k .good) room wide (endVariable d (k .telling .next)))
+          (settled-is h (k .telling) before g (k .good) room stands (endVariable d (k .telling .next)))
 
       -- the lines are those of the variable that stands
       pub stored-here : Stored before (restThen d before h) room after
@@ -157,25 +186,6 @@ module _ (d : List ℕ) (h : Head) (before : ℕ) where
                 → variable h (k .telling) ≡ v
             by true i = cc
             by false i = none cc
-
-    -- a refusal stays
-    pub stood-not : (q : Rested) (f : Fault) → q ≡ restedOf before told-of → q ≡ rested.Not f → stood.Not f
-        ≡ stoodOf before (restThen d before h)
-    unfolding restedOf restThen stoodOf
-    stood-not q f e i = by told-of (sym e ∙ i) where
-      by : (t : Told) → restedOf before t ≡ rested.Not f → stood.Not f
-          ≡ stoodOf before (toldThen t (λ x. ended (endVariable d (x .next)) (heldBy before (variable h x))))
-      by (told.Is x) j = none cc
-      by (told.Not g) j = let k : g ≡ f = cc in rw k
-
-    pub stored-not : (q : Rested) (f : Fault) → q ≡ restedOf before told-of → q ≡ rested.Not f
-        → Stored before (restThen d before h) room after
-    unfolding restedOf restThen
-    stored-not q f e i = by told-of (sym e ∙ i) where
-      by : (t : Told) → restedOf before t ≡ rested.Not f
-          → Stored before (toldThen t (λ x. ended (endVariable d (x .next)) (heldBy before (variable h x)))) room after
-      by (told.Is x) j = none cc
-      by (told.Not g) j = record { stored = λ e. none cc }
 
 -- ---- the whole variable
 pub good-head : (d : List ℕ) (i : Number) (h : Head) (q : Headed) → q ≡ headOn d i → q ≡ headed.Is h → GoodHead h

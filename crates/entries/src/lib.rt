@@ -8,11 +8,12 @@ use variables::Headed;
 use variables::Rest;
 use variables::Rested;
 ghost use mathlib.Core.Path.{_≡_};
-ghost use Prim.Native.Nat.{_+_, _*_, _≤_};
+ghost use Prim.Native.Nat.{_+_, _*_, _≤_, _<_};
 ghost use lib.ListN.{length};
 ghost use Rattle.ascii.specs.Class.{Classes};
 ghost use Rattle.ascii.specs.rule.Tens.{Tens};
 ghost use Rattle.layout.specs.rule.Layout.{lineSize, mostLines};
+ghost use Rattle.values.specs.Room.{short, Unless};
 ghost use Rattle.measures.specs.Width.{numberIn, Measurable};
 ghost use Rattle.variables.specs.Ident.{marked};
 ghost use Rattle.entries.specs.Entry.{endVariable, restThen, entryOf};
@@ -71,10 +72,11 @@ fn rest_then(
     requires { ⌜ Classes (now classes) ⌝ }
     requires { ⌜ Tens (now powers) ⌝ }
     requires { ⌜ length (now d) ≤ 1048576 ⌝ }
-    requires { ⌜ (length (now lines) ≡ lineSize * mostLines) × (before ≤ mostLines) × (length (now marks) ≡ 16384) ⌝ }
+    requires { ⌜ (lineSize * before ≤ length (now lines)) × (before ≤ mostLines) × (length (now marks) ≡ 16384) ⌝ }
     requires { ⌜ GoodHead h ⌝ }
-    ensures { λ s. ⌜ s ≡ stoodOf before (restThen (now (d .entry)) before h) ⌝ }
-    ensures { λ s. ⌜ Stored before (restThen (now (d .entry)) before h) (now (lines .entry)) (now (lines .exit)) ⌝ }
+    ensures { λ s. ⌜ Unless (s ≡ Stood.Not short) (length (now (lines .entry)) < lineSize * mostLines)
+        ((s ≡ stoodOf before (restThen (now (d .entry)) before h))
+        × Stored before (restThen (now (d .entry)) before h) (now (lines .entry)) (now (lines .exit))) ⌝ }
 {
     let width = h.finish + 1 - h.start;
     match variables::rest_on(
@@ -112,11 +114,11 @@ pub fn variable_on(
     requires { ⌜ Classes (now classes) ⌝ }
     requires { ⌜ Tens (now powers) ⌝ }
     requires { ⌜ length (now d) ≤ 1048576 ⌝ }
-    requires { ⌜ (length (now lines) ≡ lineSize * mostLines) × (before ≤ mostLines) × (length (now marks) ≡ 16384) ⌝ }
+    requires { ⌜ (lineSize * before ≤ length (now lines)) × (before ≤ mostLines) × (length (now marks) ≡ 16384) ⌝ }
     requires { ⌜ length (now seen) ≡ 10000 ⌝ }
-    ensures { λ s. ⌜ s ≡ stoodOf before (entryOf (now (d .entry)) t (marked (now (seen .entry))) count before) ⌝ }
-    ensures { λ s. ⌜ Stored before (entryOf (now (d .entry)) t (marked (now (seen .entry))) count before) (now (lines .entry))
-        (now (lines .exit)) ⌝ }
+    ensures { λ s. ⌜ Unless (s ≡ Stood.Not short) (length (now (lines .entry)) < lineSize * mostLines)
+        ((s ≡ stoodOf before (entryOf (now (d .entry)) t (marked (now (seen .entry))) count before))
+        × Stored before (entryOf (now (d .entry)) t (marked (now (seen .entry))) count before) (now (lines .entry)) (now (lines .exit))) ⌝ }
 {
     let i = variables::ident_on(classes, d, t, seen, count);
     match variables::head_on(classes, d, i) {

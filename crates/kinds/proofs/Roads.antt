@@ -2,12 +2,13 @@
 use mathlib.Core.Path.{_≡_, refl, sym, ap, _∙_}
 use mathlib.Core.Bool.{Bool, true, false, cond}
 use mathlib.Core.List.{List}
-use Prim.Native.Nat.{ℕ, _≤_}
+use Prim.Native.Nat.{ℕ, _*_, _≤_}
+use native.Mathlib.Omega.{arith}
 use borrow.Author.Tests.{le-ltb}
 use lib.Dec.{ltb}
 use lib.IntN.{ℤ}
 use lib.ListN.{length}
-use Rattle.layout.specs.rule.Layout.{mark, markXml, mostRows, mostLines}
+use Rattle.layout.specs.rule.Layout.{mark, markXml, rowSize, lineSize, mostRows, mostLines}
 use Rattle.measures.specs.Survey as kept
 use Rattle.laying.specs.declared.Tally.{Tally}
 use Rattle.laying.specs.declared.Rooms.{Rooms}
@@ -23,6 +24,7 @@ use Rattle.definition.specs.Code.{Held, RoomsRead}
 use Rattle.definition.proofs.Bridge.{SameOutcome, outcome-same, sames-count, sames-lines, sames-table}
 use Rattle.definition.proofs.Bridge as bridge
 use Rattle.definition.proofs.Settles.{count-is, lines-is, cells-are}
+use Rattle.definition.proofs.Wholes.{rooms-fit}
 use Rattle.xml_files.specs.Code as sheet
 use Rattle.kinds.specs.rule.Definition.{Outcome, Built, Refusal, ofSss, ofXml, outcomeOf}
 use Rattle.kinds.specs.Code.{markOf, fitting, Standing, Ready}
@@ -62,18 +64,19 @@ module _ (d : List ℕ) (long : length d ≤ 1048576) (plain : isXml d ≡ false
           let s = w .stands e in
           record {
             few = s .few;
+            fit = rooms-fit d rows lines y s;
             outcome = λ n. outcome-is n (books.fitting n (s .read)) (s .outcome n)
                 ∙ fits-same y (s .read) (s .held) n;
           };
       refuses = λ {k} {p} e n. outcome-is n (books.Refusal k p) (w .refuses e n);
     }
 
-    pub plain-ready : (xml : Bool) (r : Rooms) → xml ≡ false → RoomsRead d rows lines r → Ready (markOf xml) (outcomeOf d) rows lines r
+    pub plain-ready : (r : Rooms) → RoomsRead d rows lines r → Ready (markOf (isXml d)) (outcomeOf d) rows lines r
     unfolding markOf
-    plain-ready xml r e w = rw e (sss-ready r w)
+    plain-ready r w = rw plain (sss-ready r w)
 
 -- ---- XML
-module _ (d : List ℕ) (rows lines : List ℤ) where
+module _ (d : List ℕ) (rows lines : List ℤ) (wide : length rows ≡ rowSize * mostRows) (many : length lines ≡ lineSize * mostLines) where
   xml-fits : (y : Tally) (s : sheet.Standing (xml.outcomeOf d) rows lines y) (n : ℕ) → ofXml (xml.fitting n (s .read))
       ≡ fitting n (y .rows) (y .lines) (cellsIn markXml y rows lines)
   unfolding xml.fitting fitting
@@ -87,12 +90,17 @@ module _ (d : List ℕ) (rows lines : List ℤ) where
   unfolding outcomeOf
   xml-is e n o q = rw e (ap ofXml q)
 
-  pub xml-ready : (x : Bool) (r : Rooms) → x ≡ true → isXml d ≡ true → sheet.RoomsRead (xml.outcomeOf d) rows lines r
-      → Ready (markOf x) (outcomeOf d) rows lines r
+  pub xml-ready : (r : Rooms) → isXml d ≡ true → sheet.RoomsRead (xml.outcomeOf d) rows lines r
+      → Ready (markOf (isXml d)) (outcomeOf d) rows lines r
   unfolding markOf
-  xml-ready x r i e w = rw i (record {
+  xml-ready r e w = rw e (record {
     stands = λ {y} h.
         let s = w .stands h in
-        record { few = s .few; outcome = λ n. xml-is e n (xml.fitting n (s .read)) (s .outcome n) ∙ xml-fits y s n };
+        record {
+          few = s .few;
+          fit = (omega (arith, s .few .0, wide), omega (arith, s .few .1, many));
+          outcome = λ n. xml-is e n
+              (xml.fitting n (s .read)) (s .outcome n) ∙ xml-fits y s n;
+        };
     refuses = λ {k} {p} h n. xml-is e n (xml.Refusal k p) (w .refuses h n);
   })

@@ -63,7 +63,7 @@ fn header_by(mark: usize, y: Tally) -> Header
 fn lay(mark: usize, table: &mut [i64], rows: &[i64], lines: &[i64], y: Tally)
     requires { ⌜ mark ≤ markXml ⌝ }
     requires { ⌜ (y .rows ≤ mostRows) × (y .lines ≤ mostLines) × (y .length ≤ 16384) ⌝ }
-    requires { ⌜ (length (now rows) ≡ rowSize * mostRows) × (length (now lines) ≡ lineSize * mostLines)
+    requires { ⌜ (rowSize * y .rows ≤ length (now rows)) × (lineSize * y .lines ≤ length (now lines))
         × (lineBase (y .rows) (y .lines) ≤ length (now table)) ⌝ }
     ensures { λ _. ⌜ now (table .exit) ≡ pasted (now (table .entry)) 0 (cellsIn mark y (now (rows .entry)) (now (lines .entry))) ⌝ }
 {
@@ -76,7 +76,7 @@ fn lay(mark: usize, table: &mut [i64], rows: &[i64], lines: &[i64], y: Tally)
 pub fn fill(mark: usize, rows: &[i64], lines: &[i64], y: Tally, table: &mut [i64]) -> bool
     requires { ⌜ mark ≤ markXml ⌝ }
     requires { ⌜ (y .rows ≤ mostRows) × (y .lines ≤ mostLines) × (y .length ≤ 16384) ⌝ }
-    requires { ⌜ (length (now rows) ≡ rowSize * mostRows) × (length (now lines) ≡ lineSize * mostLines) ⌝ }
+    requires { ⌜ (rowSize * y .rows ≤ length (now rows)) × (lineSize * y .lines ≤ length (now lines)) ⌝ }
     ensures { λ r. ⌜ r ≡ filledIn y (length (now (table .entry))) ⌝ }
     ensures { λ r. ⌜ now (table .exit) ≡ filledOver mark y (now (rows .entry)) (now (lines .entry)) (now (table .entry)) ⌝ }
 {
@@ -107,7 +107,7 @@ fn same_at(t: &[i64], at: usize, part: &[i64]) -> bool
 pub fn matches(mark: usize, rows: &[i64], lines: &[i64], y: Tally, t: &[i64]) -> bool
     requires { ⌜ mark ≤ markXml ⌝ }
     requires { ⌜ (y .rows ≤ mostRows) × (y .lines ≤ mostLines) × (y .length ≤ 16384) ⌝ }
-    requires { ⌜ (length (now rows) ≡ rowSize * mostRows) × (length (now lines) ≡ lineSize * mostLines) ⌝ }
+    requires { ⌜ (rowSize * y .rows ≤ length (now rows)) × (lineSize * y .lines ≤ length (now lines)) ⌝ }
     ensures { λ r. ⌜ r ≡ begins (cellsIn mark y (now (rows .entry)) (now (lines .entry))) (now (t .entry)) ⌝ }
 {
     if t.len() < Line::base(y.rows, y.lines) {

@@ -46,7 +46,7 @@ use Rattle.values.specs.Line.{lineStep, linesFrom}
 use Rattle.values.specs.Line.{listedOf, Stored}
 use Rattle.values.specs.Block.{closedBy}
 use Rattle.values.specs.Room.{roomAt, slotOf, Marked, storable, judgedTurn, judgedRoom, judgedMarks, Standing, standAt, judgedAt}
-use Rattle.values.specs.Room.{readTurn, readRoom, readMarks, turnOf, roomAfter, marksAfter}
+use Rattle.values.specs.Room.{readTurn, readRoom, readMarks, turnOf, roomAfter, marksAfter, Spare}
 use Rattle.values.specs.Good.{GoodLine}
 use Rattle.values.proofs.Facts.{repeated-alike, marked-more}
 use Rattle.values.proofs.Rooms.{line-length, cells-length, cells-more, count-more, number-before, number-last, length-pasted}
@@ -125,20 +125,21 @@ module _ (d : List ℕ) (a : Amount) (s : Said) (h : length d ≤ 1048576) where
       let g = line-good e in
       record { special = omega (arith, g .special); place = omega (arith, g .text-place); length = omega (arith, g .text-length) }
 
--- ---- where the code stands, beside the list of lines that the definition has
-pub record Holds (first : ℕ) (start room : List ℤ) (stamp : ℕ) (marks : List ℕ) (last : ℕ) (l : List Said) : Type 0 where
+-- ---- where the code stands, beside the list of lines that the definition has, in a room of n numbers
+pub record Holds (n first : ℕ) (start room : List ℤ) (stamp : ℕ) (marks : List ℕ) (last : ℕ) (l : List Said) : Type 0 where
   pub count : last ≡ first + length l
   pub most : last ≤ 4096
-  pub begin : length start ≡ 16384
-  pub kept : length room ≡ 16384
+  pub begin : length start ≡ n
+  pub kept : length room ≡ n
+  pub enough : 4 * last ≤ n
   pub here : room ≡ pasted start (4 * first) (cellsOf l)
   pub slots : length marks ≡ 16384
   pub marked : Marked (numberAt l) (length l) stamp marks
 
-module _ {first : ℕ} {start room : List ℤ} {stamp : ℕ} {marks : List ℕ} {last : ℕ} {l : List Said}
-    (h : Holds first start room stamp marks last l) where
+module _ {n first : ℕ} {start room : List ℤ} {stamp : ℕ} {marks : List ℕ} {last : ℕ} {l : List Said}
+    (h : Holds n first start room stamp marks last l) where
   fits : 4 * first + length (cellsOf l) ≤ length start
-  fits = omega (arith, cells-length l, h .count, h .most, h .begin)
+  fits = omega (arith, cells-length l, h .count, h .enough, h .begin)
 
   pub so-far : last - first ≡ length l
   so-far = omega (arith, h .count)
@@ -146,7 +147,7 @@ module _ {first : ℕ} {start room : List ℤ} {stamp : ℕ} {marks : List ℕ} 
   -- the room has the numbers of the lines
   pub number-here : (i : ℕ) → i < length l → roomAt room first i ≡ numberAt l i
   unfolding roomAt
-  number-here i k = rw (h .here) (room-number start first l (omega (arith, h .count, h .most, h .begin)) i k)
+  number-here i k = rw (h .here) (room-number start first l (omega (arith, h .count, h .enough, h .begin)) i k)
 
   pub marked-here : Marked (roomAt room first) (last - first) stamp marks
   marked-here = record { left = λ i k. rw (number-here i (omega (arith, so-far))) (h .marked .left i (omega (arith, so-far))) }
@@ -156,13 +157,14 @@ module _ {first : ℕ} {start room : List ℤ} {stamp : ℕ} {marks : List ℕ} 
   judged-here quantity b v = rw so-far (judge-alike (roomAt room first) (numberAt l) (length l) first quantity b v number-here)
 
   -- one line more
-  pub one-more : (s : Said) → last < 4096 → Holds first start (pasted room (4 * last) (lineCells s)) stamp
+  pub one-more : (s : Said) → last < 4096 → 4 * last + 4 ≤ n → Holds n first start (pasted room (4 * last) (lineCells s)) stamp
       (set marks (slotOf (numberOn s)) stamp) (last + 1) (l ++ s ∷ [])
-  one-more s k = record {
+  one-more s k w = record {
     count = omega (arith, h .count, count-more l s);
     most = omega arith;
     begin = h .begin;
     kept = length-pasted room (lineCells s) (4 * last) room-left ∙ h .kept;
+    enough = omega arith;
     here = placed;
     slots = simp length-set (h .slots);
     marked = rw (count-more l s) (marked-more (numberAt (l ++ s ∷ [])) (length l) stamp marks (numberOn s) (h .slots)
@@ -180,68 +182,69 @@ module _ {first : ℕ} {start room : List ℤ} {stamp : ℕ} {marks : List ℕ} 
       before : Marked (numberAt (l ++ s ∷ [])) (length l) stamp marks
       before = record { left = λ i j. rw (number-before l s i j) (h .marked .left i j) }
 
-pub none-held : (first : ℕ) (start : List ℤ) (stamp : ℕ) (marks : List ℕ) → first ≤ 4096 → length start ≡ 16384 → length marks ≡ 16384
-    → Holds first start start stamp marks first []
+pub none-held : (n first : ℕ) (start : List ℤ) (stamp : ℕ) (marks : List ℕ) → first ≤ 4096 → 4 * first ≤ n → length start ≡ n
+    → length marks ≡ 16384 → Holds n first start start stamp marks first []
 unfolding cellsOf
-none-held first start stamp marks h k m = record {
+none-held n first start stamp marks h w k m = record {
   count = omega arith;
   most = h;
   begin = k;
   kept = k;
+  enough = w;
   here = paste-none start (4 * first);
   slots = m;
   marked = record { left = λ i j. absurd (omega arith) };
 }
 
 -- ---- one line: by what follows it, what the definition does, and where the code then stands
-pub record Onward (d : List ℕ) (quantity : Bool) (first : ℕ) (start room : List ℤ) (stamp : ℕ) (marks : List ℕ) (last : ℕ) (l : Listing)
+pub record Onward (d : List ℕ) (quantity : Bool) (n first : ℕ) (start room : List ℤ) (stamp : ℕ) (marks : List ℕ) (last : ℕ) (l : Listing)
     (t : Turn) : Type 0 where
   pub line : Said
   pub more : last < 4096
   pub step : lineStep d quantity first l ≡ after (l .lines ++ line ∷ []) t
-  pub holds : Holds first start room stamp marks (last + 1) (l .lines ++ line ∷ [])
+  pub holds : Holds n first start room stamp marks (last + 1) (l .lines ++ line ∷ [])
 
-module _ (d : List ℕ) (quantity : Bool) (first : ℕ) (a : Amount) (b : Block) {start room : List ℤ} {stamp : ℕ} {marks : List ℕ} {last : ℕ}
-    {l : List Said} (h : Holds first start room stamp marks last l) where
+module _ (d : List ℕ) (quantity : Bool) (first : ℕ) (a : Amount) (b : Block) {n : ℕ} {start room : List ℤ} {stamp : ℕ} {marks : List ℕ}
+    {last : ℕ} {l : List Said} (h : Holds n first start room stamp marks last l) where
   abbrev at : Standing
   at = standAt a b last room
 
   -- what follows a line is refused, or the line stands
-  pub turned : (t : Turn) → t ≡ turnOf d quantity first at → ((f : Fault) → t ≡ turn.Not f → ⊥)
-      → Onward d quantity first start (roomAfter d quantity first at) stamp (marksAfter d quantity first at marks stamp) last
+  pub turned : Spare n last → (t : Turn) → t ≡ turnOf d quantity first at → ((f : Fault) → t ≡ turn.Not f → ⊥)
+      → Onward d quantity n first start (roomAfter d quantity first at) stamp (marksAfter d quantity first at marks stamp) last
       (stateOf a b l) t
   unfolding turnOf roomAfter marksAfter lineStep
-  turned t = by (lineRest d a) refl where
+  turned w t = by (lineRest d a) refl where
     judged : (s : Said) (v : Verdict) → lineRest d a ≡ lined.Is s → judgedAt quantity first at s ≡ v → t ≡ judgedTurn d b s v
-        → ((f : Fault) → t ≡ turn.Not f → ⊥) → Onward d quantity first start (judgedRoom room last s v) stamp (judgedMarks marks stamp v)
+        → ((f : Fault) → t ≡ turn.Not f → ⊥) → Onward d quantity n first start (judgedRoom room last s v) stamp (judgedMarks marks stamp v)
         last (stateOf a b l) t
-    judged s (Good z) j i e n =
+    judged s (Good z) j i e o =
         let g = good-line (roomAt room first) (last - first) first quantity b (s .value) i in
         let k : last < 4096 = omega (arith, g .few, so-far h, h .count) in
         record {
           line = s;
           more = k;
           step = rw (j, sym (judged-here h quantity b (s .value)) ∙ i, e);
-          holds = rw (g .says) (one-more h s k);
+          holds = rw (g .says) (one-more h s k (w .one-more k));
         }
-    judged s (Bad f) j i e n = absurd (n f e)
+    judged s (Bad f) j i e o = absurd (o f e)
 
     by : (r : Lined) → lineRest d a ≡ r → t ≡ readTurn d quantity first at r → ((f : Fault) → t ≡ turn.Not f → ⊥)
-        → Onward d quantity first start (readRoom quantity first at r) stamp (readMarks quantity first at marks stamp r) last
+        → Onward d quantity n first start (readRoom quantity first at r) stamp (readMarks quantity first at marks stamp r) last
         (stateOf a b l) t
-    by (lined.Is s) j e n = judged s (judgedAt quantity first at s) j refl e n
-    by (lined.Not f) j e n = absurd (n f e)
+    by (lined.Is s) j e o = judged s (judgedAt quantity first at s) j refl e o
+    by (lined.Not f) j e o = absurd (o f e)
 
   -- the same of what the code gave back
   module _ {t : Turn} {end : List ℤ} {ends : List ℕ} (e : t ≡ turnOf d quantity first at) (f : end ≡ roomAfter d quantity first at)
       (g : ends ≡ marksAfter d quantity first at marks stamp) where
-    pub went-more : {c : Amount} {k : Block} → t ≡ turn.More c k
-        → Onward d quantity first start end stamp ends last (stateOf a b l) (turn.More c k)
-    went-more i = rw (f, g) (turned _ (sym i ∙ e) (λ q j. let z : _≡_ {A = ℕ} 0 1 = cc in absurd (omega arith)))
+    pub went-more : Spare n last → {c : Amount} {k : Block} → t ≡ turn.More c k
+        → Onward d quantity n first start end stamp ends last (stateOf a b l) (turn.More c k)
+    went-more w i = rw (f, g) (turned w _ (sym i ∙ e) (λ q j. let z : _≡_ {A = ℕ} 0 1 = cc in absurd (omega arith)))
 
-    pub went-over : {k : Block} {n : ℕ} → t ≡ turn.Over k n
-        → Onward d quantity first start end stamp ends last (stateOf a b l) (turn.Over k n)
-    went-over i = rw (f, g) (turned _ (sym i ∙ e) (λ q j. let z : _≡_ {A = ℕ} 0 1 = cc in absurd (omega arith)))
+    pub went-over : Spare n last → {k : Block} {m : ℕ} → t ≡ turn.Over k m
+        → Onward d quantity n first start end stamp ends last (stateOf a b l) (turn.Over k m)
+    went-over w i = rw (f, g) (turned w _ (sym i ∙ e) (λ q j. let z : _≡_ {A = ℕ} 0 1 = cc in absurd (omega arith)))
 
   -- a refusal of the code is one of the definition
   pub turned-not : {f : Fault} → turn.Not f ≡ turnOf d quantity first at → lineStep d quantity first (stateOf a b l) ≡ Done (Not f)
@@ -292,14 +295,16 @@ module _ (d : List ℕ) (quantity : Bool) (first : ℕ) where
   lines-done l {g} e = loop-done (lineStep d quantity first) (Not (fault 0 0)) left falls {s = l} {a = g} e
 
 -- ---- what the code gives back
-pub record Ran (d : List ℕ) (quantity : Bool) (first stamp : ℕ) (start : List ℤ) (a₀ : Amount) (b₀ : Block) (room : List ℤ) (marks : List ℕ)
+pub record Ran (d : List ℕ) (quantity : Bool) (n first stamp : ℕ) (start : List ℤ) (a₀ : Amount) (b₀ : Block) (room : List ℤ)
+    (marks : List ℕ)
     (a : Amount) (b : Block) (last : ℕ) : Type 0 where
   pub lines : List Said
   pub same : linesFrom d quantity first (stateOf a₀ b₀ []) ≡ linesFrom d quantity first (stateOf a b lines)
-  pub holds : Holds first start room stamp marks last lines
+  pub holds : Holds n first start room stamp marks last lines
 
-pub listed-over : {first : ℕ} {start room : List ℤ} {stamp : ℕ} {marks : List ℕ} {last : ℕ} {l : List Said} {g : Given} {b : Block} {n : ℕ}
-    → g ≡ Is b l n → Holds first start room stamp marks last l → (listed.Is b last n ≡ listedOf first g) × Stored first g start room
+pub listed-over : {k first : ℕ} {start room : List ℤ} {stamp : ℕ} {marks : List ℕ} {last : ℕ} {l : List Said} {g : Given} {b : Block}
+    {n : ℕ}
+    → g ≡ Is b l n → Holds k first start room stamp marks last l → (listed.Is b last n ≡ listedOf first g) × Stored first g start room
 unfolding listedOf
 listed-over {first} {start} {room} {l = l} {g = g} {b = b} {n = n} e h = (
   rw (e, h .count),

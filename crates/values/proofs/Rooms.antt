@@ -9,6 +9,27 @@ use lib.Seq.{length-take-le, drop-append-seam, getD-append-add, getD-at}
 use Rattle.cells.specs.rule.Cell.{cell, pasted}
 use Rattle.values.specs.declared.Said.{Said}
 use Rattle.values.specs.Line.{numberOn, numbers, numberAt, lineCells, cellsOf}
+use Rattle.values.specs.Room.{Spare, Unless, holds, small}
+
+-- ---- rooms that may be too small
+-- what follows of a claim, and of what is said in its place
+pub unless-on : {S T L M C D : Type 0} → (S → T) → (L → M) → (C → D) → Unless S L C → Unless T M D
+unless-on f g h (holds c) = holds (h c)
+unless-on f g h (small s l) = small (f s) (g l)
+
+-- nothing else was said
+pub unless-told : {S L C : Type 0} → Unless S L C → (S → ⊥) → C
+unless-told (holds c) n = c
+unless-told (small s l) n = absurd (n s)
+
+-- the room lacks nothing
+pub unless-full : {S L C : Type 0} → Unless S L C → (L → ⊥) → C
+unless-full (holds c) n = c
+unless-full (small s l) n = absurd (n l)
+
+-- the room of the most lines
+pub full-spare : (n last : ℕ) → n ≡ 16384 → last ≤ 4096 → Spare n last
+full-spare n last e h = record { so-far = omega arith; one-more = λ k. omega arith }
 
 -- ---- lists of lines
 pub numbers-length : (l : List Said) → length (numbers l) ≡ length l
@@ -63,6 +84,14 @@ unfolding numberAt numbers
 number-last l s = rw (numbers-join l (s ∷ [])) (getD-at (numbers l) (numberOn s) [] (pos 0) (length l) (numbers-length l))
 
 -- ---- numbers over numbers
+paste-long : (l s : List ℤ) (at : ℕ) → at ≤ length l → length (pasted l at s) ≡ (at + length s) + (length l - (at + length s))
+unfolding pasted
+paste-long l s at h = simp (length-append, length-take, length-drop) (omega arith)
+
+-- what was pasted had room where the room is as long as before
+pub paste-fits : (l s : List ℤ) (at : ℕ) → at ≤ length l → length (pasted l at s) ≡ length l → at + length s ≤ length l
+paste-fits l s at h e = omega (arith, paste-long l s at h, e)
+
 module _ (l s : List ℤ) (at : ℕ) (h : at + length s ≤ length l) where
   pub length-pasted : length (pasted l at s) ≡ length l
   unfolding pasted

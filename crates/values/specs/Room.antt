@@ -2,13 +2,15 @@
 -- `first` to before `last`; and a mark for each, by which a number that no line says is mostly known at once.
 use Prim.Native.Nat.{ℕ, _+_, _*_, _-_, _%_, _≤_, _<_}
 use mathlib.Core.Path.{_≡_}
-use mathlib.Core.Bool.{Bool}
+use mathlib.Core.Bool.{Bool, true, false}
 use mathlib.Core.List.{List}
 use lib.IntN.{ℤ}
 use lib.ListN.{getD, set}
 use Rattle.cells.specs.rule.Cell.{cell, signedOf, pasted}
-use Rattle.layout.specs.rule.Layout.{lineSize}
+use Rattle.layout.specs.rule.Layout.{lineSize, mostLines}
 use Rattle.tokens.specs.declared.Amount.{Amount}
+use Rattle.tokens.specs.declared.Fault.{Fault}
+use Rattle.tokens.specs.rule.Gap.{fault}
 use Rattle.values.specs.declared.Block.{Block}
 use Rattle.values.specs.declared.Said.{Said}
 use Rattle.values.specs.declared.Lined.{Lined}
@@ -19,6 +21,27 @@ use Rattle.values.specs.declared.Turn.{Turn}
 use Rattle.values.specs.declared.Turn.the-variants as turn
 use Rattle.values.specs.Line.{lineRest, judgeLine, grownBy, lineCells, moreOf}
 
+-- ---- a room of any length
+-- for the lines so far, and for one more unless they are the most
+pub record Spare (n last : ℕ) : Type 0 where
+  pub so-far : lineSize * last ≤ n
+  pub one-more : last < mostLines → lineSize * last + lineSize ≤ n
+
+-- whether a line more has no place, though it would be none too many: the room is then not that of the most lines
+pub record Cramped (n last : ℕ) (b : Bool) : Type 0 where
+  pub tight : b ≡ true → n < lineSize * mostLines
+  pub spare : b ≡ false → Spare n last
+
+-- what a reader says whose room is too small: 0, the number of no refusal
+abbrev pub short : Fault
+short = fault 0 0
+
+-- a claim of what was read; or its room lacks places, and that was said
+pub data Unless (said lacks claim : Type 0) : Type 0 where
+  holds : claim → Unless said lacks claim
+  small : said → lacks → Unless said lacks claim
+
+-- ---- the lines in it
 -- the number that line i of the block says
 unfoldable pub roomAt : List ℤ → ℕ → ℕ → ℤ
 roomAt room first i = cell room (lineSize * (first + i))

@@ -28,7 +28,7 @@ ghost use Rattle.values.specs.Line.{endOf};
 ghost use Rattle.values.specs.Line.{moreOf, stateOf, linesFrom};
 ghost use Rattle.values.specs.Line.{listedOf, Stored};
 ghost use Rattle.values.specs.Room.{roomAt, slotOf, Marked, storable, judgedTurn, judgedRoom, judgedMarks, standAt, turnOf};
-ghost use Rattle.values.specs.Room.{roomAfter, marksAfter};
+ghost use Rattle.values.specs.Room.{roomAfter, marksAfter, Spare, Cramped, short, Unless};
 ghost use Rattle.values.specs.Block.{emptyBlock, closedBy, rangeThen, valuesOn};
 
 // What the values of a variable have said so far: whether there is a range, and its ends; whether a number was read, and then how
@@ -525,7 +525,7 @@ pub fn stand_line(
     marks: &mut [u16],
     stamp: u16,
 ) -> Verdict
-    requires { ⌜ (length (now lines) ≡ lineSize * mostLines) × (first ≤ last) × (last ≤ mostLines) × (length (now marks) ≡ 16384) ⌝ }
+    requires { ⌜ Spare (length (now lines)) last × (first ≤ last) × (last ≤ mostLines) × (length (now marks) ≡ 16384) ⌝ }
     requires { ⌜ Marked (roomAt (now lines) first) (last - first) stamp (now marks) ⌝ }
     requires { ⌜ storable s ⌝ }
     ensures { λ r. ⌜ r ≡ judgeLine (roomAt (now (lines .entry)) first) (last - first) first quantity b (s .value) ⌝ }
@@ -559,7 +559,7 @@ fn place_line(
     stamp: u16,
 ) -> Turn
     requires { ⌜ Classes (now classes) ⌝ }
-    requires { ⌜ (length (now lines) ≡ lineSize * mostLines) × (first ≤ last) × (last ≤ mostLines) × (length (now marks) ≡ 16384) ⌝ }
+    requires { ⌜ Spare (length (now lines)) last × (first ≤ last) × (last ≤ mostLines) × (length (now marks) ≡ 16384) ⌝ }
     requires { ⌜ Marked (roomAt (now lines) first) (last - first) stamp (now marks) ⌝ }
     requires { ⌜ storable s ⌝ }
     ensures { λ r. ⌜ r ≡ judgedTurn (now (d .entry)) b s
@@ -593,7 +593,7 @@ fn one_line(
 ) -> Turn
     requires { ⌜ Classes (now classes) ⌝ }
     requires { ⌜ length (now d) ≤ 1048576 ⌝ }
-    requires { ⌜ (length (now lines) ≡ lineSize * mostLines) × (first ≤ last) × (last ≤ mostLines) × (length (now marks) ≡ 16384) ⌝ }
+    requires { ⌜ Spare (length (now lines)) last × (first ≤ last) × (last ≤ mostLines) × (length (now marks) ≡ 16384) ⌝ }
     requires { ⌜ Marked (roomAt (now lines) first) (last - first) stamp (now marks) ⌝ }
     ensures { λ r. ⌜ r ≡ turnOf (now (d .entry)) quantity first (standAt a b last (now (lines .entry))) ⌝ }
     ensures { λ r. ⌜ now (lines .exit) ≡ roomAfter (now (d .entry)) quantity first (standAt a b last (now (lines .entry))) ⌝ }
@@ -606,6 +606,20 @@ fn one_line(
     }
 }
 
+// Whether a room smaller than that of the most lines has no place for one line more.
+pub fn cramped(lines: &[i64], last: usize) -> bool
+    requires { ⌜ (lineSize * last ≤ length (now lines)) × (last ≤ mostLines) ⌝ }
+    ensures { λ r. ⌜ Cramped (length (now (lines .entry))) last r ⌝ }
+{
+    if Line::SIZE * last + Line::SIZE <= lines.len() {
+        return false;
+    }
+    if Header::MOST_LINES <= last {
+        return false;
+    }
+    true
+}
+
 // Lines up to END VALUES: what the block has said, how many lines there are in all, and the place after END VALUES.
 pub enum Listed {
     Is {
@@ -616,7 +630,7 @@ pub enum Listed {
     Not(Fault),
 }
 
-// The lines of this block leave the mark `stamp`, and what else the marks hold does not matter.
+// The lines of this block leave the mark `stamp`, and what else the marks hold does not matter. A room too small is said by 0.
 pub fn read_lines(
     classes: &[u8; 256],
     d: &[u8],
@@ -630,14 +644,21 @@ pub fn read_lines(
 ) -> Listed
     requires { ⌜ Classes (now classes) ⌝ }
     requires { ⌜ length (now d) ≤ 1048576 ⌝ }
-    requires { ⌜ (length (now lines) ≡ lineSize * mostLines) × (first ≤ mostLines) × (length (now marks) ≡ 16384) ⌝ }
-    ensures { λ r. ⌜ r ≡ listedOf first (linesFrom (now (d .entry)) quantity first (stateOf a b [])) ⌝ }
-    ensures { λ r. ⌜ Stored first (linesFrom (now (d .entry)) quantity first (stateOf a b [])) (now (lines .entry)) (now (lines .exit)) ⌝ }
+    requires { ⌜ (lineSize * first ≤ length (now lines)) × (first ≤ mostLines) × (length (now marks) ≡ 16384) ⌝ }
+    ensures { λ r. ⌜ Unless (r ≡ Listed.Not short) (length (now (lines .entry)) < lineSize * mostLines)
+        ((r ≡ listedOf first (linesFrom (now (d .entry)) quantity first (stateOf a b [])))
+        × Stored first (linesFrom (now (d .entry)) quantity first (stateOf a b [])) (now (lines .entry)) (now (lines .exit))) ⌝ }
 {
     let mut amount = a;
     let mut block = b;
     let mut last = first;
     loop {
+        if cramped(lines, last) {
+            return Listed::Not(Fault {
+                number: 0,
+                place: 0,
+            });
+        }
         match one_line(
             classes,
             d,
@@ -713,9 +734,10 @@ fn range_then(
 ) -> Listed
     requires { ⌜ Classes (now classes) ⌝ }
     requires { ⌜ length (now d) ≤ 1048576 ⌝ }
-    requires { ⌜ (length (now lines) ≡ lineSize * mostLines) × (first ≤ mostLines) × (length (now marks) ≡ 16384) ⌝ }
-    ensures { λ s. ⌜ s ≡ listedOf first (rangeThen (now (d .entry)) quantity first r) ⌝ }
-    ensures { λ s. ⌜ Stored first (rangeThen (now (d .entry)) quantity first r) (now (lines .entry)) (now (lines .exit)) ⌝ }
+    requires { ⌜ (lineSize * first ≤ length (now lines)) × (first ≤ mostLines) × (length (now marks) ≡ 16384) ⌝ }
+    ensures { λ s. ⌜ Unless (s ≡ Listed.Not short) (length (now (lines .entry)) < lineSize * mostLines)
+        ((s ≡ listedOf first (rangeThen (now (d .entry)) quantity first r))
+        × Stored first (rangeThen (now (d .entry)) quantity first r) (now (lines .entry)) (now (lines .exit))) ⌝ }
 {
     match r {
         Ranged::Not(f) => Listed::Not(f),
@@ -746,9 +768,10 @@ pub fn values_on(
 ) -> Listed
     requires { ⌜ Classes (now classes) ⌝ }
     requires { ⌜ length (now d) ≤ 1048576 ⌝ }
-    requires { ⌜ (length (now lines) ≡ lineSize * mostLines) × (first ≤ mostLines) × (length (now marks) ≡ 16384) ⌝ }
-    ensures { λ r. ⌜ r ≡ listedOf first (valuesOn (now (d .entry)) quantity first t) ⌝ }
-    ensures { λ r. ⌜ Stored first (valuesOn (now (d .entry)) quantity first t) (now (lines .entry)) (now (lines .exit)) ⌝ }
+    requires { ⌜ (lineSize * first ≤ length (now lines)) × (first ≤ mostLines) × (length (now marks) ≡ 16384) ⌝ }
+    ensures { λ r. ⌜ Unless (r ≡ Listed.Not short) (length (now (lines .entry)) < lineSize * mostLines)
+        ((r ≡ listedOf first (valuesOn (now (d .entry)) quantity first t))
+        × Stored first (valuesOn (now (d .entry)) quantity first t) (now (lines .entry)) (now (lines .exit))) ⌝ }
 {
     let s = statements::notes_on(classes, d, t);
     let w = tokens::word_here(classes, d, s, b"VALUES");

@@ -27,6 +27,9 @@ use Rattle.variables.specs.declared.Rested.the-variants as rested
 use Rattle.variables.specs.Rest.{Telling, Told, Is, Not, joinValues, joinSize, joinNothing}
 use Rattle.variables.specs.Rest.{restedOf, Stored}
 
+pub never : {A : Type 0} → _≡_ {A = ℕ} 0 1 → A
+never e = absurd (omega arith)
+
 abbrev rest : Block → ℕ → ℕ → ℕ → ℕ → ℕ → Rest
 rest b last count width size n = record { block = b; last = last; subfields = count; subwidth = width; size = size; next = n }
 

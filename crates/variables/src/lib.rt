@@ -13,10 +13,11 @@ use tokens::Reading;
 use values::Block;
 use values::Listed;
 ghost use mathlib.Core.Path.{_≡_};
-ghost use Prim.Native.Nat.{_*_, _≤_};
+ghost use Prim.Native.Nat.{_*_, _≤_, _<_};
 ghost use lib.ListN.{length};
 ghost use Rattle.ascii.specs.Class.{Classes};
 ghost use Rattle.layout.specs.rule.Layout.{lineSize, mostLines};
+ghost use Rattle.values.specs.Room.{short, Unless};
 ghost use Rattle.statements.specs.rule.Words.{NAME, LABEL};
 ghost use Rattle.statements.specs.Note.{textOn};
 ghost use Rattle.variables.specs.Ident.{marked};
@@ -230,10 +231,10 @@ fn values_rest(
 ) -> Rested
     requires { ⌜ Classes (now classes) ⌝ }
     requires { ⌜ length (now d) ≤ 1048576 ⌝ }
-    requires { ⌜ (length (now lines) ≡ lineSize * mostLines) × (first ≤ mostLines) × (length (now marks) ≡ 16384) ⌝ }
-    ensures { λ r. ⌜ r ≡ restedOf first (valuesRest (now (d .entry)) quantity first t subfields subwidth) ⌝ }
-    ensures { λ r. ⌜ Stored first (valuesRest (now (d .entry)) quantity first t subfields subwidth) (now (lines .entry))
-        (now (lines .exit)) ⌝ }
+    requires { ⌜ (lineSize * first ≤ length (now lines)) × (first ≤ mostLines) × (length (now marks) ≡ 16384) ⌝ }
+    ensures { λ r. ⌜ Unless (r ≡ Rested.Not short) (length (now (lines .entry)) < lineSize * mostLines)
+        ((r ≡ restedOf first (valuesRest (now (d .entry)) quantity first t subfields subwidth))
+        × Stored first (valuesRest (now (d .entry)) quantity first t subfields subwidth) (now (lines .entry)) (now (lines .exit))) ⌝ }
 {
     match values::values_on(classes, d, quantity, t, first, lines, marks, stamp) {
         Listed::Is { block, last, next } => Rested::Is(Rest {
@@ -300,9 +301,10 @@ fn spread_then(
 ) -> Rested
     requires { ⌜ Classes (now classes) ⌝ }
     requires { ⌜ length (now d) ≤ 1048576 ⌝ }
-    requires { ⌜ (length (now lines) ≡ lineSize * mostLines) × (first ≤ mostLines) × (length (now marks) ≡ 16384) ⌝ }
-    ensures { λ r. ⌜ r ≡ restedOf first (spreadThen (now (d .entry)) first t width) ⌝ }
-    ensures { λ r. ⌜ Stored first (spreadThen (now (d .entry)) first t width) (now (lines .entry)) (now (lines .exit)) ⌝ }
+    requires { ⌜ (lineSize * first ≤ length (now lines)) × (first ≤ mostLines) × (length (now marks) ≡ 16384) ⌝ }
+    ensures { λ r. ⌜ Unless (r ≡ Rested.Not short) (length (now (lines .entry)) < lineSize * mostLines)
+        ((r ≡ restedOf first (spreadThen (now (d .entry)) first t width))
+        × Stored first (spreadThen (now (d .entry)) first t width) (now (lines .entry)) (now (lines .exit))) ⌝ }
 {
     let n = statements::notes_on(classes, d, t);
     match tokens::perhaps(classes, d, n, b"SPREAD") {
@@ -342,9 +344,10 @@ pub fn rest_on(
 ) -> Rested
     requires { ⌜ Classes (now classes) ⌝ }
     requires { ⌜ length (now d) ≤ 1048576 ⌝ }
-    requires { ⌜ (length (now lines) ≡ lineSize * mostLines) × (first ≤ mostLines) × (length (now marks) ≡ 16384) ⌝ }
-    ensures { λ r. ⌜ r ≡ restedOf first (restOf (now (d .entry)) first kind t width) ⌝ }
-    ensures { λ r. ⌜ Stored first (restOf (now (d .entry)) first kind t width) (now (lines .entry)) (now (lines .exit)) ⌝ }
+    requires { ⌜ (lineSize * first ≤ length (now lines)) × (first ≤ mostLines) × (length (now marks) ≡ 16384) ⌝ }
+    ensures { λ r. ⌜ Unless (r ≡ Rested.Not short) (length (now (lines .entry)) < lineSize * mostLines)
+        ((r ≡ restedOf first (restOf (now (d .entry)) first kind t width))
+        × Stored first (restOf (now (d .entry)) first kind t width) (now (lines .entry)) (now (lines .exit))) ⌝ }
 {
     if kind == 1 {
         return values_rest(classes, d, false, t, 0, 0, first, lines, marks, stamp);

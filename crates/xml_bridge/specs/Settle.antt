@@ -169,14 +169,17 @@ module _ (i j before : ℕ) where
 -- ---- with its lines in the room
 module _ (i j before c w : ℕ) (v : Variable) (told : Told (roomIn v) c w (v .content)) (g : GoodHead (headWith i j v))
     (s : GoodTelling (typeOf (v .content)) before (tellingWith c w (v .content))) (room : List ℤ) (long : length room ≡ 16384) where
+  stands : 4 * (before + length (tellingWith c w (v .content) .lines)) ≤ length room
+  stands = omega (arith, s .lines .few, long)
+
   pub measure-here : Measurable (pasted room (4 * before) (cellsOf (linesOf v))) (headWith i j v)
       (countedIn before (tellingWith c w (v .content))) before
-  measure-here = rw (← saids-cells (linesOf v)) (measurable (headWith i j v) (tellingWith c w (v .content)) before g s room long)
+  measure-here = rw (← saids-cells (linesOf v)) (measurable (headWith i j v) (tellingWith c w (v .content)) before g s room stands)
 
   pub settled-same : (n : ℕ)
       → settledBy (numberIn (pasted room (4 * before) (cellsOf (linesOf v))) before) (headWith i j v)
       (countedIn before (tellingWith c w (v .content))) before (At n)
       ≡ stoodFrom before (held v n)
   settled-same n =
-      rw (← saids-cells (linesOf v)) (settled-is (headWith i j v) (tellingWith c w (v .content)) before g s room long (At n))
+      rw (← saids-cells (linesOf v)) (settled-is (headWith i j v) (tellingWith c w (v .content)) before g s room stands (At n))
       ∙ held-same i j before v n (g .low) told

@@ -1,5 +1,6 @@
 use mathlib.Core.Path.{_≡_, refl, _∙_, sym}
 use borrow.Author.Needs.{needs}
+use Rattle.values.proofs.Rooms.{full-spare}
 use Rattle.blocks.proofs.place_line.Statement.{statement}
 use Rattle.blocks.proofs.place_line.Tie as tie
 
@@ -18,8 +19,15 @@ returns-2 c =
     let e = sym (at-stand-line .stand-line .ensures .0) ∙ c .before .f .given .1 in
     (rw e, at-stand-line .stand-line .ensures .1)
 
+-- the room is that of the most lines
+stand-line-requires : tie.Need-stand-line-requires
+stand-line-requires c κs =
+    let p = c .before .before .before .pre in
+    let r = p .0 in
+    ((full-spare _ _ (r .0) (r .2), r .1, r .2, r .3), p .1)
+
 pub place-line-spec : {M : Type 1} → statement M
 place-line-spec =
     tie.close
-    (tie.spec (λ c κs. c .before .before .before .pre) (λ c. search needs) (λ c κs. search needs) (λ c κs. search needs) (λ c. search needs)
+    (tie.spec stand-line-requires (λ c. search needs) (λ c κs. search needs) (λ c κs. search needs) (λ c. search needs)
     (λ c. search needs) (λ c. search needs) returns (λ c. search needs) (λ c. search needs) returns-2)

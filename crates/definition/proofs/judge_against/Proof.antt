@@ -11,7 +11,8 @@ use Rattle.definition.specs.rule.Against.{againstOf}
 use Rattle.definition.specs.Books.{Outcome, judged, surveyOf, outcomeIn}
 use Rattle.laying.specs.Code.{zeros}
 use Rattle.definition.proofs.Bridge.{heldIn, against-same}
-use Rattle.definition.proofs.Wholes.{held-says}
+use Rattle.values.proofs.Rooms.{unless-full}
+use Rattle.definition.proofs.Wholes.{none-lacking, rooms-fit, held-says}
 use Rattle.definition.proofs.judge_against.Statement.{statement}
 use Rattle.definition.proofs.judge_against.Tie as tie
 
@@ -28,20 +29,16 @@ read-in-requires c κs =
       at-powers .before .classes .ensures,
       (
         at-powers .powers .ensures,
-        (at-powers .before .before .if1 .left, ((refl, refl, refl), refl)),
+        (at-powers .before .before .if1 .left, (refl, refl)),
       ),
     )
 
 compare-requires : tie.Need-compare-requires
 compare-requires c κs =
-    let k = c .before .before .before .before .before .before .before .before .before .read-in .kept in (
-      omega arith,
-      (
-        c .before .before .before .before .before .before .before .before .before .read-in .ensures .stands
-            (c .before .before .before .y .given .1) .few,
-        (k .1 .1 .1 .0, k .1 .1 .1 .1 .0),
-      ),
-    )
+    let w = unless-full (c .before .before .before .before .before .before .before .before .before .read-in .ensures)
+    (none-lacking refl refl) in
+    let s = w .stands (c .before .before .before .y .given .1) in
+    (omega arith, (s .few, rooms-fit _ _ _ _ s))
 
 returns-2 : tie.Need-returns-2
 unfolding againstOf outcomeIn
@@ -51,8 +48,9 @@ returns-2 c =
     let args = at-if1 .before .before .args in
     let t = args .t .now in
     let e : ltb 1048576 (length (args .d .now)) ≡ false = le-ltb _ _ (at-if1 .if1 .left) in
-    let s = c .before .before .before .before .before .before .before .before .before .before .read-in .ensures .stands
-    (c .before .before .before .before .y .given .1) in
+    let w = unless-full (c .before .before .before .before .before .before .before .before .before .before .read-in .ensures)
+    (none-lacking refl refl) in
+    let s = w .stands (c .before .before .before .before .y .given .1) in
     rw (← against-same (args .d .now) (lineBase mostRows mostLines) t) (rw e (c .compare .ensures ∙ held-says _ _ _ _ s t))
 
 returns-3 : tie.Need-returns-3
@@ -63,8 +61,8 @@ returns-3 c =
     let args = at-if1 .before .before .args in
     let t = args .t .now in
     let e : ltb 1048576 (length (args .d .now)) ≡ false = le-ltb _ _ (at-if1 .if1 .left) in
-    let q = c .before .before .before .before .before .before .before .read-in .ensures .refuses (c .before .number .given .1)
-    (lineBase mostRows mostLines) in
+    let w = unless-full (c .before .before .before .before .before .before .before .read-in .ensures) (none-lacking refl refl) in
+    let q = w .refuses (c .before .number .given .1) (lineBase mostRows mostLines) in
     rw (← against-same (args .d .now) (lineBase mostRows mostLines) t) (rw e (sym (ap (λ (w : Outcome). heldIn w t) q)))
 
 pub judge-against-spec : {M : Type 1} → statement M

@@ -9,7 +9,8 @@ use Rattle.definition.specs.rule.Definition.{outcomeOf, answerOf, tableA
 use Rattle.definition.specs.Books.{Outcome, judged, surveyOf, outcomeIn, answerIn, tableIn}
 use Rattle.definition.proofs.Bridge.{answer-same, table-same}
 use Rattle.laying.specs.Code.{zeros}
-use Rattle.definition.proofs.Wholes.{filled-says, filled-leaves}
+use Rattle.values.proofs.Rooms.{unless-full}
+use Rattle.definition.proofs.Wholes.{none-lacking, rooms-fit, filled-says, filled-leaves}
 use Rattle.definition.proofs.read_definition.Statement.{statement}
 use Rattle.definition.proofs.read_definition.Tie as tie
 
@@ -26,20 +27,16 @@ read-in-requires c κs =
       at-powers .before .classes .ensures,
       (
         at-powers .powers .ensures,
-        (at-powers .before .before .if1 .left, ((refl, refl, refl), refl)),
+        (at-powers .before .before .if1 .left, (refl, refl)),
       ),
     )
 
 fill-requires : tie.Need-fill-requires
 fill-requires c κs =
-    let k = c .before .before .before .before .before .before .before .before .before .before .read-in .kept in (
-      omega arith,
-      (
-        c .before .before .before .before .before .before .before .before .before .before .read-in .ensures .stands
-            (c .before .before .before .before .y .given .1) .few,
-        (k .1 .1 .1 .0, k .1 .1 .1 .1 .0),
-      ),
-    )
+    let w = unless-full (c .before .before .before .before .before .before .before .before .before .before .read-in .ensures)
+    (none-lacking refl refl) in
+    let s = w .stands (c .before .before .before .before .y .given .1) in
+    (omega arith, (s .few, rooms-fit _ _ _ _ s))
 
 returns-2 : tie.Need-returns-2
 unfolding outcomeIn
@@ -49,8 +46,10 @@ returns-2 c =
     let args = at-if1 .before .before .args in
     let t = args .table .now in
     let e : ltb 1048576 (length (args .d .now)) ≡ false = le-ltb _ _ (at-if1 .if1 .left) in
-    let s = c .before .before .before .before .before .before .before .before .before .before .before .before .read-in .ensures .stands
-    (c .before .before .before .before .before .before .y .given .1) in
+    let w = unless-full
+    (c .before .before .before .before .before .before .before .before .before .before .before .before .read-in .ensures)
+    (none-lacking refl refl) in
+    let s = w .stands (c .before .before .before .before .before .before .y .given .1) in
     let q = c .before .fill .ensures in
     record {
       says = rw (← answer-same _ _) (rw e (q .0 ∙ filled-says _ _ _ _ s t));
@@ -65,7 +64,8 @@ returns-3 c =
     let args = at-if1 .before .before .args in
     let t = args .table .now in
     let e : ltb 1048576 (length (args .d .now)) ≡ false = le-ltb _ _ (at-if1 .if1 .left) in
-    let q = c .before .before .before .before .before .before .before .read-in .ensures .refuses (c .before .number .given .1) (length t) in
+    let w = unless-full (c .before .before .before .before .before .before .before .read-in .ensures) (none-lacking refl refl) in
+    let q = w .refuses (c .before .number .given .1) (length t) in
     record {
       says = rw (← answer-same _ _) (rw e (sym (ap answerIn q)));
       leaves = rw (← table-same _ _ _) (rw e (sym (ap (λ (w : Outcome). tableIn w t) q)));

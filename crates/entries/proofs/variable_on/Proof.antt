@@ -1,5 +1,6 @@
-use mathlib.Core.Path.{_≡_, sym, _∙_}
+use mathlib.Core.Path.{_≡_, refl, sym, _∙_}
 use borrow.Author.Needs.{needs}
+use Rattle.values.specs.Room.{holds}
 use Rattle.entries.specs.Entry.{stoodOf}
 use Rattle.entries.proofs.Heads.{none}
 use Rattle.entries.proofs.Entries.{good-head, entry-is, entry-not}
@@ -29,14 +30,14 @@ returns c =
     let at-head-on = at-h .before .before in
     let e = entry-is _ _ _ _ (at-head-on .before .before .before .before .before .args .before) _ _ (at-head-on .before .ident-on .ensures)
     (at-head-on .head-on .ensures) _ (at-h .h .given .1) in
-    (rw e (at-rest-then .rest-then .ensures .0), rw e (at-rest-then .rest-then .ensures .1))
+    rw e (at-rest-then .rest-then .ensures)
 
 returns-2 : tie.Need-returns-2
 unfolding stoodOf
 returns-2 c =
     let e = entry-not _ _ _ _ (c .before .before .before .before .before .before .before .before .args .before) _ _
     (c .before .before .before .before .ident-on .ensures) (c .before .before .before .head-on .ensures) _ (c .before .f .given .1) in
-    (rw e, rw e (record { stored = λ i. none cc }))
+    rw e (holds (refl, record { stored = λ i. none cc }))
 
 pub variable-on-spec : {M : Type 1} → statement M
 variable-on-spec =

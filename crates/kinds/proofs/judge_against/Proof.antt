@@ -1,12 +1,9 @@
 use mathlib.Core.Path.{_≡_, refl, sym, ap, _∙_}
-use Prim.Native.Nat.{_≤_}
-use lib.ListN.{length}
 use borrow.Author.Needs.{needs}
-use Rattle.layout.specs.rule.Layout.{markXml, lineBase, mostRows, mostLines}
-use Rattle.laying.specs.Code.{zeros}
-use Rattle.kinds.specs.rule.Definition.{Outcome}
-use Rattle.kinds.specs.rule.Against.{held, againstOf}
-use Rattle.kinds.proofs.Rooms.{mark-low, long-refused, held-says}
+use Rattle.layout.specs.rule.Layout.{lineBase, mostRows, mostLines}
+use Rattle.values.proofs.Rooms.{unless-told}
+use Rattle.kinds.specs.rule.Against.{againstOf}
+use Rattle.kinds.proofs.Rooms.{never, zero-against, long-refused}
 use Rattle.kinds.proofs.judge_against.Statement.{statement}
 use Rattle.kinds.proofs.judge_against.Tie as tie
 
@@ -16,46 +13,32 @@ returns c =
     let e = long-refused (c .before .before .args .d .now) (lineBase mostRows mostLines) (c .if1 .taken) in
     rw e
 
-read-rooms-requires : tie.Need-read-rooms-requires
-unfolding zeros
-read-rooms-requires c κs =
-    let at-powers = c .before .before .before .before .before .before in
-    let x = at-powers .before .before .before .is-xml .ensures in (
-      at-powers .before .classes .ensures,
-      (
-        at-powers .powers .ensures,
-        ((at-powers .before .before .before .before .if1 .left, x), ((refl, refl, refl), refl)),
-      ),
-    )
+judge-short-requires : tie.Need-judge-short-requires
+judge-short-requires c κs = (c .before .if1 .left, c .is-xml .ensures)
 
-compare-requires : tie.Need-compare-requires
-compare-requires c κs =
-    let at-read-rooms = c .before .before .before .before .before .before .before .before .before in
-    let k = at-read-rooms .read-rooms .kept in (
-      rw (at-read-rooms .before .before .before .before .before .before .before .before .before .mark-of .ensures) (mark-low _),
-      (
-        at-read-rooms .read-rooms .ensures .stands (c .before .before .before .y .given .1) .few,
-        (k .1 .1 .1 .1 .0, k .1 .1 .1 .1 .1 .0),
-      ),
-    )
+judge-any-requires : tie.Need-judge-any-requires
+judge-any-requires c κs = (
+  c .before .before .before .before .before .before .if1 .left,
+  c .before .before .before .before .before .is-xml .ensures,
+)
 
 returns-2 : tie.Need-returns-2
-unfolding againstOf
-returns-2 c =
-    let at-read-rooms = c .before .before .before .before .before .before .before .before .before .before in
-    let at-mark-of = at-read-rooms .before .before .before .before .before .before .before .before .before in
-    let t = at-mark-of .before .before .before .before .args .t .now in
-    let k = at-read-rooms .read-rooms .kept in
-    let s = at-read-rooms .read-rooms .ensures .stands (c .before .before .before .before .y .given .1) in
-    let m = at-mark-of .mark-of .ensures in
-    c .compare .ensures ∙ rw m (held-says _ _ _ _ _ s (k .1 .1 .1 .1 .0) (k .1 .1 .1 .1 .1 .0) t)
+returns-2 c = c .judge-any .ensures
 
 returns-3 : tie.Need-returns-3
-unfolding againstOf
 returns-3 c =
-    let q = c .before .before .before .before .before .before .before .read-rooms .ensures .refuses (c .before .number .given .1)
-    (lineBase mostRows mostLines) in
-    rw q
+    let g = c .enum-told .given .1 in
+    sym g ∙ unless-told (c .before .before .judge-short .ensures) (λ s. let q = sym s ∙ g in never cc)
+
+returns-4 : tie.Need-returns-4
+returns-4 c =
+    let g = c .enum-told2 .given .1 in
+    sym g ∙ unless-told (c .before .before .judge-short .ensures) (λ s. let q = sym s ∙ g in never cc)
+
+returns-5 : tie.Need-returns-5
+returns-5 c =
+    let g = c .before .before .number .given .1 in
+    sym g ∙ unless-told (c .before .before .before .before .judge-short .ensures) (λ s. c .if2 .left (zero-against (sym s ∙ g)))
 
 pub judge-against-spec : {M : Type 1} → statement M
 judge-against-spec =
@@ -63,18 +46,12 @@ judge-against-spec =
     (tie.spec
     returns
     (λ c κs. search needs)
-    (λ c κs. search needs)
-    (λ c κs. search needs)
-    (λ c κs. search needs)
+    judge-short-requires
     (λ c. search needs)
     (λ c. search needs)
     (λ c. search needs)
-    (λ c. search needs)
-    read-rooms-requires
-    (λ c. search needs)
-    (λ c. search needs)
-    (λ c. search needs)
-    compare-requires
-    (λ c. search needs)
+    judge-any-requires
     returns-2
-    returns-3)
+    returns-3
+    returns-4
+    returns-5)

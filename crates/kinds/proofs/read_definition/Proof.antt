@@ -1,11 +1,9 @@
 use mathlib.Core.Path.{_≡_, refl, sym, ap, _∙_}
-use Prim.Native.Nat.{_≤_}
 use lib.ListN.{length}
 use borrow.Author.Needs.{needs}
-use Rattle.layout.specs.rule.Layout.{markXml, lineBase, mostRows, mostLines}
-use Rattle.laying.specs.Code.{zeros}
-use Rattle.kinds.specs.rule.Definition.{Outcome, answerOf, tableAfter}
-use Rattle.kinds.proofs.Rooms.{mark-low, long-refused, filled-says, filled-leaves}
+use Rattle.values.proofs.Rooms.{unless-told}
+use Rattle.kinds.specs.rule.Definition.{answerOf, tableAfter}
+use Rattle.kinds.proofs.Rooms.{never, zero-answer, few-keeps, long-refused}
 use Rattle.kinds.proofs.read_definition.Statement.{statement}
 use Rattle.kinds.proofs.read_definition.Tie as tie
 
@@ -16,51 +14,30 @@ returns c =
     let e = long-refused (a .d .now) (length (a .table .now)) (c .if1 .taken) in
     record { says = rw e; leaves = rw e }
 
-read-rooms-requires : tie.Need-read-rooms-requires
-unfolding zeros
-read-rooms-requires c κs =
-    let at-powers = c .before .before .before .before .before .before in
-    let x = at-powers .before .before .before .is-xml .ensures in (
-      at-powers .before .classes .ensures,
-      (
-        at-powers .powers .ensures,
-        ((at-powers .before .before .before .before .if1 .left, x), ((refl, refl, refl), refl)),
-      ),
-    )
+read-short-requires : tie.Need-read-short-requires
+read-short-requires c κs = (c .before .before .if1 .left, c .before .is-xml .ensures)
 
-fill-requires : tie.Need-fill-requires
-fill-requires c κs =
-    let at-read-rooms = c .before .before .before .before .before .before .before .before .before .before in
-    let k = at-read-rooms .read-rooms .kept in (
-      rw (at-read-rooms .before .before .before .before .before .before .before .before .before .mark-of .ensures) (mark-low _),
-      (
-        at-read-rooms .read-rooms .ensures .stands (c .before .before .before .before .y .given .1) .few,
-        (k .1 .1 .1 .1 .0, k .1 .1 .1 .1 .1 .0),
-      ),
-    )
+read-any-requires : tie.Need-read-any-requires
+read-any-requires c κs = (
+  c .before .before .before .before .before .before .before .before .before .if1 .left,
+  c .before .before .before .before .before .before .before .before .is-xml .ensures,
+)
 
+-- read again, into the table that was kept
 returns-2 : tie.Need-returns-2
-returns-2 c =
-    let at-read-rooms = c .before .before .before .before .before .before .before .before .before .before .before .before in
-    let at-mark-of = at-read-rooms .before .before .before .before .before .before .before .before .before in
-    let t = at-mark-of .before .before .before .before .args .table .now in
-    let k = at-read-rooms .read-rooms .kept in
-    let s = at-read-rooms .read-rooms .ensures .stands (c .before .before .before .before .before .before .y .given .1) in
-    let q = c .before .fill .ensures in
-    let m = at-mark-of .mark-of .ensures in
-    record {
-      says = q .0 ∙ filled-says _ _ _ _ _ s (k .1 .1 .1 .1 .0) (k .1 .1 .1 .1 .1 .0) t;
-      leaves = q .1 ∙ rw m (filled-leaves _ _ _ _ _ s (k .1 .1 .1 .1 .0) (k .1 .1 .1 .1 .1 .0) t);
-    }
+returns-2 c = rw (few-keeps (c .before .before .before .before .before .before .before .before .read-short .ensures)
+    (c .before .before .before .before .before .number .given .1)) at (c .before .read-any .ensures)
 
 returns-3 : tie.Need-returns-3
-unfolding answerOf tableAfter
 returns-3 c =
-    let t = c .before .before .before .before .before .before .before .before .before .before .before .before .before .before .before
-    .before .before .before .before .before .args .table .now in
-    let q = c .before .before .before .before .before .before .before .read-rooms .ensures .refuses (c .before .number .given .1)
-    (length t) in
-    record { says = rw q; leaves = rw q }
+    let g = c .before .rows .given .1 in
+    rw g at (unless-told (c .before .before .before .before .read-short .ensures) (λ s. let q = sym (s .0) ∙ g in never cc))
+
+returns-4 : tie.Need-returns-4
+returns-4 c =
+    let g = c .before .before .number .given .1 in
+    rw g at (unless-told (c .before .before .before .before .before .read-short .ensures)
+    (λ s. c .if2 .left (zero-answer (sym (s .0) ∙ g))))
 
 pub read-definition-spec : {M : Type 1} → statement M
 read-definition-spec =
@@ -68,19 +45,13 @@ read-definition-spec =
     (tie.spec
     returns
     (λ c κs. search needs)
-    (λ c κs. search needs)
-    (λ c κs. search needs)
-    (λ c κs. search needs)
+    read-short-requires
     (λ c. search needs)
     (λ c. search needs)
-    (λ c. search needs)
-    (λ c. search needs)
-    read-rooms-requires
-    (λ c. search needs)
-    (λ c. search needs)
-    (λ c. search needs)
-    fill-requires
-    (λ c. search needs)
+    read-any-requires
     (λ c. search needs)
     returns-2
-    returns-3)
+    (λ c. search needs)
+    returns-3
+    (λ c. search needs)
+    returns-4)

@@ -2,6 +2,7 @@ use mathlib.Core.Path.{_≡_, refl, _∙_, sym}
 use borrow.Author.Needs.{needs}
 use Rattle.values.specs.Line.{listedOf}
 use Rattle.values.specs.Block.{rangeThen}
+use Rattle.values.specs.Room.{holds}
 use Rattle.values.proofs.Lists.{stored-none, stored-not}
 use Rattle.values.proofs.range_then.Statement.{statement}
 use Rattle.values.proofs.range_then.Tie as tie
@@ -19,7 +20,7 @@ returns c =
 
 returns-2 : tie.Need-returns-2
 unfolding rangeThen listedOf
-returns-2 c = rw (c .before .r .given .1) (refl, stored-not _ _ _ _)
+returns-2 c = rw (c .before .r .given .1) (holds (refl, stored-not _ _ _ _))
 
 returns-3 : tie.Need-returns-3
 unfolding rangeThen
@@ -31,7 +32,7 @@ returns-3 c =
       at-word-here .before .before .if1 .left,
       sym (at-word-here .word-here .ensures),
       sym (c .before .word-on .ensures),
-    ) (c .close-block .ensures, stored-none _ _ _ _)
+    ) (holds (c .close-block .ensures, stored-none _ _ _ _))
 
 pub range-then-spec : {M : Type 1} → statement M
 range-then-spec =

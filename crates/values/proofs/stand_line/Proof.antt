@@ -10,7 +10,7 @@ use Rattle.values.proofs.stand_line.Tie as tie
 judge-line-requires : tie.Need-judge-line-requires
 judge-line-requires c κs =
     let p = c .before .before .before .before .pre .0 in
-    ((omega (arith, p .0, p .2), p .1, p .2), (p .3, c .before .before .before .before .pre .1 .0))
+    ((p .0 .so-far, p .1, p .2), (p .3, c .before .before .before .before .pre .1 .0))
 
 z-back : (c : tie.After-known-told) → toZ w64 (ofZ w64 (c .before .z .given .0 .0)) ≡ c .before .z .given .0 .0
 z-back c = search needs
@@ -21,7 +21,7 @@ store-requires c κs =
     let start = at-judge-line .before .before .before .before .before in
     let p = start .pre .0 in
     let g = good-line _ _ _ _ _ _ (sym (at-judge-line .judge-line .ensures) ∙ c .before .before .z .given .1) in (
-      (omega (arith, g .few, p .0, p .1), p .2),
+      (p .0 .one-more (omega (arith, g .few, p .1)), p .2),
       (
         start .pre .1 .1,
         z-back (c .before) ∙ g .says,

@@ -1,6 +1,7 @@
 use mathlib.Core.Path.{_≡_, _∙_, sym}
 use borrow.Author.Tests.{eq-eqb, ne-eqb}
 use borrow.Author.Needs.{needs}
+use Rattle.values.specs.Room.{holds}
 use Rattle.variables.specs.Rest.{restOf}
 use Rattle.variables.proofs.Tellings.{stored-size, stored-nothing}
 use Rattle.variables.proofs.rest_on.Statement.{statement}
@@ -40,7 +41,7 @@ returns-4 c =
       eq-eqb _ 4 (c .before .before .if4 .taken),
       sym (c .before .size-on .ensures),
     )
-    (c .join-size .ensures, stored-size _ _ _)
+    (holds (c .join-size .ensures, stored-size _ _ _))
 
 returns-5 : tie.Need-returns-5
 unfolding restOf
@@ -51,7 +52,7 @@ returns-5 c =
       ne-eqb _ 3 (c .before .before .if3 .left),
       ne-eqb _ 4 (c .before .if4 .left),
     )
-    (c .join-nothing .ensures, stored-nothing _ _ _)
+    (holds (c .join-nothing .ensures, stored-nothing _ _ _))
 
 pub rest-on-spec : {M : Type 1} → statement M
 rest-on-spec =

@@ -1,5 +1,6 @@
 use mathlib.Core.Path.{_≡_, refl, _∙_, sym}
 use borrow.Author.Needs.{needs}
+use Rattle.values.specs.Room.{holds}
 use Rattle.variables.specs.Rest.{spreadThen}
 use Rattle.variables.specs.Rest.{restedOf}
 use Rattle.variables.proofs.Tellings.{stored-not}
@@ -26,7 +27,7 @@ returns-2 c =
       sym (at-m .before .before .before .before .notes-on .ensures),
       sym (at-m .before .before .perhaps .ensures) ∙ at-m .m .given .1,
       sym (c .before .before .before .spread-rest .ensures) ∙ c .before .f .given .1,
-    ) (refl, stored-not _ _ _ _)
+    ) (holds (refl, stored-not _ _ _ _))
 
 returns-3 : tie.Need-returns-3
 unfolding spreadThen
