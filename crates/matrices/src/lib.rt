@@ -323,17 +323,7 @@ fn put_marked(
         flags,
         values,
     );
-    put_summaries(
-        out,
-        present,
-        m,
-        y,
-        records,
-        columns,
-        at,
-        flags,
-        values,
-    );
+    put_summaries(out, present, m, y, records, columns, at, flags, values);
     m.count
 }
 
