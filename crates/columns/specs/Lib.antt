@@ -7,3 +7,4 @@ pub mod Columns
 pub mod Room
 pub mod Ones
 pub mod Rows
+pub mod Near

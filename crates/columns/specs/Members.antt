@@ -107,13 +107,17 @@ module _ {t : List ℤ} {v : ℕ} {r : Row} {n : ℕ} (k : Covered t v r n) wher
       ∙ ap (λ (j : ℕ). memberEntries f (defined (legal t v r) 1 (j - 1))) e
       ∙ ap (memberEntries f) (sym reached)
 
-  pub count-marked : (lm : List ℕ) → length lm ≡ n → Marks (λ x. legal t v r x) lm
-      → length (markedEntries true lm lm) ≡ length (defined (legal t v r) 1 9999)
-  count-marked lm e marks =
+  pub count-by : (there : Bool) (lm pm : List ℕ) → length lm ≡ n → Marks (λ x. legal t v r x) lm
+      → length (markedEntries there lm pm) ≡ length (defined (legal t v r) 1 9999)
+  count-by there lm pm e marks =
       let s = k .some in
-      marked-count true lm lm (legal t v r) 1 (length lm - 1) (omega arith) (λ x l. marks .at x l)
+      marked-count there lm pm (legal t v r) 1 (length lm - 1) (omega arith) (λ x l. marks .at x l)
       ∙ ap (λ (j : ℕ). length (defined (legal t v r) 1 (j - 1))) e
       ∙ ap (λ (l : List ℕ). length l) (sym reached)
+
+  pub count-marked : (lm : List ℕ) → length lm ≡ n → Marks (λ x. legal t v r x) lm
+      → length (markedEntries true lm lm) ≡ length (defined (legal t v r) 1 9999)
+  count-marked lm e marks = count-by true lm lm e marks
 
 -- THE ENTRIES of a multiple, by the marks of its row and of the set that was read
 pub multiple-made : {t : List ℤ} {v : ℕ} {r : Row} {n : ℕ} → Covered t v r n → {p : ℕ} {f : Field} {list list′ : List ℤ} {a : Answer}

@@ -163,6 +163,19 @@ stretch-split there p c (suc i) m =
     let b : c + suc i ≡ suc c + i = omega arith in
     rw (a, b) (ap (λ (l : List Entry). markedEntry there (flag (p c)) ∷ l) (stretch-split there p (suc c) i m))
 
+pub stretch-then : (there : Bool) (p : ℕ → Bool) (c i k : ℕ) → stretchFrom there p c (i + k)
+    ≡ stretchFrom there p c i ++ stretchFrom there p (c + i) k
+unfolding stretchFrom
+stretch-then there p c zero k = rw (zero-add, add-zero)
+stretch-then there p c (suc i) k =
+    let a : suc i + k ≡ suc (i + k) = omega arith in
+    let b : c + suc i ≡ suc c + i = omega arith in
+    rw (a, b) (ap (λ (l : List Entry). markedEntry there (flag (p c)) ∷ l) (stretch-then there p (suc c) i k))
+
+pub stretch-noughts : (there : Bool) (p : ℕ → Bool) (c n : ℕ) → ((x : ℕ) → c ≤ x → x < c + n → p x ≡ false)
+    → stretchFrom there p c n ≡ noughts there n
+stretch-noughts there p c n h = stretch-same there (λ x. false) p c n h ∙ stretch-none there (λ x. false) c n (λ x. refl)
+
 -- an entry of 1 put over that of x
 one-put : (r : List ℕ) (f v : ℕ) (p q : ℕ → Bool) (x n : ℕ) → 1 ≤ x → x ≤ n → q x ≡ true
     → ((y : ℕ) → y ≤ n → (y ≡ x → ⊥) → q y ≡ p y) → f + n ≤ v

@@ -2,8 +2,8 @@
 // stands the matrix of a file.
 ghost use mathlib.Core.Path.{_≡_};
 ghost use mathlib.Core.Bool.{true};
-ghost use Prim.Native.Nat.{_+_, _-_, _^_, _≤_, _<_};
-ghost use mathlib.Core.List.{[], _∷_};
+ghost use Prim.Native.Nat.{ℕ, _+_, _-_, _^_, _≤_, _<_};
+ghost use mathlib.Core.List.{List, [], _∷_};
 ghost use lib.ListN.{length};
 ghost use Rattle.below.specs.rule.Below.{anyBelow};
 ghost use Rattle.ascii.specs.rule.Tens.{Tens};
@@ -22,6 +22,7 @@ ghost use Rattle.columns.specs.Stretch.{Starts, Ends, markAmong, Unmarke
 ghost use Rattle.columns.specs.Room.{Room, PutAs, Ready};
 ghost use Rattle.columns.specs.Ones.{Marked, RangeTo, markedLeft, inList, stretchFrom, OneMore, OnesMore, NoneFrom};
 ghost use Rattle.columns.specs.Rows.{entriesBy, MarkedRow, MarkedSet};
+ghost use Rattle.columns.specs.Near.{NearPut, FarMarks};
 use layout::Header;
 use layout::Kind;
 use layout::Row;
@@ -33,6 +34,13 @@ use readings::Answer;
 pub struct Marking {
     pub gap: usize,
     pub count: usize,
+}
+
+// What was put of a row in a record: whether it holds a set, and whether that is one whose members all stand before the row's first gap, so
+// that they are marked besides those of the records before.
+pub struct Put {
+    pub there: bool,
+    pub near: bool,
 }
 
 // How many decimals a row's numbers have.
@@ -459,6 +467,53 @@ fn range_past(row: Row, n: usize) -> usize
     past
 }
 
+// The entries of a set all of whose members stand before the row's first gap: one stretch. Its members are marked besides those of the
+// records before.
+fn put_near(
+    list: &[i64],
+    n: usize,
+    m: Marking,
+    there: bool,
+    met: &mut [u8],
+    out: &mut [u8],
+    flags: usize,
+    values: usize,
+)
+    requires { ⌜ (n ≤ length (now list)) × (length (now met) ≤ 10000) × (m .count ≤ 9999) ⌝ }
+    requires { ⌜ Room flags values (length (now out)) (m .count) ⌝ }
+    ensures { λ _. ⌜ (now (out .exit) ≡ putEntries (now (out .entry)) flags values
+        (stretchFrom there (inList (now (list .entry)) n) 1 (m .count)))
+        × Besides (λ x. anyBelow n (λ j. eqZ (cell (now (list .entry)) j) x)) (now (met .entry)) (now (met .exit)) ⌝ }
+{
+    mark_members(list, n, met);
+    put_stretch(list, n, m.count + 1, there, out, flags, values);
+}
+
+// The entries of any set, by the marks of its own members.
+fn put_far(
+    list: &[i64],
+    n: usize,
+    m: Marking,
+    allowed: &[u8],
+    present: &mut [u8],
+    there: bool,
+    out: &mut [u8],
+    flags: usize,
+    values: usize,
+)
+    requires { ⌜ (n ≤ length (now list)) × (length (now present) ≡ length (now allowed)) × (length (now allowed) ≤ 10000) ⌝ }
+    requires { ⌜ Marked (now allowed) 1 (m .gap) × ((x : List ℕ) → m .count ≡ length (markedEntries there (now allowed) x)) ⌝ }
+    requires { ⌜ Room flags values (length (now out)) (m .count) ⌝ }
+    ensures { λ _. ⌜ (length (now (present .exit)) ≡ length (now (present .entry)))
+        × FarMarks (now (list .entry)) n (now (present .exit))
+        × (now (out .exit) ≡ putEntries (now (out .entry)) flags values
+        (markedEntries there (now (allowed .entry)) (now (present .exit)))) ⌝ }
+{
+    sets::marks::clear(present);
+    mark_members(list, n, present);
+    put_members(list, n, m, allowed, present, there, out, flags, values);
+}
+
 // The entries of a multiple's categories, by the marks of its row.
 fn put_multiple(
     t: &[i64],
@@ -472,19 +527,26 @@ fn put_multiple(
     out: &mut [u8],
     flags: usize,
     values: usize,
-)
+) -> Put
     requires { ⌜ Readable (now t) rows row (length (now bytes)) × (length (now list) ≡ 9999) ⌝ }
     requires { ⌜ MarkedSet (now t) rows row (now allowed) (m .gap) (m .count) × (length (now present) ≡ length (now allowed)) ⌝ }
     requires { ⌜ Room flags values (length (now out)) (m .count) ⌝ }
-    ensures { λ _. ⌜ now (out .exit) ≡ putEntries (now (out .entry)) flags values
+    ensures { λ r. ⌜ (now (out .exit) ≡ putEntries (now (out .entry)) flags values
         (memberEntries (readingOf (now (t .entry)) rows row (now (bytes .entry)))
-        (defined (legal (now (t .entry)) rows row) 1 9999)) ⌝ }
+        (defined (legal (now (t .entry)) rows row) 1 9999)))
+        × (r .near ≡ true → NearPut (memberEntries (readingOf (now (t .entry)) rows row (now (bytes .entry)))
+        (defined (legal (now (t .entry)) rows row) 1 9999)) (m .gap) (m .count) (r .there) (now (present .entry))
+        (now (present .exit))) ⌝ }
 {
     let a = readings::read_row(t, rows, row, bytes, list);
-    sets::marks::clear(present);
     let n = members_in(a);
-    mark_members(list, n, present);
-    put_members(list, n, m, allowed, present, is_set(a), out, flags, values);
+    let there = is_set(a);
+    if all_before(list, n, m.gap) {
+        put_near(list, n, m, there, present, out, flags, values);
+        return Put { there, near: true };
+    }
+    put_far(list, n, m, allowed, present, there, out, flags, values);
+    Put { there, near: false }
 }
 
 // How many columns a row of a kind has: 0 none, 1 one, 2 one for each category.
@@ -613,21 +675,29 @@ pub fn put_row(
     out: &mut [u8],
     flags: usize,
     values: usize,
-)
+) -> Put
     requires { ⌜ Tens (now powers) × Readable (now t) rows row (length (now bytes)) × (length (now list) ≡ 9999) ⌝ }
     requires { ⌜ MarkedRow (now t) rows row (now allowed) (m .gap) (m .count) × (length (now present) ≡ length (now allowed)) ⌝ }
     requires { ⌜ Room flags values (length (now out)) (m .count) ⌝ }
-    ensures { λ _. ⌜ now (out .exit) ≡ putEntries (now (out .entry)) flags values
-        (entriesBy (row .kind) (now (t .entry)) rows row (now (bytes .entry))) ⌝ }
+    ensures { λ r. ⌜ (now (out .exit) ≡ putEntries (now (out .entry)) flags values
+        (entriesBy (row .kind) (now (t .entry)) rows row (now (bytes .entry))))
+        × (r .near ≡ true → NearPut (entriesBy (row .kind) (now (t .entry)) rows row (now (bytes .entry))) (m .gap) (m .count) (r .there)
+        (now (present .entry)) (now (present .exit))) ⌝ }
 {
     let kind = row.kind;
     let shape = shape_of(kind);
     if shape == 0 {
-        return;
+        return Put {
+            there: false,
+            near: false,
+        };
     }
     if shape == 1 {
         put_number(powers, t, rows, row, bytes, list, out, flags, values);
-        return;
+        return Put {
+            there: false,
+            near: false,
+        };
     }
     put_multiple(
         t,
@@ -641,7 +711,7 @@ pub fn put_row(
         out,
         flags,
         values,
-    );
+    )
 }
 
 // How many columns a row has.

@@ -46,20 +46,40 @@ entries-either r a b xs c d ys h i j =
     ∙ put-either (putAt (putAt r a fx) c fy) b vx d vy (omega arith)
     ∙ ap (λ (l : List ℕ). putAt l d vy) (sym (put-either (putAt r a fx) c fy b vx (omega arith)))
 
+-- the same by what each record gives
+unfoldable pub putEach : (List ℕ → List Entry) → ℕ → List ℕ → ℕ → ℕ → List (List ℕ) → List ℕ
+putEach g step out f w [] = out
+putEach g step out f w (r ∷ rs) = putEach g step (putEntries out f w (g r)) (f + step) (w + 8 * step) rs
+
+pub each-columns : (t : List ℤ) (v step : ℕ) (cs : List Column) (g : List ℕ → List Entry) → ((r : List ℕ) → entriesOf t v r cs ≡ g r)
+    → (rs : List (List ℕ)) (o : List ℕ) (f w : ℕ) → putEach g step o f w rs ≡ putColumns t v step cs o f w rs
+unfolding putEach putColumns
+each-columns t v step cs g h [] o f w = refl
+each-columns t v step cs g h (r ∷ rs) o f w =
+    ap (λ (es : List Entry). putEach g step (putEntries o f w es) (f + step) (w + 8 * step) rs) (sym (h r))
+    ∙ each-columns t v step cs g h rs (putEntries o f w (entriesOf t v r cs)) (f + step) (w + 8 * step)
+
+pub before-each : (g : List ℕ → List Entry) (step : ℕ) → ((r : List ℕ) → length (g r) ≤ step) → (rs : List (List ℕ)) (o : List ℕ)
+    (a b : ℕ) (xs : List Entry) (f w : ℕ) → a + length xs ≤ f → f + length rs * step ≤ b → b + 8 * length xs ≤ w
+    → putEntries (putEach g step o f w rs) a b xs ≡ putEach g step (putEntries o a b xs) f w rs
+unfolding putEach
+before-each g step few [] o a b xs f w h j k = refl
+before-each g step few (r ∷ rs) o a b xs f w h j k =
+    let n = few r in
+    let m = suc-mul (length rs) step in
+    before-each g step few rs (putEntries o f w (g r)) a b xs (f + step) (w + 8 * step) (omega arith) (omega arith) (omega arith)
+    ∙ ap (λ (l : List ℕ). putEach g step l (f + step) (w + 8 * step) rs) (entries-either o a b xs f w (g r) h (omega arith) k)
+
 module _ (t : List ℤ) (v step : ℕ) where
   -- entries of a record before: they may be put before the columns or after them
   before-columns : (cs : List Column) (rs : List (List ℕ)) (o : List ℕ) (a b : ℕ) (xs : List Entry) (f w : ℕ) → a + length xs ≤ f
       → length cs ≤ step → f + length rs * step ≤ b → b + 8 * length xs ≤ w
       → putEntries (putColumns t v step cs o f w rs) a b xs ≡ putColumns t v step cs (putEntries o a b xs) f w rs
-  unfolding putColumns
-  before-columns cs [] o a b xs f w h i j k = refl
-  before-columns cs (r ∷ rs) o a b xs f w h i j k =
-      let e = entriesOf t v r cs in
-      let n = length-entries t v r cs in
-      let m = suc-mul (length rs) step in
-      before-columns cs rs (putEntries o f w e) a b xs (f + step) (w + 8 * step) (omega arith) i (omega arith) (omega arith)
-      ∙ ap (λ (l : List ℕ). putColumns t v step cs l (f + step) (w + 8 * step) rs)
-      (entries-either o a b xs f w e h (omega arith) k)
+  before-columns cs rs o a b xs f w h i j k =
+      let g : List ℕ → List Entry = λ r. entriesOf t v r cs in
+      ap (λ (l : List ℕ). putEntries l a b xs) (sym (each-columns t v step cs g (λ r. refl) rs o f w))
+      ∙ before-each g step (λ r. rw (length-entries t v r cs) i) rs o a b xs f w h j k
+      ∙ each-columns t v step cs g (λ r. refl) rs (putEntries o a b xs) f w
 
   -- COLUMNS SIDE BY SIDE: those in front for all records, then the others
   pub columns-then : (xs ys : List Column) (rs : List (List ℕ)) (o : List ℕ) (f w : ℕ) → length xs + length ys ≤ step
@@ -126,11 +146,7 @@ module _ (t : List ℤ) (v step : ℕ) where
   unfolding putColumns
   columns-over cs e o f w = rw e
 
--- ---- the same by what each record gives
-unfoldable pub putEach : (List ℕ → List Entry) → ℕ → List ℕ → ℕ → ℕ → List (List ℕ) → List ℕ
-putEach g step out f w [] = out
-putEach g step out f w (r ∷ rs) = putEach g step (putEntries out f w (g r)) (f + step) (w + 8 * step) rs
-
+-- ---- record by record
 pub each-next : (g : List ℕ → List Entry) (step : ℕ) {rs rest : List (List ℕ)} {r : List ℕ} → rs ≡ r ∷ rest → (o : List ℕ) (f w : ℕ)
     → putEach g step o f w rs ≡ putEach g step (putEntries o f w (g r)) (f + step) (w + 8 * step) rest
 unfolding putEach
@@ -139,14 +155,6 @@ each-next g step e o f w = rw e
 pub each-over : (g : List ℕ → List Entry) (step : ℕ) {rs : List (List ℕ)} → rs ≡ [] → (o : List ℕ) (f w : ℕ) → putEach g step o f w rs ≡ o
 unfolding putEach
 each-over g step e o f w = rw e
-
-pub each-columns : (t : List ℤ) (v step : ℕ) (cs : List Column) (g : List ℕ → List Entry) → ((r : List ℕ) → entriesOf t v r cs ≡ g r)
-    → (rs : List (List ℕ)) (o : List ℕ) (f w : ℕ) → putEach g step o f w rs ≡ putColumns t v step cs o f w rs
-unfolding putEach putColumns
-each-columns t v step cs g h [] o f w = refl
-each-columns t v step cs g h (r ∷ rs) o f w =
-    ap (λ (es : List Entry). putEach g step (putEntries o f w es) (f + step) (w + 8 * step) rs) (sym (h r))
-    ∙ each-columns t v step cs g h rs (putEntries o f w (entriesOf t v r cs)) (f + step) (w + 8 * step)
 
 -- room for the entries of a row in every record
 abbrev pub EachRoom : ℕ → ℕ → ℕ → ℕ → ℕ → ℕ → Type 0

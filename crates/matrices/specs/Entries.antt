@@ -25,7 +25,8 @@ abbrev pub recordAt : List (List ℕ) → ℕ → List ℕ
 recordAt rs n = getD rs n []
 
 module _ (t : List ℤ) (v : ℕ) (cs : List Column) where
-  entry-at : (r : List ℕ) (ds : List Column) (k : ℕ) → k < length ds → getD (entriesOf t v r ds) k Absent ≡ entryOf t v r (columnAt ds k)
+  pub entry-at : (r : List ℕ) (ds : List Column) (k : ℕ) → k < length ds → getD (entriesOf t v r ds) k Absent
+      ≡ entryOf t v r (columnAt ds k)
   unfolding entriesOf
   entry-at r [] k h = absurd (omega arith)
   entry-at r (d ∷ ds) zero h = refl

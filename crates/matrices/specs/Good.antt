@@ -51,7 +51,7 @@ members-good t v r i [] = tt
 members-good t v r i (c ∷ cs) = (member-good c (readingOf t v (rowAt t i) r), members-good t v r i cs)
 
 module _ {t : List ℤ} {h : Header} (g : Tested t h) (r : List ℕ) (long : h .length ≤ length r) where
-  row-good : (i : ℕ) → i < h .rows → AllGood (entriesOf t (h .rows) r (rowColumns t (h .rows) i))
+  pub row-good : (i : ℕ) → i < h .rows → AllGood (entriesOf t (h .rows) r (rowColumns t (h .rows) i))
   unfolding AllGood entriesOf columnsBy entryOf
   row-good i l = let q = row-readable g l (length r) long in
       go (rowAt t i .kind) (entry-good q r (10 ^ decimalsBy (rowAt t i .kind)) (power-good q .1))

@@ -6,3 +6,5 @@ pub mod Good
 pub mod Written
 pub mod Blocks
 pub mod Even
+pub mod Met
+pub mod Stand

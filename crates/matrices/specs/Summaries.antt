@@ -182,19 +182,20 @@ module _ (s : List ℕ) (step n f v c k r : ℕ) (low : k + r ≤ c) where
       rw (flag-on, value-on) at (columns-then s step n r (c - (k + r)) (f + k) (v + 8 * k)
       (subst (λ (i : ℕ). ColumnsThere s step (f + k) (v + 8 * k) n i) split a))
 
-  pub rest-put : (out out′ : List ℕ) → out′ ≡ putAt out (24 + 24 * k) (summariesIn s step (f + k) (v + 8 * k) n r) → {whole : List ℕ}
-      → putAt out (24 + 24 * k) (summariesIn s step (f + k) (v + 8 * k) n (c - k)) ≡ whole
-      → putAt out′ (24 + 24 * (k + r)) (summariesIn s step (f + (k + r)) (v + 8 * (k + r)) n (c - (k + r))) ≡ whole
-  rest-put out out′ e q =
+  pub rest-put : (at : ℕ) (out out′ : List ℕ) → out′ ≡ putAt out (at + 24 * k) (summariesIn s step (f + k) (v + 8 * k) n r)
+      → {whole : List ℕ}
+      → putAt out (at + 24 * k) (summariesIn s step (f + k) (v + 8 * k) n (c - k)) ≡ whole
+      → putAt out′ (at + 24 * (k + r)) (summariesIn s step (f + (k + r)) (v + 8 * (k + r)) n (c - (k + r))) ≡ whole
+  rest-put at out out′ e q =
       let m = c - (k + r) in
-      let at = 24 + 24 * (k + r) in
+      let to = at + 24 * (k + r) in
       let a = summariesIn s step (f + k) (v + 8 * k) n r in
-      ap (λ (l : List ℕ). putAt l at (summariesIn s step (f + (k + r)) (v + 8 * (k + r)) n m)) e
-      ∙ ap (λ (i : ℕ). putAt (putAt out (24 + 24 * k) a) at (summariesIn s step i (v + 8 * (k + r)) n m)) (sym flag-on)
-      ∙ ap (λ (i : ℕ). putAt (putAt out (24 + 24 * k) a) at (summariesIn s step (f + k + r) i n m)) (sym value-on)
-      ∙ put-next out (24 + 24 * k) a at (summariesIn s step (f + k + r) (v + 8 * k + 8 * r) n m)
+      ap (λ (l : List ℕ). putAt l to (summariesIn s step (f + (k + r)) (v + 8 * (k + r)) n m)) e
+      ∙ ap (λ (i : ℕ). putAt (putAt out (at + 24 * k) a) to (summariesIn s step i (v + 8 * (k + r)) n m)) (sym flag-on)
+      ∙ ap (λ (i : ℕ). putAt (putAt out (at + 24 * k) a) to (summariesIn s step (f + k + r) i n m)) (sym value-on)
+      ∙ put-next out (at + 24 * k) a to (summariesIn s step (f + k + r) (v + 8 * k + 8 * r) n m)
       (omega (arith, length-in s step n r (f + k) (v + 8 * k)))
-      ∙ ap (putAt out (24 + 24 * k))
+      ∙ ap (putAt out (at + 24 * k))
       (sym (ap (summariesIn s step (f + k) (v + 8 * k) n) split ∙ summaries-then s step n r m (f + k) (v + 8 * k)))
       ∙ q
 

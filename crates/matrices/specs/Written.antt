@@ -31,89 +31,16 @@ use Rattle.matrix.specs.Put.{putEntries}
 use Rattle.matrix.specs.rule.Bytes.{presenceAt, valuesAt, totalOf, headerBytes, summaryBytes}
 use Rattle.matrix.specs.Entry.{EntryGood, length-flags, length-values}
 use Rattle.matrix.specs.Bytes.{length-header, length-summary}
-use Rattle.matrix.specs.Column.{ColumnThere, columnIn}
-use Rattle.matrix.specs.Stride.{AllGood, InStride, column-is, column-there}
 use Rattle.columns.specs.rule.Columns.{Column, ofRow, columnsFrom}
 use Rattle.matrices.specs.rule.Matrix.{endedOf, tableColumns, allEntries, columnEntries, summariesOf, matrixOf}
 use Rattle.matrices.specs.rule.Matrix.{MatrixVerdict, refusedAs, refused, written, sizeVerdict, verdictAfter, matrixVerdict}
 use Rattle.matrices.specs.rule.Matrix.{outputAfter, MatrixWritten}
 use Rattle.matrices.specs.Records.{AllLong, length-all, file-sound}
-use Rattle.matrices.specs.Entries.{columnAt, strides, column-picked}
-use Rattle.matrices.specs.Summaries.{ColumnsThere, summariesIn}
-use Rattle.matrices.specs.Good.{all-good}
+use Rattle.matrices.specs.Stand.{length-summaries}
 
 -- a file that was judged sound, with so many records
 abbrev pub SoundFile : List ℤ → List ℕ → ℕ → Type 0
 SoundFile t d n = fileVerdict t d ≡ soundWith n
-
--- ---- the columns as they stand are those of the records
-module _ (t : List ℤ) (v : ℕ) (cs : List Column) (rs : List (List ℕ)) (r : List ℕ) (fl vl : ℕ) (behind : fl + length rs * length cs ≤ vl)
-    (inside : vl + 8 * (length rs * length cs) ≤ length r) where
-  abbrev es : List Entry
-  es = allEntries t v cs rs
-
-  abbrev out : List ℕ
-  out = putEntries r fl vl es
-
-  behind-es : fl + length es ≤ vl
-  behind-es = rw (length-all t v cs rs) behind
-
-  inside-es : vl + 8 * length es ≤ length r
-  inside-es = rw (length-all t v cs rs) inside
-
-  in-stride : (k : ℕ) → k < length cs → InStride (length es) (length cs) k (length rs)
-  in-stride k h =
-      let z : 0 + k ≡ k = omega arith in
-      rw z at (strides t v cs rs k 0 (length es) h (omega (arith, length-all t v cs rs)))
-
-  one-column : (k : ℕ) → k < length cs → columnIn out (length cs) (fl + k) (vl + 8 * k) (length rs)
-      ≡ presentOf (columnEntries t v (columnAt cs k) rs)
-  one-column k h =
-      column-is r fl vl es behind-es inside-es (length cs) (length rs) k
-      (in-stride k h)
-      ∙ ap presentOf (column-picked t v cs rs k h)
-
-  columns-from : (n k : ℕ) → n + k ≡ length cs → summariesIn out (length cs) (fl + k) (vl + 8 * k) (length rs) n
-      ≡ summariesOf t v rs (drop k cs)
-  unfolding summariesIn summariesOf
-  columns-from zero k e = let h : length cs ≤ k = omega arith in rw (drop-of-length-le cs h)
-  columns-from (suc n) k e =
-      let h : k < length cs = omega arith in
-      let x : fl + k + 1 ≡ fl + suc k = omega arith in
-      let y : vl + 8 * k + 8 ≡ vl + 8 * suc k = omega arith in
-      rw (drop-cons cs k (ofRow 0) h, one-column k h, x, y, columns-from n (suc k) (omega arith))
-
-  pub columns-stand : summariesIn out (length cs) fl vl (length rs) (length cs) ≡ summariesOf t v rs cs
-  columns-stand =
-      let x : fl + 0 ≡ fl = omega arith in
-      let y : vl + 8 * 0 ≡ vl = omega arith in
-      ap (λ (f : ℕ). summariesIn out (length cs) f vl (length rs) (length cs)) (sym x)
-      ∙ ap (λ (w : ℕ). summariesIn out (length cs) (fl + 0) w (length rs) (length cs)) (sym y)
-      ∙ columns-from (length cs) 0 (omega arith)
-
-  there-from : AllGood es → (n k : ℕ) → n + k ≡ length cs → ColumnsThere out (length cs) (fl + k) (vl + 8 * k) (length rs) n
-  unfolding ColumnsThere
-  there-from g zero k e = tt
-  there-from g (suc n) k e =
-      let h : k < length cs = omega arith in
-      let x : fl + k + 1 ≡ fl + suc k = omega arith in
-      let y : vl + 8 * k + 8 ≡ vl + 8 * suc k = omega arith in (
-        column-there r fl vl es behind-es inside-es g (length cs) (length rs) k (in-stride k h),
-        rw (x, y) (there-from g n (suc k) (omega arith)),
-      )
-
-  pub columns-there : AllGood es → ColumnsThere out (length cs) fl vl (length rs) (length cs)
-  columns-there g =
-      let x : fl + 0 ≡ fl = omega arith in
-      let y : vl + 8 * 0 ≡ vl = omega arith in
-      rw (x, y) at (there-from g (length cs) 0 (omega arith))
-
-pub length-summaries : (t : List ℤ) (v : ℕ) (rs : List (List ℕ)) (cs : List Column) → length (summariesOf t v rs cs) ≡ 24 * length cs
-unfolding summariesOf
-length-summaries t v rs [] = refl
-length-summaries t v rs (c ∷ cs) =
-    let s = summaryOf (presentOf (columnEntries t v c rs)) in
-    omega (arith, length-append (summaryBytes s) (summariesOf t v rs cs), length-summary s, length-summaries t v rs cs)
 
 -- ---- header, entries, summaries: one behind the other they are the matrix
 pub whole-put : (t : List ℤ) (rs : List (List ℕ)) (out : List ℕ) (n c : ℕ) → n ≡ length rs → c ≡ length (tableColumns t)
@@ -141,60 +68,19 @@ whole-put t rs out n c en ec =
     ∙ put-next out 0 h 24 (s ++ (f ++ w)) (omega (arith, lh)))
 
 -- ---- filled from start to end
-module _ {t : List ℤ} {h : Header} (g : Tested t h) (d out : List ℕ) (n c : ℕ) {out1 out2 : List ℕ} (sound : SoundFile t d n)
-    (ec : c ≡ length (tableColumns t))
-    (inside : totalOf n c ≤ length out) (e1 : out1 ≡ putAt out 0 (headerBytes n c))
-    (e2 : out2 ≡ putEntries out1 (presenceAt c) (valuesAt n c)
-    (allEntries t (h .rows) (columnsFrom t (h .rows) 0 (h .rows)) (endedOf (recordsOf d)))) where
-  abbrev rs : List (List ℕ)
-  rs = endedOf (recordsOf d)
-
-  many : n ≡ length rs
-  many = file-sound t d n sound .2
-
-  cells : n * c ≡ length rs * length (tableColumns t)
-  cells = ap (λ (x : ℕ). x * c) many ∙ ap (λ (x : ℕ). length rs * x) ec
-
-  long-1 : length out1 ≡ length out
-  long-1 = ap (λ (l : List ℕ). length l) e1 ∙ length-putAt out 0 (headerBytes n c)
-
-  two : out2 ≡ putEntries out1 (presenceAt c) (valuesAt n c) (allEntries t (rowsOf t) (tableColumns t) rs)
-  two = rw (tested-rows g) at e2
-
-  behind : presenceAt c + length rs * length (tableColumns t) ≤ valuesAt n c
-  behind = omega (arith, cells)
-
-  within : valuesAt n c + 8 * (length rs * length (tableColumns t)) ≤ length out1
-  within = omega (arith, cells, long-1, inside)
-
-  pub filled-there : ColumnsThere out2 c (presenceAt c) (valuesAt n c) n c
-  filled-there =
-      let l : AllLong (h .length) rs = rw (tested-length g) (file-sound t d n sound .1) in
-      let a : AllGood (allEntries t (rowsOf t) (tableColumns t) rs) = rw (tested-rows g) at (all-good g rs l) in
-      let w = columns-there t (rowsOf t) (tableColumns t) rs out1 (presenceAt c) (valuesAt n c) behind within a in
-      subst (λ (x : ℕ). ColumnsThere out2 x (presenceAt c) (valuesAt n c) n x) (sym ec)
-      (subst (λ (x : ℕ). ColumnsThere out2 (length (tableColumns t)) (presenceAt c) (valuesAt n c) x (length (tableColumns t))) (sym many)
-      (subst (λ (x : List ℕ). ColumnsThere x (length (tableColumns t)) (presenceAt c) (valuesAt n c) (length rs) (length (tableColumns t)))
-      (sym two) w))
-
-  stand : summariesIn out2 c (presenceAt c) (valuesAt n c) n c ≡ summariesOf t (rowsOf t) rs (tableColumns t)
-  stand =
-      let w = columns-stand t (rowsOf t) (tableColumns t) rs out1 (presenceAt c) (valuesAt n c) behind within in
-      ap (λ (x : List ℕ). summariesIn x c (presenceAt c) (valuesAt n c) n c) two
-      ∙ ap (λ (x : ℕ). summariesIn (putEntries out1 (presenceAt c) (valuesAt n c) (allEntries t (rowsOf t) (tableColumns t) rs)) x
-      (presenceAt c) (valuesAt n c) n x) ec
-      ∙ ap (λ (x : ℕ). summariesIn (putEntries out1 (presenceAt c) (valuesAt n c) (allEntries t (rowsOf t) (tableColumns t) rs))
-      (length (tableColumns t)) (presenceAt c) (valuesAt n c) x (length (tableColumns t))) many
-      ∙ w
-
-  pub filled : {out3 : List ℕ} → out3 ≡ putAt out2 24 (summariesIn out2 c (presenceAt c) (valuesAt n c) n c) → out3
-      ≡ putAt out 0 (matrixOf t rs)
-  filled e3 =
-      e3 ∙ ap (λ (x : List ℕ). putAt out2 24 x) stand
-      ∙ ap (λ (x : List ℕ). putAt x 24 (summariesOf t (rowsOf t) rs (tableColumns t))) two
-      ∙ ap (λ (x : List ℕ). putAt (putEntries x (presenceAt c) (valuesAt n c) (allEntries t (rowsOf t) (tableColumns t) rs)) 24
-      (summariesOf t (rowsOf t) rs (tableColumns t))) e1
-      ∙ whole-put t rs out n c many ec
+pub filled : {t : List ℤ} {h : Header} → Tested t h → (d out : List ℕ) (n c : ℕ) {out1 out2 : List ℕ} → SoundFile t d n
+    → c ≡ length (tableColumns t) → out1 ≡ putAt out 0 (headerBytes n c)
+    → out2 ≡ putAt (putEntries out1 (presenceAt c) (valuesAt n c)
+    (allEntries t (h .rows) (columnsFrom t (h .rows) 0 (h .rows)) (endedOf (recordsOf d)))) 24
+    (summariesOf t (h .rows) (endedOf (recordsOf d)) (columnsFrom t (h .rows) 0 (h .rows)))
+    → out2 ≡ putAt out 0 (matrixOf t (endedOf (recordsOf d)))
+filled {t} {h} g d out n c {out1} {out2} sound ec e1 e2 =
+    let rs = endedOf (recordsOf d) in
+    let two : out2 ≡ putAt (putEntries out1 (presenceAt c) (valuesAt n c) (allEntries t (rowsOf t) (tableColumns t) rs)) 24
+    (summariesOf t (rowsOf t) rs (tableColumns t)) = rw (tested-rows g) at e2 in
+    two ∙ ap (λ (x : List ℕ). putAt (putEntries x (presenceAt c) (valuesAt n c) (allEntries t (rowsOf t) (tableColumns t) rs)) 24
+    (summariesOf t (rowsOf t) rs (tableColumns t))) e1
+    ∙ whole-put t rs out n c (file-sound t d n sound .2) ec
 
 -- ---- sizes
 pub large-columns : (n c : ℕ) → 699049 < c → ltb 16777216 (totalOf n c) ≡ true

@@ -8,3 +8,4 @@ pub mod Over
 pub mod Noughts
 pub mod Ones
 pub mod Counts
+pub mod Told

@@ -15,6 +15,7 @@ ghost use Rattle.matrix.specs.rule.Bytes.{totalOf, headerBytes, summaryB
 ghost use Rattle.matrix.specs.Entry.{EntryGood, cellOf};
 ghost use Rattle.matrix.specs.Column.{ColumnThere, columnIn};
 ghost use Rattle.matrix.specs.Noughts.{allAre, presences, presenceByte, noughts};
+ghost use Rattle.matrix.specs.Told.{anyLess};
 ghost use Rattle.matrix.specs.Ones.{AllThere, AllFew, AllCounted, AllTold, toldOf};
 
 // The bits of 1.0.
@@ -173,6 +174,30 @@ pub fn column_summary(
         }
     }
     sum
+}
+
+// Whether a value of that column is below 1.
+pub fn has_less(s: &[u8], flags: usize, values: usize, step: usize, records: usize) -> bool
+    requires { ⌜ step ≤ 16777216 ⌝ }
+    requires { ⌜ ColumnThere (now s) step flags values records ⌝ }
+    ensures { λ r. ⌜ r ≡ anyLess (columnIn (now (s .entry)) step flags values records) ⌝ }
+{
+    let mut flag = flags;
+    let mut value = values;
+    let mut left = records;
+    while 0 < left {
+        let at = flag;
+        let v = value;
+        flag += step;
+        value += 8 * step;
+        left -= 1;
+        if s[at] == 1 {
+            if little::get_f64(s, v) < 1.0 {
+                return true;
+            }
+        }
+    }
+    false
 }
 
 // What sixteen columns side by side hold, where each record has all of them or none, and each value is 0 or 1: how many records have them,

@@ -35,7 +35,8 @@ use Rattle.matrices.specs.rule.Matrix.{sizeVerdict, verdictAfter, matrixVerdict
 use Rattle.matrices.specs.Records.{length-all, file-sound}
 use Rattle.matrices.specs.Entries.{columnAt, recordAt, all-at}
 use Rattle.matrices.specs.Summaries.{same-put}
-use Rattle.matrices.specs.Written.{length-summaries, whole-put}
+use Rattle.matrices.specs.Stand.{length-summaries}
+use Rattle.matrices.specs.Written.{whole-put}
 
 -- ONE OUTCOME: answer and output are settled
 pub matrix-one : {t : List ℤ} {d out o₁ o₂ : List ℕ} {v₁ v₂ : MatrixVerdict} → MatrixWritten t d out o₁ v₁ → MatrixWritten t d out o₂ v₂

@@ -9,6 +9,8 @@ use mathlib.Core.List.{List}
 use Rattle.matrix.specs.declared.Entry.{Entry}
 use Rattle.matrix.specs.Put.{putEntries}
 use Rattle.matrix.specs.Entry.{entries-none}
+use Rattle.below.specs.Below.{holds-not}
+use Rattle.columns.specs.Near.{near-as}
 use Rattle.columns.specs.Reach.{shapeOf}
 use Rattle.columns.specs.Rows.{by-none, by-one, by-many, count-few}
 use Rattle.columns.proofs.put_row.Statement.{statement}
@@ -16,10 +18,12 @@ use Rattle.columns.proofs.put_row.Tie as tie
 
 returns : tie.Need-returns
 returns c =
-    let a = c .before .before .before .before .before .before .args in
-    sym (ap (λ (es : List Entry). putEntries (a .out .now) (a .flags) (a .values) es)
-    (by-none (a .t .now) (a .rows) (a .row) (a .bytes .now) (sym (c .before .shape-of .ensures) ∙ c .if1 .taken))
-    ∙ entries-none (a .out .now) (a .flags) (a .values))
+    let a = c .before .before .before .before .before .before .args in (
+      sym (ap (λ (es : List Entry). putEntries (a .out .now) (a .flags) (a .values) es)
+          (by-none (a .t .now) (a .rows) (a .row) (a .bytes .now) (sym (c .before .shape-of .ensures) ∙ c .if1 .taken))
+          ∙ entries-none (a .out .now) (a .flags) (a .values)),
+      λ e. holds-not e refl,
+    )
 
 put-number-requires : tie.Need-put-number-requires
 put-number-requires c κs =
@@ -34,10 +38,13 @@ put-number-requires c κs =
 returns-2 : tie.Need-returns-2
 returns-2 c =
     let at-if2 = c .before .before .before .before .before .before in
-    let a = at-if2 .before .before .before .before .before .before .before .args in
-    c .before .before .before .put-number .ensures
-    ∙ ap (λ (es : List Entry). putEntries (a .out .now) (a .flags) (a .values) es)
-    (sym (by-one (a .t .now) (a .rows) (a .row) (a .bytes .now) (sym (at-if2 .before .before .shape-of .ensures) ∙ at-if2 .if2 .taken)))
+    let a = at-if2 .before .before .before .before .before .before .before .args in (
+      c .before .before .before .put-number .ensures
+          ∙ ap (λ (es : List Entry). putEntries (a .out .now) (a .flags) (a .values) es)
+          (sym (by-one (a .t .now) (a .rows) (a .row) (a .bytes .now)
+          (sym (at-if2 .before .before .shape-of .ensures) ∙ at-if2 .if2 .taken))),
+      λ e. holds-not e refl,
+    )
 
 put-multiple-requires : tie.Need-put-multiple-requires
 put-multiple-requires c κs =
@@ -58,9 +65,11 @@ returns-3 c =
       at-if2 .before .if1 .left,
       at-if2 .if2 .left,
     ) in
-    c .before .before .before .before .before .put-multiple .ensures
-    ∙ ap (λ (es : List Entry). putEntries (a .out .now) (a .flags) (a .values) es)
-    (sym (by-many (a .t .now) (a .rows) (a .row) (a .bytes .now) s))
+    let put = c .before .before .before .before .before .put-multiple in
+    let e = sym (by-many (a .t .now) (a .rows) (a .row) (a .bytes .now) s) in (
+      put .ensures .0 ∙ ap (λ (es : List Entry). putEntries (a .out .now) (a .flags) (a .values) es) e,
+      λ near. near-as e (put .ensures .1 near),
+    )
 
 pub put-row-spec : {M : Type 1} → statement M
 put-row-spec =

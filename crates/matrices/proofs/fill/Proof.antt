@@ -11,7 +11,7 @@ use Rattle.columns.specs.rule.Columns.{columnsFrom}
 use Rattle.matrices.specs.rule.Matrix.{endedOf, allEntries}
 use Rattle.matrices.specs.Records.{file-sound}
 use Rattle.matrices.specs.Even.{file-even}
-use Rattle.matrices.specs.Written.{filled, filled-there}
+use Rattle.matrices.specs.Written.{filled}
 use Rattle.matrices.proofs.fill.Statement.{statement}
 use Rattle.matrices.proofs.fill.Tie as tie
 
@@ -43,6 +43,7 @@ put-records-requires c κs =
             omega (arith, total),
             omega (arith, total),
             omega (arith, total),
+            omega arith,
             record {
               behind = omega arith;
               inside = omega (arith, p .1 .3, the-put-header .put-header .kept .0);
@@ -52,39 +53,14 @@ put-records-requires c κs =
       ),
     )
 
-put-summaries-requires : tie.Need-put-summaries-requires
-put-summaries-requires c κs =
-    let at-put-records = c .before .before .before .before .before .before in
-    let the-put-header = at-put-records .before .before .before .before .before .before .before .before in
-    let the-start = the-put-header .before .before .before .before .before in
-    let p = the-start .pre in (
-      (
-        omega (arith, p .1 .2),
-        refl,
-        omega arith,
-        omega (
-          arith,
-          p .1 .3,
-          at-put-records .put-records .kept .1 .1 .1 .1 .1 .1 .1 .1 .1 .0,
-          the-put-header .put-header .kept .0,
-        ),
-        omega (arith, p .1 .2),
-      ),
-      filled-there (p .0 .0) (the-start .args .d .now) (the-start .args .out .now) (the-start .args .records)
-          (the-start .args .columns) (p .0 .1) (p .1 .0) (p .1 .3) (the-put-header .put-header
-          .ensures) (at-put-records .put-records .ensures),
-    )
-
 returns : tie.Need-returns
 returns c =
-    let at-put-header = c .before .before .before .before .before .before .before .before .before .before .before .before .before .before
-    .before .before .before in
+    let at-put-records = c .before .before .before .before .before in
+    let at-put-header = at-put-records .before .before .before .before .before .before .before .before in
     let start = at-put-header .before .before .before .before .before in
     let p = start .pre in
-    filled (p .0 .0) (start .args .d .now) (start .args .out .now) (start .args .records)
-    (start .args .columns) (p .0 .1) (p .1 .0) (p .1 .3)
-    (at-put-header .put-header .ensures) (c .before .before .before .before .before .before .before .before .before .put-records .ensures)
-    (c .before .before .put-summaries .ensures)
+    filled (p .0 .0) (start .args .d .now) (start .args .out .now) (start .args .records) (start .args .columns) (p .0 .1) (p .1 .0)
+    (at-put-header .put-header .ensures) (at-put-records .put-records .ensures)
 
 pub fill-spec : {M : Type 1} → statement M
 fill-spec =
@@ -100,6 +76,5 @@ fill-spec =
     (λ c. search needs)
     (λ c. search needs)
     put-records-requires
-    put-summaries-requires
     (λ c. search needs)
     returns)

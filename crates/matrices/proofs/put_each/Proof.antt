@@ -13,24 +13,46 @@ use Rattle.columns.specs.Reach.{Readable}
 use Rattle.columns.specs.Room.{Room, room-on}
 use Rattle.columns.specs.Rows.{entriesBy}
 use Rattle.matrices.specs.rule.Matrix.{endedOf}
+use Rattle.below.specs.Below.{and-left, and-right}
+use mathlib.Core.Bool.{Bool, true, false, cond}
 use Rattle.matrices.specs.Entries.{recordAt}
+use Rattle.matrices.specs.Met.{Going, going-start, going-step, going-over, count-low}
 use Rattle.matrices.specs.Blocks.{putEach, cells-below, more-cells, each-step, each-done}
 use Rattle.matrices.proofs.put_each.Statement.{statement}
 use Rattle.matrices.proofs.put_each.Tie as tie
 
 abbrev Inv-loop : tie.InvT-loop
-Inv-loop powers t rows row m d records columns list₀ allowed present₀ out₀ flags values first step k₀ from₀ n₀ list present out k from n =
+Inv-loop powers t rows row m d records columns list₀ allowed present₀ out₀ flags values first step k₀ from₀ n₀ held₀ near₀ list present out
+    k from n held near =
     (n ≤ records) × (k ≡ n * columns) × (from ≡ n * step) × (length list ≡ length list₀) × (length present ≡ length present₀)
     × (length out ≡ length out₀)
     × (putEach (λ r. entriesBy (row .kind) t rows row r) columns out (flags + k) (values + 8 * k) (drop n (endedOf (recordsOf d)))
     ≡ putEach (λ r. entriesBy (row .kind) t rows row r) columns out₀ flags values (endedOf (recordsOf d)))
+    × (held ≤ n)
+    × (near ≡ true → Going (λ r. entriesBy (row .kind) t rows row r) (m .gap) (m .count) held present (drop n (endedOf (recordsOf d)))
+    (endedOf (recordsOf d)))
 
 abbrev μ-loop : tie.MeasureT-loop
-μ-loop powers t rows row m d records columns list₀ allowed present₀ out₀ flags values first step k₀ from₀ n₀ list present out k from n =
+μ-loop powers t rows row m d records columns list₀ allowed present₀ out₀ flags values first step k₀ from₀ n₀ held₀ near₀ list present out k
+    from n held near =
     records - n
 
 loop-holds : tie.Need-loop-holds Inv-loop μ-loop
-loop-holds c = (omega arith, omega arith, omega arith, refl, refl, refl, simp add-zero)
+loop-holds c = (
+  omega arith,
+  omega arith,
+  omega arith,
+  refl,
+  refl,
+  refl,
+  simp add-zero,
+  omega arith,
+  λ e. going-start _ _ _ _ _ (c .before .before .before .before .pre .1 .0 .1),
+)
+
+one-low : (b : Bool) {k : ℕ} → k ≡ cond b 1 0 → k ≤ 1
+one-low true e = omega arith
+one-low false e = omega arith
 
 -- the record that is at hand, and the room for its entries
 low : (c : tie.In-loop Inv-loop μ-loop) → c .before .loop .n
@@ -73,12 +95,12 @@ put-row-requires c κs =
         subst (λ (r : List ℕ). Readable (a .t .now) (a .rows) (a .row) (length r)) (there here) (p .1 .1 .0 .2 (l .n) (low here)),
         l .inv .3 ∙ p .0 .1,
       ),
-      ((p .1 .0, l .inv .4 ∙ p .0 .2), room-on (l .inv .5) (room here)),
+      ((p .1 .0 .0, l .inv .4 ∙ p .0 .2), room-on (l .inv .5) (room here)),
     )
 
 add-k : tie.Need-add-k Inv-loop μ-loop
 add-k c =
-    let here = c .before .before .before .before .before .before .before .before .before .before in
+    let here = c .before .before .before .before .before .before .before .before .before .before .before .before in
     let start = here .before .before .before .before .before .before in
     let a = start .args in
     omega (
@@ -90,7 +112,7 @@ add-k c =
 
 add-from : tie.Need-add-from Inv-loop μ-loop
 add-from c =
-    let here = c .before .before .before .before .before .before .before .before .before .before in
+    let here = c .before .before .before .before .before .before .before .before .before .before .before .before in
     let start = here .before .before .before .before .before .before in
     let a = start .args in
     omega (
@@ -103,8 +125,8 @@ add-from c =
 
 loop-again : tie.Need-loop-again Inv-loop μ-loop
 loop-again c =
-    let put = c .before .before .before .before .before .put-row in
-    let here = c .before .before .before .before .before .before .before .before .before .before in
+    let put = c .before .before .before .before .before .before .before .put-row in
+    let here = c .before .before .before .before .before .before .before .before .before .before .before .before in
     let l = here .before .loop in
     let a = here .before .before .before .before .before .before .args in (
       omega (arith, here .loop-test .taken),
@@ -114,16 +136,27 @@ loop-again c =
       put .kept .1 .1 .1 .1 .1 .1 .1 .1 .0 ∙ l .inv .4,
       put .kept .1 .1 .1 .1 .1 .1 .1 .1 .1 .0 ∙ l .inv .5,
       each-step (λ r. entriesBy (a .row .kind) (a .t .now) (a .rows) (a .row) r) (a .columns) (endedOf (recordsOf (a .d .now))) (l .n)
-          (l .k) (a .flags) (a .values) (l .out) (low here) (there here) (put .ensures) (l .inv .6),
+          (l .k) (a .flags) (a .values) (l .out) (low here) (there here) (put .ensures .0) (l .inv .6),
+      omega (arith, l .inv .7, one-low (put .result .there) (c .before .one-if .ensures)),
+      λ e. going-step (λ r. entriesBy (a .row .kind) (a .t .now) (a .rows) (a .row) r) (endedOf (recordsOf (a .d .now))) (l .n) (low here)
+          (there here) (omega (
+            arith,
+            here .before .before .before .before .before .before .pre .1 .0 .0 .many,
+            count-low (a .t .now) (a .rows) (a .row) (a .row .kind),
+          )) (l .inv .8 (and-left (l .near) _ e))
+          (put .ensures .1 (and-right (l .near) _ e)) (ap (λ (k : ℕ). l .held + k) (c .before .one-if .ensures)),
     )
 
 returns : tie.Need-returns Inv-loop μ-loop
 returns c =
     let the-start = c .before .before .before .before .before .before in
     let l = c .before .loop in
-    let a = the-start .args in
-    each-done (λ r. entriesBy (a .row .kind) (a .t .now) (a .rows) (a .row) r) (a .columns) (endedOf (recordsOf (a .d .now))) (l .n)
-    (a .flags + l .k) (a .values + 8 * l .k) (omega (arith, c .loop-test .left, the-start .pre .1 .1 .0 .1)) (l .inv .6)
+    let a = the-start .args in (
+      each-done (λ r. entriesBy (a .row .kind) (a .t .now) (a .rows) (a .row) r) (a .columns) (endedOf (recordsOf (a .d .now))) (l .n)
+          (a .flags + l .k) (a .values + 8 * l .k) (omega (arith, c .loop-test .left, the-start .pre .1 .1 .0 .1)) (l .inv .6),
+      λ e. going-over (λ r. entriesBy (a .row .kind) (a .t .now) (a .rows) (a .row) r)
+          (endedOf (recordsOf (a .d .now))) (l .n) (omega (arith, c .loop-test .left, the-start .pre .1 .1 .0 .1)) (l .inv .8 e),
+    )
 
 pub put-each-spec : {M : Type 1} → statement M
 put-each-spec =
@@ -140,6 +173,13 @@ put-each-spec =
     (λ c. omega (arith, room (c .before .before .before .before) .behind, room (c .before .before .before .before) .inside))
     (λ c. omega (arith, room (c .before .before .before .before) .behind, room (c .before .before .before .before) .inside))
     put-row-requires
+    (λ c κs. search needs)
+    (λ c. omega (
+      arith,
+      c .before .before .before .before .before .before .before .before .before .before .before .before .loop .inv .7,
+      c .before .before .before .before .before .before .before .before .before .before .before .loop-test .taken,
+      one-low (c .before .before .before .before .before .before .put-row .result .there) (c .one-if .ensures),
+    ))
     add-k
     add-from
     (λ c. omega arith)

@@ -11,8 +11,10 @@ use Rattle.cuts.specs.rule.Records.{recordsOf}
 use Rattle.columns.specs.rule.Columns.{rowColumns, columnsFrom}
 use Rattle.columns.specs.Columns.{left-count}
 use Rattle.columns.specs.Room.{room-on}
-use Rattle.matrices.specs.rule.Matrix.{endedOf}
-use Rattle.matrices.specs.Blocks.{putColumns, columns-whole, each-room, row-step, rows-done}
+use Rattle.little.specs.rule.Bytes.{putAt}
+use Rattle.matrices.specs.rule.Matrix.{endedOf, summariesOf}
+use Rattle.matrices.specs.Blocks.{putColumns, columns-whole, each-room}
+use Rattle.matrices.specs.Stand.{slots-step, slots-done}
 use Rattle.matrices.proofs.put_records.Statement.{statement}
 use Rattle.matrices.proofs.put_records.Tie as tie
 
@@ -20,8 +22,10 @@ abbrev Inv-loop : tie.InvT-loop
 Inv-loop powers t h d records columns list₀ allowed₀ present₀ out₀ flags values s k₀ i₀ list allowed present out k i =
     (i ≤ h .rows) × (length list ≡ length list₀) × (length allowed ≡ length allowed₀) × (length present ≡ length present₀)
     × (length out ≡ length out₀) × (k + length (columnsFrom t (h .rows) i (h .rows - i)) ≡ columns)
-    × (putColumns t (h .rows) columns (columnsFrom t (h .rows) i (h .rows - i)) out (flags + k) (values + 8 * k) (endedOf (recordsOf d))
-    ≡ putColumns t (h .rows) columns (columnsFrom t (h .rows) 0 (h .rows)) out₀ flags values (endedOf (recordsOf d)))
+    × (putAt (putColumns t (h .rows) columns (columnsFrom t (h .rows) i (h .rows - i)) out (flags + k) (values + 8 * k)
+    (endedOf (recordsOf d))) (24 + 24 * k) (summariesOf t (h .rows) (endedOf (recordsOf d)) (columnsFrom t (h .rows) i (h .rows - i)))
+    ≡ putAt (putColumns t (h .rows) columns (columnsFrom t (h .rows) 0 (h .rows)) out₀ flags values (endedOf (recordsOf d))) 24
+    (summariesOf t (h .rows) (endedOf (recordsOf d)) (columnsFrom t (h .rows) 0 (h .rows))))
 
 abbrev μ-loop : tie.MeasureT-loop
 μ-loop powers t h d records columns list₀ allowed₀ present₀ out₀ flags values s k₀ i₀ list allowed present out k i = h .rows - i
@@ -55,7 +59,7 @@ small : (c : tie.After-put-columns-arg4 Inv-loop μ-loop)
 small c = let p = c .before .before .before .before .before .before .before .before .before .before .before .before .pre .1 .1 .1 in (
   omega
       (arith, left c, p .1),
-  omega (arith, p .2, p .3 .behind),
+  omega (arith, p .2, p .4 .behind),
   p .2,
 )
 
@@ -78,7 +82,16 @@ put-columns-requires c κs =
           p .1 .1 .0 .1,
           p .1 .1 .0 .2,
         ),
-        (p .1 .1 .1 .0, each-room (room-on (l .inv .4) (p .1 .1 .1 .3)) refl (l .k) _ (omega (arith, left c))),
+        (
+          p .1 .1 .1 .0,
+          p .1 .1 .1 .1,
+          omega (arith, small c),
+          omega (arith, p .1 .1 .1 .4 .behind),
+          omega (arith, p .1 .1 .1 .3, p .1 .1 .1 .4 .behind, p .1 .1 .1 .4 .inside, l .inv .4, left c),
+          omega (arith, left c),
+          omega (arith, left c, p .1 .1 .1 .3),
+          each-room (room-on (l .inv .4) (p .1 .1 .1 .4)) refl (l .k) _ (omega (arith, left c)),
+        ),
       ),
     )
 
@@ -90,16 +103,16 @@ loop-again c =
     let start = here .before .before .before .before .before .before .before .before .before .before .before .before in
     let a = start .args in
     let p = start .pre in
-    let r = p .1 .1 .1 .3 in (
+    let r = p .1 .1 .1 .4 in (
       omega (arith, here .before .before .before .before .if1 .taken),
       put .kept .1 .1 .1 .1 .1 .1 .1 .1 .0 ∙ l .inv .1,
       put .kept .1 .1 .1 .1 .1 .1 .1 .1 .1 .0 ∙ l .inv .2,
       put .kept .1 .1 .1 .1 .1 .1 .1 .1 .1 .1 .0 ∙ l .inv .3,
       put .kept .1 .1 .1 .1 .1 .1 .1 .1 .1 .1 .1 .0 ∙ l .inv .4,
       omega (arith, left here, put .ensures .0),
-      row-step (a .t .now) (a .h .rows) (a .columns) (endedOf (recordsOf (a .d .now))) (l .i) (l .k) (a .flags) (a .values) (l .out)
+      slots-step (a .t .now) (a .h .rows) (a .columns) (endedOf (recordsOf (a .d .now))) (l .i) (l .k) (a .flags) (a .values) (l .out)
           (here .before .before .before .before .if1 .taken) (l .inv .5)
-          (omega (arith, r .behind, ap (λ (x : ℕ). x * a .columns) (p .1 .1 .0 .1))) (put .ensures .1)
+          (omega (arith, r .behind, ap (λ (x : ℕ). x * a .columns) (p .1 .1 .0 .1))) (p .1 .1 .1 .3) (put .ensures .1)
           (l .inv .6) (put .ensures .0),
     )
 
@@ -111,10 +124,12 @@ returns c =
     let p = start .pre in
     let v = a .h .rows in
     let rs = endedOf (recordsOf (a .d .now)) in
-    let r = p .1 .1 .1 .3 in
-    rows-done (a .t .now) v (a .columns) rs (l .i) (a .flags + l .k) (a .values + 8 * l .k) (omega (arith, c .if1 .left)) (l .inv .6)
-    ∙ columns-whole (a .t .now) v (a .columns) (columnsFrom (a .t .now) v 0 v) rs (a .out .now) (a .flags) (a .values) (sym (p .1 .0))
-    (omega (arith, r .behind, ap (λ (x : ℕ). x * a .columns) (p .1 .1 .0 .1)))
+    let r = p .1 .1 .1 .4 in
+    slots-done (a .t .now) v (a .columns) rs (l .i) (24 + 24 * l .k) (a .flags + l .k) (a .values + 8 * l .k) (omega (arith, c .if1 .left))
+    (l .inv .6)
+    ∙ ap (λ (x : List ℕ). putAt x 24 (summariesOf (a .t .now) v rs (columnsFrom (a .t .now) v 0 v)))
+    (columns-whole (a .t .now) v (a .columns) (columnsFrom (a .t .now) v 0 v) rs (a .out .now) (a .flags) (a .values) (sym (p .1 .0))
+    (omega (arith, r .behind, ap (λ (x : ℕ). x * a .columns) (p .1 .1 .0 .1))))
 
 pub put-records-spec : {M : Type 1} → statement M
 put-records-spec =
@@ -124,6 +139,8 @@ put-records-spec =
     μ-loop
     (λ c κs. c .before .before .before .before .pre .1 .1 .0 .0)
     loop-holds
+    (λ c. omega (arith, small c))
+    (λ c. omega (arith, small c))
     (λ c. omega (arith, small c))
     (λ c. omega (arith, small c))
     (λ c. omega (arith, small c))
