@@ -22,16 +22,6 @@ use Rattle.columns.specs.Marked.{memberEntries}
 
 -- ---- the columns of a row, by its shape
 module _ (t : List ℤ) (v i : ℕ) where
-  pub shape-none : shapeOf (rowAt t i .kind) ≡ 0 → rowColumns t v i ≡ []
-  unfolding shapeOf columnsBy
-  shape-none = go (rowAt t i .kind)
-    where
-      go : (k : Kind) → shapeOf k ≡ 0 → columnsBy k t v i ≡ []
-      go Single e = absurd (omega arith)
-      go (Multiple s) e = absurd (omega arith)
-      go (Quantity f) e = absurd (omega arith)
-      go Character e = refl
-      go Logical e = absurd (omega arith)
 
   pub shape-one : shapeOf (rowAt t i .kind) ≡ 1 → rowColumns t v i ≡ ofRow i ∷ []
   unfolding shapeOf columnsBy
@@ -83,10 +73,6 @@ module _ (t : List ℤ) (v : ℕ) (bytes : List ℕ) where
   entries-members i [] = refl
   entries-members i (c ∷ cs) = ap (λ (l : List Entry). memberEntry c (readingOf t v (rowAt t i) bytes) ∷ l) (entries-members i cs)
 
-  pub entries-nil : {cs : List Column} → cs ≡ [] → entriesOf t v bytes cs ≡ []
-  unfolding entriesOf
-  entries-nil e = rw e
-
   pub entries-one : (i : ℕ) → entriesOf t v bytes (ofRow i ∷ [])
       ≡ numberEntry (10 ^ decimalsBy (rowAt t i .kind)) (readingOf t v (rowAt t i) bytes) ∷ []
   unfolding entriesOf entryOf
@@ -114,14 +100,6 @@ module _ (t : List ℤ) (v i : ℕ) where
 
 -- the entries of the rows that are left
 module _ (t : List ℤ) (v : ℕ) (bytes : List ℕ) (i : ℕ) where
-  pub left-on : i < v → entriesOf t v bytes (columnsFrom t v i (v - i))
-      ≡ entriesOf t v bytes (rowColumns t v i) ++ entriesOf t v bytes (columnsFrom t v (i + 1) (v - (i + 1)))
-  left-on h = ap (entriesOf t v bytes) (columns-on t v i h)
-      ∙ entries-append t v bytes (rowColumns t v i) (columnsFrom t v (i + 1) (v - (i + 1)))
-
-  pub left-none : v ≤ i → entriesOf t v bytes (columnsFrom t v i (v - i)) ≡ []
-  unfolding entriesOf
-  left-none h = rw (columns-none t v i h)
 
   pub left-count : i < v → length (columnsFrom t v i (v - i)) ≡ length (rowColumns t v i) + length (columnsFrom t v (i + 1) (v - (i + 1)))
   left-count h = ap (λ (l : List Column). length l) (columns-on t v i h)

@@ -574,9 +574,6 @@ set-sendable f list n size h m =
       plain = λ j l. rw (getD-take n list j (pos 0) l) at (code-cells (take n list) a j (omega arith) .1);
     }
 
-pub set-many : (f : List ℕ) (list : List ℤ) (n : ℕ) → Members f list n → 9999 < n → 9999 < length (setGuess f)
-set-many f list n m h = m .many h
-
 -- a set whose text has another length
 pub other-length : (u f : List ℕ) → (length u ≡ length f → ⊥) → false ≡ leftOf 0 u f
 other-length u f n = go (leftOf 0 u f) refl

@@ -30,11 +30,3 @@ pub float-back : (r : List ℕ) (a : ℕ) (x : Float) → a + 8 ≤ length r →
 float-back r a x h f = ap (ofBits binary64) (number-back r a 8 (toBits binary64 x) h (toBits-lt binary64 x f)) ∙ ofBits-toBits binary64 x f
 
 -- ---- a put behind the bytes that are read
-pub number-kept : (r : List ℕ) (a k b : ℕ) (ys : List ℕ) → a + k ≤ b → a + k ≤ length r → numberAt k a (putAt r b ys) ≡ numberAt k a r
-unfolding numberAt putAt
-number-kept r a k b ys h l =
-    let s = put r (run b (length ys)) ys in
-    ap numberOf
-    (sym (pick-run s a k (rw length-put l))
-    ∙ apart r (run b (length ys)) ys (run a k) (apart-runs a k b (length ys) h)
-    ∙ pick-run r a k l)

@@ -95,10 +95,6 @@ module _ (d : List ℕ) (at : ℕ) (w : List ℕ) (i : ℕ) where
   unfolding stands
   stands-not h k e = rw (drop-1 w i k, drop-1 d (at + i) h, ne-eqb _ _ e)
 
-  pub stands-short : length d ≤ at + i → i < length w → stands (drop i w) (drop (at + i) d) ≡ false
-  unfolding stands
-  stands-short h k = rw (drop-1 w i k, drop-of-length-le d h)
-
   pub stands-whole : length w ≤ i → stands (drop i w) (drop (at + i) d) ≡ true
   unfolding stands
   stands-whole h = rw (drop-of-length-le w h)

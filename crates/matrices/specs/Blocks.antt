@@ -136,16 +136,6 @@ module _ (t : List ℤ) (v step : ℕ) where
           ap (λ (l : List ℕ). putColumns t v step [] l (f + step) (w + 8 * step) rs) (entries-none o f w)
           ∙ go rs o (f + step) (w + 8 * step)
 
-  pub columns-next : (cs : List Column) {rs rest : List (List ℕ)} {r : List ℕ} → rs ≡ r ∷ rest → (o : List ℕ) (f w : ℕ)
-      → putColumns t v step cs o f w rs
-      ≡ putColumns t v step cs (putEntries o f w (entriesOf t v r cs)) (f + step) (w + 8 * step) rest
-  unfolding putColumns
-  columns-next cs e o f w = rw e
-
-  pub columns-over : (cs : List Column) {rs : List (List ℕ)} → rs ≡ [] → (o : List ℕ) (f w : ℕ) → putColumns t v step cs o f w rs ≡ o
-  unfolding putColumns
-  columns-over cs e o f w = rw e
-
 -- ---- record by record
 pub each-next : (g : List ℕ → List Entry) (step : ℕ) {rs rest : List (List ℕ)} {r : List ℕ} → rs ≡ r ∷ rest → (o : List ℕ) (f w : ℕ)
     → putEach g step o f w rs ≡ putEach g step (putEntries o f w (g r)) (f + step) (w + 8 * step) rest
@@ -219,6 +209,3 @@ module _ (t : List ℤ) (v step : ℕ) (rs : List (List ℕ)) where
       ∙ sym (columns-then t v step xs ys rs o (f + k) (w + 8 * k) (omega arith) (omega arith))
       ∙ ap (λ (cs : List Column). putColumns t v step cs o (f + k) (w + 8 * k) rs) (sym (columns-on t v i h))
       ∙ q
-
-  pub rows-done : (i f w : ℕ) {o whole : List ℕ} → v ≤ i → putColumns t v step (columnsFrom t v i (v - i)) o f w rs ≡ whole → o ≡ whole
-  rows-done i f w {o} h q = sym (columns-nothing t v step (columns-none t v i h) rs o f w) ∙ q

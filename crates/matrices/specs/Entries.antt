@@ -66,19 +66,3 @@ module _ (t : List ℤ) (v : ℕ) (cs : List Column) where
   picked-on xs ys step (suc n) j =
       let e : length xs + j + step ≡ length xs + (j + step) = omega arith in
       rw (getD-append-add xs ys j Absent, e, picked-on xs ys step n (j + step))
-
-  -- THE COLUMN: every so many entries, from the k-th on
-  pub column-picked : (rs : List (List ℕ)) (k : ℕ) → k < length cs
-      → picked (allEntries t v cs rs) (length cs) k (length rs) ≡ columnEntries t v (columnAt cs k) rs
-  unfolding picked columnEntries allEntries
-  column-picked [] k h = refl
-  column-picked (r ∷ rs) k h =
-      let m = length-entries t v r cs in
-      let e : k + length cs ≡ length (entriesOf t v r cs) + k = omega arith in
-      rw (
-        List·getD-append (entriesOf t v r cs) (allEntries t v cs rs) Absent k (rw m h),
-        entry-at r cs k h,
-        e,
-        picked-on (entriesOf t v r cs) (allEntries t v cs rs) (length cs) (length rs) k,
-      )
-      (ap (λ (l : List Entry). entryOf t v r (columnAt cs k) ∷ l) (column-picked rs k h))

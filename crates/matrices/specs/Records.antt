@@ -96,20 +96,3 @@ length-all t v cs (r ∷ rs) =
 
 -- ---- record by record
 module _ {rs rest : Records} {r : List ℕ} (e : rs ≡ record-and r rest) where
-  pub left-next : (t : List ℤ) (v : ℕ) (cs : List Column) → allEntries t v cs (endedOf rs) ≡ entriesOf t v r cs
-      ++ allEntries t v cs (endedOf rest)
-  unfolding allEntries endedOf
-  left-next t v cs = rw e
-
-  pub long-next : (n : ℕ) → AllLong n (endedOf rs) → (n ≤ length r) × AllLong n (endedOf rest)
-  unfolding AllLong endedOf
-  long-next n l = rw e at l
-
-pub left-over : {rs : Records} → rs ≡ over → (t : List ℤ) (v : ℕ) (cs : List Column) → allEntries t v cs (endedOf rs) ≡ []
-unfolding allEntries endedOf
-left-over e t v cs = rw e
-
-pub left-unended : {rs : Records} {r : List ℕ} → rs ≡ unended r → (t : List ℤ) (v : ℕ) (cs : List Column) → allEntries t v cs (endedOf rs)
-    ≡ []
-unfolding allEntries endedOf
-left-unended e t v cs = rw e

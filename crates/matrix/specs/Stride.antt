@@ -124,18 +124,3 @@ module _ (r : List ℕ) (fl vl : ℕ) (es : List Entry) (behind : fl + length es
           ≡ presentOf (e ∷ picked es step (j + step) n)
       go Absent = refl
       go (Scaled z p) = refl
-
-  pub column-there : AllGood es → (step n j : ℕ) → InStride (length es) step j n → ColumnThere whole step (fl + j) (vl + 8 * j) n
-  unfolding ColumnThere InStride
-  column-there g step zero j s = tt
-  column-there g step (suc n) j s =
-      let f : fl + j + step ≡ fl + (j + step) = omega arith in
-      let v : vl + 8 * j + 8 * step ≡ vl + 8 * (j + step) = omega arith in
-      let e = getD es j Absent in
-      let l : length whole ≡ length r = length-putAt (putAt r fl (flagsOf es)) vl (valueBytes es) ∙ length-putAt r fl (flagsOf es) in
-      let h = s .0 in (
-        omega arith,
-        omega arith,
-        rw (bits-there j h) (bits-real (floatOf e) (entry-fits e) (entry-real e (good-at es j g))),
-        rw (f, v) (column-there g step n (j + step) (s .1)),
-      )

@@ -63,16 +63,6 @@ matrix-length t rs =
       length-all t (rowsOf t) cs rs,
     )
 
--- the file's own refusal, where it has one
-pub refused-as : (t : List ℤ) (d : List ℕ) (room n : ℕ) {v : Verdict} → fileVerdict t d ≡ faultIn n v → matrixVerdict t d room
-    ≡ refusedAs (faultIn n v)
-unfolding matrixVerdict verdictAfter
-refused-as t d room n e = ap (verdictAfter t room) e
-
-pub refused-table : (t : List ℤ) (d : List ℕ) (room : ℕ) → fileVerdict t d ≡ badTable → matrixVerdict t d room ≡ refusedAs badTable
-unfolding matrixVerdict verdictAfter
-refused-table t d room e = ap (verdictAfter t room) e
-
 -- a column's summary among all
 summary-at : (t : List ℤ) (v : ℕ) (rs : List (List ℕ)) (cs : List Column) (k : ℕ) (rest : List ℕ) → k < length cs
     → take 24 (drop (24 * k) (summariesOf t v rs cs ++ rest)) ≡ summaryBytes (summaryOf (presentOf (columnEntries t v (columnAt cs k) rs)))

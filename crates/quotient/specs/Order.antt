@@ -240,9 +240,3 @@ value-real n p h P = go (valueOf n p) (value-is n p h P)
 pub value-fits : (n : ℤ) (p : ℕ) → T (fits binary64 (valueOf n p))
 unfolding valueOf
 value-fits n p = div-fits binary64 (ofInt binary64 n) (ofInt binary64 (pos p))
-
-pub value-bits : (n : ℤ) (p : ℕ) → toBits binary64 (valueOf n p) < 2 ^ 64
-value-bits n p = toBits-lt binary64 (valueOf n p) (value-fits n p)
-
-pub value-read : (n : ℤ) (p : ℕ) → ofBits binary64 (toBits binary64 (valueOf n p)) ≡ valueOf n p
-value-read n p = ofBits-toBits binary64 (valueOf n p) (value-fits n p)

@@ -196,16 +196,6 @@ module _ (p : ℕ) (P : Power p) where
         };
       })
 
-  -- a summary's values are no NaN, so that their bits are defined
-  pub summary-real : (ns : List ℤ) → Each ns → let s = summaryOf (valuesOf p ns) in T (not (isNan (s .least))) × T (not (isNan (s .most)))
-  unfolding summaryOf extendedBy valuesOf none isNan
-  summary-real [] e = (tt, tt)
-  summary-real (n ∷ ns) e =
-      let s = summary-says n ns e in (
-        rw (s .smallest .value) (value-real (s .smallest .number) p (scaled-of (n ∷ ns) _ e (s .smallest .among)) P),
-        rw (s .largest .value) (value-real (s .largest .number) p (scaled-of (n ∷ ns) _ e (s .largest .among)) P),
-      )
-
 -- both zero where none is present
 pub summary-none : summaryOf [] ≡ none
 unfolding summaryOf extendedBy
