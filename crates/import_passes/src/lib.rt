@@ -81,7 +81,7 @@ pub fn judge_lines(
     let mut at = from;
     let mut n: usize = 0;
     while at < d.len() {
-        match take_record(powers, t, rows, len, d, at, list, room, spare, slot) {
+        match import_lines::judge_line(powers, t, rows, len, d, at, list, room, spare, slot) {
             LineEnd::Good(next) => {
                 n += 1;
                 at = next;
