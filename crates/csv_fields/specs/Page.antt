@@ -6,9 +6,9 @@ use mathlib.Core.List.{List, [], _∷_, _++_, append-nil, append-assoc}
 use Prim.Native.Nat.{ℕ, zero, suc, _+_, _-_, _≤_, _<_}
 use native.Mathlib.Numerals.{add-one}
 use native.Mathlib.Omega.{arith}
-use borrow.Author.Tests.{eq-eqb, ne-eqb, eqb-true, ltb-true, lt-ltb}
+use borrow.Author.Tests.{eq-eqb, ne-eqb, eqb-true, eqb-false, ltb-true, lt-ltb}
 use lib.Dec.{eqb, ltb}
-use lib.ListN.{length, take, drop, getD, drop-of-length-le, length-drop}
+use lib.ListN.{length, take, drop, getD, drop-of-length-le, length-drop, take-append-drop}
 use lib.Seq.{drop-cons, drop-drop, take-suc, take-add, getD-drop}
 use Rattle.below.specs.Below.{holds-not, or-true, lt-or-le}
 use Rattle.commas.specs.rule.Csv.{isSpecial, holdsSpecial, doubledByte, doubled}
@@ -564,6 +564,78 @@ module _ (d : List ℕ) (i : ℕ) where
   pub start-over : length d ≤ i → page start (drop i d) ≡ over
   unfolding page atEnd
   start-over h = rw (drop-of-length-le d h)
+
+-- a cut of what stands from one place to another, without quotes
+abbrev pub CutFrom : ℕ → ℕ → Cut → Type 0
+CutFrom at i (Comma from to b next) = (from ≡ at) × (to ≡ i) × (b ≡ true)
+CutFrom at i (Last from to b next) = (from ≡ at) × (to ≡ i) × (b ≡ true)
+CutFrom at i Torn = Unit
+
+pub cut-from : (at i : ℕ) (k : Stop) → CutFrom at i (cutOf at i true k)
+unfolding cutOf
+cut-from at i (stop.Comma n) = (refl, refl, refl)
+cut-from at i (stop.Last n) = (refl, refl, refl)
+cut-from at i stop.Torn = tt
+
+pub span-from : (at i : ℕ) (c : Cut) {from to next : ℕ} {b ends none : Bool} → SpanOf c from to next b ends none → none ≡ false
+    → CutFrom at i c
+    → (from ≡ at) × (to ≡ i) × (b ≡ true)
+span-from at i c {from} {to} {next} {b} {ends} s e k = go ends refl
+  where
+    go : (x : Bool) → ends ≡ x → (from ≡ at) × (to ≡ i) × (b ≡ true)
+    go true h = rw (s .last-is e h) at k
+    go false h = rw (s .comma-is e h) at k
+
+-- ---- a field whose end was found otherwise: no byte of it is one of the four, and a byte that is one, and no quote, stands behind it
+pub record Bounded (d : List ℕ) (from to : ℕ) : Type 0 where
+  pub on : from ≤ to
+  pub within : to < length d
+  pub plain : holdsSpecial (part d from to) ≡ false
+  pub stops : isSpecial (getD d to 0) ≡ true
+  pub unquoted : getD d to 0 ≡ 34 → ⊥
+
+plain-first : (b : ℕ) (s : List ℕ) → holdsSpecial (b ∷ s) ≡ false → (isSpecial b ≡ false) × (holdsSpecial s ≡ false)
+unfolding holdsSpecial
+plain-first b s e = go (isSpecial b) e
+  where
+    go : (q : Bool) → (q || holdsSpecial s) ≡ false → (q ≡ false) × (holdsSpecial s ≡ false)
+    go true e = holds-not refl e
+    go false e = (refl, e)
+
+bare-run : (s u : List ℕ) → holdsSpecial s ≡ false → page bare (s ++ u) ≡ withBytes s (page bare u)
+unfolding withBytes
+bare-run [] u e = refl
+bare-run (b ∷ s) u e = let p = plain-first b s e in bare-keeps b (s ++ u) (p .0) ∙ ap (withByte b) (bare-run s u (p .1))
+
+pub part-rest : (d : List ℕ) (from to : ℕ) → from ≤ to → part d from to ++ drop to d ≡ drop from d
+part-rest d from to h =
+    let k : from + (to - from) ≡ to = omega arith in
+    ap (λ (x : ℕ). part d from to ++ drop x d) (sym k) ∙ ap (λ (x : List ℕ). part d from to ++ x) (sym (drop-drop (to - from) from d))
+    ∙ take-append-drop (to - from) (drop from d)
+
+pub bounded-bare : {d : List ℕ} {from to : ℕ} → Bounded d from to → BareTo d from to
+bounded-bare {d} {from} {to} a = record {
+  on = a .on;
+  within = omega (arith, a .within);
+  reads = ap (page bare) (sym (part-rest d from to (a .on))) ∙ bare-run (part d from to) (drop to d) (a .plain);
+  plain = a .plain;
+  stops = λ h. a .stops;
+}
+
+pub bounded-fresh : {d : List ℕ} {from to : ℕ} → Bounded d from to → page fresh (drop from d) ≡ page bare (drop from d)
+bounded-fresh {d} {from} {to} a = fresh-bare d from (λ h e. ⊎-elim (λ l. in-front h l e) (λ l. at-end l e) (lt-or-le from to))
+  where
+    at-end : to ≤ from → getD d from 0 ≡ 34 → ⊥
+    at-end l e = let k : from ≡ to = omega (arith, a .on) in a .unquoted (ap (λ (x : ℕ). getD d x 0) (sym k) ∙ e)
+
+    in-front : from < length d → from < to → getD d from 0 ≡ 34 → ⊥
+    in-front h l e =
+        let p : part d from to ≡ getD d from 0 ∷ part d (from + 1) to =
+        part-join d from (from + 1) to (omega arith) (omega arith)
+        ∙ ap (λ (x : List ℕ). x ++ part d (from + 1) to)
+        (part-more d from from (omega arith) h ∙ ap (λ (x : List ℕ). x ++ (getD d from 0 ∷ [])) (part-none d from)) in
+        let q = plain-first (getD d from 0) (part d (from + 1) to) (ap holdsSpecial (sym p) ∙ a .plain) in
+        eqb-false (getD d from 0) 34 (special-quote (getD d from 0) (q .0) .3) e
 
 pub cut-as : (d : List ℕ) {a b : Page} → a ≡ b → (c : Cut) → CutAs d b c → CutAs d a c
 cut-as d e c k = rw e k

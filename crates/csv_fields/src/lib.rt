@@ -3,7 +3,7 @@ ghost use mathlib.Core.Path.{_≡_};
 ghost use Prim.Native.Nat.{_≤_};
 ghost use lib.ListN.{length, drop};
 ghost use Rattle.csv_fields.specs.rule.Page.{page, fresh, inside, bare};
-ghost use Rattle.csv_fields.specs.Page.{BareTo, QuoteTo, StopsAs, CutAs, Ahead, SpanOf, cutOf, quoteAt};
+ghost use Rattle.csv_fields.specs.Page.{BareTo, QuoteTo, StopsAs, CutAs, CutFrom, Ahead, SpanOf, cutOf, quoteAt};
 
 // A field in the text: its bytes, in which a quote is written as two, from a place to another; whether there is none; and where what
 // follows
@@ -42,7 +42,7 @@ pub enum Stop {
 }
 
 // The first comma, quote, CR or LF from a place on, or the end.
-fn bare_to(d: &[u8], at: usize) -> usize
+pub fn bare_to(d: &[u8], at: usize) -> usize
     requires { ⌜ at ≤ length (now d) ⌝ }
     ensures { λ r. ⌜ BareTo (now (d .entry)) at r ⌝ }
 {
@@ -141,13 +141,20 @@ fn quoted_field(d: &[u8], at: usize) -> Cut
     }
 }
 
+// A field without quotes, up to a place that is known to be its end.
+pub fn ended_field(d: &[u8], at: usize, to: usize) -> Cut
+    requires { ⌜ BareTo (now d) at to ⌝ }
+    ensures { λ r. ⌜ CutAs (now (d .entry)) (page bare (drop at (now (d .entry)))) r × Ahead at r × CutFrom at to r ⌝ }
+{
+    field_of(at, to, true, stop_at(d, to))
+}
+
 // A field without quotes.
 fn bare_field(d: &[u8], at: usize) -> Cut
     requires { ⌜ at ≤ length (now d) ⌝ }
     ensures { λ r. ⌜ CutAs (now (d .entry)) (page bare (drop at (now (d .entry)))) r × Ahead at r ⌝ }
 {
-    let to = bare_to(d, at);
-    field_of(at, to, true, stop_at(d, to))
+    ended_field(d, at, bare_to(d, at))
 }
 
 // THE FIELD from a place on, where one is due.

@@ -1,3 +1,4 @@
 pub mod Undoubled
 pub mod Short
 pub mod Walk
+pub mod Judge

@@ -2,16 +2,20 @@
 // line and the passes of an import.
 ghost use mathlib.Core.Path.{_≡_};
 ghost use mathlib.Core.Bool.{false, cond};
-ghost use Prim.Native.Nat.{_+_, _≤_, _<_, min};
-ghost use lib.ListN.{length};
+ghost use Prim.Native.Nat.{_+_, _-_, _≤_, _<_, min};
+ghost use lib.ListN.{length, drop};
 ghost use Rattle.ascii.specs.rule.Tens.{Tens};
 ghost use Rattle.fields.specs.rule.Field.{spaces};
 ghost use Rattle.sound.specs.rule.Rows.{rowsOf, lengthOf};
 ghost use Rattle.sharing.specs.Known.{TableKnown};
 ghost use Rattle.writes.specs.Write.{Ready};
+ghost use Rattle.csv_fields.specs.rule.Page.{page, fresh};
+ghost use Rattle.csv_fields.specs.Page.{CutAs, CutFrom, Ahead, Bounded};
 ghost use Rattle.field_values.specs.Steps.{Took};
 ghost use Rattle.import_lines.specs.Undoubled.{undoubled, stride, Undoubled};
 ghost use Rattle.import_lines.specs.Walk.{RawOf, walk-of, step, endOf, LineTaken};
+ghost use Rattle.import_lines.specs.Judge.{FieldJudged, Judges, LineJudged};
+use csv_fields::Cut;
 use layout::Row;
 
 // How a line ends: with a record in the slot, and where the next line begins; with a refusal's number and column; or with the column of a
@@ -208,6 +212,129 @@ pub fn take_line(
             len,
             j,
             bad,
+            &d[p..q],
+            span.bare,
+            list,
+            room,
+            spare,
+            bytes,
+        );
+        j += 1;
+        at = span.next;
+        if span.ends {
+            return line_end(rows, j, bad, at);
+        }
+    }
+}
+
+// Field j of a line judged where it stands, unless one before it was no value: the place behind what stops it, or 0.
+fn judge_field(
+    t: &[i64],
+    rows: usize,
+    len: usize,
+    d: &[u8],
+    at: usize,
+    j: usize,
+    bad: usize,
+    bytes: &mut [u8],
+) -> usize
+    requires { ⌜ TableKnown (now t) rows len × (len ≤ length (now bytes)) × (at ≤ length (now d)) ⌝ }
+    ensures { λ r. ⌜ ((r ≡ 0 → ⊥) → FieldJudged (now (t .entry)) rows (now (d .entry)) at j bad (r - 1)) ⌝ }
+{
+    if bad != 0 {
+        return 0;
+    }
+    if rows <= j {
+        return 0;
+    }
+    field_judges::judge_at(t, rows, Row::read(t, j), d, at, bytes)
+}
+
+// A field cut: where its end is known, it is not looked for.
+fn cut_at(d: &[u8], at: usize, end: usize) -> Cut
+    requires { ⌜ (at ≤ length (now d)) × ((end ≡ 0 → ⊥) → Bounded (now d) at (end - 1)) ⌝ }
+    ensures { λ r. ⌜ CutAs (now (d .entry)) (page fresh (drop at (now (d .entry)))) r × Ahead at r ⌝ }
+    ensures { λ r. ⌜ ((end ≡ 0 → ⊥) → CutFrom at (end - 1) r) ⌝ }
+{
+    if end == 0 {
+        return csv_fields::next_field(d, at);
+    }
+    csv_fields::ended_field(d, at, end - 1)
+}
+
+// Field j of a line, where it was not judged so: the first column that is no value, or 0. The bytes are room for what is not kept.
+fn judge_slow(
+    powers: &[u64; 16],
+    t: &[i64],
+    rows: usize,
+    len: usize,
+    j: usize,
+    bad: usize,
+    end: usize,
+    raw: &[u8],
+    bare: bool,
+    list: &mut [i64],
+    room: &mut [u8],
+    spare: &mut [u8],
+    bytes: &mut [u8],
+) -> usize
+    requires { ⌜ Tens (now powers) ⌝ }
+    requires { ⌜ TableKnown (now t) rows len × (len ≤ length (now bytes)) ⌝ }
+    requires { ⌜ RawOf (now raw) bare ⌝ }
+    requires { ⌜ (length (now list) ≡ 9999) × (length (now room) ≡ 50000) × (length (now spare) ≡ 50000) ⌝ }
+    requires { ⌜ ((end ≡ 0 → ⊥) → Judges (now t) rows j (undoubled false (now raw)) bad 0) ⌝ }
+    ensures { λ r. ⌜ Judges (now (t .entry)) rows j (undoubled false (now (raw .entry))) bad r ⌝ }
+{
+    if end != 0 {
+        return 0;
+    }
+    if bad != 0 {
+        return bad;
+    }
+    if rows <= j {
+        return 0;
+    }
+    take_slow(powers, t, rows, len, j, raw, bare, list, room, spare, bytes)
+}
+
+// THE LINE from a place on, judged: no record is built. The bytes are room for what is not kept.
+pub fn judge_line(
+    powers: &[u64; 16],
+    t: &[i64],
+    rows: usize,
+    len: usize,
+    d: &[u8],
+    from: usize,
+    list: &mut [i64],
+    room: &mut [u8],
+    spare: &mut [u8],
+    bytes: &mut [u8],
+) -> LineEnd
+    requires { ⌜ Tens (now powers) ⌝ }
+    requires { ⌜ TableKnown (now t) rows len × (rows ≡ rowsOf (now t)) × (len ≡ lengthOf (now t)) ⌝ }
+    requires { ⌜ (from ≤ length (now d)) × (len ≤ length (now bytes)) ⌝ }
+    requires { ⌜ (length (now list) ≡ 9999) × (length (now room) ≡ 50000) × (length (now spare) ≡ 50000) ⌝ }
+    ensures { λ r. ⌜ LineJudged (now (t .entry)) (now (d .entry)) from r ⌝ }
+{
+    let mut at = from;
+    let mut j: usize = 0;
+    let mut bad: usize = 0;
+    loop {
+        let end = judge_field(t, rows, len, d, at, j, bad, bytes);
+        let span = csv_fields::span_of(cut_at(d, at, end));
+        let p = span.from;
+        let q = span.to;
+        if span.torn {
+            return LineEnd::Torn(j + 1);
+        }
+        bad = judge_slow(
+            powers,
+            t,
+            rows,
+            len,
+            j,
+            bad,
+            end,
             &d[p..q],
             span.bare,
             list,

@@ -17,6 +17,7 @@ use Rattle.import_rule.specs.rule.Text.{TextSays, accepts, refuses, andRecord, 
 use Rattle.import_lines.specs.declared.LineEnd.{LineEnd}
 use Rattle.import_lines.specs.declared.LineEnd.the-variants.{Good, Refused, Torn}
 use Rattle.import_lines.specs.Walk.{GoodLine, FaultyLine, LineTaken}
+use Rattle.import_lines.specs.Judge.{SomeLine, LineJudged}
 use Rattle.import_passes.specs.declared.Judged.{Judged}
 use Rattle.import_passes.specs.declared.Judged.the-variants as judged
 
@@ -171,8 +172,8 @@ module _ {t : List ℤ} {d : List ℕ} {from at n : ℕ} {rs : List (List ℕ)} 
   pub passing-over : length d ≤ at → linesSay t 2 (linesOf (page start (drop from d))) ≡ accepts rs
   passing-over h = w .says ∙ ap (ahead rs) (over-says t d at (n + 2) h) ∙ ahead-accepts rs [] ∙ ap accepts (append-nil rs)
 
-pub judging-more : {t : List ℤ} {d : List ℕ} {from at n next : ℕ} {slot : List ℕ} → Judging t d from at n → at < length d
-    → Ended t d at slot next → Judging t d from next (n + 1)
+pub judging-more : {t : List ℤ} {d : List ℕ} {from at n next : ℕ} → Judging t d from at n → at < length d
+    → SomeLine t d at next → Judging t d from next (n + 1)
 judging-more w h g = record { records = w .records ++ (g .bytes ∷ []); passing = passing-more (w .passing) h (g .good) }
 
 pub judging-over : {t : List ℤ} {d : List ℕ} {from at n : ℕ} → Judging t d from at n → length d ≤ at
@@ -183,6 +184,17 @@ judging-over w h = record { records = w .records; is = passing-over (w .passing)
 pub ended-good : (t : List ℤ) (d : List ℕ) (at : ℕ) (s : List ℕ) (r : LineEnd) {next : ℕ} → LineEnded t d at s r → r ≡ Good next
     → Ended t d at s next
 ended-good t d at s r k e = rw e at k
+
+pub judged-good : (t : List ℤ) (d : List ℕ) (at : ℕ) (r : LineEnd) {next : ℕ} → LineJudged t d at r → r ≡ Good next → SomeLine t d at next
+judged-good t d at r k e = rw e at k
+
+pub judged-faulty : (t : List ℤ) (d : List ℕ) (at : ℕ) (r : LineEnd) {n c : ℕ} → LineJudged t d at r → r ≡ Refused n c
+    → FaultyLine t d at n c
+judged-faulty t d at r k e = rw e at k
+
+pub judged-torn : (t : List ℤ) (d : List ℕ) (at : ℕ) (r : LineEnd) {c : ℕ} → LineJudged t d at r → r ≡ Torn c
+    → linesOf (page fresh (drop at d)) ≡ broken c
+judged-torn t d at r k e = rw e at k
 
 pub ended-faulty : (t : List ℤ) (d : List ℕ) (at : ℕ) (s : List ℕ) (r : LineEnd) {n c : ℕ} → LineEnded t d at s r → r ≡ Refused n c
     → FaultyLine t d at n c

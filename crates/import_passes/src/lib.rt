@@ -1,5 +1,5 @@
-// The lines behind the name line, twice: judged, which tells how many records they build or the first refusal, and then built. Both passes
-// take a line's record by one function. Above it stands the import of a text.
+// The lines behind the name line, twice: judged, which tells how many records they build or the first refusal, and then built. Above it
+// stands the import of a text.
 ghost use mathlib.Core.Path.{_≡_};
 ghost use mathlib.Core.List.{_++_};
 ghost use Prim.Native.Nat.{_+_, _*_, _≤_, _<_};
@@ -59,7 +59,7 @@ fn take_record(
     end
 }
 
-// THE LINES from a place on, the first of which is line 2. Each record is built in the slot, over the one before it.
+// THE LINES from a place on, the first of which is line 2. No record is built: the slot is room for what is not kept.
 pub fn judge_lines(
     powers: &[u64; 16],
     t: &[i64],
@@ -81,7 +81,7 @@ pub fn judge_lines(
     let mut at = from;
     let mut n: usize = 0;
     while at < d.len() {
-        match take_record(powers, t, rows, len, d, at, list, room, spare, slot) {
+        match import_lines::judge_line(powers, t, rows, len, d, at, list, room, spare, slot) {
             LineEnd::Good(next) => {
                 n += 1;
                 at = next;

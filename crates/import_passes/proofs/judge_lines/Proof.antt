@@ -4,8 +4,8 @@ use native.Mathlib.Omega.{arith}
 use borrow.Author.Needs.{needs}
 use Prim.Native.Nat.{_+_, _-_, _≤_, _<_}
 use lib.ListN.{length}
-use Rattle.import_passes.specs.Passes.{Judging, judging-none, judging-more, judging-over, passing-faulty, passing-torn, ended-good}
-use Rattle.import_passes.specs.Passes.{ended-faulty, ended-torn}
+use Rattle.import_passes.specs.Passes.{Judging, judging-none, judging-more, judging-over, passing-faulty, passing-torn, judged-good}
+use Rattle.import_passes.specs.Passes.{judged-faulty, judged-torn}
 use Rattle.import_passes.proofs.judge_lines.Statement.{statement}
 use Rattle.import_passes.proofs.judge_lines.Tie as tie
 
@@ -19,15 +19,15 @@ abbrev μ-loop : tie.MeasureT-loop
 loop-holds : tie.Need-loop-holds Inv-loop μ-loop
 loop-holds c = let p = (c .before .before .before .before .pre) .1 .1 in (judging-none _ _ _ (p .0 .0), p .1 .0, p .1 .1, p .1 .2, p .0 .1)
 
-take-record-requires : tie.Need-take-record-requires Inv-loop μ-loop
-take-record-requires c κs =
+judge-line-requires : tie.Need-judge-line-requires Inv-loop μ-loop
+judge-line-requires c κs =
     let at-loop = c .before .before .before .before .before in
     let start = at-loop .before .before .before .before .before in
     let i = (at-loop .loop) .inv in (
       (start .pre) .0,
       (
         (start .pre) .1 .0,
-        ((i .0 .passing .within, i .4), (i .1, i .2, i .3)),
+        ((i .0 .passing .within, omega (arith, i .4)), (i .1, i .2, i .3)),
       ),
     )
 
@@ -43,12 +43,12 @@ add-n c =
 
 loop-less : tie.Need-loop-less Inv-loop μ-loop
 loop-less c =
-    let the-take-record = c .before .before .before .before .before .before .before .before .before .before in
-    let the-loop-test = the-take-record .before .before .before .before .before in
+    let the-judge-line = c .before .before .before .before .before .before .before .before .before .before in
+    let the-loop-test = the-judge-line .before .before .before .before .before in
     let the-loop = the-loop-test .before in
     let the-start = the-loop .before .before .before .before .before in
-    let k = ended-good ((the-start .args) .t .now) ((the-start .args) .d .now) ((the-loop
-    .loop) .at) _ ((the-take-record .take-record) .result) ((the-take-record .take-record) .ensures) ((c .before .next) .given .1) in
+    let k = judged-good ((the-start .args) .t .now) ((the-start .args) .d .now) ((the-loop
+    .loop) .at) ((the-judge-line .judge-line) .result) ((the-judge-line .judge-line) .ensures) ((c .before .next) .given .1) in
     omega (
       arith,
       k .good .ahead,
@@ -57,14 +57,14 @@ loop-less c =
 
 loop-again : tie.Need-loop-again Inv-loop μ-loop
 loop-again c =
-    let at-take-record = c .before .before .before .before .before .before .before .before .before .before in
-    let at-loop-test = at-take-record .before .before .before .before .before in
+    let at-judge-line = c .before .before .before .before .before .before .before .before .before .before in
+    let at-loop-test = at-judge-line .before .before .before .before .before in
     let at-loop = at-loop-test .before in
     let args = at-loop .before .before .before .before .before .args in
     let i = (at-loop .loop) .inv in
-    let k = ended-good (args .t .now) (args .d .now) ((at-loop .loop) .at) _ ((at-take-record .take-record) .result)
-    ((at-take-record .take-record) .ensures) ((c .before .next) .given .1) in
-    let l = (at-take-record .take-record) .kept .1 .1 .1 .1 .1 .1 in (
+    let k = judged-good (args .t .now) (args .d .now) ((at-loop .loop) .at) ((at-judge-line .judge-line) .result)
+    ((at-judge-line .judge-line) .ensures) ((c .before .next) .given .1) in
+    let l = (at-judge-line .judge-line) .kept .1 .1 .1 .1 .1 .1 in (
       judging-more (i .0) ((at-loop-test .loop-test) .taken) k,
       l .0 ∙ i .1,
       l .1 .0 ∙ i .2,
@@ -88,12 +88,12 @@ same-length : tie.Need-same-length Inv-loop μ-loop
 same-length c =
     let at-loop = c .before .before .before .before .before .before .before .before .before .before .before .before .before .before .before
     .before in
-    (c .before .before .before .before .before .before .before .before .before .before .take-record) .kept .1 .1 .1 .1 .1 .1 .0 ∙ (at-loop
+    (c .before .before .before .before .before .before .before .before .before .before .judge-line) .kept .1 .1 .1 .1 .1 .1 .0 ∙ (at-loop
     .loop) .inv .1 ∙ sym ((at-loop .before .before .before .before .before .pre) .1 .1 .1 .0)
 
 same-length-2 : tie.Need-same-length-2 Inv-loop μ-loop
 same-length-2
-    c = (c .before .before .before .before .before .before .before .before .before .before .take-record) .kept .1 .1 .1 .1 .1 .1 .1 .0
+    c = (c .before .before .before .before .before .before .before .before .before .before .judge-line) .kept .1 .1 .1 .1 .1 .1 .1 .0
     ∙ (c .before .before .before .before .before .before .before .before .before .before .before .before .before .before .before .before
     .loop) .inv .2
     ∙ sym ((c .before .before .before .before .before .before .before .before .before .before .before .before .before .before .before
@@ -101,7 +101,7 @@ same-length-2
 
 same-length-3 : tie.Need-same-length-3 Inv-loop μ-loop
 same-length-3
-    c = (c .before .before .before .before .before .before .before .before .before .before .take-record) .kept .1 .1 .1 .1 .1 .1 .1 .1 .0
+    c = (c .before .before .before .before .before .before .before .before .before .before .judge-line) .kept .1 .1 .1 .1 .1 .1 .1 .1 .0
     ∙ (c .before .before .before .before .before .before .before .before .before .before .before .before .before .before .before .before
     .loop) .inv .3
     ∙ sym ((c .before .before .before .before .before .before .before .before .before .before .before .before .before .before .before
@@ -109,7 +109,7 @@ same-length-3
 
 same-length-4 : tie.Need-same-length-4 Inv-loop μ-loop
 same-length-4
-    c = (c .before .before .before .before .before .before .before .before .before .before .take-record) .kept .1 .1 .1 .1 .1 .1 .1 .1 .1 .0
+    c = (c .before .before .before .before .before .before .before .before .before .before .judge-line) .kept .1 .1 .1 .1 .1 .1 .1 .1 .1 .0
     ∙ (c .before .before .before .before .before .before .before .before .before .before .before .before .before .before .before .before
     .loop) .inv .4
     ∙ sym ((c .before .before .before .before .before .before .before .before .before .before .before .before .before .before .before
@@ -117,12 +117,12 @@ same-length-4
 
 returns : tie.Need-returns Inv-loop μ-loop
 returns c =
-    let at-take-record = c .before .before .before .before .before .before .before .before .before .before in
-    let at-loop-test = at-take-record .before .before .before .before .before in
+    let at-judge-line = c .before .before .before .before .before .before .before .before .before .before in
+    let at-loop-test = at-judge-line .before .before .before .before .before in
     let at-loop = at-loop-test .before in
     let args = at-loop .before .before .before .before .before .args in
-    passing-faulty ((at-loop .loop) .inv .0 .passing) ((at-loop-test .loop-test) .taken) (ended-faulty (args .t .now) (args .d .now)
-    ((at-loop .loop) .at) _ ((at-take-record .take-record) .result) ((at-take-record .take-record) .ensures)
+    passing-faulty ((at-loop .loop) .inv .0 .passing) ((at-loop-test .loop-test) .taken) (judged-faulty (args .t .now) (args .d .now)
+    ((at-loop .loop) .at) ((at-judge-line .judge-line) .result) ((at-judge-line .judge-line) .ensures)
     ((c .before .number) .given .1))
 
 add-t29 : tie.Need-add-t29 Inv-loop μ-loop
@@ -139,7 +139,7 @@ add-t29 c =
 
 same-length-5 : tie.Need-same-length-5 Inv-loop μ-loop
 same-length-5
-    c = (c .before .before .before .before .before .before .before .before .before .before .take-record) .kept .1 .1 .1 .1 .1 .1 .0
+    c = (c .before .before .before .before .before .before .before .before .before .before .judge-line) .kept .1 .1 .1 .1 .1 .1 .0
     ∙ (c .before .before .before .before .before .before .before .before .before .before .before .before .before .before .before .before
     .loop) .inv .1
     ∙ sym ((c .before .before .before .before .before .before .before .before .before .before .before .before .before .before .before
@@ -147,7 +147,7 @@ same-length-5
 
 same-length-6 : tie.Need-same-length-6 Inv-loop μ-loop
 same-length-6
-    c = (c .before .before .before .before .before .before .before .before .before .before .take-record) .kept .1 .1 .1 .1 .1 .1 .1 .0
+    c = (c .before .before .before .before .before .before .before .before .before .before .judge-line) .kept .1 .1 .1 .1 .1 .1 .1 .0
     ∙ (c .before .before .before .before .before .before .before .before .before .before .before .before .before .before .before .before
     .loop) .inv .2
     ∙ sym ((c .before .before .before .before .before .before .before .before .before .before .before .before .before .before .before
@@ -155,7 +155,7 @@ same-length-6
 
 same-length-7 : tie.Need-same-length-7 Inv-loop μ-loop
 same-length-7
-    c = (c .before .before .before .before .before .before .before .before .before .before .take-record) .kept .1 .1 .1 .1 .1 .1 .1 .1 .0
+    c = (c .before .before .before .before .before .before .before .before .before .before .judge-line) .kept .1 .1 .1 .1 .1 .1 .1 .1 .0
     ∙ (c .before .before .before .before .before .before .before .before .before .before .before .before .before .before .before .before
     .loop) .inv .3
     ∙ sym ((c .before .before .before .before .before .before .before .before .before .before .before .before .before .before .before
@@ -163,7 +163,7 @@ same-length-7
 
 same-length-8 : tie.Need-same-length-8 Inv-loop μ-loop
 same-length-8
-    c = (c .before .before .before .before .before .before .before .before .before .before .take-record) .kept .1 .1 .1 .1 .1 .1 .1 .1 .1 .0
+    c = (c .before .before .before .before .before .before .before .before .before .before .judge-line) .kept .1 .1 .1 .1 .1 .1 .1 .1 .1 .0
     ∙ (c .before .before .before .before .before .before .before .before .before .before .before .before .before .before .before .before
     .loop) .inv .4
     ∙ sym ((c .before .before .before .before .before .before .before .before .before .before .before .before .before .before .before
@@ -171,12 +171,12 @@ same-length-8
 
 returns-2 : tie.Need-returns-2 Inv-loop μ-loop
 returns-2 c =
-    let at-take-record = c .before .before .before .before .before .before .before .before .before .before in
-    let at-loop-test = at-take-record .before .before .before .before .before in
+    let at-judge-line = c .before .before .before .before .before .before .before .before .before .before in
+    let at-loop-test = at-judge-line .before .before .before .before .before in
     let at-loop = at-loop-test .before in
     let args = at-loop .before .before .before .before .before .args in
-    passing-torn ((at-loop .loop) .inv .0 .passing) ((at-loop-test .loop-test) .taken) (ended-torn (args .t .now) (args .d .now) ((at-loop
-    .loop) .at) _ ((at-take-record .take-record) .result) ((at-take-record .take-record) .ensures) ((c .before .column) .given .1))
+    passing-torn ((at-loop .loop) .inv .0 .passing) ((at-loop-test .loop-test) .taken) (judged-torn (args .t .now) (args .d .now) ((at-loop
+    .loop) .at) ((at-judge-line .judge-line) .result) ((at-judge-line .judge-line) .ensures) ((c .before .column) .given .1))
 
 same-length-9 : tie.Need-same-length-9 Inv-loop μ-loop
 same-length-9 c = (c .before .loop) .inv .1 ∙ sym ((c .before .before .before .before .before .before .pre) .1 .1 .1 .0)
@@ -200,7 +200,7 @@ judge-lines-spec =
     Inv-loop
     μ-loop
     loop-holds
-    take-record-requires
+    judge-line-requires
     (λ c. search needs)
     add-n
     loop-less

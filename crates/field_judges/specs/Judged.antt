@@ -1,0 +1,257 @@
+-- What a field is that was judged where it stands: the value that export writes so, which its row accepts.
+use mathlib.Core.Path.{_≡_, refl, sym, ap, _∙_}
+use mathlib.Core.Bool.{Bool, true, false, cond, _&&_}
+use mathlib.Core.List.{List, [], _∷_, _++_, append-nil, append-assoc}
+use Prim.Native.Nat.{ℕ, zero, suc, _+_, _-_, _*_, _^_, _≤_, _<_}
+use native.Mathlib.Numerals.{add-one}
+use native.Mathlib.Omega.{arith}
+use borrow.Author.Tests.{eqb-true, eqb-false, le-leb, le-ltb}
+use lib.Dec.{eqb, ltb}
+use lib.IntN.{ℤ, pos, negsuc}
+use lib.ListN.{length, take, drop, getD, length-append}
+use lib.Signed.{leZ}
+use Rattle.below.specs.Below.{holds-not, and-true, or-true}
+use Rattle.cells.specs.rule.Cell.{countOf}
+use Rattle.layout.specs.declared.Row.{Row}
+use Rattle.layout.specs.declared.Format.{Format}
+use Rattle.layout.specs.declared.Kind.{Kind}
+use Rattle.layout.specs.declared.Kind.the-variants.{Single, Multiple, Quantity, Character, Logical}
+use Rattle.layout.specs.declared.Spread.the-variants.{Bits, Fields}
+use Rattle.fields.specs.Facts.{KindFacts, RowFacts}
+use Rattle.fields.specs.rule.Legal.{inRange, legal}
+use Rattle.fields.specs.rule.Field.{Value, missing, number, members, text, truth, holds, allLegal, setFits}
+use Rattle.fields.specs.rule.Row.{Fit, fits, otherType, notLegal, tooMany, legalFit, fitsBy, fitOf}
+use Rattle.fieldlaws.specs.RisingLaws.{Rising, none, skip, keep, rising-empty, fits-of}
+use Rattle.sets.specs.Full.{EachLegal}
+use Rattle.lines.specs.rule.Text.{numeral}
+use Rattle.commas.specs.rule.Csv.{isSpecial, holdsSpecial}
+use Rattle.csv_fields.specs.Page.{part, part-rest, BareTo, Bounded}
+use Rattle.value_fields.specs.rule.Values.{numberText, codesBehind, setText, valueText, decimalsOf}
+use Rattle.value_fields.specs.Plain.{number-plain, set-plain, truth-plain}
+use Rattle.number_fields.specs.Reads.{Reads, reads-none, reads-byte, reads-join, reads-as, reads-part, NumberAt, CodeAt}
+use Rattle.writes.specs.Write.{answerBy}
+use Rattle.writes.specs.declared.Wrote.{Wrote}
+use Rattle.writes.specs.declared.Wrote.the-variants.{Done, OtherType, NotLegal, TooMany}
+use Rattle.field_values.specs.rule.Value.{IsValue, Left, whole}
+use Rattle.field_values.specs.rule.Read.{valueFrom}
+use Rattle.field_values.specs.Guess.{code-text}
+use Rattle.field_values.specs.Exactly.{value-exactly}
+
+-- a comma or a CR stands at a place
+pub record StopsAt (d : List ℕ) (i : ℕ) : Type 0 where
+  pub within : i < length d
+  pub special : isSpecial (getD d i 0) ≡ true
+  pub unquoted : getD d i 0 ≡ 34 → ⊥
+
+pub stops-comma : (d : List ℕ) (i : ℕ) → i < length d → getD d i 0 ≡ 44 → StopsAt d i
+unfolding isSpecial
+stops-comma d i h e = record { within = h; special = rw e; unquoted = λ q. omega arith }
+
+pub stops-cr : (d : List ℕ) (i : ℕ) → i < length d → getD d i 0 ≡ 13 → StopsAt d i
+unfolding isSpecial
+stops-cr d i h e = record { within = h; special = rw e; unquoted = λ q. omega arith }
+
+-- ---- A VALUE OF THE ROW STANDS from one place to another, as export writes it, and something stops it
+pub record Standing (t : List ℤ) (v : ℕ) (r : Row) (d : List ℕ) (at to : ℕ) : Type 0 where
+  pub value : Value
+  pub accepted : fitOf t v r value ≡ fits
+  pub reads : Reads d at (valueText (decimalsOf (r .kind)) value) to
+  pub plain : holdsSpecial (valueText (decimalsOf (r .kind)) value) ≡ false
+  pub stop : StopsAt d to
+
+-- behind what stops it; or nothing is said
+abbrev pub JudgedAt : List ℤ → ℕ → Row → List ℕ → ℕ → ℕ → Type 0
+JudgedAt t v r d at e = (e ≡ 0 → ⊥) → Standing t v r d at (e - 1)
+
+pub judged-none : (t : List ℤ) (v : ℕ) (r : Row) (d : List ℕ) (at : ℕ) → JudgedAt t v r d at 0
+judged-none t v r d at z = absurd (z refl)
+
+pub judged-some : {t : List ℤ} {v : ℕ} {r : Row} {d : List ℕ} {at to : ℕ} → Standing t v r d at to → JudgedAt t v r d at (to + 1)
+judged-some {t} {v} {r} {d} {at} {to} s z = let e : to ≡ to + 1 - 1 = omega arith in rw e at s
+
+module _ {t : List ℤ} {v : ℕ} {r : Row} {d : List ℕ} {at to : ℕ} (s : Standing t v r d at to) where
+  pub standing-bounded : Bounded d at to
+  standing-bounded = record {
+    on = s .reads .on;
+    within = s .stop .within;
+    plain = rw (reads-part (s .reads)) at (s .plain);
+    stops = s .stop .special;
+    unquoted = s .stop .unquoted;
+  }
+
+  pub standing-value : {len : ℕ} → RowFacts t v len r → valueFrom t v r (take (to - at) (drop at d)) ≡ holds (s .value)
+  standing-value g =
+      value-exactly g (take (to - at) (drop at d)) (s .value) .1
+      (record { accepted = s .accepted; written = whole (reads-part (s .reads)) })
+
+-- ---- by the row's kind
+module _ (t : List ℤ) (v : ℕ) (r : Row) {d : List ℕ} {at to : ℕ} (stop : StopsAt d to) where
+  pub missing-stands : at ≡ to → Standing t v r d at to
+  unfolding fitsBy valueText holdsSpecial
+  missing-stands e =
+      let h = stop .within in
+      record { value = missing; accepted = refl; reads = rw e (reads-none d to (omega arith)); plain = refl; stop = stop }
+
+  pub code-stands : (n : ℕ) (z : ℤ) → r .kind ≡ Single → z ≡ pos n → legal t v r z ≡ true → Reads d at (numeral n) to
+      → Standing t v r d at to
+  unfolding fitsBy legalFit valueText decimalsOf
+  code-stands n z k e l a = record {
+    value = number (pos n);
+    accepted = ap (λ (x : Kind). fitsBy x t v r (number (pos n))) k ∙ ap legalFit (ap (legal t v r) (sym e) ∙ l);
+    reads = rw k (reads-as (sym (code-text n)) a);
+    plain = number-plain (decimalsOf (r .kind)) (pos n);
+    stop = stop;
+  }
+
+  pub amount-stands : {q : Format} (z : ℤ) → r .kind ≡ Quantity q → legal t v r z ≡ true → Reads d at (numberText (q .decimals) z) to
+      → Standing t v r d at to
+  unfolding fitsBy legalFit valueText decimalsOf
+  amount-stands {q} z k l a = record {
+    value = number z;
+    accepted = ap (λ (x : Kind). fitsBy x t v r (number z)) k ∙ ap legalFit l;
+    reads = rw k a;
+    plain = number-plain (decimalsOf (r .kind)) z;
+    stop = stop;
+  }
+
+  pub bits-stand : (ms : List ℤ) → r .kind ≡ Multiple Bits → setFits (legal t v r) ms ≡ true → Reads d at (setText ms) to
+      → Standing t v r d at to
+  unfolding fitsBy legalFit valueText
+  bits-stand ms k l a = record {
+    value = members ms;
+    accepted = ap (λ (x : Kind). fitsBy x t v r (members ms)) k ∙ ap legalFit l;
+    reads = a;
+    plain = set-plain ms;
+    stop = stop;
+  }
+
+  pub spread-stands : {n b : ℕ} (ms : List ℤ) → r .kind ≡ Multiple (Fields n b) → setFits (legal t v r) ms ≡ true → length ms ≤ n
+      → Reads d at (setText ms) to → Standing t v r d at to
+  unfolding fitsBy valueText
+  spread-stands {n} {b} ms k l h a =
+      record {
+        value = members ms;
+        accepted = ap (λ (x : Kind). fitsBy x t v r (members ms)) k
+            ∙ room (setFits (legal t v r) ms) (ltb n (length ms)) l (le-ltb n (length ms) h);
+        reads = a;
+        plain = set-plain ms;
+        stop = stop;
+      }
+    where
+      room : (p q : Bool) → p ≡ true → q ≡ false → cond p (cond q tooMany fits) notLegal ≡ fits
+      room p q e f = rw (e, f)
+
+  pub text-stands : BareTo d at to → fitOf t v r (text (part d at to)) ≡ fits → Standing t v r d at to
+  unfolding valueText
+  text-stands b l = record {
+    value = text (part d at to);
+    accepted = l;
+    reads = record { on = b .on; inside = b .within; is = sym (part-rest d at to (b .on)) };
+    plain = b .plain;
+    stop = stop;
+  }
+
+  pub truth-stands : (b : Bool) → r .kind ≡ Logical → Reads d at (cond b 49 48 ∷ []) to → Standing t v r d at to
+  unfolding fitsBy valueText
+  truth-stands b k a = record { value = truth b; accepted = rw k; reads = a; plain = truth-plain b; stop = stop }
+
+  pub truth-read : r .kind ≡ Logical → at < length d → 48 ≤ getD d at 0 → getD d at 0 ≤ 49 → to ≡ at + 1 → Standing t v r d at to
+  truth-read k h l u e = go (eqb (getD d at 0) 49) refl
+    where
+      go : (q : Bool) → eqb (getD d at 0) 49 ≡ q → Standing t v r d at to
+      go true w = truth-stands true k (rw e (reads-byte d at h (eqb-true (getD d at 0) 49 w)))
+      go false w = let n = eqb-false (getD d at 0) 49 w in truth-stands false k (rw e (reads-byte d at h (omega arith)))
+
+-- what is known of a row of the kind
+pub kind-known : {k k′ : Kind} (r : Row) → k ≡ k′ → KindFacts k r → KindFacts k′ r
+kind-known r e h = rw e at h
+
+-- ---- codes that rise
+skip-many : (k : ℕ) {c n : ℕ} {ms : List ℤ} → Rising (c + k) n ms → Rising c (k + n) ms
+skip-many zero {c} {n} {ms} h =
+    let e : c + 0 ≡ c = omega arith in
+    let z : n ≡ 0 + n = omega arith in
+    rw z at (rw e at h)
+skip-many (suc k) {c} {n} {ms} h =
+    let e : c + suc k ≡ suc c + k = omega arith in
+    let z : suc (k + n) ≡ suc k + n = omega arith in
+    rw z at (skip (skip-many k {c = suc c} (rw e at h)))
+
+pub rising-first : {least high n : ℕ} {ms : List ℤ} → least ≤ n → n ≤ high → Rising (n + 1) (high + 1 - (n + 1)) ms
+    → Rising least (high + 1 - least) (pos n ∷ ms)
+rising-first {least} {high} {n} {ms} l h s =
+    let e : least + (n - least) ≡ n = omega arith in
+    let k : n - least + suc (high + 1 - suc n) ≡ high + 1 - least = omega arith in
+    rw k at (skip-many (n - least) {c = least} {n = suc (high + 1 - suc n)} {ms = pos n ∷ ms} (rw e (keep (rw (add-one n) at s))))
+
+legal-between : (ok : ℤ → Bool) {c n : ℕ} {ms : List ℤ} → Rising c n ms → ((x : ℕ) → c ≤ x → x < c + n → ok (pos x) ≡ true)
+    → allLegal ok ms ≡ true
+unfolding allLegal
+legal-between ok none f = refl
+legal-between ok (skip s) f = legal-between ok s (λ x l h. f x (omega arith) (omega arith))
+legal-between ok (keep {c = c} s) f = rw (f c (omega arith) (omega arith)) (legal-between ok s (λ x l h. f x (omega arith) (omega arith)))
+
+-- WHAT WAS READ: codes that rise, up to a place
+pub record Codes (d : List ℕ) (at low high most to : ℕ) : Type 0 where
+  pub ms : List ℤ
+  pub reads : Reads d at (setText ms) to
+  pub rises : Rising low (high + 1 - low) ms
+  pub few : length ms ≤ most
+
+-- or the place where they are due
+abbrev pub CodesAt : List ℕ → ℕ → ℕ → ℕ → ℕ → ℕ → Type 0
+CodesAt d at low high most to = (to ≡ at → ⊥) → Codes d at low high most to
+
+-- what is read from a place on completes the codes before it
+abbrev pub Rise : List ℕ → ℕ → ℕ → ℕ → ℕ → ℕ → ℕ → ℕ → Type 0
+Rise d at low high most least left i =
+    (m : ℤ) (ms : List ℤ) (to : ℕ) → Reads d i (setText (m ∷ ms)) to → Rising least (high + 1 - least) (m ∷ ms) → length (m ∷ ms) ≤ left
+    → Codes d at low high most to
+
+pub rise-none : (d : List ℕ) (at low high most : ℕ) → Rise d at low high most low most at
+rise-none d at low high most m ms to r s f = record { ms = m ∷ ms; reads = r; rises = s; few = f }
+
+set-more : (n : ℕ) (m : ℤ) (ms : List ℤ) → numeral n ++ ((59 ∷ []) ++ setText (m ∷ ms)) ≡ setText (pos n ∷ m ∷ ms)
+unfolding setText codesBehind
+set-more n m ms = rw (code-text n)
+
+set-one : (n : ℕ) → numeral n ≡ setText (pos n ∷ [])
+unfolding setText codesBehind
+set-one n = sym (append-nil (numberText 0 (pos n)) ∙ code-text n)
+
+module _ {d : List ℕ} {at low high most least left i n p : ℕ} (g : Rise d at low high most least left i) (a : CodeAt d i n p)
+    (some : n ≡ 0 → ⊥) (l : least ≤ n) (h : n ≤ high) (more : 0 < left) where
+  pub rise-more : getD d p 0 ≡ 59 → Rise d at low high most (n + 1) (left - 1) (p + 1)
+  rise-more e m ms to r s f =
+      g (pos n) (m ∷ ms) to
+      (reads-as (set-more n m ms) (reads-join (a .reads some) (reads-join (reads-byte d p (a .behind some) e) r)))
+      (rising-first l h s) (omega arith)
+
+  pub codes-end : Codes d at low high most p
+  codes-end = g (pos n) [] p (reads-as (set-one n) (a .reads some)) (rising-first l h (rising-empty (n + 1) (high + 1 - (n + 1))))
+      (omega arith)
+
+-- ---- their row allows them
+pub codes-fit : (t : List ℤ) (v : ℕ) (r : Row) {d : List ℕ} {at low high most to : ℕ} (c : Codes d at low high most to)
+    → ((x : ℕ) → low ≤ x → x ≤ high → legal t v r (pos x) ≡ true) → setFits (legal t v r) (c .ms) ≡ true
+codes-fit t v r {low = low} {high} c f =
+    fits-of (legal t v r) (c .rises) (legal-between (legal t v r) (c .rises) (λ x l h. f x l (omega arith)))
+
+pub range-between : (t : List ℤ) (v : ℕ) (r : Row) → r .range ≡ true → countOf (r .to) ≤ 9999
+    → (x : ℕ) → countOf (r .from) ≤ x → x ≤ countOf (r .to) → legal t v r (pos x) ≡ true
+unfolding legal inRange countOf
+range-between t v r e h x l u = rw (e, between (r .from) (r .to) x l u h)
+  where
+    between : (a b : ℤ) (x : ℕ) → countOf a ≤ x → x ≤ countOf b → countOf b ≤ 9999 → (leZ a (pos x) && leZ (pos x) b) ≡ true
+    between (pos m) (pos n) x l u h = rw (le-leb m x l, le-leb x n u)
+    between (pos m) (negsuc n) x l u h = absurd (omega arith)
+    between (negsuc m) (pos n) x l u h = absurd (omega arith)
+    between (negsuc m) (negsuc n) x l u h = absurd (omega arith)
+
+-- a write that is done was of a value that fits
+pub done-fits : (x : Fit) → Done ≡ answerBy x → x ≡ fits
+unfolding answerBy
+done-fits fits e = refl
+done-fits otherType e = let z : _≡_ {A = ℕ} 0 1 = cc in absurd (omega arith)
+done-fits notLegal e = let z : _≡_ {A = ℕ} 0 1 = cc in absurd (omega arith)
+done-fits tooMany e = let z : _≡_ {A = ℕ} 0 1 = cc in absurd (omega arith)
