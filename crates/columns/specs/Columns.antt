@@ -22,7 +22,6 @@ use Rattle.columns.specs.Marked.{memberEntries}
 
 -- ---- the columns of a row, by its shape
 module _ (t : List ℤ) (v i : ℕ) where
-
   pub shape-one : shapeOf (rowAt t i .kind) ≡ 1 → rowColumns t v i ≡ ofRow i ∷ []
   unfolding shapeOf columnsBy
   shape-one = go (rowAt t i .kind)
@@ -100,7 +99,6 @@ module _ (t : List ℤ) (v i : ℕ) where
 
 -- the entries of the rows that are left
 module _ (t : List ℤ) (v : ℕ) (bytes : List ℕ) (i : ℕ) where
-
   pub left-count : i < v → length (columnsFrom t v i (v - i)) ≡ length (rowColumns t v i) + length (columnsFrom t v (i + 1) (v - (i + 1)))
   left-count h = ap (λ (l : List Column). length l) (columns-on t v i h)
       ∙ length-append (rowColumns t v i) (columnsFrom t v (i + 1) (v - (i + 1)))

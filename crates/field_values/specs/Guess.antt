@@ -32,7 +32,6 @@ pub record Sized (k n : ℕ) (f : List ℕ) : Type 0 where
   pub size : sizeGuess k f ≡ n
 
 module _ (k n : ℕ) (few : n ≤ 1000000000000000) where
-
   free : Free 46 (numeral (n / 10 ^ k))
   free = free-numeral 46 no-point (n / 10 ^ k)
 

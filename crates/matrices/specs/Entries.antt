@@ -58,11 +58,3 @@ module _ (t : List ℤ) (v : ℕ) (cs : List Column) where
       let m = suc-mul (length rs) (length cs) in
       let e : j + k + length cs ≡ j + length cs + k = omega arith in
       (omega arith, rw e (strides rs k (j + length cs) len h (omega arith)))
-
-  -- what was behind the first record's entries
-  picked-on : (xs ys : List Entry) (step n j : ℕ) → picked (xs ++ ys) step (length xs + j) n ≡ picked ys step j n
-  unfolding picked
-  picked-on xs ys step zero j = refl
-  picked-on xs ys step (suc n) j =
-      let e : length xs + j + step ≡ length xs + (j + step) = omega arith in
-      rw (getD-append-add xs ys j Absent, e, picked-on xs ys step n (j + step))

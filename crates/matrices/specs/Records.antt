@@ -93,6 +93,3 @@ length-all t v cs (r ∷ rs) =
       length-all t v cs rs,
       suc-mul (length rs) (length cs),
     )
-
--- ---- record by record
-module _ {rs rest : Records} {r : List ℕ} (e : rs ≡ record-and r rest) where

@@ -110,15 +110,6 @@ pub fn statement_on(classes: &[u8; 256], d: &[u8], t: Reading, w: &[u8]) -> Read
     tokens::word_here(classes, d, n, w)
 }
 
-// A statement that is a word and a string.
-pub fn text_on(classes: &[u8; 256], d: &[u8], t: Reading, w: &[u8]) -> Phrase
-    requires { ⌜ Classes (now classes) ⌝ }
-    ensures { λ r. ⌜ r ≡ textOn (now (d .entry)) t (now (w .entry)) ⌝ }
-{
-    let n = statement_on(classes, d, t, w);
-    tokens::string_on(classes, d, n)
-}
-
 // The version: the longest run of value bytes, which is to be 1.1 as text.
 fn version_at(classes: &[u8; 256], d: &[u8], n: usize) -> Reading
     requires { ⌜ Classes (now classes) ⌝ }
