@@ -523,7 +523,7 @@ zarfolin_number zarfolin_import(const uint8_t *def, size_t def_len, const int64_
  * but the one that skips comments, at most ZARFOLIN_MAX_LEVEL deep, so leave some room and no more. */
 #define ZARFOLIN_STACK_READ_DEFINITION 270000
 #define ZARFOLIN_STACK_WRITE_DEFINITION 270000
-#define ZARFOLIN_STACK_DECODE_TEXT 1600
+#define ZARFOLIN_STACK_DECODE_TEXT 1900
 #define ZARFOLIN_STACK_READ_VALUE 38000
 #define ZARFOLIN_STACK_READ_RECORD 102000
 #define ZARFOLIN_STACK_JUDGE_RECORD 27500
