@@ -7,15 +7,16 @@ use Prim.Native.Nat.{ℕ, _+_, _-_, _≤_, _<_}
 use native.Mathlib.Omega.{arith}
 use lib.Dec.{leb, eqb}
 use lib.ListN.{length, drop, getD}
+use lib.Seq.{drop-cons}
 use borrow.Author.Tests.{eq-eqb, ne-eqb, eqb-true, eqb-false, le-leb, lt-leb, leb-true, leb-false}
-use Rattle.below.specs.Below.{holds-not, lt-or-le}
+use Rattle.below.specs.Below.{holds-not, lt-or-le, and-left}
 use Rattle.utf.proofs.Strides.{apart}
 use Rattle.markup.specs.rule.Bytes.{ofKind, runOf, stands, startsName, endFault}
 use Rattle.markup.specs.declared.Skip.{Skip}
 use Rattle.markup.specs.declared.Skip.the-variants.{Past, Broken}
 use Rattle.prologs.specs.rule.Form.{Form, done, white, room, word, value, encoding, literal, root, bracket, perhaps, which}
 use Rattle.prologs.specs.rule.Form.{XML, UTF-8, ISO-8859-1, sss, declaration, doctype}
-use Rattle.prologs.specs.rule.Told.{quotedOf, amongOf, alikeOf, dueOf, missOf, blanks, onSkip, tellOf}
+use Rattle.prologs.specs.rule.Told.{quotedOf, amongOf, alikeOf, dueOf, missOf, blanks, onSkip, rootMissed, tellOf}
 use Rattle.prologs.specs.declared.Prolog.{Prolog}
 use Rattle.prologs.specs.declared.Prolog.the-variants.{Read, Fault}
 use Rattle.prologs.proofs.Pieces.{Run, run-is, is-run, run-within, stands-within, Bytes, NoBytes, yes-bytes, bytes-yes, no-bytes}
@@ -58,9 +59,11 @@ pub data Tells (bad : Bool) (d : List ℕ) (o : ℕ) : Form → Bool → ℕ →
       → Tells bad d o f l (k + 1) r → Tells bad d o (literal public f) l p r
   literal-off : {public : Bool} {f : Form} {l : Bool} {p q : ℕ} → Quotes false public bad d o p (Broken q)
       → Tells bad d o (literal public f) l p (Fault 50 q)
-  -- the root's name, another name, no name
+  -- the root's name, its beginning at the text's end, another name, no name
   root-on : {f : Form} {l : Bool} {p n : ℕ} {r : Prolog} → Bytes sss d p n → Tells bad d o f l n r → Tells bad d o (root f) l p r
-  root-other : {f : Form} {l : Bool} {p : ℕ} → NoBytes sss d p → p < length d → startsName (getD d p 0) ≡ true
+  root-cut : {f : Form} {l : Bool} {p n : ℕ} → NoBytes sss d p → p < length d → Bytes (drop p d) sss 0 n
+      → Tells bad d o (root f) l p (Fault 50 (endFault bad (length d) p))
+  root-other : {f : Form} {l : Bool} {p : ℕ} → NoBytes sss d p → p < length d → NoBytes (drop p d) sss 0 → startsName (getD d p 0) ≡ true
       → Tells bad d o (root f) l p (Fault 2 p)
   root-off : {f : Form} {l : Bool} {p : ℕ} → NoBytes sss d p → (p < length d → startsName (getD d p 0) ≡ false)
       → Tells bad d o (root f) l p (Fault 50 (dueOf bad d o p))
@@ -120,19 +123,19 @@ module _ (bad : Bool) (d : List ℕ) (o : ℕ) where
   of-literal public f l p (Broken q) s t = literal-off s
   of-literal public f l p (Past k) s t = literal-on s (t k)
 
-  of-root : (f : Form) (l : Bool) (p : ℕ) → NoBytes sss d p
-      → Tells bad d o (root f) l p (cond (leb (length d) p) (Fault 50 (endFault bad p o))
-      (cond (startsName (getD d p 0)) (Fault 2 p) (Fault 50 p)))
-  unfolding dueOf
-  of-root f l p n = by (leb (length d) p) (startsName (getD d p 0)) refl refl where
+  of-root : (f : Form) (l : Bool) (p : ℕ) → NoBytes sss d p → Tells bad d o (root f) l p (rootMissed bad d o p)
+  unfolding dueOf rootMissed
+  of-root f l p n = by (leb (length d) p) (stands (drop p d) sss) (startsName (getD d p 0)) refl refl refl where
     off : (q : ℕ) → dueOf bad d o p ≡ q → (p < length d → startsName (getD d p 0) ≡ false) → Tells bad d o (root f) l p (Fault 50 q)
     off q e h = rw (← e) (root-off n h)
 
-    by : (x y : Bool) → leb (length d) p ≡ x → startsName (getD d p 0) ≡ y
-        → Tells bad d o (root f) l p (cond x (Fault 50 (endFault bad p o)) (cond y (Fault 2 p) (Fault 50 p)))
-    by true y e g = off (endFault bad p o) (rw e) (λ h. let k = leb-true (length d) p e in absurd (omega arith))
-    by false true e g = root-other n (leb-false (length d) p e) g
-    by false false e g = off p (rw e) (λ h. g)
+    by : (x z y : Bool) → leb (length d) p ≡ x → stands (drop p d) sss ≡ z → startsName (getD d p 0) ≡ y
+        → Tells bad d o (root f) l p (cond x (Fault 50 (endFault bad p o))
+        (cond z (Fault 50 (endFault bad (length d) p)) (cond y (Fault 2 p) (Fault 50 p))))
+    by true z y e k g = off (endFault bad p o) (rw e) (λ h. let k = leb-true (length d) p e in absurd (omega arith))
+    by false true y e k g = root-cut n (leb-false (length d) p e) (yes-bytes (drop p d) sss 0 k)
+    by false false true e k g = root-other n (leb-false (length d) p e) (no-bytes (drop p d) sss 0 k) g
+    by false false false e k g = off p (rw e) (λ h. g)
 
   pub tells : (f : Form) (l : Bool) (p : ℕ) → Tells bad d o f l p (tellOf bad d o f l p)
   unfolding tellOf missOf
@@ -154,8 +157,7 @@ module _ (bad : Bool) (d : List ℕ) (o : ℕ) where
       (λ k. tells f l (k + 1))
   tells (root f) l p = by (stands sss (drop p d)) refl (tells f l (p + 3)) where
     by : (x : Bool) → stands sss (drop p d) ≡ x → Tells bad d o f l (p + 3) (tellOf bad d o f l (p + 3))
-        → Tells bad d o (root f) l p (cond x (tellOf bad d o f l (p + 3))
-        (cond (leb (length d) p) (Fault 50 (endFault bad p o)) (cond (startsName (getD d p 0)) (Fault 2 p) (Fault 50 p))))
+        → Tells bad d o (root f) l p (cond x (tellOf bad d o f l (p + 3)) (rootMissed bad d o p))
     by true e t = root-on (yes-bytes sss d p e) t
     by false e t = of-root f l p (no-bytes sss d p e)
   tells (bracket f) l p = by (stands (91 ∷ []) (drop p d)) refl (tells f l p) where
@@ -198,14 +200,24 @@ module _ (bad : Bool) (d : List ℕ) (o : ℕ) where
     by false true e k = absurd (h (blanks d p) (blanks d p + length w) (blank p (blanks d p) refl) (longer p e)
         (yes-bytes w d (blanks d p) k))
 
-  root-no : (p : ℕ) → (p < length d → startsName (getD d p 0) ≡ false)
-      → cond (leb (length d) p) (Fault 50 (endFault bad p o)) (cond (startsName (getD d p 0)) (Fault 2 p) (Fault 50 p))
-      ≡ Fault 50 (dueOf bad d o p)
-  unfolding dueOf
-  root-no p h = ⊎-elim (λ k. rw (lt-leb (length d) p k, h k)) (λ k. rw (le-leb (length d) p k)) (lt-or-le p (length d))
+  -- what begins the root's name begins a name
+  cut-starts : (p : ℕ) → p < length d → stands (drop p d) sss ≡ true → startsName (getD d p 0) ≡ true
+  unfolding stands startsName
+  cut-starts p h = rw (drop-cons d p 0 h) (λ e. rw (← eqb-true 115 (getD d p 0) (and-left (eqb 115 (getD d p 0)) _ e)))
+
+  not-cut : (p : ℕ) → p < length d → startsName (getD d p 0) ≡ false → stands (drop p d) sss ≡ false
+  not-cut p h g = by (stands (drop p d) sss) refl where
+    by : (b : Bool) → stands (drop p d) sss ≡ b → b ≡ false
+    by true e = absurd (holds-not (cut-starts p h e) g)
+    by false e = refl
+
+  root-no : (p : ℕ) → (p < length d → startsName (getD d p 0) ≡ false) → rootMissed bad d o p ≡ Fault 50 (dueOf bad d o p)
+  unfolding dueOf rootMissed
+  root-no p h = ⊎-elim (λ k. rw (lt-leb (length d) p k, not-cut p k (h k), h k)) (λ k. rw (le-leb (length d) p k))
+      (lt-or-le p (length d))
 
   pub told : {f : Form} {l : Bool} {p : ℕ} {r : Prolog} → Tells bad d o f l p r → tellOf bad d o f l p ≡ r
-  unfolding tellOf missOf
+  unfolding tellOf missOf rootMissed
   told over = refl
   told (white-on {p = p} {n = n} b h t) = rw (is-run (ofKind 0) d b, ne-eqb n p (λ e. omega arith)) (told t)
   told (white-off {p = p} b) = rw (is-run (ofKind 0) d b, eq-eqb p p refl)
@@ -236,7 +248,8 @@ module _ (bad : Bool) (d : List ℕ) (o : ℕ) where
   told (literal-on {public = public} {p = p} q t) = rw (quoted-is false public bad d o p q) (told t)
   told (literal-off {public = public} {p = p} q) = rw (quoted-is false public bad d o p q)
   told (root-on {p = p} b t) = rw (bytes-yes sss d b, ← (b .place)) (told t)
-  told (root-other {p = p} n h s) = rw (bytes-no sss d p n, lt-leb (length d) p h, s)
+  told (root-cut {p = p} n h b) = rw (bytes-no sss d p n, lt-leb (length d) p h, bytes-yes (drop p d) sss b)
+  told (root-other {p = p} n h m s) = rw (bytes-no sss d p n, lt-leb (length d) p h, bytes-no (drop p d) sss 0 m, s)
   told (root-off {p = p} n h) = rw (bytes-no sss d p n) (root-no p h)
   told (bracket-on {p = p} n t) = rw (bytes-no (91 ∷ []) d p n) (told t)
   told (bracket-off {p = p} b) = rw (bytes-yes (91 ∷ []) d b)
@@ -279,7 +292,8 @@ module _ (bad : Bool) (d : List ℕ) (o : ℕ) where
   reaches (literal-on {public = public} {p = p} q t) h = let k = quotes-past false public bad d o p q in reaches t (omega (arith, k .1))
   reaches (literal-off q) h = omega arith
   reaches (root-on b t) h = reaches t (bytes-in sss b h)
-  reaches (root-other n i s) h = omega arith
+  reaches (root-cut n i b) h = omega arith
+  reaches (root-other n i m s) h = omega arith
   reaches (root-off n i) h = omega arith
   reaches (bracket-on n t) h = reaches t h
   reaches (bracket-off b) h = omega arith

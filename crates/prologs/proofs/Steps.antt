@@ -15,7 +15,7 @@ use Rattle.markup.specs.declared.Skip.the-variants.{Past, Broken}
 use Rattle.markup.proofs.Gaps.{stands-long, gap-exactly}
 use Rattle.prologs.specs.rule.Form.{Form, done, white, room, word, literal, root, bracket, perhaps, which, pair, naming, standalone}
 use Rattle.prologs.specs.rule.Form.{UTF-8, sss}
-use Rattle.prologs.specs.rule.Told.{quotedOf, speltOf, amongOf, alikeOf, dueOf, missOf, blanks, onSkip, tellOf}
+use Rattle.prologs.specs.rule.Told.{quotedOf, speltOf, amongOf, alikeOf, dueOf, missOf, blanks, onSkip, rootMissed, tellOf}
 use Rattle.prologs.specs.Pair.{onQuoted, pairOf, latinOf}
 use Rattle.prologs.specs.declared.Pair.{Pair}
 use Rattle.prologs.specs.declared.Pair.the-variants.{Is, Off}
@@ -194,17 +194,9 @@ module _ (bad : Bool) (d : List ℕ) (o : ℕ) (f : Form) (l : Bool) (p : ℕ) w
   unfolding tellOf
   tell-root e = rw e
 
-  pub root-gone : stands sss (drop p d) ≡ false → length d ≤ p → tellOf bad d o (root f) l p ≡ Fault 50 (endFault bad p o)
+  pub root-away : stands sss (drop p d) ≡ false → tellOf bad d o (root f) l p ≡ rootMissed bad d o p
   unfolding tellOf
-  root-gone e h = rw (e, le-leb (length d) p h)
-
-  pub root-other : stands sss (drop p d) ≡ false → p < length d → startsName (getD d p 0) ≡ true → tellOf bad d o (root f) l p ≡ Fault 2 p
-  unfolding tellOf
-  root-other e h s = rw (e, lt-leb (length d) p h, s)
-
-  pub root-none : stands sss (drop p d) ≡ false → p < length d → startsName (getD d p 0) ≡ false → tellOf bad d o (root f) l p ≡ Fault 50 p
-  unfolding tellOf
-  root-none e h s = rw (e, lt-leb (length d) p h, s)
+  root-away e = rw e
 
   pub tell-bracket : stands (91 ∷ []) (drop p d) ≡ false → tellOf bad d o (bracket f) l p ≡ tellOf bad d o f l p
   unfolding tellOf

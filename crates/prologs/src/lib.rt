@@ -11,7 +11,7 @@ ghost use Rattle.prologs.specs.rule.Form.{pair, close, standalone, namin
 ghost use Rattle.prologs.specs.rule.Form.{ending, located, public, external, behind, doctype};
 ghost use Rattle.prologs.specs.rule.Form.{one-nought, yes, no, DOCTYPE, XML};
 ghost use Rattle.prologs.specs.rule.Told.{startOf, isXml, isPublic, insideOf, cutOf, closedOf, quotedOf, speltOf, alikes, alikeOf};
-ghost use Rattle.prologs.specs.rule.Told.{dueOf, missOf, tellOf, declarationOf, gapTo, gapOn, headOf, endOf, tailOf};
+ghost use Rattle.prologs.specs.rule.Told.{dueOf, missOf, rootMissed, tellOf, declarationOf, gapTo, gapOn, headOf, endOf, tailOf};
 ghost use Rattle.prologs.specs.Pair.{pairOf, latinOf};
 
 // What was read: whether the characters are those of ISO-8859-1, else UTF-8, and the place after it; or the refusal.
@@ -451,6 +451,35 @@ fn behind_at(bad: bool, latin: bool, d: &[u8], opened: usize, at: usize) -> Prol
     external_at(bad, latin, d, opened, n)
 }
 
+// What is told where the root's name is due and does not stand whole: it may be cut by the text's end, or be another name.
+fn root_missed(bad: bool, d: &[u8], opened: usize, at: usize) -> Prolog
+    requires { ⌜ at ≤ length (now d) ⌝ }
+    ensures { λ r. ⌜ r ≡ rootMissed bad (now (d .entry)) opened at ⌝ }
+{
+    if d.len() <= at {
+        return Prolog::Fault {
+            number: 50,
+            place: markup::end_fault(bad, at, opened),
+        };
+    }
+    if markup::is_there(b"sss", 0, &d[at..]) {
+        return Prolog::Fault {
+            number: 50,
+            place: markup::end_fault(bad, d.len(), at),
+        };
+    }
+    if markup::starts_name(d[at]) {
+        return Prolog::Fault {
+            number: 2,
+            place: at,
+        };
+    }
+    Prolog::Fault {
+        number: 50,
+        place: at,
+    }
+}
+
 // The DOCTYPE whose <!DOCTYPE stands at a place.
 fn doctype_at(bad: bool, latin: bool, d: &[u8], opened: usize) -> Prolog
     requires { ⌜ stands DOCTYPE (drop opened (now d)) ≡ true ⌝ }
@@ -464,22 +493,7 @@ fn doctype_at(bad: bool, latin: bool, d: &[u8], opened: usize) -> Prolog
     if markup::is_there(d, n, b"sss") {
         return behind_at(bad, latin, d, opened, n + 3);
     }
-    if d.len() <= n {
-        return Prolog::Fault {
-            number: 50,
-            place: markup::end_fault(bad, n, opened),
-        };
-    }
-    if markup::starts_name(d[n]) {
-        return Prolog::Fault {
-            number: 2,
-            place: n,
-        };
-    }
-    Prolog::Fault {
-        number: 50,
-        place: n,
-    }
+    root_missed(bad, d, opened, n)
 }
 
 fn gap_to(bad: bool, latin: bool, d: &[u8], at: usize) -> Prolog

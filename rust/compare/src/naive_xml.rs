@@ -1131,6 +1131,11 @@ impl Document {
             return Err(r.due(opened));
         }
         if !r.sees("sss") {
+            // Where only `s` or `ss` is left, the file ends too early; any other name is another name.
+            let left: String = r.text[r.at..].iter().map(|t| t.0).collect();
+            if left == "s" || left == "ss" {
+                return Err(r.cut(r.here()));
+            }
             return Err(if r.peek().is_some_and(starts_name) { (2, r.here()) } else { r.due(opened) });
         }
         r.at += 3;

@@ -1045,6 +1045,61 @@ fn definitions_in_xml() {
     tally.end("definitions in XML", 6_000, &[0, 1, 2, 4, 5, 6, 7, 8, 9, 10, 50, 51, 52]);
 }
 
+/// A survey in XML of one logical variable and no line, behind a head; `version` is the root's attributes, `tail` what follows the root.
+fn small_sheet(head: &str, version: &str, tail: &str) -> String {
+    let variable = "<variable ident=\"1\" type=\"logical\"><name>a</name><label>b</label><position start=\"1\"/></variable>";
+    format!("{head}<sss {version}><survey><record ident=\"A\">{variable}</record></survey></sss>{tail}")
+}
+
+/// Corners of XML that files at random hardly meet: a file cut at every byte ("Where the file ends too early: 50"), the head changed byte by byte,
+/// and points 5, 6, 15 and 20 of the readings.
+#[test]
+fn corners_of_xml() {
+    let mut tally = Tally::default();
+    let room = length(1, 0);
+    let mut answer = |bytes: Vec<u8>, room| check(&mut tally, 0, &definition(bytes, room)).answer;
+    let head = "<?xml version=\"1.0\" encoding=\"UTF-8\"?>\n<!DOCTYPE sss PUBLIC \"a\" \"b\">\n";
+    let whole = small_sheet(head, "version=\"1.2\"", "");
+    assert_eq!(answer(whole.as_bytes().to_vec(), room)[0], 0);
+    for cut in 5..whole.len() {
+        assert_eq!(answer(whole.as_bytes()[..cut].to_vec(), room)[0], 50, "cut at {cut}");
+    }
+    for place in 0..head.len() {
+        for byte in *b"sx >\"[\x01\xFF" {
+            let mut bytes = whole.as_bytes().to_vec();
+            bytes[place] = byte;
+            answer(bytes, room);
+        }
+    }
+    let declared = "<?xml version=\"1.0\"?>";
+    for (text, number, mark) in [
+        (format!("{declared}<!DOCTYPE s"), 50, "s"),
+        (format!("{declared}<!DOCTYPE ss"), 50, "ss"),
+        (format!("{declared}<!DOCTYPE ssx"), 2, "ssx"),
+        (small_sheet(&format!("{declared}<!DOCTYPE sss SYSTEM \"x\" [ ]>"), "version=\"1.2\"", ""), 51, "[ ]>"),
+        (small_sheet("\u{FEFF}<?xml version=\"1.0\" encoding=\"ISO-8859-1\"?>", "version=\"1.2\"", ""), 50, "ISO"),
+        (small_sheet("", "version=\"1.2\"", "<?end?>"), 51, "<?end?>"),
+        (small_sheet("", "version=\"1.1\" languages=\"en\"", ""), 51, "languages"),
+    ] {
+        let place = text.rfind(mark).unwrap() as i64;
+        assert_eq!(answer(text.as_bytes().to_vec(), room), [number, place, 0, 0], "{text}");
+    }
+    let bad = [declared.as_bytes(), b"<!DOCTYPE s\xFFs SYSTEM \"x\">"].concat();
+    assert_eq!(answer(bad, room), [50, declared.len() as i64 + 11, 0, 0]);
+    // A 513th variable is 8 at its ident, a 4,097th line 8 at its code.
+    let variables: String = (1..=513)
+        .map(|i| format!("<variable ident=\"{i}\" type=\"logical\"><name>n{i}</name><label/><position start=\"{i}\"/></variable>"))
+        .collect();
+    let sheet = |inside: &str| format!("<sss version=\"1.2\"><survey><record ident=\"A\">{inside}</record></survey></sss>");
+    let many = sheet(&variables);
+    assert_eq!(answer(many.as_bytes().to_vec(), length(512, 0)), [8, many.find("\"513\"").unwrap() as i64 + 1, 0, 0]);
+    let lines: String = (1..=4_097).map(|i| format!("<value code=\"{i}\">x</value>")).collect();
+    let single = "<variable ident=\"1\" type=\"single\"><name>a</name><label/><position start=\"1\" finish=\"4\"/><values>";
+    let long = sheet(&format!("{single}{lines}</values></variable>"));
+    assert_eq!(answer(long.as_bytes().to_vec(), length(1, 4_096)), [8, long.find("\"4097\"").unwrap() as i64 + 1, 0, 0]);
+    tally.end("corners of XML", 700, &[0, 2, 8, 50, 51]);
+}
+
 /// Document 000's example, read by both sides: as printed 50 at the declaration's `>`, with that mended 9 at the name that is printed 03, with both
 /// slips mended V 8, E 20, L 54, and Q7 filtered by Q6.
 #[test]

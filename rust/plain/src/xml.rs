@@ -932,7 +932,12 @@ impl<'a> Reader<'a> {
         let mut t = Tokens { d: self.d, at: self.at + 9, open: bad };
         t.apart()?;
         if !t.word(b"sss") {
-            let name = t.d.get(t.at).is_some_and(|&x| starts_name(x));
+            let left = t.d.get(t.at..).unwrap_or_default();
+            // The name that breaks off is no other name: the text ends too early.
+            if !left.is_empty() && b"sss".starts_with(left) {
+                return fault(50, if self.bad { t.d.len() } else { t.at });
+            }
+            let name = left.first().is_some_and(|&x| starts_name(x));
             return if name { fault(2, t.at) } else { t.departs(t.at) };
         }
         let apart = t.spaces();

@@ -208,6 +208,12 @@ fn doctypes() {
     refused(51, &with("¶<other>"));
     refused(50, &with("<other ¶<"));
     refused(2, &with("<!DOCTYPE ¶other SYSTEM \"x\">"));
+    // Point 4: "Where the file ends too early: 50", inside the name too; a name that departs from it is another name.
+    refused_bytes(50, 31, b"<?xml version=\"1.0\"?><!DOCTYPE s");
+    refused_bytes(50, 31, b"<?xml version=\"1.0\"?><!DOCTYPE ss");
+    refused_bytes(50, 32, b"<?xml version=\"1.0\"?><!DOCTYPE s\xFFs SYSTEM \"x\">");
+    refused_bytes(2, 31, b"<?xml version=\"1.0\"?><!DOCTYPE ssx");
+    refused_bytes(2, 31, b"<?xml version=\"1.0\"?><!DOCTYPE ss ");
     refused_bytes(50, 21, b"<?xml version=\"1.0\"?><!DOCTYPE sss SYSTEM \"x");
     refused_bytes(50, 44, b"<?xml version=\"1.0\"?><!DOCTYPE sss PUBLIC \"x<y");
 }

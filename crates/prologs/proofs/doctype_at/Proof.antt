@@ -6,7 +6,7 @@ use lib.ListN.{length, drop, getD}
 use borrow.Author.Needs.{needs}
 use native.Mathlib.Omega.{arith}
 use Rattle.prologs.specs.rule.Form.{DOCTYPE, white, root, behind}
-use Rattle.prologs.proofs.Steps.{stands-in, tell-word, tell-white, white-miss, tell-root, root-gone, root-other, root-none}
+use Rattle.prologs.proofs.Steps.{stands-in, tell-word, tell-white, white-miss, tell-root, root-away}
 use Rattle.prologs.proofs.doctype_at.Statement.{statement}
 use Rattle.prologs.proofs.doctype_at.Tie as tie
 
@@ -48,39 +48,16 @@ returns-2 c =
 
 returns-3 : tie.Need-returns-3
 returns-3 c =
-    let at-if2 = c .before .before in
+    let at-if2 = c .before in
     let at-run = at-if2 .before .before .before .before in
     let start = at-run .before .before in
-    rw (c .end-fault .ensures) (sym (tell-word (start .args .bad) (start .args .d .now) (start .args .opened) (white (root behind))
+    c .root-missed .ensures ∙ sym (tell-word (start .args .bad) (start .args .d .now) (start .args .opened) (white (root behind))
     (start .args .latin) (start .args .opened) DOCTYPE (start .pre) ∙ tell-white (start .args .bad) (start .args .d .now)
     (start .args .opened) (root behind) (start .args .latin) (start .args .opened + 9)
-    (at-run .run .ensures .0) (at-if2 .before .before .before .if1 .left) ∙ root-gone (start .args .bad) (start .args .d .now)
+    (at-run .run .ensures .0) (at-if2 .before .before .before .if1 .left) ∙ root-away (start .args .bad) (start .args .d .now)
     (start .args .opened) behind (start .args .latin) (at-run .run .result)
-    (sym (at-if2 .before .is-there .ensures) ∙ at-if2 .if2 .left) (omega arith)))
-
-returns-4 : tie.Need-returns-4
-returns-4 c =
-    let at-if2 = c .before .before .before .before in
-    let at-run = at-if2 .before .before .before .before in
-    let start = at-run .before .before in
-    sym (tell-word (start .args .bad) (start .args .d .now) (start .args .opened) (white (root behind)) (start .args .latin)
-    (start .args .opened) DOCTYPE (start .pre) ∙ tell-white (start .args .bad) (start .args .d .now) (start .args .opened) (root behind)
-    (start .args .latin) (start .args .opened + 9) (at-run .run .ensures .0) (at-if2 .before .before .before .if1 .left)
-    ∙ root-other (start .args .bad) (start .args .d .now) (start .args .opened) behind (start .args .latin) (at-run .run .result)
-    (sym (at-if2 .before .is-there .ensures) ∙ at-if2 .if2 .left) (omega arith) (sym (c .before .starts-name .ensures) ∙ c .if4 .taken))
-
-returns-5 : tie.Need-returns-5
-returns-5 c =
-    let at-if2 = c .before .before .before .before in
-    let at-run = at-if2 .before .before .before .before in
-    let start = at-run .before .before in
-    sym (tell-word (start .args .bad) (start .args .d .now) (start .args .opened) (white (root behind)) (start .args .latin)
-    (start .args .opened) DOCTYPE (start .pre) ∙ tell-white (start .args .bad) (start .args .d .now) (start .args .opened) (root behind)
-    (start .args .latin) (start .args .opened + 9) (at-run .run .ensures .0) (at-if2 .before .before .before .if1 .left)
-    ∙ root-none (start .args .bad) (start .args .d .now) (start .args .opened) behind (start .args .latin) (at-run .run .result)
-    (sym (at-if2 .before .is-there .ensures) ∙ at-if2 .if2 .left) (omega arith) (sym (c .before .starts-name .ensures) ∙ c .if4 .left))
+    (sym (at-if2 .before .is-there .ensures) ∙ at-if2 .if2 .left))
 
 pub doctype-at-spec : {M : Type 1} → statement M
 doctype-at-spec = tie.close (tie.spec add-at run-requires (λ c κs. search needs) returns (λ c. search needs) (λ c κs. search needs)
-    add-behind-at behind-at-requires returns-2 (λ c κs. search needs) returns-3 (λ c. search needs) (λ c κs. search needs) returns-4
-    returns-5)
+    add-behind-at behind-at-requires returns-2 (λ c κs. search needs) returns-3)

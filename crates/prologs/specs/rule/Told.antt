@@ -88,6 +88,14 @@ abbrev pub onSkip : Skip → (ℕ → Prolog) → Prolog
 onSkip (Past n) k = k n
 onSkip (Broken p) k = Fault 50 p
 
+-- the root's name is due at p and does not stand there whole. "Where the file ends too early: 50": where its beginning alone is left, at
+-- the bad character that cuts it, else at its first byte; another name is 2, anything else 50
+unfoldable pub rootMissed : Bool → List ℕ → ℕ → ℕ → Prolog
+rootMissed bad d o p =
+    cond (leb (length d) p) (Fault 50 (endFault bad p o))
+    (cond (stands (drop p d) sss) (Fault 50 (endFault bad (length d) p))
+    (cond (startsName (getD d p 0)) (Fault 2 p) (Fault 50 p)))
+
 -- from p on, in a mark whose < stands at o; latin is the encoding so far
 unfoldable pub tellOf : Bool → List ℕ → ℕ → Form → Bool → ℕ → Prolog
 tellOf bad d o done latin p = Read latin p
@@ -101,9 +109,7 @@ tellOf bad d o (encoding marked f) latin p =
     cond (alikeOf d (p + 1) k UTF-8) (tellOf bad d o f false (k + 1))
     (cond marked (Fault 50 (p + 1)) (cond (alikeOf d (p + 1) k ISO-8859-1) (tellOf bad d o f true (k + 1)) (Fault 50 (p + 1))))
 tellOf bad d o (literal public f) latin p = onSkip (quotedOf false public bad d o p) λ k. tellOf bad d o f latin (k + 1)
-tellOf bad d o (root f) latin p =
-    cond (stands sss (drop p d)) (tellOf bad d o f latin (p + 3))
-    (cond (leb (length d) p) (Fault 50 (endFault bad p o)) (cond (startsName (getD d p 0)) (Fault 2 p) (Fault 50 p)))
+tellOf bad d o (root f) latin p = cond (stands sss (drop p d)) (tellOf bad d o f latin (p + 3)) (rootMissed bad d o p)
 tellOf bad d o (bracket f) latin p = cond (stands (91 ∷ []) (drop p d)) (Fault 51 p) (tellOf bad d o f latin p)
 tellOf bad d o (perhaps w f g) latin p =
     let n = blanks d p in
