@@ -1047,7 +1047,8 @@ fn definitions_in_xml() {
 
 /// A survey in XML of one logical variable and no line, behind a head; `version` is the root's attributes, `tail` what follows the root.
 fn small_sheet(head: &str, version: &str, tail: &str) -> String {
-    let variable = "<variable ident=\"1\" type=\"logical\"><name>a</name><label>b</label><position start=\"1\"/></variable>";
+    let variable =
+        "<variable ident=\"1\" type=\"logical\"><name>a</name><label>b</label><position start=\"1\"/></variable>";
     format!("{head}<sss {version}><survey><record ident=\"A\">{variable}</record></survey></sss>{tail}")
 }
 
@@ -1088,15 +1089,24 @@ fn corners_of_xml() {
     assert_eq!(answer(bad, room), [50, declared.len() as i64 + 11, 0, 0]);
     // A 513th variable is 8 at its ident, a 4,097th line 8 at its code.
     let variables: String = (1..=513)
-        .map(|i| format!("<variable ident=\"{i}\" type=\"logical\"><name>n{i}</name><label/><position start=\"{i}\"/></variable>"))
+        .map(|i| {
+            format!(
+                "<variable ident=\"{i}\" type=\"logical\"><name>n{i}</name><label/><position start=\"{i}\"/></variable>"
+            )
+        })
         .collect();
-    let sheet = |inside: &str| format!("<sss version=\"1.2\"><survey><record ident=\"A\">{inside}</record></survey></sss>");
+    let sheet =
+        |inside: &str| format!("<sss version=\"1.2\"><survey><record ident=\"A\">{inside}</record></survey></sss>");
     let many = sheet(&variables);
     assert_eq!(answer(many.as_bytes().to_vec(), length(512, 0)), [8, many.find("\"513\"").unwrap() as i64 + 1, 0, 0]);
     let lines: String = (1..=4_097).map(|i| format!("<value code=\"{i}\">x</value>")).collect();
-    let single = "<variable ident=\"1\" type=\"single\"><name>a</name><label/><position start=\"1\" finish=\"4\"/><values>";
+    let single =
+        "<variable ident=\"1\" type=\"single\"><name>a</name><label/><position start=\"1\" finish=\"4\"/><values>";
     let long = sheet(&format!("{single}{lines}</values></variable>"));
-    assert_eq!(answer(long.as_bytes().to_vec(), length(1, 4_096)), [8, long.find("\"4097\"").unwrap() as i64 + 1, 0, 0]);
+    assert_eq!(
+        answer(long.as_bytes().to_vec(), length(1, 4_096)),
+        [8, long.find("\"4097\"").unwrap() as i64 + 1, 0, 0]
+    );
     tally.end("corners of XML", 700, &[0, 2, 8, 50, 51]);
 }
 
