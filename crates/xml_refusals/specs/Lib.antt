@@ -1,0 +1,7 @@
+pub mod Tags
+pub mod Opens
+pub mod Dues
+pub mod Stops
+pub mod Halts
+pub mod Seen
+pub mod Whole
