@@ -48,6 +48,7 @@ use Rattle.xml_derivation_laws.specs.Derived.{cond-both, cond-no, derived-read}
 use Rattle.xml_refusals.specs.Tags.{tag-refused-exactly}
 use Rattle.xml_refusals.specs.Opens.{Opens, Misplaced, opens-found, misplaced-is}
 use Rattle.xml_refusals.specs.Dues.{NoTag, no-tag-exactly}
+use Rattle.xml_refusals.specs.Voids.{void-exactly, void-refused-exactly}
 use Rattle.xml_refusals.specs.Stops.{Leads, here, Owes, AnyTag, TagStops, Inner, InnerStops, Blamed, judgedBy, frontOf, Stops}
 use Rattle.xml_refusals.specs.Stops as stops
 
@@ -368,7 +369,8 @@ module _ (bad : Bool) (d : List ℕ) where
 
     inner-stops : {f : Fault} → InnerStops bad d x s h em n f → ElementStops x s p f
     unfolding stretchFits
-    inner-stops (stops.InnerStops.empty i e) = element-stops λ g o. rw (i, e)
+    inner-stops {f} (stops.InnerStops.empty i e) =
+        element-stops λ g o. rw (i, void-refused-exactly bad d (ruleOf x .word) em n f .1 e)
     inner-stops (stops.InnerStops.text i derivation.Texts.characters e) = element-stops λ g o. rw (i, e)
     inner-stops (stops.InnerStops.text i derivation.Texts.rich e) = element-stops λ g o. rw (i, e)
     inner-stops (stops.InnerStops.digits i e) = element-stops λ g o. rw (i, e)
@@ -379,7 +381,8 @@ module _ (bad : Bool) (d : List ℕ) where
     charged-stops : {f : Fault} {t : Text} {l : List Charge} {m : ℕ} → Inner bad d x s em n t l m → Blamed (judgedBy d x s h t l) (behindOf d x s t) f
         → ElementStops x s p f
     unfolding stretchFits
-    charged-stops (stops.Inner.empty {l} {m} i e) z = element-stops λ g o. rw (i, e) (judging-stops noText l m z)
+    charged-stops (stops.Inner.empty {l} {m} i e) z =
+        element-stops λ g o. rw (i, void-exactly bad d (ruleOf x .word) em n l m (word-name x) .1 e) (judging-stops noText l m z)
     charged-stops (stops.Inner.text {m = m} {b = b} i derivation.Texts.characters e) z =
         element-stops λ g o. rw (i, e) (judging-stops (b .text) (b .charges) m z)
     charged-stops (stops.Inner.text {m = m} {b = b} i derivation.Texts.rich e) z =

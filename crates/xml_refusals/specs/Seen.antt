@@ -46,6 +46,7 @@ use Rattle.xml_derivation_laws.specs.Derived.{steps-of, loop, any-turns}
 use Rattle.xml_refusals.specs.Tags.{TagFaults, tag-refused-exactly}
 use Rattle.xml_refusals.specs.Opens.{Opens, Misplaced, found-opens, misplaced-seen}
 use Rattle.xml_refusals.specs.Dues.{no-tag-exactly}
+use Rattle.xml_refusals.specs.Voids.{void-exactly, void-refused-exactly}
 use Rattle.xml_refusals.specs.Stops.{Leads, here, Owes, AnyTag, Blamed, judgedBy, frontOf, Stops}
 use Rattle.xml_refusals.specs.Stops as stops
 use Rattle.xml_refusals.specs.Halts.{leads-fits, loop-by}
@@ -414,8 +415,9 @@ module _ (bad : Bool) (d : List ℕ) where
         → Stops bad d (the x) s p f
     nothing-seen i r = by (fails (stands.nothing bad d w em n) (judging bad d (meanings d) x s h noText) f r) where
       by : Fails (stands.nothing bad d w em n) (judging bad d (meanings d) x s h noText) f → Stops bad d (the x) s p f
-      by (before a) = stops.in-content tagged (stops.InnerStops.empty i a)
-      by (behind c m a b) = stops.charged tagged (stops.Inner.empty i a) (judging-seen noText c m b)
+      by (before a) = stops.in-content tagged (stops.InnerStops.empty i (void-refused-exactly bad d w em n f .0 a))
+      by (behind c m a b) =
+          stops.charged tagged (stops.Inner.empty i (void-exactly bad d w em n c m (word-name x) .0 a)) (judging-seen noText c m b)
 
     text-seen : {r : Holds} {mode : ℕ} → ruleOf x .holds ≡ r → Texts (s .manner .languages) r mode
         → bind (body bad d w mode em n) (λ b. judging bad d (meanings d) x s h (b .text) (b .charges)) ≡ Not f → Stops bad d (the x) s p f

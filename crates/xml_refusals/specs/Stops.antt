@@ -22,7 +22,6 @@ use Rattle.reading.specs.rule.Least.{Charge}
 use Rattle.grammar.specs.Faults.{Clean}
 use Rattle.grammar.specs.Refusal.{Lowest}
 use Rattle.xml_reading.specs.rule.Open.{unknownAt}
-use Rattle.xml_reading.specs.rule.Open as stands
 use Rattle.xml_reading.specs.rule.Element.{Body, body}
 use Rattle.xml_grammar.specs.Grammar.{Element, Attribute, Part, Holds, nothing, number, ruleOf}
 use Rattle.xml_grammar.specs.Grammar as table
@@ -34,6 +33,7 @@ use Rattle.xml_derivation_laws.specs.Read.{Told}
 use Rattle.xml_refusals.specs.Tags.{TagFaults}
 use Rattle.xml_refusals.specs.Opens.{Opens, Misplaced}
 use Rattle.xml_refusals.specs.Dues.{NoTag}
+use Rattle.xml_refusals.specs.Voids.{Voided, VoidStops}
 
 -- ---- the order of the table: x may stand next where these parts are due, and those are due behind it
 pub data Leads (old : Bool) : List Part → Element → List Part → Type 0 where
@@ -67,7 +67,7 @@ pub record TagStops (bad : Bool) (d : List ℕ) (old : Bool) (l : List Attribute
 
 -- ---- what an element x holds behind its start tag, read: its text and what is charged in it
 pub data Inner (bad : Bool) (d : List ℕ) (x : Element) (s : State) (alone : Bool) (n : ℕ) : Text → List Charge → ℕ → Type 0 where
-  empty : {l : List Charge} {m : ℕ} → ruleOf x .holds ≡ nothing → stands.nothing bad d (ruleOf x .word) alone n ≡ Is l m
+  empty : {l : List Charge} {m : ℕ} → ruleOf x .holds ≡ nothing → Voided bad d (ruleOf x .word) alone n l m
       → Inner bad d x s alone n noText l m
   text : {r : Holds} {mode m : ℕ} {b : Body} → ruleOf x .holds ≡ r → Texts (s .manner .languages) r mode
       → body bad d (ruleOf x .word) mode alone n ≡ Is b m → Inner bad d x s alone n (b .text) (b .charges) m
@@ -76,7 +76,7 @@ pub data Inner (bad : Bool) (d : List ℕ) (x : Element) (s : State) (alone : Bo
 
 -- or refused: 2 or 50 in it; no digits where digits alone may stand, "2 at the text's place"; what cuts a number, whose own form isn't asked
 pub data InnerStops (bad : Bool) (d : List ℕ) (x : Element) (s : State) (h : Held) (alone : Bool) (n : ℕ) : Fault → Type 0 where
-  empty : {f : Fault} → ruleOf x .holds ≡ nothing → stands.nothing bad d (ruleOf x .word) alone n ≡ Not f → InnerStops bad d x s h alone n f
+  empty : {f : Fault} → ruleOf x .holds ≡ nothing → VoidStops bad d (ruleOf x .word) alone n f → InnerStops bad d x s h alone n f
   text : {r : Holds} {mode : ℕ} {f : Fault} → ruleOf x .holds ≡ r → Texts (s .manner .languages) r mode
       → body bad d (ruleOf x .word) mode alone n ≡ Not f → InnerStops bad d x s h alone n f
   digits : {f : Fault} → ruleOf x .holds ≡ number → body bad d (ruleOf x .word) 0 alone n ≡ Not f → InnerStops bad d x s h alone n f
