@@ -28,6 +28,8 @@ use Rattle.grammar.specs.Refusal.{Lowest}
 use Rattle.grammar_laws.specs.Views.{judged-there, judged-halted, clean-both, clean-left, clean-right}
 use Rattle.xml_reading.specs.rule.Open.{Open, start, shut, within, unknownAt}
 use Rattle.xml_reading.specs.rule.Open as stands
+use Rattle.xml_reading.specs.rule.Element.{Body, body}
+use Rattle.xml_reading.specs.rule.Block.{rich}
 use Rattle.xml_grammar.specs.Grammar.{Element, Attribute, Part, Holds, ruleOf, typedOf}
 use Rattle.xml_grammar.specs.Grammar as table
 use Rattle.xml_grammar.specs.Reader.{noText, tagBy, round, steps, judging, entering, holding, element}
@@ -49,6 +51,7 @@ use Rattle.xml_refusals.specs.Tags.{tag-refused-exactly}
 use Rattle.xml_refusals.specs.Opens.{Opens, Misplaced, opens-found, misplaced-is}
 use Rattle.xml_refusals.specs.Dues.{NoTag, no-tag-exactly}
 use Rattle.xml_refusals.specs.Voids.{void-exactly, void-refused-exactly}
+use Rattle.xml_refusals.specs.Texts.{Texted, TextStops, texted-exactly, text-refused-exactly}
 use Rattle.xml_refusals.specs.Stops.{Leads, here, Owes, AnyTag, TagStops, Inner, InnerStops, Blamed, judgedBy, frontOf, Stops}
 use Rattle.xml_refusals.specs.Stops as stops
 
@@ -367,16 +370,23 @@ module _ (bad : Bool) (d : List ℕ) where
         rw (judged-there (judgedBy d x s h t l) (tt {0}) m c)
         (said-is d x s h t m ∙ judged-halted (behindOf d x s t) (saysOf d x s h t) m z)
 
+    read-text : (mode : ℕ) {b : Body} {m : ℕ} → Texted bad d mode (ruleOf x .word) em n b m → body bad d (ruleOf x .word) mode em n ≡ Is b m
+    read-text mode {b} {m} e = texted-exactly bad d mode (ruleOf x .word) em n b m (word-name x) .1 e
+
+    refused-text : (mode : ℕ) {f : Fault} → TextStops bad d mode (ruleOf x .word) em n f → body bad d (ruleOf x .word) mode em n ≡ Not f
+    refused-text mode {f} e = text-refused-exactly bad d mode (ruleOf x .word) em n f .1 e
+
     inner-stops : {f : Fault} → InnerStops bad d x s h em n f → ElementStops x s p f
     unfolding stretchFits
     inner-stops {f} (stops.InnerStops.empty i e) =
         element-stops λ g o. rw (i, void-refused-exactly bad d (ruleOf x .word) em n f .1 e)
-    inner-stops (stops.InnerStops.text i derivation.Texts.characters e) = element-stops λ g o. rw (i, e)
-    inner-stops (stops.InnerStops.text i derivation.Texts.rich e) = element-stops λ g o. rw (i, e)
-    inner-stops (stops.InnerStops.digits i e) = element-stops λ g o. rw (i, e)
-    inner-stops (stops.no-digits i e w z) = element-stops λ g o. rw (i, e, w, z)
+    inner-stops {f} (stops.InnerStops.text i derivation.Texts.characters e) = element-stops λ g o. rw (i, refused-text 0 e)
+    inner-stops {f} (stops.InnerStops.text i derivation.Texts.rich e) =
+        element-stops λ g o. rw (i, refused-text (rich (s .manner .languages)) e)
+    inner-stops {f} (stops.InnerStops.digits i e) = element-stops λ g o. rw (i, refused-text 0 e)
+    inner-stops (stops.no-digits i e w z) = element-stops λ g o. rw (i, read-text 0 e, w, z)
     inner-stops (stops.cut {m = m} {b = b} i e w z) =
-        element-stops λ g o. rw (i, e, w, judged-halted (unknownAt (h .unknown) ∷ b .charges) (tt {0}) m z)
+        element-stops λ g o. rw (i, read-text 0 e, w, judged-halted (unknownAt (h .unknown) ∷ b .charges) (tt {0}) m z)
 
     charged-stops : {f : Fault} {t : Text} {l : List Charge} {m : ℕ} → Inner bad d x s em n t l m → Blamed (judgedBy d x s h t l) (behindOf d x s t) f
         → ElementStops x s p f
@@ -384,11 +394,11 @@ module _ (bad : Bool) (d : List ℕ) where
     charged-stops (stops.Inner.empty {l} {m} i e) z =
         element-stops λ g o. rw (i, void-exactly bad d (ruleOf x .word) em n l m (word-name x) .1 e) (judging-stops noText l m z)
     charged-stops (stops.Inner.text {m = m} {b = b} i derivation.Texts.characters e) z =
-        element-stops λ g o. rw (i, e) (judging-stops (b .text) (b .charges) m z)
+        element-stops λ g o. rw (i, read-text 0 e) (judging-stops (b .text) (b .charges) m z)
     charged-stops (stops.Inner.text {m = m} {b = b} i derivation.Texts.rich e) z =
-        element-stops λ g o. rw (i, e) (judging-stops (b .text) (b .charges) m z)
+        element-stops λ g o. rw (i, read-text (rich (s .manner .languages)) e) (judging-stops (b .text) (b .charges) m z)
     charged-stops (stops.Inner.digits {m = m} {b = b} i e w v) z =
-        element-stops λ g o. rw (i, e, w, v) (judging-stops (b .text) (b .charges) m z)
+        element-stops λ g o. rw (i, read-text 0 e, w, v) (judging-stops (b .text) (b .charges) m z)
 
     -- its start tag is charged
     front-stops : {f : Fault} {r : Holds} {l : List Part} → ruleOf x .holds ≡ r → Parts (saysOf d x s h noText .sort) r l → Lowest (frontOf d x s h) f

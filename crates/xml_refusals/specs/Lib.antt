@@ -2,6 +2,7 @@ pub mod Tags
 pub mod Opens
 pub mod Dues
 pub mod Voids
+pub mod Texts
 pub mod Stops
 pub mod Halts
 pub mod Seen

@@ -100,7 +100,7 @@ module _ (bad : Bool) (d : List ℕ) where
       tag-exactly bad d p e [] [] [] 0 0 0 0 (y .held) (y .alone) (y .mark) (y .behind) .1
       (record { placed = y .placed; shut = shut-exactly bad d p (y .held .next) .1 (y .ended); whole = none-missed (y .held) })
 
-  pub read-whole : (p e : ℕ) {h : Held} {alone : Bool} {q m : ℕ} → bareOf bad d p e ≡ tag.Read h alone q m → Whole d e
+  abbrev pub read-whole : (p e : ℕ) {h : Held} {alone : Bool} {q m : ℕ} → bareOf bad d p e ≡ tag.Read h alone q m → Whole d e
   read-whole p e {h} {alone} {q} {m} r =
       let t = tag-exactly bad d p e [] [] [] 0 0 0 0 h alone q m .0 r in
       record {

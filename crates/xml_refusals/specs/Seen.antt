@@ -47,6 +47,7 @@ use Rattle.xml_refusals.specs.Tags.{TagFaults, tag-refused-exactly}
 use Rattle.xml_refusals.specs.Opens.{Opens, Misplaced, found-opens, misplaced-seen}
 use Rattle.xml_refusals.specs.Dues.{no-tag-exactly}
 use Rattle.xml_refusals.specs.Voids.{void-exactly, void-refused-exactly}
+use Rattle.xml_refusals.specs.Texts.{Texted, texted-exactly, text-refused-exactly}
 use Rattle.xml_refusals.specs.Stops.{Leads, here, Owes, AnyTag, Blamed, judgedBy, frontOf, Stops}
 use Rattle.xml_refusals.specs.Stops as stops
 use Rattle.xml_refusals.specs.Halts.{leads-fits, loop-by}
@@ -424,27 +425,33 @@ module _ (bad : Bool) (d : List ℕ) where
     text-seen {r} {mode} i o z =
         by (fails (body bad d w mode em n) (λ b. judging bad d (meanings d) x s h (b .text) (b .charges)) f z) where
           by : Fails (body bad d w mode em n) (λ b. judging bad d (meanings d) x s h (b .text) (b .charges)) f → Stops bad d (the x) s p f
-          by (before a) = stops.in-content tagged (stops.InnerStops.text i o a)
-          by (behind b m a c) = stops.charged tagged (stops.Inner.text i o a) (judging-seen (b .text) (b .charges) m c)
+          by (before a) = stops.in-content tagged (stops.InnerStops.text i o (text-refused-exactly bad d mode w em n f .0 a))
+          by (behind b m a c) =
+              stops.charged tagged (stops.Inner.text i o (texted-exactly bad d mode w em n b m (word-name x) .0 a))
+              (judging-seen (b .text) (b .charges) m c)
 
     number-seen : ruleOf x .holds ≡ number → bind (body bad d w 0 em n) (counting bad d (meanings d) x s h) ≡ Not f
         → Stops bad d (the x) s p f
     unfolding stretchFits
     number-seen i z = on (fails (body bad d w 0 em n) (counting bad d (meanings d) x s h) f z) where
+      texted : (b : Body) (m : ℕ) → body bad d w 0 em n ≡ Is b m → Texted bad d 0 w em n b m
+      texted b m a = texted-exactly bad d 0 w em n b m (word-name x) .0 a
+
       counted : (b : Body) (m : ℕ) → body bad d w 0 em n ≡ Is b m → (y z : Bool) → b .whole ≡ y
           → stretchFits 1 d (b .text .place) (b .text .place + b .text .length) ≡ z
           → cond y (cond z (judging bad d (meanings d) x s h (b .text) (b .charges) m) (Not (fault 2 (b .text .place))))
           (bind (judged (unknownAt (h .unknown) ∷ b .charges) (tt {0}) m) λ u. meaningOf d x .said s h (b .text)) ≡ Not f
           → Stops bad d (the x) s p f
-      counted b m a true true o v r = stops.charged tagged (stops.Inner.digits i a o v) (judging-seen (b .text) (b .charges) m r)
+      counted b m a true true o v r =
+          stops.charged tagged (stops.Inner.digits i (texted b m a) o v) (judging-seen (b .text) (b .charges) m r)
       counted b m a true false o v r =
-          let j : fault 2 (b .text .place) ≡ f = cc in moved j (stops.in-content tagged (stops.no-digits i a o v))
+          let j : fault 2 (b .text .place) ≡ f = cc in moved j (stops.in-content tagged (stops.no-digits i (texted b m a) o v))
       counted b m a false z o v r =
           by (fails (judged (unknownAt (h .unknown) ∷ b .charges) (tt {0}) m) (λ u. meaningOf d x .said s h (b .text)) f r) where
             by : Fails (judged (unknownAt (h .unknown) ∷ b .charges) (tt {0}) m) (λ u. meaningOf d x .said s h (b .text)) f
                 → Stops bad d (the x) s p f
             by (before c) =
-                stops.in-content tagged (stops.cut i a o (judged-not (unknownAt (h .unknown) ∷ b .charges) (tt {0}) m c))
+                stops.in-content tagged (stops.cut i (texted b m a) o (judged-not (unknownAt (h .unknown) ∷ b .charges) (tt {0}) m c))
             by (behind u j c y) =
                 let k = judged-read (unknownAt (h .unknown) ∷ b .charges) (tt {0}) m c in
                 let z = text-read bad d w (s .manner .latin) 0 em (word-name x) (within-file .0) (within-file .1) a
@@ -452,7 +459,7 @@ module _ (bad : Bool) (d : List ℕ) where
                 never cc
 
       on : Fails (body bad d w 0 em n) (counting bad d (meanings d) x s h) f → Stops bad d (the x) s p f
-      on (before a) = stops.in-content tagged (stops.InnerStops.digits i a)
+      on (before a) = stops.in-content tagged (stops.InnerStops.digits i (text-refused-exactly bad d 0 w em n f .0 a))
       on (behind b m a c) =
           counted b m a (b .whole) (stretchFits 1 d (b .text .place) (b .text .place + b .text .length)) refl refl c
 

@@ -17,12 +17,11 @@ use Rattle.pairs.proofs.Ends.{EndAt}
 use Rattle.tokens.specs.declared.Fault.{Fault}
 use Rattle.tokens.specs.rule.Gap.{fault}
 use Rattle.survey.specs.rule.Survey.{Text}
-use Rattle.reading.specs.rule.Result.{Is, Not}
 use Rattle.reading.specs.rule.Least.{Charge}
 use Rattle.grammar.specs.Faults.{Clean}
 use Rattle.grammar.specs.Refusal.{Lowest}
 use Rattle.xml_reading.specs.rule.Open.{unknownAt}
-use Rattle.xml_reading.specs.rule.Element.{Body, body}
+use Rattle.xml_reading.specs.rule.Element.{Body}
 use Rattle.xml_grammar.specs.Grammar.{Element, Attribute, Part, Holds, nothing, number, ruleOf}
 use Rattle.xml_grammar.specs.Grammar as table
 use Rattle.xml_grammar.specs.Reader.{noText}
@@ -34,6 +33,7 @@ use Rattle.xml_refusals.specs.Tags.{TagFaults}
 use Rattle.xml_refusals.specs.Opens.{Opens, Misplaced}
 use Rattle.xml_refusals.specs.Dues.{NoTag}
 use Rattle.xml_refusals.specs.Voids.{Voided, VoidStops}
+use Rattle.xml_refusals.specs.Texts.{Texted, TextStops}
 
 -- ---- the order of the table: x may stand next where these parts are due, and those are due behind it
 pub data Leads (old : Bool) : List Part → Element → List Part → Type 0 where
@@ -70,20 +70,20 @@ pub data Inner (bad : Bool) (d : List ℕ) (x : Element) (s : State) (alone : Bo
   empty : {l : List Charge} {m : ℕ} → ruleOf x .holds ≡ nothing → Voided bad d (ruleOf x .word) alone n l m
       → Inner bad d x s alone n noText l m
   text : {r : Holds} {mode m : ℕ} {b : Body} → ruleOf x .holds ≡ r → Texts (s .manner .languages) r mode
-      → body bad d (ruleOf x .word) mode alone n ≡ Is b m → Inner bad d x s alone n (b .text) (b .charges) m
-  digits : {m : ℕ} {b : Body} → ruleOf x .holds ≡ number → body bad d (ruleOf x .word) 0 alone n ≡ Is b m → b .whole ≡ true
+      → Texted bad d mode (ruleOf x .word) alone n b m → Inner bad d x s alone n (b .text) (b .charges) m
+  digits : {m : ℕ} {b : Body} → ruleOf x .holds ≡ number → Texted bad d 0 (ruleOf x .word) alone n b m → b .whole ≡ true
       → stretchFits 1 d (b .text .place) (b .text .place + b .text .length) ≡ true → Inner bad d x s alone n (b .text) (b .charges) m
 
 -- or refused: 2 or 50 in it; no digits where digits alone may stand, "2 at the text's place"; what cuts a number, whose own form isn't asked
 pub data InnerStops (bad : Bool) (d : List ℕ) (x : Element) (s : State) (h : Held) (alone : Bool) (n : ℕ) : Fault → Type 0 where
   empty : {f : Fault} → ruleOf x .holds ≡ nothing → VoidStops bad d (ruleOf x .word) alone n f → InnerStops bad d x s h alone n f
   text : {r : Holds} {mode : ℕ} {f : Fault} → ruleOf x .holds ≡ r → Texts (s .manner .languages) r mode
-      → body bad d (ruleOf x .word) mode alone n ≡ Not f → InnerStops bad d x s h alone n f
-  digits : {f : Fault} → ruleOf x .holds ≡ number → body bad d (ruleOf x .word) 0 alone n ≡ Not f → InnerStops bad d x s h alone n f
-  no-digits : {m : ℕ} {b : Body} → ruleOf x .holds ≡ number → body bad d (ruleOf x .word) 0 alone n ≡ Is b m → b .whole ≡ true
+      → TextStops bad d mode (ruleOf x .word) alone n f → InnerStops bad d x s h alone n f
+  digits : {f : Fault} → ruleOf x .holds ≡ number → TextStops bad d 0 (ruleOf x .word) alone n f → InnerStops bad d x s h alone n f
+  no-digits : {m : ℕ} {b : Body} → ruleOf x .holds ≡ number → Texted bad d 0 (ruleOf x .word) alone n b m → b .whole ≡ true
       → stretchFits 1 d (b .text .place) (b .text .place + b .text .length) ≡ false
       → InnerStops bad d x s h alone n (fault 2 (b .text .place))
-  cut : {m : ℕ} {b : Body} {f : Fault} → ruleOf x .holds ≡ number → body bad d (ruleOf x .word) 0 alone n ≡ Is b m → b .whole ≡ false
+  cut : {m : ℕ} {b : Body} {f : Fault} → ruleOf x .holds ≡ number → Texted bad d 0 (ruleOf x .word) alone n b m → b .whole ≡ false
       → Lowest (unknownAt (h .unknown) ∷ b .charges) f → InnerStops bad d x s h alone n f
 
 -- ---- judged once read: the least charge; names and filters (52) behind all else
