@@ -1,7 +1,6 @@
 -- DEFINITIONS IN XML OVER THE PUBLIC CALL (C-15): it reads one exactly when the file is derived over the table of document 000's elements
--- with
--- nothing charged, into the table of what is derived; it refuses one exactly where a derivation stops, with that number and place; and every
--- text of it decodes, by the numbers of the table.
+-- with nothing charged, into the table of what is derived; it refuses one exactly where a derivation stops, with that number and place; and
+-- every text of it decodes, by the numbers of the table.
 use mathlib.Core.Path.{_≡_, refl, sym, ap, _∙_}
 use mathlib.Core.Logic.{_↔_, _⊎_}
 use mathlib.Core.Bool.{true, cond}
@@ -71,8 +70,8 @@ module _ (d : List ℕ) (t : List ℤ) (x : isXml d ≡ true) where
       let o = refused-exactly d (length t) k p .1 (y .1) in
       record { says = rw (of-xml, o); leaves = rw (of-xml, o) (y .0) }
 
-  -- REFUSED EXACTLY: with this number at this place exactly where a derivation stops so, or by length, declaration, names or the lent table;
-  -- and the lent table is kept
+  -- REFUSED EXACTLY: with this number at this place exactly where a derivation stops so, or by length, declaration, names or the lent
+  -- table, which is kept
   pub sheets-refused-exactly : (t′ : List ℤ) (k p : ℕ)
       → DefinitionRead d t t′ (answer.Refused k p) ↔ ((t′ ≡ t) × Refused d (length t) k p)
   sheets-refused-exactly t′ k p = (refused-of t′, of-refused)

@@ -130,7 +130,8 @@ module _ (bad : Bool) (d : List ℕ) where
   unfolding none
   not-first x l v o k g e = g v (and-right (not (sameOf v (ruleOf x .word))) (none v (firsts l)) e)
 
-  pub apart-perhaps : (k : ℕ) (x : Element) (l : List Part) → fitOf d k (table.perhaps x ∷ l) ≡ true → none (ruleOf x .word) (firsts l) ≡ true
+  pub apart-perhaps : (k : ℕ) (x : Element) (l : List Part) → fitOf d k (table.perhaps x ∷ l) ≡ true → none (ruleOf x .word) (firsts l)
+      ≡ true
   unfolding fitOf
   apart-perhaps k x l e =
       let b = none (ruleOf x .word) (firsts l) in
@@ -304,7 +305,8 @@ module _ (bad : Bool) (d : List ℕ) where
         loops = any-loop l o r;
       }
 
-  pub either-apart : (k : ℕ) (x z : Element) (l : List Part) → fitOf d k (table.either x z ∷ l) ≡ true → none (ruleOf x .word) (z ∷ []) ≡ true
+  pub either-apart : (k : ℕ) (x z : Element) (l : List Part) → fitOf d k (table.either x z ∷ l) ≡ true → none (ruleOf x .word) (z ∷ [])
+      ≡ true
   unfolding fitOf
   either-apart k x z l e =
       let a = leb (height x) k in

@@ -1,6 +1,6 @@
 -- WHAT STOPS IS REFUSED: where a derivation stops with f, the reader of the table answers f, in the turns and the depth that it has.
 use mathlib.Core.Path.{_≡_, refl, sym, subst, _∙_}
-use mathlib.Core.Bool.{Bool, true, false, cond, not, _&&_}
+use mathlib.Core.Bool.{Bool, true, false, cond, not}
 use mathlib.Core.List.{List, [], _∷_, _++_}
 use Prim.Native.Nat.{ℕ, zero, suc, _+_, _-_, _<_, _≤_}
 use native.Mathlib.Omega.{arith}
@@ -20,9 +20,8 @@ use Rattle.spans.specs.rule.Says.{sameOf}
 use Rattle.tokens.specs.declared.Fault.{Fault}
 use Rattle.tokens.specs.rule.Gap.{fault}
 use Rattle.survey.specs.rule.Survey.{Text}
-use Rattle.reading.specs.rule.Result.{Result, Is, Not, Reader, give, repeat, bind}
-use Rattle.reading.specs.rule.Least.{Charge, judged}
-use Rattle.bridge.specs.Lowest.{never}
+use Rattle.reading.specs.rule.Result.{Result, Is, Not, Reader, give, bind}
+use Rattle.reading.specs.rule.Least.{Charge}
 use Rattle.grammar.specs.Faults.{Clean}
 use Rattle.grammar.specs.Refusal.{Lowest}
 use Rattle.grammar_laws.specs.Views.{judged-there, judged-halted, clean-both, clean-left, clean-right}
@@ -388,7 +387,8 @@ module _ (bad : Bool) (d : List ℕ) where
     inner-stops (stops.cut {m = m} {b = b} i e w z) =
         element-stops λ g o. rw (i, read-text 0 e, w, judged-halted (unknownAt (h .unknown) ∷ b .charges) (tt {0}) m z)
 
-    charged-stops : {f : Fault} {t : Text} {l : List Charge} {m : ℕ} → Inner bad d x s em n t l m → Blamed (judgedBy d x s h t l) (behindOf d x s t) f
+    charged-stops : {f : Fault} {t : Text} {l : List Charge} {m : ℕ} → Inner bad d x s em n t l m
+        → Blamed (judgedBy d x s h t l) (behindOf d x s t) f
         → ElementStops x s p f
     unfolding stretchFits
     charged-stops (stops.Inner.empty {l} {m} i e) z =
@@ -401,7 +401,8 @@ module _ (bad : Bool) (d : List ℕ) where
         element-stops λ g o. rw (i, read-text 0 e, w, v) (judging-stops (b .text) (b .charges) m z)
 
     -- its start tag is charged
-    front-stops : {f : Fault} {r : Holds} {l : List Part} → ruleOf x .holds ≡ r → Parts (saysOf d x s h noText .sort) r l → Lowest (frontOf d x s h) f
+    front-stops : {f : Fault} {r : Holds} {l : List Part} → ruleOf x .holds ≡ r → Parts (saysOf d x s h noText .sort) r l
+        → Lowest (frontOf d x s h) f
         → ElementStops x s p f
     front-stops i derivation.Parts.parts z = element-stops λ g o. rw (i, judged-halted (frontOf d x s h) (tt {0}) n z)
     front-stops i derivation.Parts.typed z = element-stops λ g o. rw (i, judged-halted (frontOf d x s h) (tt {0}) n z)
@@ -429,7 +430,8 @@ module _ (bad : Bool) (d : List ℕ) where
         let o = behindOf d x s noText in
         let q = clean-right k (j ++ o) c in
         let u = start-known bad d (s .manner .old) x a in
-        clean-both k (unknownAt (h .unknown) ∷ j) (clean-left k (j ++ o) c) (subst (λ (n : ℕ). Clean (unknownAt n ∷ j)) (sym u) (none-unknown j (clean-left j o q)))
+        clean-both k (unknownAt (h .unknown) ∷ j) (clean-left k (j ++ o) c)
+        (subst (λ (n : ℕ). Clean (unknownAt n ∷ j)) (sym u) (none-unknown j (clean-left j o q)))
 
     behind-clean : Clean (behindOf d x s noText)
     behind-clean =
@@ -469,7 +471,8 @@ module _ (bad : Bool) (d : List ℕ) where
       deep zero j = let z = some-height x in absurd (omega arith)
       deep (suc g) j = rw (tags.start-complete bad d (s .manner .old) x a, i) (by o g (y g (omega arith)))
 
-    parts-stops : {f : Fault} {l : List Part} → Parts (begun .sort) r l → Refused (inside (ruleOf x .word) l) begun n f → ElementStops x s p f
+    parts-stops : {f : Fault} {l : List Part} → Parts (begun .sort) r l → Refused (inside (ruleOf x .word) l) begun n f
+        → ElementStops x s p f
     parts-stops o y = holds-stops o λ g j. rw (y (word-name x) g (height x - 1) (rule-fits d x i o) j .go)
 
     end-stops : {f : Fault} {l : List Part} {t : State} {m : ℕ} → Parts (begun .sort) r l → Told d (inside (ruleOf x .word) l) begun n t m

@@ -1,5 +1,5 @@
--- A < WITH A NAME, behind white space and comments: what the reader finds there as a start tag, both ways; and a start tag that may not stand
--- there, which "is read for its form only (50 first)", else it is 51 at its <.
+-- A < WITH A NAME, behind white space and comments: what the reader finds there as a start tag, both ways; and a start tag that may not
+-- stand there, which "is read for its form only (50 first)", else it is 51 at its <.
 use mathlib.Core.Path.{_≡_, refl}
 use mathlib.Core.Bool.{Bool, true, false}
 use mathlib.Core.List.{List, []}
@@ -23,8 +23,7 @@ use Rattle.pairs.specs.rule.Stand.{standAt, standOf, bareOf}
 use Rattle.pairs.proofs.Stands.{NameAt, stand-start, angle-start}
 use Rattle.tokens.specs.declared.Fault.{Fault}
 use Rattle.tokens.specs.rule.Gap.{fault}
-use Rattle.reading.specs.rule.Result.{Result, Is, Not, Reader, bind}
-use Rattle.bridge.specs.Lowest.{never}
+use Rattle.reading.specs.rule.Result.{Is, Not, Reader, bind}
 use Rattle.xml_reading.specs.rule.Open.{start, within, onBare, misplaced}
 use Rattle.xml_derivation_laws.specs.Stands as found
 use Rattle.xml_refusals.specs.Tags.{TagFaults, tag-refused-exactly}

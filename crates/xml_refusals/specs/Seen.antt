@@ -41,7 +41,7 @@ use Rattle.xml_derivation_laws.specs.Tags.{tag-by, start-sound}
 use Rattle.xml_derivation_laws.specs.Stands.{found-gap, found-start, found-end}
 use Rattle.xml_derivation_laws.specs.Bodies.{text-read}
 use Rattle.xml_derivation_laws.specs.Fewer.{left, passes-fits, comes-fits, fewer, turns-suffice}
-use Rattle.xml_derivation_laws.specs.Read.{Told, parts-read, element-read}
+use Rattle.xml_derivation_laws.specs.Read.{parts-read, element-read}
 use Rattle.xml_derivation_laws.specs.Derived.{steps-of, loop, any-turns}
 use Rattle.xml_refusals.specs.Tags.{TagFaults, tag-refused-exactly}
 use Rattle.xml_refusals.specs.Opens.{Opens, Misplaced, found-opens, misplaced-seen}

@@ -4,7 +4,7 @@
 -- number, equal numbers by place." `bad` says that behind d a character stands that is not legal.
 use mathlib.Core.Path.{_≡_}
 use mathlib.Core.Bool.{Bool, true, false}
-use mathlib.Core.List.{List, [], _∷_, _++_}
+use mathlib.Core.List.{List, _∷_, _++_}
 use Prim.Native.Nat.{ℕ, _+_}
 use Rattle.markup.proofs.Gaps.{Gapped}
 use Rattle.attributes.proofs.Exactly.{Ended}
@@ -74,7 +74,8 @@ pub data Inner (bad : Bool) (d : List ℕ) (x : Element) (s : State) (alone : Bo
   digits : {m : ℕ} {b : Body} → ruleOf x .holds ≡ number → Texted bad d 0 (ruleOf x .word) alone n b m → b .whole ≡ true
       → stretchFits 1 d (b .text .place) (b .text .place + b .text .length) ≡ true → Inner bad d x s alone n (b .text) (b .charges) m
 
--- or refused: 2 or 50 in it; no digits where digits alone may stand, "2 at the text's place"; what cuts a number, whose own form isn't asked
+-- or refused: 2 or 50 in it; no digits where digits alone may stand, "2 at the text's place"; what cuts a number, whose own form isn't
+-- asked
 pub data InnerStops (bad : Bool) (d : List ℕ) (x : Element) (s : State) (h : Held) (alone : Bool) (n : ℕ) : Fault → Type 0 where
   empty : {f : Fault} → ruleOf x .holds ≡ nothing → VoidStops bad d (ruleOf x .word) alone n f → InnerStops bad d x s h alone n f
   text : {r : Holds} {mode : ℕ} {f : Fault} → ruleOf x .holds ≡ r → Texts (s .manner .languages) r mode

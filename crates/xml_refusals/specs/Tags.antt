@@ -1,15 +1,15 @@
 -- A START TAG THAT IS REFUSED, in words: behind attributes in XML's form, whatever their order, stands what breaks the tag, "50 at what
--- stands there"; "an attribute of the element given twice: 50 at the second's name"; a value of wrong form, 2 at the value; or the tag's end where
--- "a required attribute" is missing, 2 there.
+-- stands there"; "an attribute of the element given twice: 50 at the second's name"; a value of wrong form, 2 at the value; or the tag's
+-- end where "a required attribute" is missing, 2 there.
 use mathlib.Core.Path.{_≡_, refl, sym, ap, _∙_}
 use mathlib.Core.Logic.{_↔_}
 use mathlib.Core.Bool.{Bool, true, false, cond}
-use mathlib.Core.List.{List, [], _∷_}
-use Prim.Native.Nat.{ℕ, zero, suc, _+_, _-_, _≤_, _<_}
+use mathlib.Core.List.{List}
+use Prim.Native.Nat.{ℕ, zero, suc, _-_, _≤_, _<_}
 use native.Mathlib.Omega.{arith}
 use lib.Dec.{eqb}
 use lib.ListN.{length}
-use borrow.Author.Tests.{eq-eqb, ne-eqb, eqb-true, eqb-false}
+use borrow.Author.Tests.{ne-eqb, eqb-true, eqb-false}
 use Rattle.attributes.specs.rule.Attribute.{attributeOf}
 use Rattle.attributes.specs.declared.Attribute.{Attribute}
 use Rattle.attributes.specs.declared.Attribute.the-variants.{One, Shut, Faulty}
@@ -36,7 +36,8 @@ pub data Ill (before : ℕ) (good : Bool) (name v : ℕ) : Fault → Type 0 wher
   twice : 0 < before → Ill before good name v (fault 50 name)
   formless : before ≡ 0 → good ≡ false → Ill before good name v (fault 2 v)
 
-ill-of : (before : ℕ) (good : Bool) (name v : ℕ) (h : Held) {f : Fault} → placedOf before good name v h ≡ Over (tag.Fault (f .number) (f .place))
+ill-of : (before : ℕ) (good : Bool) (name v : ℕ) (h : Held) {f : Fault} → placedOf before good name v h
+    ≡ Over (tag.Fault (f .number) (f .place))
     → Ill before good name v f
 ill-of before good name v h {f} e = by (eqb before 0) good refl refl e where
   by : (a b : Bool) → eqb before 0 ≡ a → good ≡ b → cond a (cond b (More h) (Over (tag.Fault 2 v))) (Over (tag.Fault 50 name))

@@ -1,16 +1,15 @@
--- WHERE A TEXT ENDS, in words, in an element w by mode (0 characters alone, 1 breaks too, 2 texts in other languages too): at its end tag; at
--- what cuts it, 51 there; or where it is refused, 2 or 50. "`<text>` without a languages attribute: 51. br stands in title, label, value,
--- text only, else 51. Processing instructions and CDATA: 51 at `<`. An end tag of another name: 50 at its `<`. `]]>` in a text 50. Where the
--- file ends too early: 50."
+-- WHERE A TEXT ENDS, in words, in an element w by mode (0 characters alone, 1 breaks too, 2 texts in other languages too): at its end tag;
+-- at what cuts it, 51 there; or where it is refused, 2 or 50. "`<text>` without a languages attribute: 51. br stands in title, label,
+-- value, text only, else 51. Processing instructions and CDATA: 51 at `<`. An end tag of another name: 50 at its `<`. `]]>` in a text 50.
+-- Where the file ends too early: 50."
 use mathlib.Core.Path.{_≡_, refl, ap, _∙_}
 use mathlib.Core.Logic.{_↔_}
 use mathlib.Core.Bool.{Bool, true, false, cond}
 use mathlib.Core.List.{List, [], _∷_}
 use Prim.Native.Nat.{ℕ, _+_, _<_, _≤_}
-use native.Mathlib.Omega.{arith}
 use lib.Dec.{leb, eqb}
 use lib.ListN.{length, drop, getD}
-use borrow.Author.Tests.{eq-eqb, ne-eqb, eqb-true, eqb-false, le-leb, lt-leb, leb-true, leb-false}
+use borrow.Author.Tests.{ne-eqb, eqb-true, eqb-false, le-leb, lt-leb, leb-true, leb-false}
 use Rattle.signs.specs.declared.Sign.{Sign}
 use Rattle.markup.specs.rule.Bytes.{stands}
 use Rattle.markup.specs.rule.Reference.{referenceOf}
@@ -32,22 +31,21 @@ use Rattle.pairs.specs.rule.Grammar.{Name, firstOf}
 use Rattle.pairs.specs.rule.Stand.{shutOf, bareOf}
 use Rattle.pairs.specs.rule.Pair.{pairOf}
 use Rattle.contents.specs.rule.Grammar.{br, text, lang}
-use Rattle.contents.specs.rule.Step.{modeIn, kindOf, knowing, stepOf, markAt, noteAt, startAt, breakAt, pairAt, languageAt, otherAt, closeAt}
+use Rattle.contents.specs.rule.Step.{modeIn, kindOf, knowing, stepOf, markAt, noteAt, startAt, breakAt, pairAt, languageAt, otherAt}
+use Rattle.contents.specs.rule.Step.{closeAt}
 use Rattle.contents.specs.rule.Step.{bracketAt, returnAt, referAt, onChar, onNote, onPair, onBreak, onLanguage, onOther, onOut, onEnd}
-use Rattle.contents.specs.rule.Step.{onAngle, goOn, brokenAt, cutAt}
+use Rattle.contents.specs.rule.Step.{onAngle, goOn, brokenAt}
 use Rattle.contents.specs.rule.Content.{begun, contentOf}
 use Rattle.contents.specs.declared.Going.{Going}
 use Rattle.contents.specs.declared.Said.the-variants as said
-use Rattle.contents.specs.declared.Step.{Step}
-use Rattle.contents.specs.declared.Step.the-variants.{More, Over}
+use Rattle.contents.specs.declared.Step.the-variants.{Over}
 use Rattle.contents.specs.declared.Content.{Content}
 use Rattle.contents.specs.declared.Content.the-variants as content
-use Rattle.contents.proofs.Goes.{Goes, Reached, content-reached, content-over, goes-content}
+use Rattle.contents.proofs.Goes.{Goes, content-reached, content-over, goes-content}
 use Rattle.contents.proofs.Exactly.{ContentAt, content-exactly}
 use Rattle.tokens.specs.declared.Fault.{Fault}
 use Rattle.tokens.specs.rule.Gap.{fault}
-use Rattle.reading.specs.rule.Result.{Result, Is, Not}
-use Rattle.reading.specs.rule.Least.{Charge}
+use Rattle.reading.specs.rule.Result.{Is, Not}
 use Rattle.bridge.specs.Lowest.{never}
 use Rattle.xml_reading.specs.rule.Open.{unknownAt}
 use Rattle.xml_reading.specs.rule.Open as opening

@@ -1,6 +1,6 @@
--- WHAT FOLLOWS THE START TAG OF AN ELEMENT w THAT HOLDS NOTHING, in words: its end tag behind white space and comments, unless it ended with
--- its start tag; "a start tag that may not stand there ends the statement it stands in", 51 at its <, and so does what document 000 doesn't
--- name; or it is refused there.
+-- WHAT FOLLOWS THE START TAG OF AN ELEMENT w THAT HOLDS NOTHING, in words: its end tag behind white space and comments, unless it ended
+-- with its start tag; "a start tag that may not stand there ends the statement it stands in", 51 at its <, and so does what document 000
+-- doesn't name; or it is refused there.
 use mathlib.Core.Path.{_≡_, refl, sym, ap}
 use mathlib.Core.Logic.{_↔_}
 use mathlib.Core.Bool.{Bool, true, false, cond}

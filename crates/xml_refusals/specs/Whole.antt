@@ -1,10 +1,10 @@
 -- THE WHOLE: a definition in XML is refused exactly where a derivation of it stops, with that number and at that place; or by its length,
 -- its declaration, its names, or a lent table that is too short.
-use mathlib.Core.Path.{_≡_, refl, sym, ap, _∙_}
+use mathlib.Core.Path.{_≡_, refl, sym, _∙_}
 use mathlib.Core.Logic.{_↔_}
 use mathlib.Core.Bool.{Bool, true, false, cond}
-use mathlib.Core.List.{List, [], _∷_}
-use Prim.Native.Nat.{ℕ, _+_, _<_, _≤_}
+use mathlib.Core.List.{List, _∷_}
+use Prim.Native.Nat.{ℕ, _<_, _≤_}
 use native.Mathlib.Omega.{arith}
 use lib.Dec.{ltb}
 use lib.ListN.{length, take, getD}
@@ -27,9 +27,8 @@ use Rattle.bridge.specs.Lowest.{never}
 use Rattle.grammar.specs.Faults.{Clean}
 use Rattle.names.specs.rule.Standard.{nameFault}
 use Rattle.xml_reading.specs.rule.Word.{SSS}
-use Rattle.xml_reading.specs.rule.Role.{Entry}
 use Rattle.xml_reading.specs.rule.Sheet.{Survey, rooted, headed, root, cleared, sheet}
-use Rattle.xml_reading.specs.rule.Whole.{Outcome, Built, Refusal, tableOf, fitting, namesOf, placeOf, judgeNames, settled, sheetOf}
+use Rattle.xml_reading.specs.rule.Whole.{Built, Refusal, tableOf, fitting, namesOf, placeOf, judgeNames, settled, sheetOf}
 use Rattle.xml_reading.specs.rule.Whole.{declared, outcomeOf}
 use Rattle.xml_grammar.specs.Grammar.{Sss}
 use Rattle.xml_grammar.specs.Reader.{element}
@@ -127,8 +126,8 @@ module _ (bad latin : Bool) (d : List ℕ) where
   pub sheet-refused-exactly : (n : ℕ) (f : Fault) → (sheet bad d latin n ≡ Not f) ↔ SheetStops bad latin d n f
   sheet-refused-exactly n f = (sheet-seen n, sheet-halted n)
 
--- ---- the file, with a lent table of n numbers: "1 is first of all"; the declaration; where its derivation stops, up to the first character
--- that is not legal; "with standardnames, 9 at the text's place, and 10"
+-- ---- the file, with a lent table of n numbers: "1 is first of all"; the declaration; where its derivation stops, up to the first
+-- character that is not legal; "with standardnames, 9 at the text's place, and 10"
 pub data Refused (d : List ℕ) (n : ℕ) : ℕ → ℕ → Type 0 where
   too-long : 1048576 < length d → Refused d n 1 0
   undeclared : {k q : ℕ} → length d ≤ 1048576 → Declared d (prolog.Fault k q) → Refused d n k q

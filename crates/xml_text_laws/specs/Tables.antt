@@ -8,7 +8,7 @@ use native.Mathlib.Omega.{arith}
 use lib.IntN.{ℤ}
 use lib.ListN.{length, drop, length-append}
 use Rattle.cells.specs.rule.Cell.{countOf, pasted}
-use Rattle.layout.specs.rule.Layout.{headerSize, rowSize, lineSize, rowBase, linesBase, lineBase, columnsAt, lineAt}
+use Rattle.layout.specs.rule.Layout.{headerSize, lineSize, rowBase, lineBase, lineAt}
 use Rattle.rows.specs.rule.Cells.{rowCells, headerCells}
 use Rattle.sound.specs.rule.Sound.{columnsOf}
 use Rattle.survey.specs.rule.Survey.{Line, Variable}
