@@ -1,5 +1,6 @@
 pub mod Tags
 pub mod Opens
+pub mod Roots
 pub mod Dues
 pub mod Voids
 pub mod Texts

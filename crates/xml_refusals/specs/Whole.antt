@@ -27,7 +27,7 @@ use Rattle.bridge.specs.Lowest.{never}
 use Rattle.grammar.specs.Faults.{Clean}
 use Rattle.names.specs.rule.Standard.{nameFault}
 use Rattle.xml_reading.specs.rule.Word.{SSS}
-use Rattle.xml_reading.specs.rule.Sheet.{Survey, rooted, headed, root, cleared, sheet}
+use Rattle.xml_reading.specs.rule.Sheet.{Survey, headed, root, cleared, sheet}
 use Rattle.xml_reading.specs.rule.Whole.{Built, Refusal, tableOf, fitting, namesOf, placeOf, judgeNames, settled, sheetOf}
 use Rattle.xml_reading.specs.rule.Whole.{declared, outcomeOf}
 use Rattle.xml_grammar.specs.Grammar.{Sss}
@@ -40,6 +40,7 @@ use Rattle.xml_derivation_laws.specs.Read.{Told, element-read}
 use Rattle.xml_derivation_laws.specs.Derived.{derived-read}
 use Rattle.xml_derivation_laws.specs.Whole.{RootRead, root-read, root-there, Derivation, sheet-derived, derived-sheet, all-legal, legal-all}
 use Rattle.xml_refusals.specs.Opens.{Opens, opens-start}
+use Rattle.xml_refusals.specs.Roots.{NoRoot, no-root-exactly}
 use Rattle.xml_refusals.specs.Stops.{Stops}
 use Rattle.xml_refusals.specs.Halts.{stops-refused}
 use Rattle.xml_refusals.specs.Seen.{Fails, before, behind, fails, element-seen}
@@ -47,7 +48,7 @@ use Rattle.xml_refusals.specs.Seen.{Fails, before, behind, fails, elemen
 -- ---- from behind the declaration, at n: in the DOCTYPE or a comment; where the root is due; in the root; behind it
 pub data SheetStops (bad latin : Bool) (d : List ℕ) (n : ℕ) : Fault → Type 0 where
   in-head : {k q : ℕ} → Headed bad latin d n (prolog.Fault k q) → SheetStops bad latin d n (fault k q)
-  no-root : {l : Bool} {k : ℕ} {f : Fault} → Headed bad latin d n (prolog.Read l k) → rooted bad d (standAt bad d k) ≡ Not f
+  no-root : {l : Bool} {k : ℕ} {f : Fault} → Headed bad latin d n (prolog.Read l k) → NoRoot bad d k f
       → SheetStops bad latin d n f
   in-root : {l : Bool} {k : ℕ} {f : Fault} → Headed bad latin d n (prolog.Read l k) → Stops bad d (the Sss) (unsaid latin) k f
       → SheetStops bad latin d n f
@@ -75,7 +76,7 @@ module _ (bad latin : Bool) (d : List ℕ) where
   unfolding root
   root-seen n {f} e = on (headOf bad latin d n) refl e where
     on : (y : Prolog) → headOf bad latin d n ≡ y → headed bad d y ≡ Not f → SheetStops bad latin d n f
-    on (prolog.Read l k) g e = no-root (head-exactly bad latin d n (prolog.Read l k) .0 g) e
+    on (prolog.Read l k) g e = no-root (head-exactly bad latin d n (prolog.Read l k) .0 g) (no-root-exactly bad d k f .0 e)
     on (prolog.Fault a b) g e =
         let i : fault a b ≡ f = cc in moved i (in-head (head-exactly bad latin d n (prolog.Fault a b) .0 g))
 
@@ -109,7 +110,8 @@ module _ (bad latin : Bool) (d : List ℕ) where
   sheet-halted : (n : ℕ) {f : Fault} → SheetStops bad latin d n f → sheet bad d latin n ≡ Not f
   unfolding root
   sheet-halted n (in-head {k} {q} h) = sheet-is bad d latin n ∙ rw (head-exactly bad latin d n (prolog.Fault k q) .1 h)
-  sheet-halted n (no-root {l} {k} h e) = sheet-is bad d latin n ∙ rw (head-exactly bad latin d n (prolog.Read l k) .1 h, e)
+  sheet-halted n (no-root {l} {k} {f} h e) =
+      sheet-is bad d latin n ∙ rw (head-exactly bad latin d n (prolog.Read l k) .1 h, no-root-exactly bad d k f .1 e)
   sheet-halted n (in-root h y) =
       let r = stops-refused bad d y in
       sheet-is bad d latin n ∙ rw (root-opens h (r .opens) (r .name), r .refused (depth bad d) (omega arith))
