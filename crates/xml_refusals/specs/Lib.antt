@@ -1,3 +1,5 @@
+pub mod Breaks
+pub mod Spans
 pub mod Tags
 pub mod Opens
 pub mod Roots
