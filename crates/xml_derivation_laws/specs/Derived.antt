@@ -47,11 +47,11 @@ module _ (bad : Bool) (d : List ℕ) where
     pub edge : Edge d behind-name
     pub reads : (f : ℕ) → height x ≤ f → element bad d (meanings d) f x s p behind-name ≡ Is t m
 
-  abbrev steps-of : ℕ → List ℕ → List Part → Steps State
+  abbrev pub steps-of : ℕ → List ℕ → List Part → Steps State
   steps-of f w l = steps bad d (meanings d) (element bad d (meanings d) f) w l
 
   -- x*, in so many turns, and what follows
-  abbrev loop : ℕ → List ℕ → Element → List Part → ℕ → State → Reader State
+  abbrev pub loop : ℕ → List ℕ → Element → List Part → ℕ → State → Reader State
   loop f w x l g s n =
       bind (repeat g (round bad d (meanings d) (element bad d (meanings d) f) w x) s n) λ y. steps-of f w l .at (y .0) (y .1)
 
@@ -83,7 +83,7 @@ module _ (bad : Bool) (d : List ℕ) where
 
   -- ---- parts
   -- from before the gap
-  go-on : (f k : ℕ) (w : List ℕ) (l : List Part) {s t : State} {n m : ℕ} → fitOf d k l ≡ true → PartsRead f w l s n t m
+  pub go-on : (f k : ℕ) (w : List ℕ) (l : List Part) {s t : State} {n m : ℕ} → fitOf d k l ≡ true → PartsRead f w l s n t m
       → steps-of f w l .go s n ≡ Is t m
   unfolding steps fitOf
   go-on f k w [] e y = rw (y .there) (y .at)
@@ -116,11 +116,11 @@ module _ (bad : Bool) (d : List ℕ) where
   either-other v (start p) k K Q e = rw e
   either-other v (shut p) k K Q e = refl
 
-  cond-both : {A : Type 0} (b : Bool) (x y : Reader A) (k : ℕ) {z : Result A} → x k ≡ z → y k ≡ z → cond b x y k ≡ z
+  pub cond-both : {A : Type 0} (b : Bool) (x y : Reader A) (k : ℕ) {z : Result A} → x k ≡ z → y k ≡ z → cond b x y k ≡ z
   cond-both true x y k e f = e
   cond-both false x y k e f = f
 
-  cond-no : {A : Type 0} (b : Bool) (x y : Reader A) (k : ℕ) {z : Result A} → b ≡ false → y k ≡ z → cond b x y k ≡ z
+  pub cond-no : {A : Type 0} (b : Bool) (x y : Reader A) (k : ℕ) {z : Result A} → b ≡ false → y k ≡ z → cond b x y k ≡ z
   cond-no true x y k e f = never cc
   cond-no false x y k e f = f
 
@@ -130,19 +130,20 @@ module _ (bad : Bool) (d : List ℕ) where
   unfolding none
   not-first x l v o k g e = g v (and-right (not (sameOf v (ruleOf x .word))) (none v (firsts l)) e)
 
-  apart-perhaps : (k : ℕ) (x : Element) (l : List Part) → fitOf d k (table.perhaps x ∷ l) ≡ true → none (ruleOf x .word) (firsts l) ≡ true
+  pub apart-perhaps : (k : ℕ) (x : Element) (l : List Part) → fitOf d k (table.perhaps x ∷ l) ≡ true → none (ruleOf x .word) (firsts l)
+      ≡ true
   unfolding fitOf
   apart-perhaps k x l e =
       let b = none (ruleOf x .word) (firsts l) in
       and-left b (fitOf d k l) (and-right (leb (height x) k) (b && fitOf d k l) e)
 
-  apart-newly : (k : ℕ) (x : Element) (l : List Part) → fitOf d k (table.newly x ∷ l) ≡ true → none (ruleOf x .word) (firsts l) ≡ true
+  pub apart-newly : (k : ℕ) (x : Element) (l : List Part) → fitOf d k (table.newly x ∷ l) ≡ true → none (ruleOf x .word) (firsts l) ≡ true
   unfolding fitOf
   apart-newly k x l e =
       let b = none (ruleOf x .word) (firsts l) in
       and-left b (fitOf d k l) (and-right (leb (height x) k) (b && fitOf d k l) e)
 
-  apart-any : (k : ℕ) (x : Element) (l : List Part) → fitOf d k (table.any x ∷ l) ≡ true → none (ruleOf x .word) (firsts l) ≡ true
+  pub apart-any : (k : ℕ) (x : Element) (l : List Part) → fitOf d k (table.any x ∷ l) ≡ true → none (ruleOf x .word) (firsts l) ≡ true
   unfolding fitOf
   apart-any k x l e =
       let b = none (ruleOf x .word) (firsts l) in
@@ -304,7 +305,8 @@ module _ (bad : Bool) (d : List ℕ) where
         loops = any-loop l o r;
       }
 
-  either-apart : (k : ℕ) (x z : Element) (l : List Part) → fitOf d k (table.either x z ∷ l) ≡ true → none (ruleOf x .word) (z ∷ []) ≡ true
+  pub either-apart : (k : ℕ) (x z : Element) (l : List Part) → fitOf d k (table.either x z ∷ l) ≡ true → none (ruleOf x .word) (z ∷ [])
+      ≡ true
   unfolding fitOf
   either-apart k x z l e =
       let a = leb (height x) k in
@@ -312,7 +314,7 @@ module _ (bad : Bool) (d : List ℕ) where
       let c = none (ruleOf x .word) (z ∷ []) in
       and-left c (fitOf d k l) (and-right b (c && fitOf d k l) (and-right a (b && (c && fitOf d k l)) e))
 
-  any-turns : (k : ℕ) (x : Element) (l : List Part) → fitOf d k (table.any x ∷ l) ≡ true → ltb 0 (turnsOf d x) ≡ true
+  pub any-turns : (k : ℕ) (x : Element) (l : List Part) → fitOf d k (table.any x ∷ l) ≡ true → ltb 0 (turnsOf d x) ≡ true
   unfolding fitOf
   any-turns k x l e =
       let b = none (ruleOf x .word) (firsts l) in

@@ -24,7 +24,7 @@ use Rattle.xml_reading.specs.rule.Open.{start, shut, onShut, opened, within}
 
 module _ (bad : Bool) (d w : List ℕ) where
   -- ---- what was found stands there
-  at-start : (n : ℕ) {p e : ℕ} → within bad d w n ≡ Is (start p) e → standOf bad d n ≡ stand.Start p e
+  pub at-start : (n : ℕ) {p e : ℕ} → within bad d w n ≡ Is (start p) e → standOf bad d n ≡ stand.Start p e
   unfolding within
   at-start n {p} {e} f = by (standOf bad d n) refl f where
     closes : (q : ℕ) (r : Skip) → onShut q r ≡ Is (start p) e → standOf bad d n ≡ stand.Start p e

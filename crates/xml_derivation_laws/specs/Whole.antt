@@ -29,7 +29,7 @@ use Rattle.pairs.specs.declared.Stand.{Stand}
 use Rattle.pairs.specs.declared.Stand.the-variants as stand
 use Rattle.pairs.specs.rule.Stand.{standAt, standOf, bareOf, shutOf}
 use Rattle.pairs.proofs.Lies.{Lies, lies-first, lies-join, lies-byte, lies-named, named-lies}
-use Rattle.pairs.proofs.Stands.{stand-start, angle-start, name-long}
+use Rattle.pairs.proofs.Stands.{NameAt, stand-start, angle-start, name-long}
 use Rattle.pairs.proofs.Ends.{Edge, start-complete}
 use Rattle.prologs.specs.declared.Prolog.{Prolog}
 use Rattle.prologs.specs.declared.Prolog.the-variants as prolog
@@ -67,17 +67,18 @@ module _ (bad latin : Bool) (d : List ℕ) where
   head-over (prologs.untyped g b) = g .over
   head-over (prologs.typed g b t h) = h .over
 
-  record RootRead (n p e : ℕ) : Type 0 where
+  pub record RootRead (n p e : ℕ) : Type 0 where
     pub encoding : Bool
     pub head : Headed bad latin d n (prolog.Read encoding p)
     pub name : Lies d p e (60 ∷ SSS)
+    pub whole-name : NameAt d (p + 1) e
 
   stand-at : (k : ℕ) → NoGap (drop k d) → standOf bad d k ≡ standAt bad d k
   unfolding standOf
   stand-at k o =
       rw (gap-exactly bad d k k .1 (record { bytes = []; gap = markup.none; split = refl; place = omega arith; over = o }))
 
-  root-read : {n p e : ℕ} → root bad d latin n ≡ Is p e → RootRead n p e
+  pub root-read : {n p e : ℕ} → root bad d latin n ≡ Is p e → RootRead n p e
   unfolding root
   root-read {n} {p} {e} f = on (headOf bad latin d n) refl f where
     named : (l : Bool) (k q j : ℕ) (b : Bool) → Headed bad latin d n (prolog.Read l k) → standAt bad d k ≡ stand.Start q j
@@ -102,6 +103,7 @@ module _ (bad latin : Bool) (d : List ℕ) where
           head = rw (← a) h;
           name = rw (← a′, ← b)
               (lies-join (lies-byte d q (q + 1) 60 (s .inside) (s .less) refl) (named-lies d (q + 1) j SSS (omega arith) i));
+          whole-name = rw (← a′, ← b) (angle-start bad d q j (s .opens));
         }
     named l k q j false h g i f = bare (bareOf bad d q j) f where
       bare : (y : Tag) → onBare bad d {A = ℕ} q y ≡ Is p e → RootRead n p e
@@ -125,7 +127,7 @@ module _ (bad latin : Bool) (d : List ℕ) where
         let h = head-exactly bad latin d n (prolog.Read l k) .0 g in stands l k h (standAt bad d k) refl f
     on (prolog.Fault a b) g f = never cc
 
-  root-there : {n p e : ℕ} {l : Bool} → Headed bad latin d n (prolog.Read l p) → Lies d p e (60 ∷ SSS) → Edge d e
+  pub root-there : {n p e : ℕ} {l : Bool} → Headed bad latin d n (prolog.Read l p) → Lies d p e (60 ∷ SSS) → Edge d e
       → root bad d latin n ≡ Is p e
   unfolding root standAt
   root-there {n} {p} {e} {l} h n′ i =
@@ -203,7 +205,7 @@ pub sheet-exactly : (latin : Bool) (d : List ℕ) (n m : ℕ) (s : Survey) → (
 sheet-exactly latin d n m s = (λ e. sheet-derived false latin d n s m e .1, λ y. derived-sheet latin (y .derived) (y .clean))
 
 -- ---- characters
-all-legal : (l : Bool) (d : List ℕ) (n : ℕ) → length d ≤ firstBad l d n → (cs : List ℕ) × Chars l cs (drop n d)
+pub all-legal : (l : Bool) (d : List ℕ) (n : ℕ) → length d ≤ firstBad l d n → (cs : List ℕ) × Chars l cs (drop n d)
 all-legal l d n h = ⊎-elim beyond here (lt-or-le (length d) n) where
   beyond : length d < n → (cs : List ℕ) × Chars l cs (drop n d)
   beyond i = let o : length d ≤ n = omega arith in ([], rw (drop-of-length-le d o) chars.none)
@@ -237,7 +239,7 @@ legal-end l d n {cs} i c =
       over : drop (length d) d ≡ []
       over = let o : length d ≤ length d = omega arith in drop-of-length-le d o
 
-legal-all : (l : Bool) (d : List ℕ) (n : ℕ) {cs : List ℕ} → Chars l cs (drop n d) → length d ≤ firstBad l d n
+pub legal-all : (l : Bool) (d : List ℕ) (n : ℕ) {cs : List ℕ} → Chars l cs (drop n d) → length d ≤ firstBad l d n
 legal-all l d n c =
     ⊎-elim (λ i. omega (arith, bad-end l d n (omega arith))) (λ i. omega (arith, legal-end l d n i c)) (lt-or-le (length d) n)
 

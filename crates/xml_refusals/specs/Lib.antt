@@ -1,0 +1,12 @@
+pub mod Breaks
+pub mod Spans
+pub mod Tags
+pub mod Opens
+pub mod Roots
+pub mod Dues
+pub mod Voids
+pub mod Texts
+pub mod Stops
+pub mod Halts
+pub mod Seen
+pub mod Whole
