@@ -7,4 +7,7 @@ pub mod Columns
 pub mod Room
 pub mod Ones
 pub mod Rows
+pub mod Listed
 pub mod Near
+pub mod Said
+pub mod Whole

@@ -114,14 +114,19 @@ unfolding markedFrom
 marked-none there legal present c h = let d : length legal - c ≡ 0 = omega arith in rw d
 
 -- by marks that are right, they are the entries of the legal categories
-pub marked-is : (there : Bool) (legal present : List ℕ) (ok : ℤ → Bool) (f : Field) (c n : ℕ) → c + n ≤ length legal
+pub marked-is : (there : Bool) (legal present : List ℕ) (ok : ℤ → Bool) (f : Field) (c n : ℕ) → 1 ≤ c → c + n ≤ length legal
     → ((x : ℕ) → x < length legal → getD legal x 0 ≡ flag (ok (pos x)))
-    → ((x : ℕ) → x < length legal → markedEntry there (getD present x 0) ≡ memberEntry x f)
+    → ((x : ℕ) → 1 ≤ x → x < length legal → markedEntry there (getD present x 0) ≡ memberEntry x f)
     → markedFrom there legal present c n ≡ memberEntries f (defined ok c n)
 unfolding markedFrom memberEntries defined
-marked-is there legal present ok f c zero h l p = refl
-marked-is there legal present ok f c (suc n) h l p =
-    rw (l c (omega arith), flag-back (ok (pos c)), p c (omega arith), marked-is there legal present ok f (suc c) n (omega arith) l p)
+marked-is there legal present ok f c zero o h l p = refl
+marked-is there legal present ok f c (suc n) o h l p =
+    rw (
+      l c (omega arith),
+      flag-back (ok (pos c)),
+      p c o (omega arith),
+      marked-is there legal present ok f (suc c) n (omega arith) (omega arith) l p,
+    )
     (go (ok (pos c)))
   where
     go : (b : Bool) → cond b (memberEntry c f ∷ memberEntries f (defined ok (suc c) n)) (memberEntries f (defined ok (suc c) n))

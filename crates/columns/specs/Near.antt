@@ -10,24 +10,19 @@ use native.Mathlib.Omega.{arith}
 use lib.IntN.{ℤ, pos}
 use lib.ListN.{length, getD}
 use Rattle.below.specs.rule.Below.{anyBelow}
-use Rattle.below.specs.Below.{any-none, holds-not}
+use Rattle.below.specs.Below.{any-none}
 use Rattle.cells.specs.rule.Cell.{cell, eqZ}
 use Rattle.layout.specs.declared.Row.{Row}
 use Rattle.fields.specs.rule.Legal.{legal}
 use Rattle.fields.specs.rule.Field.{Field}
 use Rattle.fields.specs.rule.Row.{defined}
 use Rattle.sets.specs.Marks.{flag, Marks, Besides}
-use Rattle.readings.specs.Answer.{RowRead}
-use Rattle.readings.specs.declared.Answer.{Answer}
-use Rattle.readings.specs.declared.Answer.the-variants.{Missing, Number, Set, Text, Truth}
-use Rattle.readings.specs.declared.Answer.the-variants.{BadTable, NoRow, ShortRecord, Illegal, ShortList}
-use Rattle.record_values.specs.rule.Record.{membersOf}
-use Rattle.record_values.specs.Rows.{membersIn}
 use Rattle.matrix.specs.declared.Entry.{Entry}
 use Rattle.matrix.specs.declared.Entry.the-variants.{Absent}
-use Rattle.matrix.specs.Noughts.{noughts}
-use Rattle.columns.specs.Marked.{isSet, markedEntry, markedEntries, memberEntries, defined-few}
-use Rattle.columns.specs.Members.{multiple-made, count-by}
+use Rattle.matrix.specs.Put.{putEntries}
+use Rattle.columns.specs.Marked.{markedEntry, markedEntries, memberEntries, defined-few}
+use Rattle.columns.specs.Members.{entries-marked, count-by}
+use Rattle.columns.specs.Listed.{Lists}
 use Rattle.columns.specs.Ones.{inList, stretchFrom, NoneFrom, stretch-then, stretch-noughts, gap-count, gap-made-zeros}
 use Rattle.columns.specs.Rows.{MarkedSet}
 
@@ -42,6 +37,11 @@ pub record NearPut (es : List Entry) (gap count : ℕ) (there : Bool) (marks mar
   pub met : (c : ℕ) → c < gap → getD marks′ c 0 ≡ cond (has c) 1 (getD marks c 0)
   pub none : (c : ℕ) → gap ≤ c → c < 10000 → has c ≡ false
   pub absent : there ≡ false → (c : ℕ) → has c ≡ false
+
+-- entries put, and the marks of a set that is near
+abbrev pub RowPut : List Entry → (gap count flags values : ℕ) → (marks marks′ out out′ : List ℕ) → (there near : Bool) → Type 0
+RowPut es gap count flags values marks marks′ out out′ there near =
+    (out′ ≡ putEntries out flags values es) × (near ≡ true → NearPut es gap count there marks marks′)
 
 -- the marks of the list's first n numbers, and no other
 abbrev pub FarMarks : List ℤ → ℕ → List ℕ → Type 0
@@ -70,91 +70,59 @@ stretch-at there p c (suc n) (suc j) h =
     let e : suc c + j ≡ c + suc j = omega arith in
     stretch-at there p (suc c) n j (omega arith) ∙ ap (λ (x : ℕ). markedEntry there (flag (p x))) e
 
-pub near-as : {es es′ : List Entry} {gap count : ℕ} {there : Bool} {marks marks′ : List ℕ} → es ≡ es′
-    → NearPut es gap count there marks marks′ → NearPut es′ gap count there marks marks′
-near-as e p = record { has = p .has; made = sym e ∙ p .made; met = p .met; none = p .none; absent = p .absent }
-
-no-set : (a : Answer) → isSet a ≡ false → membersIn a ≡ 0
-unfolding isSet membersIn
-no-set Missing e = refl
-no-set (Number z) e = refl
-no-set (Set n) e = holds-not refl e
-no-set (Text p n) e = refl
-no-set (Truth b) e = refl
-no-set BadTable e = refl
-no-set NoRow e = refl
-no-set ShortRecord e = refl
-no-set Illegal e = refl
-no-set ShortList e = refl
-
-module _ {t : List ℤ} {v : ℕ} {r : Row} {allowed : List ℕ} {gap count : ℕ} (m : MarkedSet t v r allowed gap count) {p : ℕ} {f : Field}
-    {list list′ : List ℤ} {a : Answer} (q : RowRead p f list list′ a) (room : length (membersOf f) ≤ length list) {n : ℕ}
-    (en : n ≡ membersIn a) {there : Bool} (et : there ≡ isSet a) where
+module _ {t : List ℤ} {v : ℕ} {r : Row} {allowed : List ℕ} {gap count : ℕ} (m : MarkedSet t v r allowed gap count) {f : Field}
+    {list : List ℤ} {n : ℕ} {there : Bool} (q : Lists f list n there) where
   abbrev own : List ℕ
-  own = marksFrom (inList list′ n) 0 (length allowed)
+  own = marksFrom (inList list n) 0 (length allowed)
 
-  abbrev clear : List ℕ
-  clear = marksFrom (λ c. false) 0 (length allowed)
+  own-at : (c : ℕ) → c < length allowed → getD own c 0 ≡ flag (inList list n c)
+  own-at c l = marks-at (inList list n) 0 (length allowed) c l ∙ ap (λ (x : ℕ). flag (inList list n x)) (zero-add c)
 
-  clear-marks : Marks (λ x. false) clear
-  clear-marks = record { at = λ c l. marks-at (λ c. false) 0 (length allowed) c (rw (length-marks (λ c. false) 0 (length allowed)) at l) }
-
-  own-at : (c : ℕ) → c < length allowed → getD own c 0 ≡ flag (inList list′ n c)
-  own-at c l = marks-at (inList list′ n) 0 (length allowed) c l ∙ ap (λ (x : ℕ). flag (inList list′ n x)) (zero-add c)
-
-  own-marks : Marks (λ z. anyBelow n (λ j. eqZ (cell list′ j) z)) own
-  own-marks = record { at = λ c l. own-at c (rw (length-marks (inList list′ n) 0 (length allowed)) at l) }
+  own-marks : Marks (λ z. anyBelow n (λ j. eqZ (cell list j) z)) own
+  own-marks = record { at = λ c l. own-at c (rw (length-marks (inList list n) 0 (length allowed)) at l) }
 
   pub count-any : (x : List ℕ) → count ≡ length (markedEntries there allowed x)
   count-any x = m .many ∙ sym (count-by (m .covered) there allowed x refl (m .marks))
 
   -- by the marks of its own members
-  pub far-made : {marks : List ℕ} → length marks ≡ length allowed → FarMarks list′ n marks
+  pub far-made : {marks : List ℕ} → length marks ≡ length allowed → FarMarks list n marks
       → markedEntries there allowed marks ≡ memberEntries f (defined (legal t v r) 1 9999)
   far-made {marks} e marked =
-      multiple-made (m .covered) q room refl (m .marks) clear-marks (e ∙ sym (length-marks (λ c. false) 0 (length allowed)))
-      (length-marks (λ c. false) 0 (length allowed)) en
-      (record {
-        at = λ c l.
-            let k : c < length allowed = rw (length-marks (λ c. false) 0 (length allowed)) at l in
-            marked .at c (rw e k)
-            ∙ ap (λ (x : ℕ). cond (inList list′ n c) 1 x) (sym (marks-at (λ c. false) 0 (length allowed) c k));
-      })
-      et
+      entries-marked (m .covered) there allowed marks f refl (m .marks)
+      (λ c o l. ap (markedEntry there) (marked .at c (rw e l)) ∙ q .entry c o (omega (arith, m .covered .few)))
 
-  pub near-made : NoneFrom list′ n gap → memberEntries f (defined (legal t v r) 1 9999) ≡ stretchFrom there (inList list′ n) 1 count
+  pub near-made : NoneFrom list n gap → memberEntries f (defined (legal t v r) 1 9999) ≡ stretchFrom there (inList list n) 1 count
   near-made none =
       let on = m .run .on in
       let few = m .covered .few in
-      let ga = gap-made-zeros there allowed own list′ n gap count (m .run) (length-marks (inList list′ n) 0 (length allowed)) few own-marks
+      let ga = gap-made-zeros there allowed own list n gap count (m .run) (length-marks (inList list n) 0 (length allowed)) few own-marks
       none
       (count-any own) in
-      let made = far-made (length-marks (inList list′ n) 0 (length allowed)) own-marks in
+      let made = far-made (length-marks (inList list n) 0 (length allowed)) own-marks in
       let i = gap - 1 in
       let k = count - (gap - 1) in
       let whole : count ≡ i + k = omega (
         arith,
         count-any own,
-        gap-count there allowed own list′ n gap (m .run) (length-marks (inList list′ n) 0 (length allowed))
+        gap-count there allowed own list n gap (m .run) (length-marks (inList list n) 0 (length allowed))
             own-marks,
       ) in
       let most : count ≤ 9999 = rw (m .many) (defined-few (legal t v r) 1 9999) in
       sym made ∙ ga
-      ∙ ap (λ (l : List Entry). stretchFrom there (inList list′ n) 1 i ++ l)
-      (sym (stretch-noughts there (inList list′ n) (1 + i) k (λ x b c. none x (omega arith) (omega arith))))
-      ∙ sym (stretch-then there (inList list′ n) 1 i k)
-      ∙ ap (stretchFrom there (inList list′ n) 1) (sym whole)
+      ∙ ap (λ (l : List Entry). stretchFrom there (inList list n) 1 i ++ l)
+      (sym (stretch-noughts there (inList list n) (1 + i) k (λ x b c. none x (omega arith) (omega arith))))
+      ∙ sym (stretch-then there (inList list n) 1 i k)
+      ∙ ap (stretchFrom there (inList list n) 1) (sym whole)
 
   -- THE ENTRIES AND MARKS of a set that is near
-  pub near-put : NoneFrom list′ n gap → {marks marks′ : List ℕ} → length marks ≡ length allowed
-      → Besides (λ x. anyBelow n (λ j. eqZ (cell list′ j) x)) marks marks′
+  pub near-put : NoneFrom list n gap → {marks marks′ : List ℕ} → length marks ≡ length allowed
+      → Besides (λ x. anyBelow n (λ j. eqZ (cell list j) x)) marks marks′
       → NearPut (memberEntries f (defined (legal t v r) 1 9999)) gap count there marks marks′
   near-put none {marks} e b = record {
-    has = inList list′ n;
+    has = inList list n;
     made = near-made none;
     met = λ c l. b .at c (omega (arith, e, m .run .within));
     none = none;
     absent = λ z c.
-        let k : n ≡ 0 = en ∙ no-set a (sym et ∙ z) in
-        ap (λ (i : ℕ). anyBelow i (λ j. eqZ (cell list′ j) (pos c))) k ∙ any-none (λ j. eqZ (cell list′ j) (pos c));
+        ap (λ (i : ℕ). anyBelow i (λ j. eqZ (cell list j) (pos c))) (q .none z) ∙ any-none (λ j. eqZ (cell list j) (pos c));
   }

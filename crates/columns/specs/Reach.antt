@@ -8,7 +8,7 @@ use mathlib.Core.List.{List}
 use Prim.Native.Nat.{ℕ, suc, _+_, _^_, _≤_, _<_}
 use native.Mathlib.Nat.{pow-le-pow-right, lt-of-lt-of-le}
 use native.Mathlib.Omega.{arith}
-use borrow.Author.Tests.{leb-true, ltb-true, eqb-true}
+use borrow.Author.Tests.{leb-true, ltb-true, ltb-false, eqb-true}
 use lib.Dec.{eqb, ltb, lit<}
 use lib.IntN.{ℤ, pos, negsuc, natAbs}
 use lib.Signed.{leZ}
@@ -106,17 +106,28 @@ module _ {t : List ℤ} {v : ℕ} {r : Row} {size : ℕ} (q : Readable t v r siz
   pub readable-ready : RowReady t v r size
   readable-ready = ready-of (q .facts) size (q .long)
 
+  pub bits-covered : r .kind ≡ Multiple Bits → Covered t v r (r .width + 1)
+  unfolding need signedOf
+  bits-covered e =
+      let k = subst (λ (k : Kind). KindFacts k r) e (q .facts .kind) .few in
+      record {
+        some = omega arith;
+        few = omega arith;
+        below = λ c l.
+            let b : c ≤ r .width = subst (λ (k : Kind). need k (pos c) ≤ r .width) e (q .facts .fits (pos c) l) in
+            omega arith;
+      }
+
   covered-bits : r .kind ≡ Multiple Bits → Covered t v r (bitsReach (r .width))
-  unfolding need signedOf bitsReach
-  covered-bits e =
-      let k = subst (λ (k : Kind). KindFacts k r) e (q .facts .kind) in
-      go (ltb (r .width) 9999) refl (λ c l. subst (λ (k : Kind). need k (pos c) ≤ r .width) e (q .facts .fits (pos c) l)) (k .few)
+  unfolding bitsReach
+  covered-bits e = go (ltb (r .width) 9999) refl (bits-covered e)
     where
-      go : (b : Bool) → ltb (r .width) 9999 ≡ b → ((c : ℕ) → legal t v r (pos c) ≡ true → c ≤ r .width) → r .width ≤ 9999
-          → Covered t v r (cond b (r .width + 1) 10000)
-      go true e f k = let x = ltb-true (r .width) 9999 e in
-          record { some = omega arith; few = omega arith; below = λ c l. omega (arith, f c l) }
-      go false e f k = record { some = omega arith; few = omega arith; below = λ c l. omega (arith, f c l) }
+      go : (b : Bool) → ltb (r .width) 9999 ≡ b → Covered t v r (r .width + 1) → Covered t v r (cond b (r .width + 1) 10000)
+      go true e c = c
+      go false e c =
+          let f = c .few in
+          let n : r .width + 1 ≡ 10000 = omega (arith, ltb-false (r .width) 9999 e) in
+          subst (λ (k : ℕ). Covered t v r k) n c
 
   covered-fields : {n b : ℕ} → r .kind ≡ Multiple (Fields n b) → Covered t v r (digitsReach (r .width))
   unfolding need signedOf highest

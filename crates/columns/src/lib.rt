@@ -1,33 +1,50 @@
 // The columns of a table, and what they hold of a record: counted, and written as presence bytes and values. The table was tested. Above it
 // stands the matrix of a file.
 ghost use mathlib.Core.Path.{_≡_};
-ghost use mathlib.Core.Bool.{true};
+ghost use mathlib.Core.Bool.{true, false};
 ghost use Prim.Native.Nat.{ℕ, _+_, _-_, _^_, _≤_, _<_};
 ghost use mathlib.Core.List.{List, [], _∷_};
-ghost use lib.ListN.{length};
+ghost use lib.IntN.{pos};
+ghost use lib.ListN.{length, getD};
 ghost use Rattle.below.specs.rule.Below.{anyBelow};
 ghost use Rattle.ascii.specs.rule.Tens.{Tens};
 ghost use Rattle.cells.specs.rule.Cell.{cell, eqZ};
+ghost use Rattle.layout.specs.declared.Kind.the-variants.{Multiple};
+ghost use Rattle.layout.specs.declared.Spread.the-variants.{Bits, Fields};
+ghost use Rattle.places.specs.rule.Places.{pick, run};
 ghost use Rattle.fields.specs.rule.Legal.{inRange, legal};
-ghost use Rattle.fields.specs.rule.Row.{defined, readingOf};
+ghost use Rattle.fields.specs.rule.Number.{codeOf, quantityOf};
+ghost use Rattle.fields.specs.rule.Field.{truthField, allEntries};
+ghost use Rattle.fields.specs.rule.Row.{defined, spreadPlaces, readingOf};
 ghost use Rattle.fields.specs.Facts.{LineFacts};
+ghost use Rattle.numbers.specs.Numeral.{saidOf};
+ghost use Rattle.numbers.specs.rule.Format.{FormatFacts};
+ghost use Rattle.sets.specs.rule.Sets.{isIllegal};
+ghost use Rattle.sets.specs.Full.{always};
 ghost use Rattle.sets.specs.Marks.{Marks, Besides};
+ghost use Rattle.sets.specs.Sets.{SpreadRoom, bitsFieldAt};
 ghost use Rattle.record_values.specs.Rows.{membersIn};
 ghost use Rattle.files.specs.rule.Tested.{Tested};
 ghost use Rattle.matrix.specs.Put.{putEntries};
-ghost use Rattle.columns.specs.rule.Columns.{rowColumns, columnsFrom, decimalsBy, numberEntry, entriesOf};
+ghost use Rattle.matrix.specs.Entry.{EntryGood};
+ghost use Rattle.columns.specs.rule.Columns.{rowColumns, columnsFrom, numberEntry};
 ghost use Rattle.columns.specs.Reach.{shapeOf, digitsReach, bitsReach, reachBy, Readable, Covered};
 ghost use Rattle.columns.specs.Marked.{answerEntry, isSet, markedEntry, markedEntries, memberEntries};
 ghost use Rattle.columns.specs.Stretch.{Starts, Ends, markAmong, Unmarked, Alike};
-ghost use Rattle.columns.specs.Room.{Room, PutAs, Ready};
+ghost use Rattle.columns.specs.Room.{Room, PutAs};
 ghost use Rattle.columns.specs.Ones.{Marked, RangeTo, markedLeft, inList, stretchFrom, OneMore, OnesMore, NoneFrom};
 ghost use Rattle.columns.specs.Rows.{entriesBy, MarkedRow, MarkedSet};
-ghost use Rattle.columns.specs.Near.{NearPut, FarMarks};
+ghost use Rattle.columns.specs.Listed.{Lists, HeldIn, Copied};
+ghost use Rattle.columns.specs.Near.{RowPut, FarMarks};
+ghost use Rattle.columns.specs.Said.{singleEntry, amountEntry};
+ghost use Rattle.columns.specs.Whole.{BitsPut};
+use layout::Format;
 use layout::Header;
 use layout::Kind;
 use layout::Row;
 use layout::Spread;
 use matrix::Entry;
+use numbers::Numeral;
 use readings::Answer;
 
 // What was made of a row's marks: the first gap in them behind 1, and how many columns the row has.
@@ -41,19 +58,6 @@ pub struct Marking {
 pub struct Put {
     pub there: bool,
     pub near: bool,
-}
-
-// How many decimals a row's numbers have.
-fn decimals_of(kind: Kind) -> usize
-    ensures { λ r. ⌜ r ≡ decimalsBy kind ⌝ }
-{
-    match kind {
-        Kind::Single => 0,
-        Kind::Multiple(_) => 0,
-        Kind::Quantity(f) => f.decimals,
-        Kind::Character => 0,
-        Kind::Logical => 0,
-    }
 }
 
 // The entry of a row of one column, by what was read of it.
@@ -79,28 +83,77 @@ fn number_entry(a: Answer, power: u64) -> Entry
     }
 }
 
-// The entry of a row of one column.
-fn put_number(
+// The entry of what a SINGLE's bytes say; zero is missing.
+fn code_entry(said: Numeral) -> Entry
+    ensures { λ r. ⌜ r ≡ singleEntry (saidOf said) ⌝ }
+{
+    match said {
+        Numeral::Blank => Entry::Absent,
+        Numeral::Says(z) => {
+            if cells::same(z, 0) {
+                return Entry::Absent;
+            }
+            Entry::Scaled(z, 1)
+        }
+        Numeral::Wrong => Entry::Absent,
+    }
+}
+
+// The entry of a SINGLE, whose number is none that its row would refuse: its w bytes end before the place e.
+fn put_single(bytes: &[u8], e: usize, w: usize, out: &mut [u8], flags: usize, values: usize)
+    requires { ⌜ (w ≤ 17) × (w ≤ e) × (e ≤ length (now bytes)) ⌝ }
+    requires { ⌜ EntryGood (singleEntry (codeOf (pick (now bytes) (run (e - w) w)))) ⌝ }
+    requires { ⌜ (flags < values) × (values + 8 ≤ length (now out)) ⌝ }
+    ensures { λ _. ⌜ now (out .exit) ≡ putEntries (now (out .entry)) flags values
+        (singleEntry (codeOf (pick (now (bytes .entry)) (run (e - w) w))) ∷ []) ⌝ }
+{
+    let a = e - w;
+    let said = numbers::code(&bytes[a..e]);
+    matrix::put_entry(out, flags, values, code_entry(said));
+}
+
+// The entry of what a quantity's bytes say.
+fn amount_entry(said: Numeral, power: u64) -> Entry
+    ensures { λ r. ⌜ r ≡ amountEntry power (saidOf said) ⌝ }
+{
+    match said {
+        Numeral::Blank => Entry::Absent,
+        Numeral::Says(z) => Entry::Scaled(z, power),
+        Numeral::Wrong => Entry::Absent,
+    }
+}
+
+// The same of a quantity.
+fn put_quantity(
     powers: &[u64; 16],
-    t: &[i64],
-    rows: usize,
-    row: Row,
+    f: Format,
     bytes: &[u8],
-    list: &mut [i64],
+    e: usize,
+    w: usize,
     out: &mut [u8],
     flags: usize,
     values: usize,
 )
-    requires { ⌜ Tens (now powers) ⌝ }
-    requires { ⌜ Readable (now t) rows row (length (now bytes)) ⌝ }
+    requires { ⌜ Tens (now powers) × FormatFacts f ⌝ }
+    requires { ⌜ (w ≤ 17) × (w ≤ e) × (e ≤ length (now bytes)) ⌝ }
+    requires { ⌜ EntryGood (amountEntry (10 ^ f .decimals) (quantityOf f (pick (now bytes) (run (e - w) w)))) ⌝ }
     requires { ⌜ (flags < values) × (values + 8 ≤ length (now out)) ⌝ }
     ensures { λ _. ⌜ now (out .exit) ≡ putEntries (now (out .entry)) flags values
-        (numberEntry (10 ^ decimalsBy (row .kind)) (readingOf (now (t .entry)) rows row (now (bytes .entry))) ∷ []) ⌝ }
+        (amountEntry (10 ^ f .decimals) (quantityOf f (pick (now (bytes .entry)) (run (e - w) w))) ∷ []) ⌝ }
 {
-    let kind = row.kind;
-    let power = ascii::power(powers, decimals_of(kind));
-    let a = readings::read_row(t, rows, row, bytes, list);
-    matrix::put_entry(out, flags, values, number_entry(a, power));
+    let a = e - w;
+    let power = ascii::power(powers, f.decimals);
+    let said = numbers::quantity(f, &bytes[a..e]);
+    matrix::put_entry(out, flags, values, amount_entry(said, power));
+}
+
+// The entry of a truth.
+fn put_truth(b: u8, out: &mut [u8], flags: usize, values: usize)
+    requires { ⌜ (flags < values) × (values + 8 ≤ length (now out)) ⌝ }
+    ensures { λ _. ⌜ now (out .exit) ≡ putEntries (now (out .entry)) flags values (numberEntry 1 (truthField (b ∷ [])) ∷ []) ⌝ }
+{
+    let a = readings::truth(b);
+    matrix::put_entry(out, flags, values, number_entry(a, 1));
 }
 
 // How many members a row's answer put into the list.
@@ -514,8 +567,184 @@ fn put_far(
     put_members(list, n, m, allowed, present, there, out, flags, values);
 }
 
-// The entries of a multiple's categories, by the marks of its row.
-fn put_multiple(
+// What a list holds of a set: whether there is one, and in how many of its first numbers; zeros among them don't count.
+pub struct Listed {
+    pub there: bool,
+    pub count: usize,
+}
+
+// The members of any multiple, as they are read.
+fn list_read(t: &[i64], rows: usize, row: Row, bytes: &[u8], list: &mut [i64]) -> Listed
+    requires { ⌜ Readable (now t) rows row (length (now bytes)) × (length (now list) ≡ 9999) ⌝ }
+    ensures { λ r. ⌜ Lists (readingOf (now (t .entry)) rows row (now (bytes .entry))) (now (list .exit)) (r .count) (r .there) ⌝ }
+{
+    let a = readings::read_row(t, rows, row, bytes, list);
+    let count = members_in(a);
+    let there = is_set(a);
+    Listed { there, count }
+}
+
+fn code_of(x: u16) -> i64
+    ensures { λ r. ⌜ r ≡ pos x ⌝ }
+{
+    cells::cell_of(x as usize)
+}
+
+// The numbers of a room put into the list.
+fn list_room(room: &[u16], list: &mut [i64])
+    requires { ⌜ length (now room) ≤ length (now list) ⌝ }
+    ensures { λ _. ⌜ Copied (now (room .entry)) (now (list .exit)) ⌝ }
+{
+    let mut k: usize = 0;
+    while k < room.len() {
+        list[k] = code_of(room[k]);
+        k += 1;
+    }
+}
+
+// The numbers that n subfields hold, which are legal, one behind the other in the list: zero for one that is unused. The room has as many.
+fn list_fields(
+    bytes: &[u8],
+    at: usize,
+    b: usize,
+    w: usize,
+    n: usize,
+    room: &mut [u16],
+    list: &mut [i64],
+)
+    requires { ⌜ SpreadRoom at b w n (length (now bytes)) × (length (now room) ≡ n) × (n ≤ length (now list)) ⌝ }
+    requires { ⌜ ((i : ℕ) → getD (now room) i 0 ≡ 0) ⌝ }
+    requires { ⌜ allEntries always w n (pick (now bytes) (spreadPlaces at b w n)) ≡ true ⌝ }
+    ensures { λ _. ⌜ HeldIn w n (pick (now (bytes .entry)) (spreadPlaces at b w n)) (now (list .exit)) ⌝ }
+{
+    few_codes::gather(bytes, at, b, w, n, room);
+    list_room(room, list);
+}
+
+// The members of a spread in a record where it is legal, in no order, and some of them twice.
+fn list_spread(
+    t: &[i64],
+    rows: usize,
+    row: Row,
+    n: usize,
+    b: usize,
+    bytes: &[u8],
+    list: &mut [i64],
+) -> Listed
+    requires { ⌜ Readable (now t) rows row (length (now bytes)) × (length (now list) ≡ 9999) × (row .kind ≡ Multiple (Fields n b)) ⌝ }
+    requires { ⌜ isIllegal (readingOf (now t) rows row (now bytes)) ≡ false ⌝ }
+    ensures { λ r. ⌜ Lists (readingOf (now (t .entry)) rows row (now (bytes .entry))) (now (list .exit)) (r .count) (r .there) ⌝ }
+{
+    if 64 < n {
+        return list_read(t, rows, row, bytes, list);
+    }
+    let at = row.start - 1;
+    let w = row.width;
+    if sets::spread::spread_blank(bytes, at, b, w, n) {
+        return Listed {
+            there: false,
+            count: 0,
+        };
+    }
+    let mut room = [0u16; 64];
+    list_fields(bytes, at, b, w, n, &mut room[..n], list);
+    Listed {
+        there: true,
+        count: n,
+    }
+}
+
+// The entries of a multiple's categories, by the marks of its row and by the list of its members.
+fn put_listed(
+    t: &[i64],
+    rows: usize,
+    row: Row,
+    bytes: &[u8],
+    m: Marking,
+    l: Listed,
+    list: &[i64],
+    allowed: &[u8],
+    present: &mut [u8],
+    out: &mut [u8],
+    flags: usize,
+    values: usize,
+) -> Put
+    requires { ⌜ Lists (readingOf (now t) rows row (now bytes)) (now list) (l .count) (l .there) ⌝ }
+    requires { ⌜ MarkedSet (now t) rows row (now allowed) (m .gap) (m .count) × (length (now present) ≡ length (now allowed)) ⌝ }
+    requires { ⌜ Room flags values (length (now out)) (m .count) ⌝ }
+    ensures { λ r. ⌜ RowPut (memberEntries (readingOf (now (t .entry)) rows row (now (bytes .entry)))
+        (defined (legal (now (t .entry)) rows row) 1 9999)) (m .gap) (m .count) flags values (now (present .entry))
+        (now (present .exit)) (now (out .entry)) (now (out .exit)) (r .there) (r .near) ⌝ }
+{
+    let n = l.count;
+    let there = l.there;
+    if all_before(list, n, m.gap) {
+        put_near(list, n, m, there, present, out, flags, values);
+        return Put { there, near: true };
+    }
+    put_far(list, n, m, allowed, present, there, out, flags, values);
+    Put { there, near: false }
+}
+
+// The entries of w categories by the bytes of a bitstring, whose ones are marked besides those of the records before.
+fn put_bits(
+    bytes: &[u8],
+    at: usize,
+    w: usize,
+    met: &mut [u8],
+    out: &mut [u8],
+    flags: usize,
+    values: usize,
+)
+    requires { ⌜ (w ≤ 9999) × (at + w ≤ length (now bytes)) × (w < length (now met)) × Room flags values (length (now out)) w ⌝ }
+    ensures { λ _. ⌜ BitsPut (now (bytes .entry)) at w w flags values (now (met .entry)) (now (met .exit)) (now (out .entry))
+        (now (out .exit)) ⌝ }
+{
+    let mut i: usize = 0;
+    while i < w {
+        let k = i;
+        i += 1;
+        if bytes[at + k] == 49 {
+            met[i] = 1;
+            matrix::put_entry(out, flags + k, values + 8 * k, Entry::Scaled(1, 1));
+        } else {
+            matrix::put_entry(out, flags + k, values + 8 * k, Entry::Scaled(0, 1));
+        }
+    }
+}
+
+// The entries of a bitstring that is legal and has every category from 1 to w: its first byte tells whether it is missing.
+fn put_whole(
+    bytes: &[u8],
+    at: usize,
+    w: usize,
+    met: &mut [u8],
+    out: &mut [u8],
+    flags: usize,
+    values: usize,
+) -> Put
+    requires { ⌜ (1 ≤ w) × (w ≤ 9999) × (at + w ≤ length (now bytes)) × (w < length (now met))
+        × Room flags values (length (now out)) w ⌝ }
+    requires { ⌜ isIllegal (bitsFieldAt (defined always 1 w) at (now bytes)) ≡ false ⌝ }
+    ensures { λ r. ⌜ RowPut (memberEntries (bitsFieldAt (defined always 1 w) at (now (bytes .entry))) (defined always 1 w)) (w + 1) w
+        flags values (now (met .entry)) (now (met .exit)) (now (out .entry)) (now (out .exit)) (r .there) (r .near) ⌝ }
+{
+    if bytes[at] == 32 {
+        matrix::put_many(out, flags, values, w, false);
+        return Put {
+            there: false,
+            near: true,
+        };
+    }
+    put_bits(bytes, at, w, met, out, flags, values);
+    Put {
+        there: true,
+        near: true,
+    }
+}
+
+// The entries of a bitstring's categories in a record where it is legal.
+fn put_bitstring(
     t: &[i64],
     rows: usize,
     row: Row,
@@ -528,25 +757,73 @@ fn put_multiple(
     flags: usize,
     values: usize,
 ) -> Put
-    requires { ⌜ Readable (now t) rows row (length (now bytes)) × (length (now list) ≡ 9999) ⌝ }
+    requires { ⌜ Readable (now t) rows row (length (now bytes)) × (length (now list) ≡ 9999) × (row .kind ≡ Multiple Bits) ⌝ }
+    requires { ⌜ isIllegal (readingOf (now t) rows row (now bytes)) ≡ false ⌝ }
     requires { ⌜ MarkedSet (now t) rows row (now allowed) (m .gap) (m .count) × (length (now present) ≡ length (now allowed)) ⌝ }
     requires { ⌜ Room flags values (length (now out)) (m .count) ⌝ }
-    ensures { λ r. ⌜ (now (out .exit) ≡ putEntries (now (out .entry)) flags values
-        (memberEntries (readingOf (now (t .entry)) rows row (now (bytes .entry)))
-        (defined (legal (now (t .entry)) rows row) 1 9999)))
-        × (r .near ≡ true → NearPut (memberEntries (readingOf (now (t .entry)) rows row (now (bytes .entry)))
-        (defined (legal (now (t .entry)) rows row) 1 9999)) (m .gap) (m .count) (r .there) (now (present .entry))
-        (now (present .exit))) ⌝ }
+    ensures { λ r. ⌜ RowPut (memberEntries (readingOf (now (t .entry)) rows row (now (bytes .entry)))
+        (defined (legal (now (t .entry)) rows row) 1 9999)) (m .gap) (m .count) flags values (now (present .entry))
+        (now (present .exit)) (now (out .entry)) (now (out .exit)) (r .there) (r .near) ⌝ }
 {
-    let a = readings::read_row(t, rows, row, bytes, list);
-    let n = members_in(a);
-    let there = is_set(a);
-    if all_before(list, n, m.gap) {
-        put_near(list, n, m, there, present, out, flags, values);
-        return Put { there, near: true };
+    if row.width < m.gap {
+        return put_whole(bytes, row.start - 1, row.width, present, out, flags, values);
     }
-    put_far(list, n, m, allowed, present, there, out, flags, values);
-    Put { there, near: false }
+    let l = list_read(t, rows, row, bytes, list);
+    put_listed(
+        t,
+        rows,
+        row,
+        bytes,
+        m,
+        l,
+        list,
+        allowed,
+        present,
+        out,
+        flags,
+        values,
+    )
+}
+
+// The entries of a spread's categories in a record where it is legal.
+fn put_spread(
+    t: &[i64],
+    rows: usize,
+    row: Row,
+    n: usize,
+    b: usize,
+    m: Marking,
+    bytes: &[u8],
+    list: &mut [i64],
+    allowed: &[u8],
+    present: &mut [u8],
+    out: &mut [u8],
+    flags: usize,
+    values: usize,
+) -> Put
+    requires { ⌜ Readable (now t) rows row (length (now bytes)) × (length (now list) ≡ 9999) × (row .kind ≡ Multiple (Fields n b)) ⌝ }
+    requires { ⌜ isIllegal (readingOf (now t) rows row (now bytes)) ≡ false ⌝ }
+    requires { ⌜ MarkedSet (now t) rows row (now allowed) (m .gap) (m .count) × (length (now present) ≡ length (now allowed)) ⌝ }
+    requires { ⌜ Room flags values (length (now out)) (m .count) ⌝ }
+    ensures { λ r. ⌜ RowPut (memberEntries (readingOf (now (t .entry)) rows row (now (bytes .entry)))
+        (defined (legal (now (t .entry)) rows row) 1 9999)) (m .gap) (m .count) flags values (now (present .entry))
+        (now (present .exit)) (now (out .entry)) (now (out .exit)) (r .there) (r .near) ⌝ }
+{
+    let l = list_spread(t, rows, row, n, b, bytes, list);
+    put_listed(
+        t,
+        rows,
+        row,
+        bytes,
+        m,
+        l,
+        list,
+        allowed,
+        present,
+        out,
+        flags,
+        values,
+    )
 }
 
 // How many columns a row of a kind has: 0 none, 1 one, 2 one for each category.
@@ -661,7 +938,7 @@ pub fn mark_row(t: &[i64], rows: usize, row: Row, allowed: &mut [u8]) -> Marking
     mark_set(t, rows, row, allowed)
 }
 
-// The entries of a row, whose marks were made.
+// The entries of a row in a record where it is legal, by its kind; its marks were made.
 pub fn put_row(
     powers: &[u64; 16],
     t: &[i64],
@@ -677,41 +954,71 @@ pub fn put_row(
     values: usize,
 ) -> Put
     requires { ⌜ Tens (now powers) × Readable (now t) rows row (length (now bytes)) × (length (now list) ≡ 9999) ⌝ }
+    requires { ⌜ isIllegal (readingOf (now t) rows row (now bytes)) ≡ false ⌝ }
     requires { ⌜ MarkedRow (now t) rows row (now allowed) (m .gap) (m .count) × (length (now present) ≡ length (now allowed)) ⌝ }
     requires { ⌜ Room flags values (length (now out)) (m .count) ⌝ }
-    ensures { λ r. ⌜ (now (out .exit) ≡ putEntries (now (out .entry)) flags values
-        (entriesBy (row .kind) (now (t .entry)) rows row (now (bytes .entry))))
-        × (r .near ≡ true → NearPut (entriesBy (row .kind) (now (t .entry)) rows row (now (bytes .entry))) (m .gap) (m .count) (r .there)
-        (now (present .entry)) (now (present .exit))) ⌝ }
+    ensures { λ r. ⌜ RowPut (entriesBy (row .kind) (now (t .entry)) rows row (now (bytes .entry))) (m .gap) (m .count) flags values
+        (now (present .entry)) (now (present .exit)) (now (out .entry)) (now (out .exit)) (r .there) (r .near) ⌝ }
 {
     let kind = row.kind;
-    let shape = shape_of(kind);
-    if shape == 0 {
-        return Put {
+    match kind {
+        Kind::Single => {
+            put_single(bytes, row.finish, row.width, out, flags, values);
+            Put {
+                there: false,
+                near: false,
+            }
+        }
+        Kind::Multiple(s) => match s {
+            Spread::Bits => put_bitstring(
+                t,
+                rows,
+                row,
+                m,
+                bytes,
+                list,
+                allowed,
+                present,
+                out,
+                flags,
+                values,
+            ),
+            Spread::Fields { count, width } => put_spread(
+                t,
+                rows,
+                row,
+                count,
+                width,
+                m,
+                bytes,
+                list,
+                allowed,
+                present,
+                out,
+                flags,
+                values,
+            ),
+        },
+        Kind::Quantity(f) => {
+            put_quantity(powers, f, bytes, row.finish, row.width, out, flags, values);
+            Put {
+                there: false,
+                near: false,
+            }
+        }
+        Kind::Character => Put {
             there: false,
             near: false,
-        };
+        },
+        Kind::Logical => {
+            let last = row.finish - 1;
+            put_truth(bytes[last], out, flags, values);
+            Put {
+                there: false,
+                near: false,
+            }
+        }
     }
-    if shape == 1 {
-        put_number(powers, t, rows, row, bytes, list, out, flags, values);
-        return Put {
-            there: false,
-            near: false,
-        };
-    }
-    put_multiple(
-        t,
-        rows,
-        row,
-        m,
-        bytes,
-        list,
-        allowed,
-        present,
-        out,
-        flags,
-        values,
-    )
 }
 
 // How many columns a row has.

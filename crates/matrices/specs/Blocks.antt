@@ -2,6 +2,7 @@
 -- stands between them stays. All columns so put are all records put.
 -- Assumes nothing.
 use mathlib.Core.Path.{_≡_, refl, sym, ap, _∙_}
+use mathlib.Core.Bool.{false}
 use mathlib.Core.List.{List, [], _∷_, _++_}
 use Prim.Native.Nat.{ℕ, zero, suc, _+_, _-_, _*_, _≤_, _<_}
 use native.Mathlib.Nat.{suc-mul}
@@ -11,6 +12,8 @@ use lib.IntN.{ℤ}
 use lib.ListN.{length, drop, drop-of-length-le}
 use lib.Seq.{drop-cons}
 use Rattle.layout.specs.declared.Row.{Row}
+use Rattle.fields.specs.rule.Row.{readingOf}
+use Rattle.sets.specs.rule.Sets.{isIllegal}
 use Rattle.little.specs.rule.Bytes.{putAt}
 use Rattle.little.specs.Runs.{put-either}
 use Rattle.matrix.specs.declared.Entry.{Entry}
@@ -151,9 +154,10 @@ abbrev pub EachRoom : ℕ → ℕ → ℕ → ℕ → ℕ → ℕ → Type 0
 EachRoom flags values size step count records =
     (n : ℕ) → n < records → Room (flags + n * step) (values + 8 * (n * step)) size count
 
--- a row that every record is long enough for
+-- a row that every record is long enough for, and in which it is legal
 abbrev pub EachReadable : List ℤ → ℕ → Row → List (List ℕ) → Type 0
-EachReadable t v r rs = (n : ℕ) → n < length rs → Readable t v r (length (recordAt rs n))
+EachReadable t v r rs =
+    (n : ℕ) → n < length rs → Readable t v r (length (recordAt rs n)) × (isIllegal (readingOf t v r (recordAt rs n)) ≡ false)
 
 pub cells-below : (n m step : ℕ) → n < m → n * step + step ≤ m * step
 cells-below n zero step h = absurd (omega arith)

@@ -8,3 +8,4 @@ pub mod Blocks
 pub mod Even
 pub mod Met
 pub mod Stand
+pub mod Legal

@@ -24,6 +24,7 @@ ghost use Rattle.matrices.specs.Records.{AllLong, countIn};
 ghost use Rattle.matrices.specs.Blocks.{putColumns, putEach, EachRoom, EachReadable};
 ghost use Rattle.matrices.specs.Met.{MetColumn, RowMet, markAt};
 ghost use Rattle.matrices.specs.Stand.{EachGood};
+ghost use Rattle.matrices.specs.Legal.{AllLegal};
 ghost use Rattle.matrices.specs.Even.{AllOf, firstOf, Even};
 ghost use Rattle.matrices.specs.Summaries.{ColumnsThere, summariesIn, toldFrom};
 ghost use Rattle.matrices.specs.Written.{SoundFile};
@@ -347,7 +348,7 @@ fn put_columns(
 ) -> usize
     requires { ⌜ Ready (now powers) (now t) h (length (now list)) (length (now allowed)) (length (now present)) ⌝ }
     requires { ⌜ (i < h .rows) × Even (now d) (s .first) (s .step) × (records ≡ length (endedOf (recordsOf (now d))))
-        × AllLong (h .length) (endedOf (recordsOf (now d))) ⌝ }
+        × AllLong (h .length) (endedOf (recordsOf (now d))) × AllLegal (now t) (h .rows) (endedOf (recordsOf (now d))) ⌝ }
     requires { ⌜ (records * columns ≤ 16777216) × (columns ≤ 16777216) × (values ≤ 268435456) × (flags + records * columns ≤ values)
         × (at + 24 * length (rowColumns (now t) (h .rows) i) ≤ length (now out)) × (length (rowColumns (now t) (h .rows) i) ≤ columns)
         × (at + 24 * length (rowColumns (now t) (h .rows) i) ≤ flags)
@@ -397,7 +398,7 @@ fn put_records(
     requires { ⌜ Ready (now powers) (now t) h (length (now list)) (length (now allowed)) (length (now present)) ⌝ }
     requires { ⌜ columns ≡ length (columnsFrom (now t) (h .rows) 0 (h .rows)) ⌝ }
     requires { ⌜ AllOf (firstOf (recordsOf (now d))) (recordsOf (now d)) × (records ≡ length (endedOf (recordsOf (now d))))
-        × AllLong (h .length) (endedOf (recordsOf (now d))) ⌝ }
+        × AllLong (h .length) (endedOf (recordsOf (now d))) × AllLegal (now t) (h .rows) (endedOf (recordsOf (now d))) ⌝ }
     requires { ⌜ (records * columns ≤ 16777216) × (columns ≤ 16777216) × (values ≤ 16777216) × (24 + 24 * columns ≤ flags)
         × Room flags values (length (now out)) (records * columns) ⌝ }
     ensures { λ _. ⌜ now (out .exit) ≡ putAt (putEntries (now (out .entry)) flags values

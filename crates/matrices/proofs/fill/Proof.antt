@@ -11,6 +11,7 @@ use Rattle.columns.specs.rule.Columns.{columnsFrom}
 use Rattle.matrices.specs.rule.Matrix.{endedOf, allEntries}
 use Rattle.matrices.specs.Records.{file-sound}
 use Rattle.matrices.specs.Even.{file-even}
+use Rattle.matrices.specs.Legal.{file-legal}
 use Rattle.matrices.specs.Written.{filled}
 use Rattle.matrices.proofs.fill.Statement.{statement}
 use Rattle.matrices.proofs.fill.Tie as tie
@@ -38,7 +39,12 @@ put-records-requires c κs =
       (
         e,
         (
-          (file-even (a .t .now) (a .d .now) (a .records) (p .0 .1), s .2, rw (tested-length (p .0 .0)) (s .1)),
+          (
+            file-even (a .t .now) (a .d .now) (a .records) (p .0 .1),
+            s .2,
+            rw (tested-length (p .0 .0)) (s .1),
+            rw (tested-rows (p .0 .0)) (file-legal (a .t .now) (a .d .now) (a .records) (p .0 .1)),
+          ),
           (
             omega (arith, total),
             omega (arith, total),

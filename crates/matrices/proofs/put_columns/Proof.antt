@@ -20,6 +20,7 @@ use Rattle.columns.specs.Rows.{entriesBy, countBy, row-entries, row-count}
 use Rattle.matrices.specs.rule.Matrix.{endedOf, summariesOf}
 use Rattle.matrices.specs.Entries.{recordAt}
 use Rattle.matrices.specs.Even.{long-at}
+use Rattle.matrices.specs.Legal.{legal-at}
 use Rattle.matrices.specs.Blocks.{putEach, each-columns}
 use Rattle.matrices.specs.Good.{row-good}
 use Rattle.matrices.specs.Stand.{row-summaries}
@@ -63,7 +64,10 @@ put-marked-requires c κs =
           (
             p .1 .0 .1,
             p .1 .0 .2,
-            λ n l. known at-read (length (recordAt rs n)) (long-at (a .h .length) rs n (p .1 .0 .3) l),
+            λ n l. (
+              known at-read (length (recordAt rs n)) (long-at (a .h .length) rs n (p .1 .0 .3) l),
+              rw (at-read .read .ensures) (legal-at (a .t .now) (a .h .rows) rs n (p .1 .0 .4) l (a .i) (p .1 .0 .0)),
+            ),
           ),
           (
             (λ n l.

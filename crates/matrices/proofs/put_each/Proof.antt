@@ -9,6 +9,8 @@ use borrow.Author.Needs.{needs}
 use lib.ListN.{length, drop}
 use Rattle.cuts.specs.rule.Records.{recordsOf}
 use Rattle.cuts.specs.Records.{part}
+use Rattle.fields.specs.rule.Row.{readingOf}
+use Rattle.sets.specs.rule.Sets.{isIllegal}
 use Rattle.columns.specs.Reach.{Readable}
 use Rattle.columns.specs.Room.{Room, room-on}
 use Rattle.columns.specs.Rows.{entriesBy}
@@ -92,10 +94,14 @@ put-row-requires c κs =
     let p = start .pre in (
       (
         p .0 .0,
-        subst (λ (r : List ℕ). Readable (a .t .now) (a .rows) (a .row) (length r)) (there here) (p .1 .1 .0 .2 (l .n) (low here)),
+        subst (λ (r : List ℕ). Readable (a .t .now) (a .rows) (a .row) (length r)) (there here) (p .1 .1 .0 .2 (l .n) (low here) .0),
         l .inv .3 ∙ p .0 .1,
       ),
-      ((p .1 .0 .0, l .inv .4 ∙ p .0 .2), room-on (l .inv .5) (room here)),
+      (
+        subst (λ (r : List ℕ). isIllegal (readingOf (a .t .now) (a .rows) (a .row) r) ≡ false) (there here)
+            (p .1 .1 .0 .2 (l .n) (low here) .1),
+        ((p .1 .0 .0, l .inv .4 ∙ p .0 .2), room-on (l .inv .5) (room here)),
+      ),
     )
 
 add-k : tie.Need-add-k Inv-loop μ-loop

@@ -81,6 +81,7 @@ put-columns-requires c κs =
           c .before .before .before .before .before .before .before .step-of .ensures,
           p .1 .1 .0 .1,
           p .1 .1 .0 .2,
+          p .1 .1 .0 .3,
         ),
         (
           p .1 .1 .1 .0,
