@@ -13,10 +13,12 @@ use Rattle.value_fields.proofs.put_behind.Tie as tie
 same-length : tie.Need-same-length
 same-length c =
     let a = c .before .before .before .before .before .args in
-    ap length (c .before .before .put-digits .ensures ∙ behind-stored (a .out .now) (a .at) (a .d) (a .n)) ∙ length-sets (a .out .now) (a .at) (59 ∷ padded (a .d) (a .n))
+    ap length (c .before .before .put-digits .ensures ∙ behind-stored (a .out .now) (a .at) (a .d) (a .n))
+    ∙ length-sets (a .out .now) (a .at) (59 ∷ padded (a .d) (a .n))
 
 returns : tie.Need-returns
-returns c = let a = c .before .before .before .before .before .args in c .before .before .put-digits .ensures ∙ behind-stored (a .out .now) (a .at) (a .d) (a .n)
+returns c = let a = c .before .before .before .before .before .args in
+    c .before .before .put-digits .ensures ∙ behind-stored (a .out .now) (a .at) (a .d) (a .n)
 
 pub put-behind-spec : {M : Type 1} → statement M
 put-behind-spec =
@@ -24,6 +26,13 @@ put-behind-spec =
     (tie.spec
     (λ c. search needs)
     (λ c. search needs)
-    (λ c κs. (c .before .before .pre .0, (c .before .before .pre .1 .0, c .before .before .pre .1 .1, rw length-set (omega (arith, c .before .before .pre .1 .2)))))
+    (λ c κs. (
+      c .before .before .pre .0,
+      (
+        c .before .before .pre .1 .0,
+        c .before .before .pre .1 .1,
+        rw length-set (omega (arith, c .before .before .pre .1 .2)),
+      ),
+    ))
     same-length
     returns)

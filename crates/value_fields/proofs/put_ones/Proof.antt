@@ -22,20 +22,37 @@ returns c =
 put-behind-requires : tie.Need-put-behind-requires Inv-loop μ-loop
 put-behind-requires c κs =
     let s = c .before .before .before .before .before .loop .inv .1 in
-    let h = c .before .before .before .before .loop-test .taken in
-    (c .before .before .before .before .before .before .before .before .pre .0, (omega (arith, h), omega arith, omega (arith, h, s .few, s .room, c .before .before .before .before .before .before .before .before .pre .1)))
+    let h = c .before .before .before .before .loop-test .taken in (
+      c .before .before .before .before .before .before .before .before .pre .0,
+      (
+        omega (arith, h),
+        omega arith,
+        omega (
+          arith,
+          h,
+          s .few,
+          s .room,
+          c .before .before .before .before .before .before .before .before .pre .1,
+        ),
+      ),
+    )
 
 loop-again : tie.Need-loop-again Inv-loop μ-loop
 loop-again c =
     let h = c .before .before .before .before .before .before .before .loop-test .taken in (
       omega (arith, h),
-      stretch-set (c .before .before .before .before .before .before .before .before .loop .inv .1) (omega (arith, c .before .before .before .before .before .before .if1 .left)) (c .before .before .before .before .if2 .taken) refl (digits-one _ (omega (arith, h)))
+      stretch-set (c .before .before .before .before .before .before .before .before .loop .inv .1)
+          (omega (arith, c .before .before .before .before .before .before .if1 .left)) (c .before .before .before .before .if2 .taken) refl
+          (digits-one _ (omega (arith, h)))
           (c .before .before .put-behind .ensures) refl (omega arith),
     )
 
 loop-again-2 : tie.Need-loop-again-2 Inv-loop μ-loop
-loop-again-2 c =
-    (omega (arith, c .before .before .before .loop-test .taken), stretch-clear (c .before .before .before .before .loop .inv .1) (omega (arith, c .before .before .if1 .left)) (c .if2 .left) refl (omega arith))
+loop-again-2 c = (
+  omega (arith, c .before .before .before .loop-test .taken),
+  stretch-clear (c .before .before .before .before .loop .inv .1) (omega (arith, c .before .before .if1 .left)) (c .if2 .left) refl
+      (omega arith),
+)
 
 returns-2 : tie.Need-returns-2 Inv-loop μ-loop
 returns-2 c =
@@ -56,7 +73,12 @@ put-ones-spec =
     (λ c. omega (arith, c .if1 .left, c .before .before .before .before .before .pre .1))
     (λ c. omega (arith, c .before .if1 .left, c .before .before .before .before .before .before .pre .1))
     put-behind-requires
-    (λ c. omega (arith, c .before .before .before .before .before .before .before .loop-test .taken, c .before .before .before .before .before .before .before .before .loop .inv .1 .few, c .before .before .before .before .before .before .before .before .before .before .before .pre .1))
+    (λ c. omega (
+      arith,
+      c .before .before .before .before .before .before .before .loop-test .taken,
+      c .before .before .before .before .before .before .before .before .loop .inv .1 .few,
+      c .before .before .before .before .before .before .before .before .before .before .before .pre .1,
+    ))
     (λ c. omega (arith, c .before .before .before .before .before .before .before .loop-test .taken))
     loop-again
     (λ c. omega (arith, c .before .before .before .loop-test .taken))

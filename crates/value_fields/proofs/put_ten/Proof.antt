@@ -28,8 +28,10 @@ put-behind-requires : tie.Need-put-behind-requires Inv-loop μ-loop
 put-behind-requires c κs =
     let s = c .before .before .before .before .before .loop .inv .1 in
     let h = c .before .before .before .before .loop-test .taken in
-    let f = c .before .before .before .before .before .before .before .before .pre .1 in
-    (c .before .before .before .before .before .before .before .before .pre .0, (omega (arith, h, f), omega arith, omega (arith, h, s .few, s .room, f)))
+    let f = c .before .before .before .before .before .before .before .before .pre .1 in (
+      c .before .before .before .before .before .before .before .before .pre .0,
+      (omega (arith, h, f), omega arith, omega (arith, h, s .few, s .room, f)),
+    )
 
 loop-again : tie.Need-loop-again Inv-loop μ-loop
 loop-again c =
@@ -41,7 +43,8 @@ loop-again c =
       omega (arith, h),
       stretch-set (l .inv .1) (omega (arith, c .before .before .before .before .before .before .if1 .left, f))
           (ap (λ (x : ℕ). getD (a .bytes .now) (a .p + x) 0) k ∙ c .before .before .before .before .if2 .taken) (omega (arith, f))
-          (digits-two (10 * a .t + l .j) (omega (arith, f)) (omega (arith, f, h))) (c .before .before .put-behind .ensures) (omega (arith, f))
+          (digits-two (10 * a .t + l .j) (omega (arith, f)) (omega (arith, f, h))) (c .before .before .put-behind .ensures)
+          (omega (arith, f))
           (omega arith),
     )
 
@@ -80,7 +83,12 @@ put-ten-spec =
     (λ c. omega (arith, c .if1 .left, c .before .before .before .before .before .pre .1))
     (λ c. omega (arith, c .before .if1 .left, c .before .before .before .before .before .before .pre .1))
     put-behind-requires
-    (λ c. omega (arith, c .before .before .before .before .before .before .before .loop-test .taken, c .before .before .before .before .before .before .before .before .loop .inv .1 .few, c .before .before .before .before .before .before .before .before .before .before .before .pre .1))
+    (λ c. omega (
+      arith,
+      c .before .before .before .before .before .before .before .loop-test .taken,
+      c .before .before .before .before .before .before .before .before .loop .inv .1 .few,
+      c .before .before .before .before .before .before .before .before .before .before .before .pre .1,
+    ))
     (λ c. omega (arith, c .before .before .before .before .before .before .before .loop-test .taken))
     loop-again
     (λ c. omega (arith, c .before .before .before .loop-test .taken))

@@ -23,14 +23,20 @@ put-ten-requires : tie.Need-put-ten-requires Inv-loop μ-loop
 put-ten-requires c κs =
     let i = c .before .before .before .loop .inv in
     let h = c .before .before .loop-test .taken in
-    let f = c .before .before .before .before .before .before .pre .1 in
-    (c .before .before .before .before .before .before .pre .0, (f .0, omega (arith, h, i .0, i .2 .few, i .2 .room, f), i .0, omega (arith, h)))
+    let f = c .before .before .before .before .before .before .pre .1 in (
+      c .before .before .before .before .before .before .pre .0,
+      (f .0, omega (arith, h, i .0, i .2 .few, i .2 .room, f), i .0, omega (arith, h)),
+    )
 
 loop-again : tie.Need-loop-again Inv-loop μ-loop
 loop-again c =
     let i = c .before .before .before .before .before .before .loop .inv in
-    let h = c .before .before .before .before .before .loop-test .taken in
-    (omega (arith, h), omega (arith, h), stretch-then (i .2) (c .before .before .put-ten .ensures) (omega (arith, i .0)) (omega (arith, i .0)))
+    let h = c .before .before .before .before .before .loop-test .taken in (
+      omega (arith, h),
+      omega (arith, h),
+      stretch-then (i .2) (c .before .before .put-ten .ensures) (omega (arith, i .0))
+          (omega (arith, i .0)),
+    )
 
 returns-2 : tie.Need-returns-2 Inv-loop μ-loop
 returns-2 c =

@@ -22,13 +22,17 @@ returns-2 : tie.Need-returns-2
 returns-2 c =
     let a = c .before .before .before .before .before .before .before .before .before .before .before .args in
     let p = c .before .before .before .before .before .before .before .before .before .before .before .pre in
-    sent-as (c .before .before .send-roomy .ensures) (each-members (a .w) (p .1 .0 .0) (a .bytes .now) (a .p) (p .1 .1) (c .before .before .before .before .before .before .before .if1 .left))
+    sent-as (c .before .before .send-roomy .ensures)
+    (each-members (a .w) (p .1 .0 .0) (a .bytes .now) (a .p) (p .1 .1)
+    (c .before .before .before .before .before .before .before .if1 .left))
 
 returns-3 : tie.Need-returns-3
 returns-3 c =
     let a = c .before .before .before .before .before .before .before .before .before .before .before .args in
     let p = c .before .before .before .before .before .before .before .before .before .before .before .pre in
-    sent-as (c .before .before .send-checked .ensures) (each-members (a .w) (p .1 .0 .0) (a .bytes .now) (a .p) (p .1 .1) (c .before .before .before .before .before .before .before .if1 .left))
+    sent-as (c .before .before .send-checked .ensures)
+    (each-members (a .w) (p .1 .0 .0) (a .bytes .now) (a .p) (p .1 .1)
+    (c .before .before .before .before .before .before .before .if1 .left))
 
 pub send-each-spec : {M : Type 1} → statement M
 send-each-spec =
@@ -40,6 +44,12 @@ send-each-spec =
     send-roomy-requires
     (λ c. search needs)
     returns-2
-    (λ c κs. (c .before .before .before .before .before .before .before .before .pre .0, (c .before .before .before .before .before .before .before .before .pre .1 .0 .1, c .before .before .before .before .before .before .before .before .pre .1 .0 .2)))
+    (λ c κs. (
+      c .before .before .before .before .before .before .before .before .pre .0,
+      (
+        c .before .before .before .before .before .before .before .before .pre .1 .0 .1,
+        c .before .before .before .before .before .before .before .before .pre .1 .0 .2,
+      ),
+    ))
     (λ c. search needs)
     returns-3)

@@ -11,23 +11,35 @@ use Rattle.value_fields.proofs.send_roomy.Tie as tie
 
 returns : tie.Need-returns
 returns c =
-    let a = c .before .before .before .before .before .before .before .before .before .before .before .before .before .before .before .before .before .before .before .before .before .args in
-    let f = c .before .before .before .before .before .before .before .before .before .before .before .before .before .before .before .before .before .before .before .before .before .pre .1 .1 in
+    let a = c .before .before .before .before .before .before .before .before .before .before .before .before .before .before .before
+    .before .before .before .before .before .before .args in
+    let f = c .before .before .before .before .before .before .before .before .before .before .before .before .before .before .before
+    .before .before .before .before .before .before .pre .1 .1 in
     let m : 18 + 270 ≤ 288 = omega arith in
-    let s = stretch-then (c .before .before .before .before .before .before .before .before .before .before .before .before .before .before .before .before .put-ones .ensures) (c .before .before .before .before .before .before .before .before .before .before .before .before .put-tens .ensures) refl m in
-    let whole = s .owed {bound = a .bound} (omega (arith, f)) .pays (c .before .before .before .before .before .before .before .before .send-hundreds .ensures) in
-    none-set (omega (arith, f)) (omega (arith, f)) (bitsFrom (a .w) (a .bytes .now) (a .p) 0) whole (c .before .before .before .before .before .if1 .taken)
+    let s = stretch-then
+    (c .before .before .before .before .before .before .before .before .before .before .before .before .before .before .before .before
+    .put-ones .ensures)
+    (c .before .before .before .before .before .before .before .before .before .before .before .before .put-tens .ensures) refl m in
+    let whole = s .owed {bound = a .bound} (omega (arith, f)) .pays
+    (c .before .before .before .before .before .before .before .before .send-hundreds .ensures) in
+    none-set (omega (arith, f)) (omega (arith, f)) (bitsFrom (a .w) (a .bytes .now) (a .p) 0) whole
+    (c .before .before .before .before .before .if1 .taken)
     (c .before .before .send-bytes .ensures)
 
 same-length-2 : tie.Need-same-length-2
-same-length-2 c = rw length-set (c .before .before .before .send-hundreds .ensures .room ∙ c .before .before .before .before .before .before .before .put-tens .ensures .room ∙ c .before .before .before .before .before .before .before .before .before .before .before .put-ones .ensures .room)
+same-length-2 c = rw length-set (c .before .before .before .send-hundreds .ensures .room
+    ∙ c .before .before .before .before .before .before .before .put-tens .ensures .room
+    ∙ c .before .before .before .before .before .before .before .before .before .before .before .put-ones .ensures .room)
 
 returns-2 : tie.Need-returns-2
 returns-2 c =
-    let a = c .before .before .before .before .before .before .before .before .before .before .before .before .before .before .before .before .args in
-    let f = c .before .before .before .before .before .before .before .before .before .before .before .before .before .before .before .before .pre .1 .1 in
+    let a = c .before .before .before .before .before .before .before .before .before .before .before .before .before .before .before
+    .before .args in
+    let f = c .before .before .before .before .before .before .before .before .before .before .before .before .before .before .before
+    .before .pre .1 .1 in
     let m : 18 + 270 ≤ 288 = omega arith in
-    let s = stretch-then (c .before .before .before .before .before .before .before .before .before .before .before .put-ones .ensures) (c .before .before .before .before .before .before .before .put-tens .ensures) refl m in
+    let s = stretch-then (c .before .before .before .before .before .before .before .before .before .before .before .put-ones .ensures)
+    (c .before .before .before .before .before .before .before .put-tens .ensures) refl m in
     let whole = s .owed {bound = a .bound} (omega (arith, f)) .pays (c .before .before .before .send-hundreds .ensures) in
     some-set (omega (arith, f)) (omega (arith, f)) (bitsFrom (a .w) (a .bytes .now) (a .p) 0) whole (c .if1 .left)
 
@@ -37,13 +49,41 @@ send-roomy-spec =
     (tie.spec
     (λ c. omega (arith, c .before .before .pre .1 .1))
     (λ c. omega (arith, c .before .before .before .pre .1 .1))
-    (λ c κs. (c .before .before .before .before .pre .0, (c .before .before .before .before .pre .1 .0 .1, omega (arith, c .before .before .before .before .pre .1 .1))))
-    (λ c κs. (c .before .before .before .before .before .before .before .before .pre .0, (c .before .before .before .before .before .before .before .before .pre .1 .0 .1, omega (arith, c .before .before .before .put-ones .ensures .few, c .before .before .before .put-ones .ensures .room, c .before .before .before .before .before .before .before .before .pre .1 .1))))
-    (λ c κs. (c .before .before .before .before .before .before .before .before .before .before .before .before .pre .0, c .before .before .before .before .before .before .before .before .before .before .before .before .pre .1 .0))
+    (λ c κs. (
+      c .before .before .before .before .pre .0,
+      (c .before .before .before .before .pre .1 .0 .1, omega (arith, c .before .before .before .before .pre .1 .1)),
+    ))
+    (λ c κs. (
+      c .before .before .before .before .before .before .before .before .pre .0,
+      (
+        c .before .before .before .before .before .before .before .before .pre .1 .0 .1,
+        omega (
+          arith,
+          c .before .before .before .put-ones .ensures .few,
+          c .before .before .before .put-ones .ensures .room,
+          c .before .before .before .before .before .before .before .before .pre .1 .1,
+        ),
+      ),
+    ))
+    (λ c κs. (
+      c .before .before .before .before .before .before .before .before .before .before .before .before .pre .0,
+      c .before .before .before .before .before .before .before .before .before .before .before .before .pre .1 .0,
+    ))
     (λ c. search needs)
     (λ c κs. search needs)
-    (λ c. c .before .before .send-bytes .ensures .room ∙ c .before .before .before .before .before .before .before .before .send-hundreds .ensures .room ∙ c .before .before .before .before .before .before .before .before .before .before .before .before .put-tens .ensures .room ∙ c .before .before .before .before .before .before .before .before .before .before .before .before .before .before .before .before .put-ones .ensures .room)
+    (λ c. c .before .before .send-bytes .ensures .room
+    ∙ c .before .before .before .before .before .before .before .before .send-hundreds .ensures .room
+    ∙ c .before .before .before .before .before .before .before .before .before .before .before .before .put-tens .ensures .room
+    ∙ c .before .before .before .before .before .before .before .before .before .before .before .before .before .before .before .before
+    .put-ones .ensures .room)
     returns
-    (λ c. omega (arith, c .before .before .before .send-hundreds .ensures .room, c .before .before .before .before .before .before .before .put-tens .ensures .room, c .before .before .before .before .before .before .before .before .before .before .before .put-ones .ensures .room, c .before .before .before .before .before .before .before .before .before .before .before .before .before .before .before .before .pre .1 .1))
+    (λ c. omega (
+      arith,
+      c .before .before .before .send-hundreds .ensures .room,
+      c .before .before .before .before .before .before .before .put-tens .ensures .room,
+      c .before .before .before .before .before .before .before .before .before .before .before .put-ones .ensures .room,
+      c .before .before .before .before .before .before .before .before .before .before .before .before .before .before .before .before .pre
+          .1 .1,
+    ))
     same-length-2
     returns-2)
