@@ -7,3 +7,4 @@ pub mod Rows
 pub mod Numeral
 pub mod Bare
 pub mod Few
+pub mod Stretch

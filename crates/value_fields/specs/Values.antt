@@ -28,7 +28,7 @@ use Rattle.value_fields.specs.rule.Values.{amountText, numberText, codes
 use Rattle.value_fields.specs.Plain.{number-plain, set-plain, truth-plain}
 
 -- ---- digits sent: put at a run of places they are stored one behind the other
-put-sets : (s l : List ℕ) (at w : ℕ) → length s ≡ w → put l (run at w) s ≡ sets l at s
+pub put-sets : (s l : List ℕ) (at w : ℕ) → length s ≡ w → put l (run at w) s ≡ sets l at s
 put-sets [] l at zero e = refl
 put-sets [] l at (suc w) e = absurd (omega arith)
 put-sets (b ∷ s) l at zero e = absurd (omega arith)

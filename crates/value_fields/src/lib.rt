@@ -4,10 +4,11 @@
 ghost use mathlib.Core.Path.{_≡_};
 ghost use mathlib.Core.Bool.{Bool, true, false, cond};
 ghost use mathlib.Core.List.{[], _∷_};
-ghost use Prim.Native.Nat.{_+_, _-_, _^_, _≤_, _<_};
+ghost use Prim.Native.Nat.{_+_, _-_, _*_, _^_, _≤_, _<_};
 ghost use lib.Dec.{eqb};
 ghost use lib.IntN.{ℤ};
 ghost use lib.ListN.{length, take, drop};
+ghost use lib.Seq.{sets};
 ghost use Rattle.ascii.specs.rule.Tens.{Tens};
 ghost use Rattle.cells.specs.rule.Cell.{signedOf};
 ghost use Rattle.places.specs.rule.Places.{pick, run};
@@ -34,6 +35,7 @@ ghost use Rattle.value_fields.specs.rule.Values.{rowField};
 ghost use Rattle.few_codes.specs.Few.{above};
 ghost use Rattle.value_fields.specs.Ends.{SpacesFrom, EndsAt};
 ghost use Rattle.value_fields.specs.Legal.{Told, bitsFrom, eachField, FirstSet, Full};
+ghost use Rattle.value_fields.specs.Stretch.{Stretch};
 use layout::Format;
 use layout::Header;
 use layout::Kind;
@@ -467,6 +469,194 @@ fn send_set_bits(
     end
 }
 
+// The categories that are set, with a look at the room for each byte; `none` where there are none.
+fn send_checked(
+    powers: &[u64; 16],
+    bound: usize,
+    out: &mut [u8],
+    at: usize,
+    bytes: &[u8],
+    p: usize,
+    w: usize,
+) -> usize
+    requires { ⌜ Tens (now powers) ⌝ }
+    requires { ⌜ (w ≤ 9999) × (p + w ≤ length (now bytes)) ⌝ }
+    ensures { λ r. ⌜ Sent bound (now (out .entry)) at (setText (bitsFrom w (now (bytes .entry)) p 0)) (now (out .exit)) r ⌝ }
+{
+    let c = first_set(bytes, p, w);
+    if c == w {
+        return sink::send_bytes(bound, out, at, b"none");
+    }
+    let next = c + 1;
+    let end = send_count(powers, bound, out, at, next as u64);
+    send_set_bits(powers, bound, out, end, bytes, p, next, w)
+}
+
+// A semicolon and behind it a code, of d digits.
+fn put_behind(powers: &[u64; 16], out: &mut [u8], at: usize, d: usize, n: u64)
+    requires { ⌜ Tens (now powers) ⌝ }
+    requires { ⌜ (n < 10 ^ 16) × (d ≤ 20) × (at + (d + 1) ≤ length (now out)) ⌝ }
+    ensures { λ _. ⌜ now (out .exit) ≡ sets (now (out .entry)) at (59 ∷ padded d n) ⌝ }
+{
+    out[at] = 59;
+    digits::put_digits(powers, out, at + 1, d, n);
+}
+
+// Of the categories from 1 to 9 those that are set, each behind a semicolon. The compiler writes the nine turns out, so that what is
+// stored are constants; the same goes for the ten turns below.
+fn put_ones(
+    powers: &[u64; 16],
+    out: &mut [u8],
+    at: usize,
+    bytes: &[u8],
+    p: usize,
+    w: usize,
+) -> usize
+    requires { ⌜ Tens (now powers) ⌝ }
+    requires { ⌜ (p + w ≤ length (now bytes)) × (at + 18 ≤ length (now out)) ⌝ }
+    ensures { λ r. ⌜ Stretch 18 w (now (bytes .entry)) p 0 9 (now (out .entry)) at (now (out .exit)) r ⌝ }
+{
+    let mut end = at;
+    let mut i: usize = 0;
+    while i < 9 {
+        if w <= i {
+            return end;
+        }
+        let k = i;
+        i += 1;
+        if bytes[p + k] == 49 {
+            put_behind(powers, out, end, 1, i as u64);
+            end += 2;
+        }
+    }
+    end
+}
+
+// The same of the ten categories from 10 * t on.
+fn put_ten(
+    powers: &[u64; 16],
+    out: &mut [u8],
+    at: usize,
+    bytes: &[u8],
+    p: usize,
+    w: usize,
+    t: usize,
+) -> usize
+    requires { ⌜ Tens (now powers) ⌝ }
+    requires { ⌜ (p + w ≤ length (now bytes)) × (at + 30 ≤ length (now out)) × (1 ≤ t) × (t ≤ 9) ⌝ }
+    ensures { λ r. ⌜ Stretch 30 w (now (bytes .entry)) p (10 * t - 1) (10 * t + 9) (now (out .entry)) at (now (out .exit)) r ⌝ }
+{
+    let mut end = at;
+    let mut j: usize = 0;
+    while j < 10 {
+        let n = 10 * t + j;
+        if w < n {
+            return end;
+        }
+        j += 1;
+        if bytes[p + (n - 1)] == 49 {
+            put_behind(powers, out, end, 2, n as u64);
+            end += 3;
+        }
+    }
+    end
+}
+
+// The same of the categories from 10 to 99.
+fn put_tens(
+    powers: &[u64; 16],
+    out: &mut [u8],
+    at: usize,
+    bytes: &[u8],
+    p: usize,
+    w: usize,
+) -> usize
+    requires { ⌜ Tens (now powers) ⌝ }
+    requires { ⌜ (p + w ≤ length (now bytes)) × (at + 270 ≤ length (now out)) ⌝ }
+    ensures { λ r. ⌜ Stretch 270 w (now (bytes .entry)) p 9 99 (now (out .entry)) at (now (out .exit)) r ⌝ }
+{
+    let mut end = at;
+    let mut t: usize = 1;
+    while t < 10 {
+        if w < 10 * t {
+            return end;
+        }
+        end = put_ten(powers, out, end, bytes, p, w, t);
+        t += 1;
+    }
+    end
+}
+
+// The same of those from 100 on, which few bitstrings have: with a look at the room for each byte.
+fn send_hundreds(
+    powers: &[u64; 16],
+    bound: usize,
+    out: &mut [u8],
+    at: usize,
+    bytes: &[u8],
+    p: usize,
+    w: usize,
+) -> usize
+    requires { ⌜ Tens (now powers) ⌝ }
+    requires { ⌜ (w ≤ 9999) × (p + w ≤ length (now bytes)) ⌝ }
+    ensures { λ r. ⌜ Sent bound (now (out .entry)) at (codesBehind (bitsFrom w (now (bytes .entry)) p 99)) (now (out .exit)) r ⌝ }
+{
+    if w < 100 {
+        return at;
+    }
+    send_set_bits(powers, bound, out, at, bytes, p, 99, w)
+}
+
+// The categories that are set, where there is room for 300 bytes: no code up to 99 asks for it again. The first has its semicolon too, at
+// the place before, which gets its own byte back.
+fn send_roomy(
+    powers: &[u64; 16],
+    bound: usize,
+    out: &mut [u8],
+    at: usize,
+    bytes: &[u8],
+    p: usize,
+    w: usize,
+) -> usize
+    requires { ⌜ Tens (now powers) ⌝ }
+    requires { ⌜ (w ≤ 9999) × (p + w ≤ length (now bytes)) ⌝ }
+    requires { ⌜ (1 ≤ at) × (at + 300 ≤ length (now out)) × (at + 300 < bound) ⌝ }
+    ensures { λ r. ⌜ Sent bound (now (out .entry)) at (setText (bitsFrom w (now (bytes .entry)) p 0)) (now (out .exit)) r ⌝ }
+{
+    let before = at - 1;
+    let was = out[before];
+    let nine = put_ones(powers, out, before, bytes, p, w);
+    let many = put_tens(powers, out, nine, bytes, p, w);
+    let end = send_hundreds(powers, bound, out, many, bytes, p, w);
+    if end == before {
+        return sink::send_bytes(bound, out, at, b"none");
+    }
+    out[before] = was;
+    end
+}
+
+// Whether a place has one before it and room for 300 bytes from it on.
+fn is_roomy(bound: usize, out: &[u8], at: usize) -> bool
+    ensures { λ r. ⌜ (r ≡ true → (1 ≤ at) × (at + 300 ≤ length (now (out .entry))) × (at + 300 < bound)) ⌝ }
+{
+    if at == 0 {
+        return false;
+    }
+    if out.len() < at {
+        return false;
+    }
+    if out.len() - at < 300 {
+        return false;
+    }
+    if bound <= at {
+        return false;
+    }
+    if bound - at <= 300 {
+        return false;
+    }
+    true
+}
+
 // A bitstring that is legal and has every category from 1 to w: its first byte tells whether it is missing.
 fn send_each(
     powers: &[u64; 16],
@@ -486,13 +676,10 @@ fn send_each(
     if bytes[p] == 32 {
         return at;
     }
-    let c = first_set(bytes, p, w);
-    if c == w {
-        return sink::send_bytes(bound, out, at, b"none");
+    if is_roomy(bound, out, at) {
+        return send_roomy(powers, bound, out, at, bytes, p, w);
     }
-    let next = c + 1;
-    let end = send_count(powers, bound, out, at, next as u64);
-    send_set_bits(powers, bound, out, end, bytes, p, next, w)
+    send_checked(powers, bound, out, at, bytes, p, w)
 }
 
 // Whether a row has every category from 1 to w.
