@@ -15,6 +15,8 @@ use Rattle.survey.specs.rule.Survey.{Variable, Survey}
 use Rattle.survey.specs.rule.Table.{tableOf}
 use Rattle.reading.specs.rule.Result.{Is}
 use Rattle.reading.specs.rule.Whole.{surveyOf}
+use Rattle.values.specs.Room.{Unless}
+use Rattle.laying.specs.declared.Rooms.the-variants as rooms
 use Rattle.bridge.specs.Lowest.{never}
 use Rattle.laying.specs.rule.Begins.{begins}
 use Rattle.definition.specs.declared.Against.{Against}
@@ -33,6 +35,20 @@ use Rattle.clean.specs.declared.Written.the-variants as written
 use Rattle.clean.specs.rule.Written.{Writing, Text, fitted, cleaned, writtenOf, outAfter}
 use Rattle.clean.specs.rule.Written as rule
 use Rattle.clean.specs.Most.{clean-most}
+
+-- a claim, or it was said that few rows and lines are not enough
+abbrev pub Perhaps : Type 0 → Type 0 → Type 0
+Perhaps said claim = Unless said (Unit {0}) claim
+
+-- a refusal of the rooms is one of the call; and the number of that one is 0
+pub refused-against : {k p m q : ℕ} → rooms.Refused k p ≡ rooms.Refused m q → Refused k p ≡ Refused m q
+refused-against {k} {p} {m} {q} e =
+    let a : k ≡ m = cc in
+    let b : p ≡ q = cc in
+    rw (a, b)
+
+pub zero-against : {k p : ℕ} → Refused 0 0 ≡ Refused k p → k ≡ 0
+zero-against {k} {p} e = cc
 
 -- how long a text is, up to one byte more than it may have
 pub record Measured (s : List ℕ) (r : ℕ) : Type 0 where

@@ -1,15 +1,20 @@
 // Clean definitions written into a lent buffer: the public call. The definition is read and held against the table; then one walk over it
 // writes the clean text, and where the buffer may be too short for it the same walk measures it before. Above it stands the face.
 use definition::Against;
+use laying::Rooms;
+use layout::Header;
+use layout::Line;
+use layout::Row;
 ghost use mathlib.Core.Path.{_≡_};
 ghost use mathlib.Core.Bool.{true};
 ghost use Prim.Native.Nat.{_*_, _≤_};
 ghost use Rattle.ascii.specs.Class.{Classes};
 ghost use Rattle.ascii.specs.rule.Tens.{Tens};
 ghost use lib.ListN.{length};
+ghost use Rattle.definition.specs.rule.Against.{againstOf};
 ghost use Rattle.fronts.specs.Front.{wholeText};
 ghost use Rattle.clean.specs.rule.Written.{DefinitionWritten, fitted, writtenOf, outAfter};
-ghost use Rattle.clean.specs.Law.{Measured};
+ghost use Rattle.clean.specs.Law.{Measured, Perhaps};
 
 // The outcome: how long the clean text is; or the refusal's number and place.
 pub enum Written {
@@ -87,11 +92,73 @@ fn write_read(d: &[u8], out: &mut [u8]) -> Written
     write_clean(d, out)
 }
 
+// A definition of up to so many bytes is read in rooms for so many rows and lines, so that little has to be cleared. Below 64 bytes a
+// variable and 8 bytes a line there are more, and it is read twice (crate kinds does the same for its calls).
+const SHORT: usize = 4096;
+
+const FEW_ROWS: usize = Row::SIZE * 64;
+
+const FEW_LINES: usize = Line::SIZE * 512;
+
+// A table held against a definition with few rows and lines; 0 where it has more.
+fn judge_few(d: &[u8], t: &[i64]) -> Against
+    requires { ⌜ length (now d) ≤ 1048576 ⌝ }
+    ensures { λ r. ⌜ Perhaps (r ≡ Against.Refused 0 0) (r ≡ againstOf (now (d .entry)) (now (t .entry))) ⌝ }
+{
+    let classes = ascii::classes();
+    let powers = ascii::powers();
+    let mut rows = [0i64; FEW_ROWS];
+    let mut lines = [0i64; FEW_LINES];
+    let mut marks = [0u16; 16384];
+    let mut seen = [0u8; 10000];
+    match definition::read_in(
+        &classes,
+        &powers,
+        d,
+        &mut rows,
+        &mut lines,
+        &mut marks,
+        &mut seen,
+    ) {
+        Rooms::Held(y) => definition::compare(Header::MARK, &rows, &lines, y, t),
+        Rooms::Refused { number, place } => Against::Refused { number, place },
+    }
+}
+
+// The same, 0 for a definition that is not short.
+fn judge_short(d: &[u8], t: &[i64]) -> Against
+    ensures { λ r. ⌜ Perhaps (r ≡ Against.Refused 0 0) (r ≡ againstOf (now (d .entry)) (now (t .entry))) ⌝ }
+{
+    if SHORT < d.len() {
+        return Against::Refused {
+            number: 0,
+            place: 0,
+        };
+    }
+    judge_few(d, t)
+}
+
+// A table held against any definition.
+fn judge(d: &[u8], t: &[i64]) -> Against
+    ensures { λ r. ⌜ r ≡ againstOf (now (d .entry)) (now (t .entry)) ⌝ }
+{
+    match judge_short(d, t) {
+        Against::Same => Against::Same,
+        Against::Other => Against::Other,
+        Against::Refused { number, place } => {
+            if number == 0 {
+                return definition::judge_against(d, t);
+            }
+            Against::Refused { number, place }
+        }
+    }
+}
+
 // Writes the clean text of a definition, whose table is lent too. The output is filled from its start, or kept whole.
 pub fn write_definition(d: &[u8], t: &[i64], out: &mut [u8]) -> Written
     ensures { λ r. ⌜ DefinitionWritten (now (d .entry)) (now (t .entry)) (now (out .entry)) (now (out .exit)) r ⌝ }
 {
-    match definition::judge_against(d, t) {
+    match judge(d, t) {
         Against::Same => write_read(d, out),
         Against::Other => Written::Refused {
             number: 40,

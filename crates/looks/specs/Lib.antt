@@ -1,4 +1,5 @@
 pub mod Plain
 pub mod Stand
 pub mod Each
+pub mod Figures
 pub mod Look

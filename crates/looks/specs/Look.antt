@@ -17,26 +17,26 @@ use Rattle.scan.specs.declared.Word.the-variants.{Matched}
 use Rattle.scan.proofs.Texts.{text-kept, kept-byte}
 use Rattle.scan.proofs.Runs.{run-next, run-over}
 use Rattle.scan.proofs.Orders.{digit-bounds}
+use Rattle.scan.proofs.Words.{upper-miss, word-missed}
 use Rattle.marks.specs.declared.Inside.the-variants as inside
 use Rattle.marks.specs.declared.Skip.the-variants.{Past}
 use Rattle.marks.specs.rule.Marks.{stringOf}
 use Rattle.marks.specs.Spelling.{Piece, Spelt}
 use Rattle.marks.specs.Spelling as spelling
 use Rattle.marks.proofs.Complete.{skip-piece, string-complete}
-use Rattle.tokens.specs.declared.Number.{Number}
-use Rattle.tokens.specs.declared.Number.the-variants as numbered
-use Rattle.tokens.specs.declared.Reading.the-variants.{At}
 use Rattle.tokens.specs.rule.Gap.{gapAt}
-use Rattle.tokens.specs.Token.{numberOn}
 use Rattle.tokens.proofs.Gaps.{gap-blank}
 use Rattle.tokens.proofs.Leads.{space-parts}
 use Rattle.steps.specs.declared.Span.{Span}
-use Rattle.steps.specs.Step.{span, foundIn, wordPast, notesPast, statementPast, gapPast, numberIn, numberSpan, phraseIn, stringSpan}
-use Rattle.steps.specs.Step.{valueSpan, keywordPast}
+use Rattle.steps.specs.Step.{span, foundIn, wordPast, wordFound, notesPast, statementPast, statementFound, gapPast, numberSpan, phraseIn}
+use Rattle.steps.specs.Step.{stringSpan, valueSpan, keywordPast}
+use Rattle.steps.specs.Law.{found}
 use Rattle.steps.specs.Quiet.{Quiet, quiet-byte, quiet-name, notes-to, gap-to, string-to}
 use Rattle.looks.specs.Plain.{Plain}
-use Rattle.looks.specs.Stand.{Stands, Framed, stands-end, stands-at, stands-first, stands-then}
+use Rattle.statements.specs.rule.Words.{SPECIAL}
+use Rattle.looks.specs.Stand.{Stands, Framed, stands-end, stands-at, stands-first, stands-then, stands-front, stands-rest}
 use Rattle.looks.specs.Each.{Each, Kept, On, ValueAt, each-none, each-then, each-one, each-as, each-same, kept-plain, on-kept}
+use Rattle.looks.specs.Figures.{Led, LineOver, figure}
 
 -- ---- texts and strings
 -- what a string's reader passes from a place in plain text on: up to another place it finds nothing but kept bytes, and reads on there
@@ -140,6 +140,29 @@ quoted-is {d} {a} {b} {q} {e} x w y =
       is = shown-string x′ w′ (omega (arith, y .within)) (stands-first y (omega arith));
     }
 
+-- the same with SPECIAL between the quote and the line's end
+pub record Special (d : List ℕ) (a e : ℕ) : Type 0 where
+  pub shut : ℕ
+  pub opened : Stands d a (32 ∷ 34 ∷ []) (a + 2)
+  pub text : Plain d (a + 2) shut
+  pub closed : Stands d shut (34 ∷ 32 ∷ SPECIAL ++ 13 ∷ 10 ∷ []) e
+  pub is : stringSpan d a ≡ span (a + 2) shut (shut + 1) 0
+
+pub special-is : {d : List ℕ} {a b q e : ℕ} → Stands d a (32 ∷ 34 ∷ []) b → Shown d b q → Stands d q (34 ∷ 32 ∷ SPECIAL ++ 13 ∷ 10 ∷ []) e
+    → Special d a e
+special-is {d} {a} {b} {q} {e} x w y =
+    let m : b ≡ a + 2 = stands-end x in
+    let n : e ≡ q + 11 = stands-end y in
+    let x′ : Stands d a (32 ∷ 34 ∷ []) (a + 2) = rw m at x in
+    let w′ : Shown d (a + 2) q = rw m at w in
+    record {
+      shut = q;
+      opened = x′;
+      text = kept-plain (w′ .kept) (omega (arith, y .within));
+      closed = y;
+      is = shown-string x′ w′ (omega (arith, y .within)) (stands-first y (omega arith));
+    }
+
 -- ---- words
 -- letters, none of them small
 unfoldable pub letters : List ℕ → Bool
@@ -175,7 +198,7 @@ some [] e = absurd (omega arith)
 some (y ∷ w) e = omega arith
 
 -- no note begins there
-opens-quiet : (d : List ℕ) (g : ℕ) (w : List ℕ) (a : ℕ) → Stands d g w a → opens w ≡ true → Quiet d g
+pub opens-quiet : (d : List ℕ) (g : ℕ) (w : List ℕ) (a : ℕ) → Stands d g w a → opens w ≡ true → Quiet d g
 unfolding opens letters
 opens-quiet d g [] a s o = holds-not o refl
 opens-quiet d g (x ∷ w) a s o = by (eqb x 78) refl (and-right (letters (x ∷ w)) _ o) where
@@ -220,6 +243,71 @@ module _ {d : List ℕ} {g : ℕ} {w : List ℕ} {a : ℕ} (x : Stands d g w a) 
     unfolding keywordPast
     keyword-stands = rw (gap-to d n g e (opens-quiet d g w a x o .token)) word-place
 
+    pub found-stands : wordFound d n w ≡ found true a
+    unfolding wordFound foundIn
+    found-stands = rw (gap-to d n g e (opens-quiet d g w a x o .token), word-stands)
+
+-- another byte than its first letter is there
+pub found-not : (d : List ℕ) (n m : ℕ) (w : List ℕ) → Quiet d m → gapAt d n ≡ gapAt d m → 0 < length w
+    → (getD d m 0 ≡ getD w 0 0 → ⊥) → (getD d m 0 ≡ getD w 0 0 + 32 → ⊥) → wordFound d n w ≡ found false m
+unfolding wordFound foundIn wordAt
+found-not d n m w q e l f h = rw (
+  gap-to d n m e (q .token),
+  word-missed d m w (q .within) (λ z. omega arith) (omega (arith, q .above)) (upper-miss (getD d m 0) (getD w 0 0) f h),
+)
+
+-- one space
+pub blank-stands : {d : List ℕ} {a b : ℕ} → Stands d a (32 ∷ []) b → gapAt d a ≡ gapAt d b
+blank-stands {d} {a} {b} y =
+    let i : a + 1 ≡ b = sym (stands-end y) in
+    rw i at (gap-blank d a (omega (arith, y .within, i)) (omega (arith, stands-first y (omega arith))))
+
+-- ---- two words, one space and a line's end
+module _ {d : List ℕ} {g e : ℕ} (w v : List ℕ) (x : Stands d g (w ++ (32 ∷ v ++ 13 ∷ 10 ∷ [])) e) where
+  abbrev end : ℕ
+  end = g + length w
+
+  first : Stands d g w end
+  first = stands-front w (32 ∷ v ++ 13 ∷ 10 ∷ []) x
+
+  rest : Stands d end (32 ∷ v ++ 13 ∷ 10 ∷ []) e
+  rest = stands-rest w (32 ∷ v ++ 13 ∷ 10 ∷ []) x
+
+  both : Stands d (end + 1) (v ++ 13 ∷ 10 ∷ []) e
+  both = stands-rest (32 ∷ []) (v ++ 13 ∷ 10 ∷ []) rest
+
+  second : Stands d (end + 1) v (e - 2)
+  second =
+      let b = stands-rest v (13 ∷ 10 ∷ []) both in
+      let k : end + 1 + length v ≡ e - 2 = omega (arith, stands-end b) in
+      rw k at (stands-front v (13 ∷ 10 ∷ []) both)
+
+  blank : gapAt d end ≡ gapAt d (end + 1)
+  blank = blank-stands (stands-front (32 ∷ []) (v ++ 13 ∷ 10 ∷ []) rest)
+
+  module _ (o : opens w ≡ true) (n : ℕ) (q : gapAt d n ≡ gapAt d g) where
+    pub first-past : statementPast d n w ≡ end
+    first-past = statement-stands first o n q
+
+    pub first-found : statementFound d n w ≡ found true end
+    unfolding statementFound foundIn
+    first-found = rw (notes-stand first o n q, word-stands first o)
+
+  module _ (i : opens v ≡ true) where
+    pub second-past : keywordPast d end v ≡ e - 2
+    second-past = keyword-stands second i end blank
+
+    pub second-found : wordFound d end v ≡ found true (e - 2)
+    second-found = found-stands second i end blank
+
+    -- another word is not the second
+    pub second-other : (u : List ℕ) → 0 < length v → 0 < length u → (getD v 0 0 ≡ getD u 0 0 → ⊥) → (getD v 0 0 ≡ getD u 0 0 + 32 → ⊥)
+        → wordFound d end u ≡ found false (end + 1)
+    second-other u k l f h =
+        let q = opens-quiet d (end + 1) v (e - 2) second i in
+        let s : getD d (end + 1) 0 ≡ getD v 0 0 = stands-first second k in
+        found-not d end (end + 1) u q blank l (λ z. f (sym s ∙ z)) (λ z. h (sym s ∙ z))
+
 -- ---- lines
 -- a line that stands from g to before e: a stretch between literals, which is what a reader finds from any place that a gap leads from to g
 pub record Lined (d : List ℕ) (g : ℕ) (pre post : List ℕ) (told : ℕ → Span) (e : ℕ) : Type 0 where
@@ -235,23 +323,17 @@ NumberLine d g w e = Lined d g (w ++ 32 ∷ []) (13 ∷ 10 ∷ []) (λ n. number
 abbrev pub PhraseLine : List ℕ → ℕ → List ℕ → ℕ → Type 0
 PhraseLine d g w e = Lined d g (w ++ 32 ∷ 34 ∷ []) (34 ∷ 13 ∷ 10 ∷ []) (λ n. stringSpan d (statementPast d n w)) e
 
--- reading goes on right behind a number
-number-next : (x : Number) → numberIn x .next ≡ numberIn x .end
-unfolding numberIn
-number-next (numbered.Is x) = refl
-number-next (numbered.Not f) = refl
-
 module _ {d : List ℕ} {g : ℕ} {w : List ℕ} {a e : ℕ} (x : Stands d g w a) (o : opens w ≡ true) where
-  pub number-lined : (s : Span) {b : ℕ} → s ≡ numberSpan d a → Stands d a (32 ∷ []) b → s .from ≡ b → Plain d b (s .end)
-      → Stands d (s .end) (13 ∷ 10 ∷ []) e → NumberLine d g w e
-  unfolding numberSpan
-  number-lined s {b} i y f p z = record {
-    stretch = s;
-    frame = record { front = rw f (stands-then x y); back = z };
-    plain = rw f p;
-    next = ap (λ (k : Span). k .next) i ∙ number-next (numberOn d (At a)) ∙ ap (λ (k : Span). k .end) (sym i) ∙ omega (arith, stands-end z);
-    is = λ n q. rw (statement-stands x o n q) (sym i);
-  }
+  pub number-lined : {b q v : ℕ} → Stands d a (32 ∷ []) b → Led d b q v → (q ≡ b → ⊥) → LineOver d q e → NumberLine d g w e
+  number-lined {b} {q} {v} y l k z =
+      let f = figure l k (z .over) in
+      record {
+        stretch = span b q q v;
+        frame = record { front = stands-then x y; back = z .ends };
+        plain = f .plain;
+        next = omega (arith, stands-end (z .ends));
+        is = λ n u. rw (statement-stands x o n u) (f .is a (blank-stands y));
+      }
 
   pub phrase-lined : Quoted d a e → PhraseLine d g w e
   phrase-lined t = record {
@@ -288,28 +370,52 @@ value-next : {d : List ℕ} (j : ℕ) → ValueAt d j → runOf isValue j (text 
 value-next {d} j v =
     run-next isValue j (text-kept d j (v .within) (kept-byte (getD d j 0) (omega (arith, value-range v .0)))) (v .is)
 
--- a value, one space and a string that ends its line
-pub record ValueLine (d : List ℕ) (n e : ℕ) : Type 0 where
-  pub last : ℕ
+-- a value, behind which a string opens
+pub record Valued (d : List ℕ) (n v : ℕ) : Type 0 where
   pub first : ValueAt d n
-  pub plain : Plain d n last
-  pub value : valueSpan d n ≡ span n last last 0
-  pub quoted : Quoted d last e
+  pub plain : Plain d n v
+  pub value : valueSpan d n ≡ span n v v 0
 
-pub value-lined : {d : List ℕ} {n v e : ℕ} → (v ≡ n → ⊥) → Each (ValueAt d) n v → Quoted d v e → ValueLine d n e
+pub valued : {d : List ℕ} {n v : ℕ} → (v ≡ n → ⊥) → Each (ValueAt d) n v → Stands d v (32 ∷ 34 ∷ []) (v + 2) → Valued d n v
 unfolding valueSpan
-value-lined {d} {n} {v} {e} o s q =
+valued {d} {n} {v} o s x =
     let h : n < v = omega (arith, o, s .on) in
-    let x = q .opened in
     let z : getD d v 0 ≡ 32 = stands-first x (omega arith) in
     let l : v < length d = omega (arith, x .within) in
     let r = each-same (λ j. runOf isValue j (text d j)) value-next s in
     let f : runOf isValue v (text d v) ≡ v =
     run-over isValue v (text-kept d v l (kept-byte (getD d v 0) (omega arith))) (space-parts (getD d v 0) z) in
     record {
-      last = v;
       first = s .each n (omega arith) h;
       plain = kept-plain (each-as (λ j g. value-kept g) s) (omega arith);
       value = rw (r, f);
-      quoted = q;
     }
+
+-- no range begins there: behind the value stands a quote, and no TO
+pub record Opened (d : List ℕ) (n v : ℕ) : Type 0 where
+  pub is : Valued d n v
+  pub opens : Stands d v (32 ∷ 34 ∷ []) (v + 2)
+
+pub opened-is : {d : List ℕ} {n v e : ℕ} → (v ≡ n → ⊥) → Each (ValueAt d) n v → Stands d v (32 ∷ 34 ∷ []) e → Opened d n v
+opened-is {d} {n} {v} o s x =
+    let q = stands-end x in
+    let y : Stands d v (32 ∷ 34 ∷ []) (v + 2) = rw q at x in
+    record { is = valued o s y; opens = y }
+
+-- a value, one space and a string that ends its line
+pub record ValueLine (d : List ℕ) (n e : ℕ) : Type 0 where
+  pub last : ℕ
+  pub is : Valued d n last
+  pub quoted : Quoted d last e
+
+pub value-lined : {d : List ℕ} {n v e : ℕ} → (v ≡ n → ⊥) → Each (ValueAt d) n v → Quoted d v e → ValueLine d n e
+value-lined o s q = record { last = _; is = valued o s (q .opened); quoted = q }
+
+-- the same with SPECIAL behind the string
+pub record SpecialLine (d : List ℕ) (n e : ℕ) : Type 0 where
+  pub last : ℕ
+  pub is : Valued d n last
+  pub quoted : Special d last e
+
+pub special-lined : {d : List ℕ} {n v e : ℕ} → (v ≡ n → ⊥) → Each (ValueAt d) n v → Special d v e → SpecialLine d n e
+special-lined o s q = record { last = _; is = valued o s (q .opened); quoted = q }

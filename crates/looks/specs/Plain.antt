@@ -48,10 +48,6 @@ plain-bytes {d} {from} {end} p =
     λ j g. rw (getD-drop from d j 0) (p .above (from + j) (omega arith) (omega arith)) in
     rw e at (up-plain (drop from d) from (end - from) n above)
 
--- a part of it
-pub plain-part : {d : List ℕ} {from end : ℕ} (a b : ℕ) → Plain d from end → from ≤ a → a ≤ b → b ≤ end → Plain d a b
-plain-part a b p h g k = record { on = g; within = omega (arith, p .within); above = λ j x y. p .above j (omega arith) (omega arith) }
-
 pub all-plain : (d : List ℕ) (from end : ℕ) → from ≤ end → end ≤ length d
     → Clear (take (end - from) (drop from d)) 0 (length (take (end - from) (drop from d))) → Plain d from end
 all-plain d from end a b c =

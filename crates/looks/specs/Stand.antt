@@ -4,8 +4,8 @@ use mathlib.Core.Bool.{true, false, cond}
 use mathlib.Core.List.{List, [], _∷_, _++_}
 use Prim.Native.Nat.{ℕ, zero, suc, _+_, _-_, _≤_, _<_}
 use native.Mathlib.Omega.{arith}
-use lib.ListN.{length, getD, take, drop, length-drop}
-use lib.Seq.{length-take-le, ext-getD, getD-take, getD-drop, take-add, drop-drop}
+use lib.ListN.{length, getD, take, drop, length-drop, length-append, List·getD-append}
+use lib.Seq.{length-take-le, ext-getD, getD-take, getD-drop, take-add, drop-drop, getD-append-add}
 use Rattle.clean_text.specs.rule.Span.{spanOf}
 use Rattle.steps.specs.declared.Span.{Span}
 use Rattle.looks.specs.Plain.{Plain, plain-bytes}
@@ -46,6 +46,24 @@ literal-stands d a w h f =
       bytes = rw e (ext-getD 0 w (take (length w) (drop a d)) (sym l)
           (λ j g. rw (getD-take (length w) (drop a d) j 0 g, getD-drop a d j 0) (sym (f j g))));
     }
+
+-- a part of what stands
+module _ {d : List ℕ} {a e : ℕ} (s t : List ℕ) (x : Stands d a (s ++ t) e) where
+  both : e ≡ a + (length s + length t)
+  both = stands-end x ∙ ap (λ (k : ℕ). a + k) (length-append s t)
+
+  pub stands-front : Stands d a s (a + length s)
+  stands-front = literal-stands d a s (omega (arith, both, x .within))
+      (λ j g. stands-at x j (rw (length-append s t) (omega arith)) ∙ List·getD-append s t 0 j g)
+
+  pub stands-rest : Stands d (a + length s) t e
+  stands-rest =
+      let q : a + length s + length t ≡ e = omega (arith, both) in
+      rw q at
+      (literal-stands d (a + length s) t (omega (arith, both, x .within))
+      (λ j g.
+      let i : a + (length s + j) ≡ a + length s + j = omega arith in
+      (rw i at (stands-at x (length s + j) (rw (length-append s t) (omega arith)))) ∙ getD-append-add s t j 0))
 
 -- a stretch without a dropped byte
 pub plain-stands : {d : List ℕ} {a e : ℕ} → Plain d a e → Stands d a (spanOf d a e) e

@@ -15,13 +15,13 @@ ghost use Rattle.fields.specs.rule.Number.{padded};
 ghost use Rattle.sink.specs.rule.Sent.{Sent};
 ghost use Rattle.tokens.specs.rule.Gap.{gapAt};
 ghost use Rattle.statements.specs.rule.Words.{VARIABLE, VALUES, END};
-ghost use Rattle.steps.specs.Step.{statementFound, keywordPast};
+ghost use Rattle.steps.specs.Step.{statementFound, statementPast, keywordPast};
 ghost use Rattle.clean_text.specs.rule.Span.{spanOf};
 ghost use Rattle.clean_text.specs.rule.Clean.{plainDigits};
 ghost use Rattle.looks.specs.Stand.{Stands};
 ghost use Rattle.looks.specs.Each.{ValueAt};
-ghost use Rattle.looks.specs.Look.{NumberLine, PhraseLine};
-ghost use Rattle.pages.specs.Stand.{Between, Standing, Ran};
+ghost use Rattle.looks.specs.Look.{NumberLine, PhraseLine, ValueLine};
+ghost use Rattle.pages.specs.Stand.{Ran, LastLine, Positioned};
 ghost use Rattle.pages.specs.Page.{Paged, stretchPage, framed, numberPage, phrasePage, typeAt, typeText, positionAt, positionText};
 ghost use Rattle.pages.specs.Page.{roomOf};
 ghost use Rattle.pages.specs.Page.{spreadAt, evenOf, spreadText};
@@ -36,33 +36,6 @@ pub struct Walked {
 }
 
 // ---- bytes
-// Whether a stretch stands right behind a literal.
-fn follows(d: &[u8], at: usize, w: &[u8], s: Span) -> bool
-    ensures { λ r. ⌜ (r ≡ true → Stands (now (d .entry)) at (now (w .entry)) (s .from)) ⌝ }
-{
-    let e = looks::stands_to(d, at, w);
-    if e == 0 {
-        return false;
-    }
-    e == s.from
-}
-
-// Whether two stretches stand with a literal between them, and no byte of them is dropped.
-fn between(d: &[u8], a: Span, w: &[u8], b: Span) -> bool
-    ensures { λ r. ⌜ (r ≡ true → Between (now (d .entry)) a (now (w .entry)) b) ⌝ }
-{
-    if !follows(d, a.end, w, b) {
-        return false;
-    }
-    if a.end < a.from {
-        return false;
-    }
-    if b.end < b.from {
-        return false;
-    }
-    looks::plain(d, a.from, b.end)
-}
-
 // The kept bytes of a stretch, one by one.
 fn send_kept(
     classes: &[u8; 256],
@@ -254,6 +227,21 @@ fn send_phrase(
 }
 
 // END VARIABLE.
+fn past_end(classes: &[u8; 256], d: &[u8], n: usize) -> usize
+    requires { ⌜ Classes (now classes) ⌝ }
+    ensures { λ r. ⌜ r ≡ keywordPast (now (d .entry)) (statementPast (now (d .entry)) n END) VARIABLE ⌝ }
+{
+    let k = tokens::pass_blanks(d, n);
+    let e = looks::stands_to(d, k, b"END VARIABLE\r\n");
+    if 0 < e {
+        return e - 2;
+    }
+    let g = steps::past_notes(classes, d, n);
+    let a = steps::past_word(classes, d, g, b"END");
+    let h = steps::past_gap(classes, d, a);
+    steps::past_word(classes, d, h, b"VARIABLE")
+}
+
 fn send_end(
     classes: &[u8; 256],
     d: &[u8],
@@ -266,10 +254,7 @@ fn send_end(
     ensures { λ r. ⌜ Paged bound (now (out .entry)) at (now (out .exit)) r
         (endPage (now (d .entry)) n VARIABLE (END ++ 32 ∷ VARIABLE ++ 13 ∷ 10 ∷ [])) ⌝ }
 {
-    let g = steps::past_notes(classes, d, n);
-    let a = steps::past_word(classes, d, g, b"END");
-    let h = steps::past_gap(classes, d, a);
-    let next = steps::past_word(classes, d, h, b"VARIABLE");
+    let next = past_end(classes, d, n);
     let end = sink::send_bytes(bound, out, at, b"END VARIABLE\r\n");
     Walked { at: end, next }
 }
@@ -281,7 +266,51 @@ pub struct Sort {
     pub next: usize,
 }
 
+// Where the line stands just as it is to be written, what it says is clear at a look.
 fn type_at(classes: &[u8; 256], d: &[u8], n: usize) -> Sort
+    requires { ⌜ Classes (now classes) ⌝ }
+    ensures { λ r. ⌜ r ≡ typeAt (now (d .entry)) n ⌝ }
+{
+    let g = tokens::pass_blanks(d, n);
+    let one = looks::stands_to(d, g, b"TYPE SINGLE\r\n");
+    if 0 < one {
+        return Sort {
+            kind: 1,
+            next: one - 2,
+        };
+    }
+    let two = looks::stands_to(d, g, b"TYPE MULTIPLE\r\n");
+    if 0 < two {
+        return Sort {
+            kind: 2,
+            next: two - 2,
+        };
+    }
+    let three = looks::stands_to(d, g, b"TYPE QUANTITY\r\n");
+    if 0 < three {
+        return Sort {
+            kind: 3,
+            next: three - 2,
+        };
+    }
+    let four = looks::stands_to(d, g, b"TYPE CHARACTER\r\n");
+    if 0 < four {
+        return Sort {
+            kind: 4,
+            next: four - 2,
+        };
+    }
+    let five = looks::stands_to(d, g, b"TYPE LOGICAL\r\n");
+    if 0 < five {
+        return Sort {
+            kind: 5,
+            next: five - 2,
+        };
+    }
+    type_apart(classes, d, n)
+}
+
+fn type_apart(classes: &[u8; 256], d: &[u8], n: usize) -> Sort
     requires { ⌜ Classes (now classes) ⌝ }
     ensures { λ r. ⌜ r ≡ typeAt (now (d .entry)) n ⌝ }
 {
@@ -369,22 +398,39 @@ fn position_at(classes: &[u8; 256], d: &[u8], n: usize) -> Places
     }
 }
 
-// Where the statement ends, if it stands just as it is to be written; else 0.
-fn position_end(d: &[u8], p: Places) -> usize
-    ensures { λ r. ⌜ (0 < r → Standing (now (d .entry)) p r) ⌝ }
+// The statement, and where it begins and ends if it stands just as it is to be written; else it ends at 0.
+pub struct Position {
+    pub places: Places,
+    pub from: usize,
+    pub end: usize,
+}
+
+fn find_position(classes: &[u8; 256], d: &[u8], n: usize) -> Position
+    requires { ⌜ Classes (now classes) ⌝ }
+    ensures { λ r. ⌜ Positioned (now (d .entry)) n r ⌝ }
 {
-    let start = p.start;
-    let finish = p.finish;
-    if start.from < 9 {
-        return 0;
+    let from = tokens::pass_blanks(d, n);
+    let q = looks::pair_line(d, from, b"POSITION ", b" TO ");
+    if 0 < q.end {
+        let start = q.first;
+        let finish = q.second;
+        let places = Places {
+            start,
+            finish,
+            next: finish.next,
+        };
+        return Position {
+            places,
+            from,
+            end: q.end,
+        };
     }
-    if !follows(d, start.from - 9, b"POSITION ", start) {
-        return 0;
+    let places = position_at(classes, d, n);
+    Position {
+        places,
+        from,
+        end: 0,
     }
-    if !between(d, start, b" TO ", finish) {
-        return 0;
-    }
-    looks::stands_to(d, finish.end, b"\r\n")
 }
 
 fn send_position(
@@ -393,18 +439,20 @@ fn send_position(
     bound: usize,
     out: &mut [u8],
     at: usize,
-    p: Places,
+    s: Position,
 ) -> usize
     requires { ⌜ Classes (now classes) ⌝ }
-    ensures { λ r. ⌜ Sent bound (now (out .entry)) at (positionText (now (d .entry)) p) (now (out .exit)) r ⌝ }
+    requires { ⌜ (0 < s .end → Stands (now d) (s .from) (positionText (now d) (s .places)) (s .end)) ⌝ }
+    ensures { λ r. ⌜ Sent bound (now (out .entry)) at (positionText (now (d .entry)) (s .places)) (now (out .exit)) r ⌝ }
 {
-    let start = p.start;
-    let finish = p.finish;
-    let e = position_end(d, p);
+    let g = s.from;
+    let e = s.end;
     if 0 < e {
-        let g = start.from - 9;
         return sink::send_bytes(bound, out, at, &d[g..e]);
     }
+    let p = s.places;
+    let start = p.start;
+    let finish = p.finish;
     let a = send_framed(classes, d, bound, out, at, b"POSITION ", start, b" TO ");
     send_closed(classes, d, bound, out, a, finish, b"\r\n")
 }
@@ -596,7 +644,54 @@ fn first_line(classes: &[u8; 256], d: &[u8], start: usize) -> usize
     start
 }
 
-// Lines that stand just as they are to be written, each sent at once, as long as a value follows.
+// Where the line ends that stands just as it is to be written, with SPECIAL or without it.
+fn either_end(classes: &[u8; 256], d: &[u8], n: usize, e: usize) -> usize
+    requires { ⌜ Classes (now classes) ⌝ }
+    requires { ⌜ (0 < e → ValueLine (now d) n e) ⌝ }
+    ensures { λ r. ⌜ (0 < r → LastLine (now (d .entry)) n r) ⌝ }
+{
+    if 0 < e {
+        return e;
+    }
+    looks::special_line(classes, d, n)
+}
+
+// The last line of a block, if it stands so and END VALUES behind it: then the block is over. Else nothing is sent.
+fn send_last(
+    classes: &[u8; 256],
+    d: &[u8],
+    n: usize,
+    e: usize,
+    k: usize,
+    bound: usize,
+    out: &mut [u8],
+    at: usize,
+) -> Run
+    requires { ⌜ Classes (now classes) ⌝ }
+    requires { ⌜ (0 < e → ValueLine (now d) n e) × (k < 4096) ⌝ }
+    ensures { λ r. ⌜ Ran bound (now (out .entry)) at (now (out .exit)) (now (d .entry)) n k r ⌝ }
+{
+    let m = either_end(classes, d, n, e);
+    let h = tokens::pass_blanks(d, m);
+    let f = looks::stands_to(d, h, b"END VALUES\r\n");
+    if (m == 0) | (f == 0) {
+        return Run {
+            at,
+            next: n,
+            count: k,
+            over: false,
+        };
+    }
+    let p = sink::send_bytes(bound, out, at, &d[n..m]);
+    Run {
+        at: p,
+        next: f - 2,
+        count: k + 1,
+        over: true,
+    }
+}
+
+// Lines that stand just as they are to be written, each sent at once, as long as a value follows; and the last of them.
 fn send_run(
     classes: &[u8; 256],
     d: &[u8],
@@ -609,7 +704,6 @@ fn send_run(
     requires { ⌜ Classes (now classes) ⌝ }
     requires { ⌜ count ≤ 4096 ⌝ }
     ensures { λ r. ⌜ Ran bound (now (out .entry)) at (now (out .exit)) (now (d .entry)) start count r ⌝ }
-    ensures { λ r. ⌜ r .over ≡ false ⌝ }
 {
     let mut n = start;
     let mut p = at;
@@ -618,12 +712,7 @@ fn send_run(
         let e = looks::value_line(classes, d, n);
         let h = tokens::pass_blanks(d, e);
         if (e == 0) | !value_at(classes, d, h) {
-            return Run {
-                at: p,
-                next: n,
-                count: k,
-                over: false,
-            };
+            return send_last(classes, d, n, e, k, bound, out, p);
         }
         p = sink::send_bytes(bound, out, p, &d[n..e]);
         n = h;
@@ -697,6 +786,12 @@ fn send_lines(
     let mut k: usize = 0;
     while k < 4096 {
         let r = send_run(classes, d, n, k, bound, out, p);
+        if r.over {
+            return Walked {
+                at: r.at,
+                next: r.next,
+            };
+        }
         let l = send_next(classes, d, r.next, r.count, bound, out, r.at);
         if l.over {
             return Walked {
@@ -719,7 +814,32 @@ pub struct RangeParts {
     pub next: usize,
 }
 
+// Where a string opens behind the first value, there is none.
 fn range_at(classes: &[u8; 256], d: &[u8], n: usize) -> RangeParts
+    requires { ⌜ Classes (now classes) ⌝ }
+    ensures { λ r. ⌜ r ≡ rangeAt (now (d .entry)) n ⌝ }
+{
+    let m = tokens::pass_blanks(d, n);
+    let v = looks::value_opened(classes, d, m);
+    if 0 < v {
+        let from = Span {
+            from: m,
+            end: v,
+            next: v,
+            size: 0,
+        };
+        return RangeParts {
+            there: false,
+            from,
+            to: from,
+            with: false,
+            next: n,
+        };
+    }
+    range_apart(classes, d, n)
+}
+
+fn range_apart(classes: &[u8; 256], d: &[u8], n: usize) -> RangeParts
     requires { ⌜ Classes (now classes) ⌝ }
     ensures { λ r. ⌜ r ≡ rangeAt (now (d .entry)) n ⌝ }
 {
@@ -792,6 +912,20 @@ fn send_block(
     send_lines(classes, d, r.next, bound, out, at)
 }
 
+// The statement's word.
+fn open_values(classes: &[u8; 256], d: &[u8], n: usize) -> usize
+    requires { ⌜ Classes (now classes) ⌝ }
+    ensures { λ r. ⌜ r ≡ statementPast (now (d .entry)) n VALUES ⌝ }
+{
+    let k = tokens::pass_blanks(d, n);
+    let e = looks::stands_to(d, k, b"VALUES\r\n");
+    if 0 < e {
+        return e - 2;
+    }
+    let g = steps::past_notes(classes, d, n);
+    steps::past_word(classes, d, g, b"VALUES")
+}
+
 pub fn send_values(
     classes: &[u8; 256],
     d: &[u8],
@@ -803,8 +937,7 @@ pub fn send_values(
     requires { ⌜ Classes (now classes) ⌝ }
     ensures { λ w. ⌜ Paged bound (now (out .entry)) at (now (out .exit)) w (valuesPage (now (d .entry)) n) ⌝ }
 {
-    let g = steps::past_notes(classes, d, n);
-    let a = steps::past_word(classes, d, g, b"VALUES");
+    let a = open_values(classes, d, n);
     let r = range_at(classes, d, a);
     let b = sink::send_bytes(bound, out, at, b"VALUES\r\n");
     let c = send_range(classes, d, bound, out, b, r);
@@ -839,7 +972,7 @@ fn send_rest(
     }
     if kind == 4 {
         let g = tokens::pass_blanks(d, n);
-        let e = looks::number_line(classes, d, g, b"SIZE");
+        let e = looks::number_line(d, g, b"SIZE");
         return send_number(classes, d, n, g, e, b"SIZE", bound, out, at);
     }
     if kind == 2 {
@@ -862,7 +995,7 @@ fn send_titles(
     ensures { λ w. ⌜ Paged bound (now (out .entry)) at (now (out .exit)) w (titlesPage (now (d .entry)) n) ⌝ }
 {
     let i = tokens::pass_blanks(d, n);
-    let e = looks::number_line(classes, d, i, b"VARIABLE");
+    let e = looks::number_line(d, i, b"VARIABLE");
     let a = send_number(classes, d, n, i, e, b"VARIABLE", bound, out, at);
     let j = tokens::pass_blanks(d, a.next);
     let f = looks::phrase_line(d, j, b"NAME");
@@ -888,8 +1021,9 @@ pub fn send_variable(
     let a = send_titles(classes, d, n, bound, out, at);
     let t = type_at(classes, d, a.next);
     let b = send_type(bound, out, a.at, t.kind);
-    let p = position_at(classes, d, t.next);
-    let c = send_position(classes, d, bound, out, b, p);
+    let s = find_position(classes, d, t.next);
+    let p = s.places;
+    let c = send_position(classes, d, bound, out, b, s);
     let start = p.start;
     let finish = p.finish;
     let room = room_of(start.size, finish.size);

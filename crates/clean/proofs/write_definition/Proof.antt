@@ -12,13 +12,13 @@ use Rattle.clean.proofs.write_definition.Tie as tie
 write-read-requires : tie.Need-write-read-requires
 write-read-requires c κs =
     let a = c .before .before .before .before .before .before .args in
-    same-most (a .d .now) (a .t .now) (sym (c .before .before .before .judge-against .ensures) ∙ c .before .enum-told .given .1)
+    same-most (a .d .now) (a .t .now) (sym (c .before .before .before .judge .ensures) ∙ c .before .enum-told .given .1)
 
 returns : tie.Need-returns
 unfolding writingOf
 returns c =
     let a = c .before .before .before .before .before .before .before .before .before .args in
-    let e : againstOf (a .d .now) (a .t .now) ≡ Same = sym (c .before .before .before .before .before .before .judge-against .ensures)
+    let e : againstOf (a .d .now) (a .t .now) ≡ Same = sym (c .before .before .before .before .before .before .judge .ensures)
     ∙ c .before .before .before .before .enum-told .given .1 in
     let f = same-clean (a .d .now) (a .t .now) (length (a .out .now)) e in
     record {
@@ -30,13 +30,13 @@ returns c =
 returns-2 : tie.Need-returns-2
 unfolding writingOf writtenOf outAfter
 returns-2 c =
-    let e = sym (c .before .before .judge-against .ensures) ∙ c .enum-told2 .given .1 in
+    let e = sym (c .before .before .judge .ensures) ∙ c .enum-told2 .given .1 in
     record { says = rw e; leaves = rw e }
 
 returns-3 : tie.Need-returns-3
 unfolding writingOf writtenOf outAfter
 returns-3 c =
-    let e = sym (c .before .before .before .judge-against .ensures) ∙ c .before .number .given .1 in
+    let e = sym (c .before .before .before .judge .ensures) ∙ c .before .number .given .1 in
     record { says = rw e; leaves = rw e }
 
 pub write-definition-spec : {M : Type 1} → statement M

@@ -1,24 +1,27 @@
--- `looks::text_to` meets its contract. The invariant: a text goes on at each byte so far.
-use Prim.Native.Nat.{_-_}
 use native.Mathlib.Omega.{arith}
-use lib.ListN.{length}
 use borrow.Author.Needs.{needs}
-use Rattle.looks.specs.Each.{Each, On, each-more}
+use Rattle.looks.specs.Each.{each-then}
 use Rattle.looks.proofs.text_to.Statement.{statement}
 use Rattle.looks.proofs.text_to.Tie as tie
 
-abbrev Inv-loop : tie.InvT-loop
-Inv-loop d from i₀ i = Each (On d) from i
+returns : tie.Need-returns
+returns c = each-then (c .before .before .text-far .ensures) (c .text-last .ensures)
 
-abbrev μ-loop : tie.MeasureT-loop
-μ-loop d from i₀ i = length d - i
+returns-2 : tie.Need-returns-2
+returns-2 c = each-then (c .before .before .before .text-far .ensures) (c .text-last2 .ensures)
 
-loop-again : tie.Need-loop-again Inv-loop μ-loop
-loop-again c =
-    let l = c .before .before .before .before .loop in
-    each-more (l .inv) (record { within = omega arith; byte = c .before .goes-on .ensures (c .if1 .taken) })
+returns-3 : tie.Need-returns-3
+returns-3 c = each-then (c .before .before .before .text-far .ensures) (c .text-near .ensures)
 
 pub text-to-spec : {M : Type 1} → statement M
 text-to-spec =
-    tie.close (tie.spec Inv-loop μ-loop (λ c κs. search needs) (λ c. c .text-far .ensures) (λ c. omega arith) (λ c κs. search needs)
-    (λ c. omega arith) (λ c. omega arith) loop-again (λ c. c .before .before .before .before .loop .inv) (λ c. c .before .loop .inv))
+    tie.close
+    (tie.spec
+    (λ c κs. search needs)
+    (λ c κs. search needs)
+    returns
+    (λ c. omega arith)
+    (λ c κs. search needs)
+    returns-2
+    (λ c κs. omega (arith, c .if2 .left, c .before .if1 .left))
+    returns-3)

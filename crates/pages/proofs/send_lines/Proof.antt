@@ -26,48 +26,53 @@ send-run-requires : tie.Need-send-run-requires Inv-loop μ-loop
 send-run-requires c κs =
     (c .before .before .before .before .before .before .pre, omega (arith, c .before .loop-test .taken))
 
-send-next-requires : tie.Need-send-next-requires Inv-loop μ-loop
-send-next-requires c κs =
-    let at-send-run = c .before .before .before in
-    (at-send-run .before .before .before .before .before .before .before .pre, at-send-run .send-run .ensures .0 .most)
-
 same-length : tie.Need-same-length Inv-loop μ-loop
-same-length c =
-    let at-send-next = c .before .before .before in
-    let at-send-run = at-send-next .before .before .before .before in
-    at-send-next .send-next .ensures .0 .sent .room ∙ at-send-run .send-run .ensures .0 .sent .room
-    ∙ at-send-run .before .before .before .loop .inv .0 .sent .room
+same-length c = c .before .before .before .send-run .ensures .sent .room
+    ∙ c .before .before .before .before .before .before .loop .inv .0 .sent .room
 
+-- the run ended the block
 returns : tie.Need-returns Inv-loop μ-loop
 returns c =
-    let at-send-next = c .before .before .before in
-    let at-send-run = at-send-next .before .before .before .before in
-    let inv = at-send-run .before .before .before .loop .inv in
-    ran-paged _ (ran-then (ran-then (inv .0) refl (at-send-run .send-run .ensures .0)) (at-send-run .send-run .ensures .1)
-    (at-send-next .send-next .ensures .0)) (rw (c .if1 .taken)) (inv .1)
+    let inv = c .before .before .before .before .before .before .loop .inv in
+    ran-paged _ (ran-then (inv .0) refl (c .before .before .before .send-run .ensures)) (rw (c .if1 .taken)) (inv .1)
+
+send-next-requires : tie.Need-send-next-requires Inv-loop μ-loop
+send-next-requires c κs = (
+  c .before .before .before .before .before .before .before .before .before .before .before .pre,
+  c .before .before .before .before .send-run .ensures .most,
+)
+
+same-length-2 : tie.Need-same-length-2 Inv-loop μ-loop
+same-length-2 c = c .before .before .before .send-next .ensures .0 .sent .room
+    ∙ c .before .before .before .before .before .before .before .before .send-run .ensures .sent .room
+    ∙ c .before .before .before .before .before .before .before .before .before .before .before .loop .inv .0 .sent .room
+
+returns-2 : tie.Need-returns-2 Inv-loop μ-loop
+returns-2 c =
+    let inv = c .before .before .before .before .before .before .before .before .before .before .before .loop .inv in
+    ran-paged _ (ran-then (ran-then (inv .0) refl (c .before .before .before .before .before .before .before .before .send-run .ensures))
+    (c .before .before .before .before .before .if1 .left) (c .before .before .before .send-next .ensures .0))
+    (rw (c .if2 .taken)) (inv .1)
 
 loop-less : tie.Need-loop-less Inv-loop μ-loop
 loop-less c =
-    let at-send-next = c .before .before .before in
-    let at-send-run = at-send-next .before .before .before .before in
-    let r = at-send-run .send-run .ensures .0 in
-    let l = at-send-next .send-next .ensures in
-    let t = at-send-run .before .before .loop-test .taken in
+    let at-send-run = c .before .before .before .before .before .before .before .before in
+    let r = at-send-run .send-run .ensures in
+    let l = c .before .before .before .send-next .ensures in
+    let t = c .before .before .before .before .before .before .before .before .before .before .loop-test .taken in
     ⊎-elim (λ h. omega (arith, r .more, l .1 h, t, l .0 .most)) (λ h. omega (arith, l .0 .more, l .0 .most, t))
     (lt-or-le (at-send-run .send-run .result .count) 4096)
 
 loop-again : tie.Need-loop-again Inv-loop μ-loop
 loop-again c =
-    let at-send-next = c .before .before .before in
-    let at-send-run = at-send-next .before .before .before .before in
-    let inv = at-send-run .before .before .before .loop .inv in (
-      ran-left (ran-then (ran-then (inv .0) refl (at-send-run .send-run .ensures .0)) (at-send-run .send-run .ensures .1)
-          (at-send-next .send-next .ensures .0)) (c .if1 .left),
+    let inv = c .before .before .before .before .before .before .before .before .before .before .before .loop .inv in (
+      ran-left (ran-then (ran-then (inv .0) refl (c .before .before .before .before .before .before .before .before .send-run .ensures))
+          (c .before .before .before .before .before .if1 .left) (c .before .before .before .send-next .ensures .0)) (c .if2 .left),
       inv .1,
     )
 
-returns-2 : tie.Need-returns-2 Inv-loop μ-loop
-returns-2 c = ran-paged _ (c .before .loop .inv .0) (lines-out _ _ _ (c .loop-test .left)) (c .before .loop .inv .1)
+returns-3 : tie.Need-returns-3 Inv-loop μ-loop
+returns-3 c = ran-paged _ (c .before .loop .inv .0) (lines-out _ _ _ (c .loop-test .left)) (c .before .loop .inv .1)
 
 pub send-lines-spec : {M : Type 1} → statement M
 send-lines-spec =
@@ -78,10 +83,12 @@ send-lines-spec =
     (λ c κs. search needs)
     loop-holds
     send-run-requires
-    send-next-requires
     same-length
     returns
+    send-next-requires
+    same-length-2
+    returns-2
     loop-less
     loop-again
     (λ c. c .before .loop .inv .0 .sent .room)
-    returns-2)
+    returns-3)

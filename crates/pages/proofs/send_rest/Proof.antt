@@ -15,7 +15,7 @@ returns c =
 
 number-line-requires : tie.Need-number-line-requires
 unfolding opens letters
-number-line-requires c κs = (c .before .before .before .before .before .before .pre .0, refl)
+number-line-requires c κs = refl
 
 send-number-requires : tie.Need-send-number-requires
 send-number-requires c κs =

@@ -65,8 +65,14 @@ send-run-spec =
     (λ c κs. c .before .before .before .before .pre .0)
     (λ c κs. search needs)
     (λ c κs. c .before .before .before .before .before .before .pre .0)
-    (λ c. c .before .before .before .before .before .loop .inv .sent .room)
-    (λ c. (c .before .before .before .before .before .loop .inv, refl))
+    (λ c κs. (
+      c .before .before .before .before .before .before .before .before .before .pre .0,
+      (c .before .before .before .before .value-line .ensures, c .before .before .before .before .before .loop-test .taken),
+    ))
+    (λ c. c .before .before .send-last .ensures .sent .room
+    ∙ c .before .before .before .before .before .before .before .before .before .loop .inv .sent .room)
+    (λ c. ran-then (c .before .before .before .before .before .before .before .before .before .loop .inv) refl
+    (c .before .before .send-last .ensures))
     room
     part-send-bytes-start
     part-send-bytes-end
@@ -75,4 +81,4 @@ send-run-spec =
     (λ c. omega (arith, c .before .before .before .before .before .before .before .before .before .loop-test .taken))
     loop-again
     (λ c. c .before .loop .inv .sent .room)
-    (λ c. (c .before .loop .inv, refl)))
+    (λ c. c .before .loop .inv))

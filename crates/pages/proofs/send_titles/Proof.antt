@@ -10,7 +10,7 @@ use Rattle.pages.proofs.send_titles.Tie as tie
 
 number-line-requires : tie.Need-number-line-requires
 unfolding opens letters
-number-line-requires c κs = (c .before .before .before .before .pre, refl)
+number-line-requires c κs = refl
 
 phrase-line-requires : tie.Need-phrase-line-requires
 unfolding opens letters

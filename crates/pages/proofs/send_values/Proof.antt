@@ -1,22 +1,24 @@
 use mathlib.Core.Path.{_≡_, refl, sym, ap, _∙_}
 use Rattle.sink.specs.Sent.{then, sent-as}
-use Rattle.steps.specs.Step.{statementPast}
 use Rattle.pages.specs.Page.{valuesPage, blockPage}
 use borrow.Author.Needs.{needs}
 use Rattle.pages.proofs.send_values.Statement.{statement}
 use Rattle.pages.proofs.send_values.Tie as tie
 
 returns : tie.Need-returns
-unfolding valuesPage statementPast
+unfolding valuesPage
 returns c =
     let at-send-bytes2 = c .before .before in
-    let at-send-block = at-send-bytes2 .before .before .before .before .before in
-    let at-send-range = at-send-block .before .before .before .before in
-    let at-send-bytes = at-send-range .before .before .before .before in
-    let at-range-at = at-send-bytes .before .before .before in
-    let at-past-word = at-range-at .before in
-    let at-past-notes = at-past-word .before .before in
-    rw (← at-past-notes .past-notes .ensures, ← at-past-word .past-word .ensures, ← at-range-at .range-at .ensures)
+    let at-send-block = c .before .before .before .before .before .before .before in
+    let at-send-range = c .before .before .before .before .before .before .before .before .before .before .before in
+    let at-send-bytes = c .before .before .before .before .before .before .before .before .before .before .before .before .before .before
+    .before in
+    rw (
+      ← c .before .before .before .before .before .before .before .before .before .before .before .before .before .before .before .before
+          .before .before .before .open-values .ensures,
+      ← c .before .before .before .before .before .before .before .before .before .before .before .before .before .before .before .before
+          .before .before .range-at .ensures,
+    )
     (record {
       sent = then (at-send-bytes .send-bytes .ensures)
           (then (at-send-range .send-range .ensures)
@@ -29,14 +31,11 @@ send-values-spec =
     tie.close
     (tie.spec
     (λ c κs. c .before .before .pre)
-    (λ c. search needs)
-    (λ c κs. c .before .before .before .before .pre)
-    (λ c κs. c .before .before .before .before .before .pre)
+    (λ c κs. c .before .before .before .pre)
     (λ c. search needs)
     (λ c κs. search needs)
-    (λ c κs. c .before .before .before .before .before .before .before .before .before .before .before .before .pre)
-    (λ c κs. c .before .before .before .before .before .before .before .before .before .before .before .before .before .before .before
-    .before .pre)
+    (λ c κs. c .before .before .before .before .before .before .before .before .before .before .pre)
+    (λ c κs. c .before .before .before .before .before .before .before .before .before .before .before .before .before .before .pre)
     (λ c. search needs)
     (λ c κs. search needs)
     (λ c. search needs)
