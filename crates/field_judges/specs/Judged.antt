@@ -1,16 +1,17 @@
 -- What a field is that was judged where it stands: the value that export writes so, which its row accepts.
 use mathlib.Core.Path.{_≡_, refl, sym, ap, _∙_}
-use mathlib.Core.Bool.{Bool, true, false, cond, _&&_}
+use mathlib.Core.Bool.{Bool, true, false, cond, _&&_, _||_}
 use mathlib.Core.List.{List, [], _∷_, _++_, append-nil, append-assoc}
 use Prim.Native.Nat.{ℕ, zero, suc, _+_, _-_, _*_, _^_, _≤_, _<_}
 use native.Mathlib.Numerals.{add-one}
 use native.Mathlib.Omega.{arith}
-use borrow.Author.Tests.{eqb-true, eqb-false, le-leb, le-ltb}
-use lib.Dec.{eqb, ltb}
+use borrow.Author.Tests.{eqb-true, eqb-false, ne-eqb, le-leb, lt-ltb, le-ltb, ltb-false}
+use lib.Dec.{eqb, leb, ltb}
 use lib.IntN.{ℤ, pos, negsuc}
-use lib.ListN.{length, take, drop, getD, length-append}
+use lib.ListN.{length, take, drop, getD, length-append, length-drop}
+use lib.Seq.{length-take-le, getD-append-seam}
 use lib.Signed.{leZ}
-use Rattle.below.specs.Below.{holds-not, and-true, or-true}
+use Rattle.below.specs.Below.{holds-not, and-true, and-left, and-right, or-true}
 use Rattle.cells.specs.rule.Cell.{countOf}
 use Rattle.layout.specs.declared.Row.{Row}
 use Rattle.layout.specs.declared.Format.{Format}
@@ -19,13 +20,13 @@ use Rattle.layout.specs.declared.Kind.the-variants.{Single, Multiple, Quantity,
 use Rattle.layout.specs.declared.Spread.the-variants.{Bits, Fields}
 use Rattle.fields.specs.Facts.{KindFacts, RowFacts}
 use Rattle.fields.specs.rule.Legal.{inRange, legal}
-use Rattle.fields.specs.rule.Field.{Value, missing, number, members, text, truth, holds, allLegal, setFits}
+use Rattle.fields.specs.rule.Field.{Value, missing, number, members, text, truth, holds, allLegal, setFits, allPlain, textFits}
 use Rattle.fields.specs.rule.Row.{Fit, fits, otherType, notLegal, tooMany, legalFit, fitsBy, fitOf}
 use Rattle.fieldlaws.specs.RisingLaws.{Rising, none, skip, keep, rising-empty, fits-of}
 use Rattle.sets.specs.Full.{EachLegal}
 use Rattle.lines.specs.rule.Text.{numeral}
 use Rattle.commas.specs.rule.Csv.{isSpecial, holdsSpecial}
-use Rattle.csv_fields.specs.Page.{part, part-rest, BareTo, Bounded}
+use Rattle.csv_fields.specs.Page.{part, part-none, part-more, part-rest, Bared, bared-none, bared-more, bared-to, BareTo, Bounded}
 use Rattle.value_fields.specs.rule.Values.{numberText, codesBehind, setText, valueText, decimalsOf}
 use Rattle.value_fields.specs.Plain.{number-plain, set-plain, truth-plain}
 use Rattle.number_fields.specs.Reads.{Reads, reads-none, reads-byte, reads-join, reads-as, reads-part, NumberAt, CodeAt}
@@ -83,6 +84,58 @@ module _ {t : List ℤ} {v : ℕ} {r : Row} {d : List ℕ} {at to : ℕ} (s : St
   standing-value g =
       value-exactly g (take (to - at) (drop at d)) (s .value) .1
       (record { accepted = s .accepted; written = whole (reads-part (s .reads)) })
+
+-- ---- a text that stands bare: no comma, no quote, no byte below 32
+abbrev pub endsText : ℕ → Bool
+endsText b = eqb b 44 || (eqb b 34 || ltb b 32)
+
+neither : (p q : Bool) → (p || q) ≡ false → (p ≡ false) × (q ≡ false)
+neither true q e = holds-not refl e
+neither false q e = (refl, e)
+
+ends-none : (b : ℕ) → endsText b ≡ false → (isSpecial b ≡ false) × (32 ≤ b)
+unfolding isSpecial
+ends-none b e =
+    let x = neither (eqb b 44) (eqb b 34 || ltb b 32) e in
+    let y = neither (eqb b 34) (ltb b 32) (x .1) in
+    let l = ltb-false b 32 (y .1) in
+    (rw (x .0, y .0, ne-eqb b 13 (λ z. omega arith), ne-eqb b 10 (λ z. omega arith)), l)
+
+plain-more : (s : List ℕ) (b : ℕ) → allPlain s ≡ true → 32 ≤ b → allPlain (s ++ (b ∷ [])) ≡ true
+unfolding allPlain
+plain-more [] b e h = rw (le-leb 32 b h)
+plain-more (x ∷ s) b e h = and-true (leb 32 x) (allPlain (s ++ (b ∷ []))) (and-left (leb 32 x) (allPlain s) e)
+    (plain-more s b (and-right (leb 32 x) (allPlain s) e) h)
+
+pub record TextTo (d : List ℕ) (at to : ℕ) : Type 0 where
+  pub bared : Bared d at to
+  pub plain : allPlain (part d at to) ≡ true
+
+pub text-none : (d : List ℕ) (at : ℕ) → at ≤ length d → TextTo d at at
+unfolding allPlain
+text-none d at h = record { bared = bared-none d at h; plain = rw (part-none d at) }
+
+pub text-more : {d : List ℕ} {at to : ℕ} → TextTo d at to → to < length d → endsText (getD d to 0) ≡ false → TextTo d at (to + 1)
+text-more {d} {at} {to} g h e =
+    let x = ends-none (getD d to 0) e in
+    record {
+      bared = bared-more (g .bared) h (x .0);
+      plain = rw (part-more d at to (g .bared .on) h) (plain-more (part d at to) (getD d to 0) (g .plain) (x .1));
+    }
+
+text-fits : (w : ℕ) (d : List ℕ) (at to : ℕ) → to ≤ length d → at < to → to - at ≤ w → allPlain (part d at to) ≡ true
+    → 32 < getD d (to - 1) 0 → textFits w (part d at to) ≡ true
+unfolding textFits
+text-fits w d at to h l f p e =
+    let z : to - 1 + 1 ≡ to = omega arith in
+    let n : length (part d at to) ≡ to - at = length-take-le (to - at) (drop at d) (omega (arith, length-drop at d)) in
+    let m : length (part d at (to - 1)) ≡ to - 1 - at = length-take-le (to - 1 - at) (drop at d) (omega (arith, length-drop at d)) in
+    let s : part d at to ≡ part d at (to - 1) ++ (getD d (to - 1) 0 ∷ []) =
+    ap (part d at) (sym z) ∙ part-more d at (to - 1) (omega arith) (omega arith) in
+    let i : to - at - 1 ≡ length (part d at (to - 1)) = omega (arith, m) in
+    let g : getD (part d at to) (to - at - 1) 0 ≡ getD d (to - 1) 0 =
+    ap (λ (x : List ℕ). getD x (to - at - 1) 0) s ∙ rw i (getD-append-seam (part d at (to - 1)) (getD d (to - 1) 0) [] 0) in
+    rw (n, lt-ltb 0 (to - at) (omega arith), le-leb (to - at) w f, p, g, lt-ltb 32 (getD d (to - 1) 0) e)
 
 -- ---- by the row's kind
 module _ (t : List ℤ) (v : ℕ) (r : Row) {d : List ℕ} {at to : ℕ} (stop : StopsAt d to) where
@@ -151,6 +204,13 @@ module _ (t : List ℤ) (v : ℕ) (r : Row) {d : List ℕ} {at to : ℕ} (stop :
     stop = stop;
   }
 
+  pub text-read : r .kind ≡ Character → TextTo d at to → at < to → to - at ≤ r .width → 32 < getD d (to - 1) 0 → Standing t v r d at to
+  unfolding fitsBy legalFit
+  text-read k b l w e =
+      text-stands (bared-to (b .bared) (λ h. stop .special))
+      (ap (λ (x : Kind). fitsBy x t v r (text (part d at to))) k
+      ∙ ap legalFit (text-fits (r .width) d at to (b .bared .within) l w (b .plain) e))
+
   pub truth-stands : (b : Bool) → r .kind ≡ Logical → Reads d at (cond b 49 48 ∷ []) to → Standing t v r d at to
   unfolding fitsBy valueText
   truth-stands b k a = record { value = truth b; accepted = rw k; reads = a; plain = truth-plain b; stop = stop }
@@ -161,10 +221,6 @@ module _ (t : List ℤ) (v : ℕ) (r : Row) {d : List ℕ} {at to : ℕ} (stop :
       go : (q : Bool) → eqb (getD d at 0) 49 ≡ q → Standing t v r d at to
       go true w = truth-stands true k (rw e (reads-byte d at h (eqb-true (getD d at 0) 49 w)))
       go false w = let n = eqb-false (getD d at 0) 49 w in truth-stands false k (rw e (reads-byte d at h (omega arith)))
-
--- what is known of a row of the kind
-pub kind-known : {k k′ : Kind} (r : Row) → k ≡ k′ → KindFacts k r → KindFacts k′ r
-kind-known r e h = rw e at h
 
 -- ---- codes that rise
 skip-many : (k : ℕ) {c n : ℕ} {ms : List ℤ} → Rising (c + k) n ms → Rising c (k + n) ms
@@ -211,11 +267,11 @@ Rise d at low high most least left i =
 pub rise-none : (d : List ℕ) (at low high most : ℕ) → Rise d at low high most low most at
 rise-none d at low high most m ms to r s f = record { ms = m ∷ ms; reads = r; rises = s; few = f }
 
-set-more : (n : ℕ) (m : ℤ) (ms : List ℤ) → numeral n ++ ((59 ∷ []) ++ setText (m ∷ ms)) ≡ setText (pos n ∷ m ∷ ms)
+pub set-more : (n : ℕ) (m : ℤ) (ms : List ℤ) → numeral n ++ ((59 ∷ []) ++ setText (m ∷ ms)) ≡ setText (pos n ∷ m ∷ ms)
 unfolding setText codesBehind
 set-more n m ms = rw (code-text n)
 
-set-one : (n : ℕ) → numeral n ≡ setText (pos n ∷ [])
+pub set-one : (n : ℕ) → numeral n ≡ setText (pos n ∷ [])
 unfolding setText codesBehind
 set-one n = sym (append-nil (numberText 0 (pos n)) ∙ code-text n)
 
@@ -232,10 +288,13 @@ module _ {d : List ℕ} {at low high most least left i n p : ℕ} (g : Rise d at
       (omega arith)
 
 -- ---- their row allows them
+pub fits-between : (ok : ℤ → Bool) {low high : ℕ} {ms : List ℤ} → Rising low (high + 1 - low) ms
+    → ((x : ℕ) → low ≤ x → x ≤ high → ok (pos x) ≡ true) → setFits ok ms ≡ true
+fits-between ok {low} {high} s f = fits-of ok s (legal-between ok s (λ x l h. f x l (omega arith)))
+
 pub codes-fit : (t : List ℤ) (v : ℕ) (r : Row) {d : List ℕ} {at low high most to : ℕ} (c : Codes d at low high most to)
     → ((x : ℕ) → low ≤ x → x ≤ high → legal t v r (pos x) ≡ true) → setFits (legal t v r) (c .ms) ≡ true
-codes-fit t v r {low = low} {high} c f =
-    fits-of (legal t v r) (c .rises) (legal-between (legal t v r) (c .rises) (λ x l h. f x l (omega arith)))
+codes-fit t v r c f = fits-between (legal t v r) (c .rises) f
 
 pub range-between : (t : List ℤ) (v : ℕ) (r : Row) → r .range ≡ true → countOf (r .to) ≤ 9999
     → (x : ℕ) → countOf (r .from) ≤ x → x ≤ countOf (r .to) → legal t v r (pos x) ≡ true
@@ -247,11 +306,3 @@ range-between t v r e h x l u = rw (e, between (r .from) (r .to) x l u h)
     between (pos m) (negsuc n) x l u h = absurd (omega arith)
     between (negsuc m) (pos n) x l u h = absurd (omega arith)
     between (negsuc m) (negsuc n) x l u h = absurd (omega arith)
-
--- a write that is done was of a value that fits
-pub done-fits : (x : Fit) → Done ≡ answerBy x → x ≡ fits
-unfolding answerBy
-done-fits fits e = refl
-done-fits otherType e = let z : _≡_ {A = ℕ} 0 1 = cc in absurd (omega arith)
-done-fits notLegal e = let z : _≡_ {A = ℕ} 0 1 = cc in absurd (omega arith)
-done-fits tooMany e = let z : _≡_ {A = ℕ} 0 1 = cc in absurd (omega arith)

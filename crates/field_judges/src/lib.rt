@@ -5,19 +5,18 @@ ghost use mathlib.Core.Path.{_≡_};
 ghost use mathlib.Core.Bool.{true};
 ghost use Prim.Native.Nat.{_≤_};
 ghost use lib.ListN.{length};
-ghost use Rattle.fields.specs.Facts.{LineFacts, KindFacts};
+ghost use Rattle.fields.specs.Facts.{LineFacts};
 ghost use Rattle.layout.specs.declared.Kind.the-variants as kind;
 ghost use Rattle.layout.specs.declared.Spread.the-variants as spread;
-ghost use Rattle.writes.specs.Write.{Ready};
-ghost use Rattle.field_judges.specs.Judged.{StopsAt, CodesAt, JudgedAt};
+ghost use Rattle.sets.specs.Full.{EachLegal};
+ghost use Rattle.field_judges.specs.Judged.{StopsAt, CodesAt, JudgedAt, endsText, TextTo};
 use layout::Format;
 use layout::Kind;
 use layout::Row;
 use layout::Spread;
-use writes::Wrote;
 
 // Whether a comma or a CR stands at a place.
-fn stops(d: &[u8], i: usize) -> bool
+pub fn stops(d: &[u8], i: usize) -> bool
     ensures { λ r. ⌜ (r ≡ true → StopsAt (now (d .entry)) i) ⌝ }
 {
     if d.len() <= i {
@@ -97,13 +96,13 @@ fn judge_amount(t: &[i64], rows: usize, row: Row, q: Format, d: &[u8], at: usize
     to + 1
 }
 
-// A set of a bitstring whose lines are its categories.
-fn judge_bits(t: &[i64], rows: usize, row: Row, d: &[u8], at: usize) -> usize
-    requires { ⌜ LineFacts (now t) rows row × (row .width ≤ 9999) × (row .kind ≡ kind.Multiple spread.Bits) × (at ≤ length (now d)) ⌝ }
+// A set of a bitstring whose lines are its categories, if they are.
+fn judge_bits(t: &[i64], rows: usize, row: Row, full: bool, d: &[u8], at: usize) -> usize
+    requires { ⌜ (full ≡ true → EachLegal (now t) rows row (row .width)) × (row .kind ≡ kind.Multiple spread.Bits) × (at ≤ length (now d)) ⌝ }
     ensures { λ r. ⌜ JudgedAt (now (t .entry)) rows row (now (d .entry)) at r ⌝ }
 {
     let w = row.width;
-    if !sets::alike::lines_count(t, rows, row, w) {
+    if !full {
         return 0;
     }
     let to = codes_to(d, at, 1, w, w);
@@ -150,34 +149,58 @@ fn judge_spread(
     to + 1
 }
 
-fn judge_set(t: &[i64], rows: usize, row: Row, s: Spread, d: &[u8], at: usize) -> usize
-    requires { ⌜ LineFacts (now t) rows row × KindFacts (row .kind) row × (row .kind ≡ kind.Multiple s) × (at ≤ length (now d)) ⌝ }
+fn judge_set(t: &[i64], rows: usize, row: Row, full: bool, s: Spread, d: &[u8], at: usize) -> usize
+    requires { ⌜ (full ≡ true → EachLegal (now t) rows row (row .width)) × (row .kind ≡ kind.Multiple s) × (at ≤ length (now d)) ⌝ }
     ensures { λ r. ⌜ JudgedAt (now (t .entry)) rows row (now (d .entry)) at r ⌝ }
 {
     match s {
-        Spread::Bits => judge_bits(t, rows, row, d, at),
+        Spread::Bits => judge_bits(t, rows, row, full, d, at),
         Spread::Fields { count, width } => judge_spread(t, rows, row, count, width, d, at),
     }
 }
 
-// A text. Its writer judges it; what that leaves in the bytes is not kept.
-fn judge_text(t: &[i64], rows: usize, row: Row, d: &[u8], at: usize, bytes: &mut [u8]) -> usize
-    requires { ⌜ Ready (row .kind) (now t) rows (length (now bytes)) row × (row .kind ≡ kind.Character) × (at ≤ length (now d)) ⌝ }
+// What a text cannot hold where it stands bare: a comma, a quote, and every byte below 32.
+fn ends_text(b: u8) -> bool
+    ensures { λ r. ⌜ r ≡ endsText b ⌝ }
+{
+    (b == 44) | ((b == 34) | (b < 32))
+}
+
+// The first of them from a place on, or the end.
+fn text_to(d: &[u8], at: usize) -> usize
+    requires { ⌜ at ≤ length (now d) ⌝ }
+    ensures { λ r. ⌜ TextTo (now (d .entry)) at r ⌝ }
+{
+    let mut i = at;
+    while i < d.len() {
+        if ends_text(d[i]) {
+            return i;
+        }
+        i += 1;
+    }
+    i
+}
+
+// A text.
+fn judge_text(t: &[i64], rows: usize, row: Row, d: &[u8], at: usize) -> usize
+    requires { ⌜ (row .kind ≡ kind.Character) × (at ≤ length (now d)) ⌝ }
     ensures { λ r. ⌜ JudgedAt (now (t .entry)) rows row (now (d .entry)) at r ⌝ }
 {
-    let to = csv_fields::bare_to(d, at);
+    let w = row.width;
+    let to = text_to(d, at);
+    if to == at {
+        return 0;
+    }
+    if w < to - at {
+        return 0;
+    }
+    if d[to - 1] <= 32 {
+        return 0;
+    }
     if !stops(d, to) {
         return 0;
     }
-    match writes::plain::write_text(t, rows, row, &d[at..to], bytes) {
-        Wrote::Done => to + 1,
-        Wrote::NotWellFormed => 0,
-        Wrote::NoRow => 0,
-        Wrote::TooShort => 0,
-        Wrote::OtherType => 0,
-        Wrote::NotLegal => 0,
-        Wrote::TooMany => 0,
-    }
+    to + 1
 }
 
 // A truth: 0 or 1.
@@ -202,9 +225,10 @@ fn judge_truth(t: &[i64], rows: usize, row: Row, d: &[u8], at: usize) -> usize
     to + 1
 }
 
-// THE FIELD from a place on: the place behind what stops it, where it is a value of the row; else 0.
-pub fn judge_at(t: &[i64], rows: usize, row: Row, d: &[u8], at: usize, bytes: &mut [u8]) -> usize
-    requires { ⌜ Ready (row .kind) (now t) rows (length (now bytes)) row × (at ≤ length (now d)) ⌝ }
+// THE FIELD from a place on: the place behind what stops it, where it is a value of the row; else 0. `full` says of a bitstring that it
+// has each category up to its width: whoever judges many fields asks that once.
+pub fn judge_at(t: &[i64], rows: usize, row: Row, full: bool, d: &[u8], at: usize) -> usize
+    requires { ⌜ LineFacts (now t) rows row × (full ≡ true → EachLegal (now t) rows row (row .width)) × (at ≤ length (now d)) ⌝ }
     ensures { λ r. ⌜ JudgedAt (now (t .entry)) rows row (now (d .entry)) at r ⌝ }
 {
     if stops(d, at) {
@@ -213,9 +237,9 @@ pub fn judge_at(t: &[i64], rows: usize, row: Row, d: &[u8], at: usize, bytes: &m
     let kind = row.kind;
     match kind {
         Kind::Single => judge_code(t, rows, row, d, at),
-        Kind::Multiple(s) => judge_set(t, rows, row, s, d, at),
+        Kind::Multiple(s) => judge_set(t, rows, row, full, s, d, at),
         Kind::Quantity(q) => judge_amount(t, rows, row, q, d, at),
-        Kind::Character => judge_text(t, rows, row, d, at, bytes),
+        Kind::Character => judge_text(t, rows, row, d, at),
         Kind::Logical => judge_truth(t, rows, row, d, at),
     }
 }

@@ -42,13 +42,13 @@ behind-last (m ∷ ms) n =
     ap (λ (s : List ℕ). 59 ∷ (numberText 0 m ++ s)) (behind-last ms n)
     ∙ ap (λ (s : List ℕ). 59 ∷ s) (sym (append-assoc (numberText 0 m) ((59 ∷ []) ++ ended ms) (numeral n)))
 
-text-last : (ms : List ℤ) (n : ℕ) → setText (ms ++ (pos n ∷ [])) ≡ ended ms ++ numeral n
+pub text-last : (ms : List ℤ) (n : ℕ) → setText (ms ++ (pos n ∷ [])) ≡ ended ms ++ numeral n
 unfolding setText codesBehind ended
 text-last [] n = append-nil (numberText 0 (pos n)) ∙ code-text n
 text-last (m ∷ ms) n =
     ap (λ (s : List ℕ). numberText 0 m ++ s) (behind-last ms n) ∙ sym (append-assoc (numberText 0 m) ((59 ∷ []) ++ ended ms) (numeral n))
 
-ended-more : (ms : List ℤ) (n : ℕ) → ended (ms ++ (pos n ∷ [])) ≡ ended ms ++ (numeral n ++ (59 ∷ []))
+pub ended-more : (ms : List ℤ) (n : ℕ) → ended (ms ++ (pos n ∷ [])) ≡ ended ms ++ (numeral n ++ (59 ∷ []))
 unfolding ended
 ended-more [] n = ap (λ (s : List ℕ). s ++ (59 ∷ [])) (code-text n)
 ended-more (m ∷ ms) n =

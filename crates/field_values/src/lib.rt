@@ -16,7 +16,7 @@ use layout::Row;
 use writes::Value;
 use writes::Wrote;
 
-pub mod quick;
+mod quick;
 
 // What a byte says as a digit.
 fn digit_of(b: u8) -> u64
@@ -211,7 +211,7 @@ fn left_of(k: usize, s: &[u8], f: &[u8]) -> bool
     tail_good(k, &s[n..])
 }
 
-fn is_done(w: Wrote) -> bool
+pub fn is_done(w: Wrote) -> bool
     ensures { λ r. ⌜ r ≡ isDone w ⌝ }
 {
     match w {
@@ -394,8 +394,8 @@ fn take_truth(
     is_done(writes::plain::write_truth(t, rows, row, one, bytes))
 }
 
-// THE VALUE that a field is, written to the row; else the record is kept. The list and the room are for sets.
-pub fn take_field(
+// A field that is not as export writes it, or whose row asks for more than a look.
+fn take_guessed(
     powers: &[u64; 16],
     t: &[i64],
     rows: usize,
@@ -421,6 +421,28 @@ pub fn take_field(
         Kind::Character => is_done(writes::plain::write_text(t, rows, row, f, bytes)),
         Kind::Logical => take_truth(powers, t, rows, row, f, bytes),
     }
+}
+
+// THE VALUE that a field is, written to the row; else the record is kept. The list and the room are for sets.
+pub fn take_field(
+    powers: &[u64; 16],
+    t: &[i64],
+    rows: usize,
+    row: Row,
+    f: &[u8],
+    list: &mut [i64],
+    room: &mut [u8],
+    bytes: &mut [u8],
+) -> bool
+    requires { ⌜ Tens (now powers) ⌝ }
+    requires { ⌜ Ready (row .kind) (now t) rows (length (now bytes)) row ⌝ }
+    requires { ⌜ (length (now list) ≡ 9999) × (length (now room) ≡ 50000) ⌝ }
+    ensures { λ r. ⌜ Took (now (t .entry)) rows row (now (f .entry)) (now (bytes .entry)) (now (bytes .exit)) r ⌝ }
+{
+    if quick::take_quick(powers, t, rows, row, f, list, bytes) {
+        return true;
+    }
+    take_guessed(powers, t, rows, row, f, list, room, bytes)
 }
 
 fn bit_of(b: bool) -> u8

@@ -15,6 +15,9 @@ ghost use Rattle.field_values.specs.Steps.{Took};
 ghost use Rattle.import_lines.specs.Undoubled.{undoubled, stride, Undoubled};
 ghost use Rattle.import_lines.specs.Walk.{RawOf, walk-of, step, endOf, LineTaken};
 ghost use Rattle.import_lines.specs.Judge.{FieldJudged, Judges, LineJudged};
+ghost use Rattle.import_lines.specs.Build.{FullRows, FieldBuilt, SlowBuilt};
+ghost use Rattle.fields.specs.Facts.{LineFacts};
+ghost use Rattle.sets.specs.Full.{EachLegal};
 use csv_fields::Cut;
 use layout::Row;
 
@@ -119,43 +122,6 @@ fn take_slow(
     j + 1
 }
 
-// Field j of a line, unless one before it was no value: the first column that is none, or 0.
-fn take_one(
-    powers: &[u64; 16],
-    t: &[i64],
-    rows: usize,
-    len: usize,
-    j: usize,
-    bad: usize,
-    raw: &[u8],
-    bare: bool,
-    list: &mut [i64],
-    room: &mut [u8],
-    spare: &mut [u8],
-    bytes: &mut [u8],
-) -> usize
-    requires { ⌜ Tens (now powers) ⌝ }
-    requires { ⌜ TableKnown (now t) rows len × (len ≤ length (now bytes)) ⌝ }
-    requires { ⌜ RawOf (now raw) bare ⌝ }
-    requires { ⌜ (length (now list) ≡ 9999) × (length (now room) ≡ 50000) × (length (now spare) ≡ 50000) ⌝ }
-    ensures { λ r. ⌜ walk-of r (now (bytes .exit))
-        ≡ step (now (t .entry)) rows j (undoubled false (now (raw .entry))) bad (now (bytes .entry)) ⌝ }
-{
-    if bad != 0 {
-        return bad;
-    }
-    if rows <= j {
-        return 0;
-    }
-    if !bare {
-        return take_slow(powers, t, rows, len, j, raw, bare, list, room, spare, bytes);
-    }
-    if field_values::quick::take_quick(powers, t, rows, Row::read(t, j), raw, list, bytes) {
-        return 0;
-    }
-    take_slow(powers, t, rows, len, j, raw, bare, list, room, spare, bytes)
-}
-
 fn lesser(a: usize, b: usize) -> usize
     ensures { λ r. ⌜ r ≡ min a b ⌝ }
 {
@@ -176,69 +142,18 @@ fn line_end(rows: usize, count: usize, bad: usize, next: usize) -> LineEnd
     LineEnd::Good(next)
 }
 
-// THE LINE from a place on, its record built in a slot of spaces.
-pub fn take_line(
-    powers: &[u64; 16],
-    t: &[i64],
-    rows: usize,
-    len: usize,
-    d: &[u8],
-    from: usize,
-    list: &mut [i64],
-    room: &mut [u8],
-    spare: &mut [u8],
-    bytes: &mut [u8],
-) -> LineEnd
-    requires { ⌜ Tens (now powers) ⌝ }
-    requires { ⌜ TableKnown (now t) rows len × (rows ≡ rowsOf (now t)) × (len ≡ lengthOf (now t)) ⌝ }
-    requires { ⌜ (from ≤ length (now d)) × (now bytes ≡ spaces len) ⌝ }
-    requires { ⌜ (length (now list) ≡ 9999) × (length (now room) ≡ 50000) × (length (now spare) ≡ 50000) ⌝ }
-    ensures { λ r. ⌜ LineTaken (now (t .entry)) (now (d .entry)) from (now (bytes .exit)) r ⌝ }
-{
-    let mut at = from;
-    let mut j: usize = 0;
-    let mut bad: usize = 0;
-    loop {
-        let span = csv_fields::span_of(csv_fields::next_field(d, at));
-        let p = span.from;
-        let q = span.to;
-        if span.torn {
-            return LineEnd::Torn(j + 1);
-        }
-        bad = take_one(
-            powers,
-            t,
-            rows,
-            len,
-            j,
-            bad,
-            &d[p..q],
-            span.bare,
-            list,
-            room,
-            spare,
-            bytes,
-        );
-        j += 1;
-        at = span.next;
-        if span.ends {
-            return line_end(rows, j, bad, at);
-        }
-    }
-}
-
 // Field j of a line judged where it stands, unless one before it was no value: the place behind what stops it, or 0.
 fn judge_field(
     t: &[i64],
     rows: usize,
     len: usize,
+    full: &[u8],
     d: &[u8],
     at: usize,
     j: usize,
     bad: usize,
-    bytes: &mut [u8],
 ) -> usize
-    requires { ⌜ TableKnown (now t) rows len × (len ≤ length (now bytes)) × (at ≤ length (now d)) ⌝ }
+    requires { ⌜ TableKnown (now t) rows len × (at ≤ length (now d)) × FullRows (now t) rows (now full) ⌝ }
     ensures { λ r. ⌜ ((r ≡ 0 → ⊥) → FieldJudged (now (t .entry)) rows (now (d .entry)) at j bad (r - 1)) ⌝ }
 {
     if bad != 0 {
@@ -247,7 +162,7 @@ fn judge_field(
     if rows <= j {
         return 0;
     }
-    field_judges::judge_at(t, rows, Row::read(t, j), d, at, bytes)
+    field_judges::judge_at(t, rows, Row::read(t, j), full[j] == 1, d, at)
 }
 
 // A field cut: where its end is known, it is not looked for.
@@ -303,6 +218,7 @@ pub fn judge_line(
     t: &[i64],
     rows: usize,
     len: usize,
+    full: &[u8],
     d: &[u8],
     from: usize,
     list: &mut [i64],
@@ -312,7 +228,7 @@ pub fn judge_line(
 ) -> LineEnd
     requires { ⌜ Tens (now powers) ⌝ }
     requires { ⌜ TableKnown (now t) rows len × (rows ≡ rowsOf (now t)) × (len ≡ lengthOf (now t)) ⌝ }
-    requires { ⌜ (from ≤ length (now d)) × (len ≤ length (now bytes)) ⌝ }
+    requires { ⌜ (from ≤ length (now d)) × (len ≤ length (now bytes)) × FullRows (now t) rows (now full) ⌝ }
     requires { ⌜ (length (now list) ≡ 9999) × (length (now room) ≡ 50000) × (length (now spare) ≡ 50000) ⌝ }
     ensures { λ r. ⌜ LineJudged (now (t .entry)) (now (d .entry)) from r ⌝ }
 {
@@ -320,7 +236,7 @@ pub fn judge_line(
     let mut j: usize = 0;
     let mut bad: usize = 0;
     loop {
-        let end = judge_field(t, rows, len, d, at, j, bad, bytes);
+        let end = judge_field(t, rows, len, full, d, at, j, bad);
         let span = csv_fields::span_of(cut_at(d, at, end));
         let p = span.from;
         let q = span.to;
@@ -347,5 +263,162 @@ pub fn judge_line(
         if span.ends {
             return line_end(rows, j, bad, at);
         }
+    }
+}
+
+// Field j of a line built where it stands, unless one before it was no value: the place behind what stops it; or 0, and the record is kept.
+fn build_field(
+    powers: &[u64; 16],
+    t: &[i64],
+    rows: usize,
+    len: usize,
+    full: &[u8],
+    d: &[u8],
+    at: usize,
+    j: usize,
+    bad: usize,
+    list: &mut [i64],
+    bytes: &mut [u8],
+) -> usize
+    requires { ⌜ Tens (now powers) ⌝ }
+    requires { ⌜ TableKnown (now t) rows len × (len ≤ length (now bytes)) × (at ≤ length (now d)) × FullRows (now t) rows (now full) ⌝ }
+    requires { ⌜ length (now list) ≡ 9999 ⌝ }
+    ensures { λ r. ⌜ FieldBuilt (now (t .entry)) rows (now (d .entry)) at j bad (now (bytes .entry)) (now (bytes .exit)) r ⌝ }
+{
+    if bad != 0 {
+        return 0;
+    }
+    if rows <= j {
+        return 0;
+    }
+    if field_judges::stops(d, at) {
+        return field_builds::build_missing(t, rows, Row::read(t, j), d, at, bytes);
+    }
+    field_builds::build_at(
+        powers,
+        t,
+        rows,
+        Row::read(t, j),
+        full[j] == 1,
+        d,
+        at,
+        list,
+        bytes,
+    )
+}
+
+// Field j of a line, where it was not built so: the first column that is no value, or 0.
+fn build_slow(
+    powers: &[u64; 16],
+    t: &[i64],
+    rows: usize,
+    len: usize,
+    j: usize,
+    bad: usize,
+    end: usize,
+    raw: &[u8],
+    bare: bool,
+    list: &mut [i64],
+    room: &mut [u8],
+    spare: &mut [u8],
+    bytes: &mut [u8],
+) -> usize
+    requires { ⌜ Tens (now powers) ⌝ }
+    requires { ⌜ TableKnown (now t) rows len × (len ≤ length (now bytes)) ⌝ }
+    requires { ⌜ RawOf (now raw) bare ⌝ }
+    requires { ⌜ (length (now list) ≡ 9999) × (length (now room) ≡ 50000) × (length (now spare) ≡ 50000) ⌝ }
+    ensures { λ r. ⌜ SlowBuilt (now (t .entry)) rows j (undoubled false (now (raw .entry))) bad end (now (bytes .entry)) (now (bytes .exit)) r ⌝ }
+{
+    if end != 0 {
+        return 0;
+    }
+    if bad != 0 {
+        return bad;
+    }
+    if rows <= j {
+        return 0;
+    }
+    take_slow(powers, t, rows, len, j, raw, bare, list, room, spare, bytes)
+}
+
+// THE LINE from a place on, its record built in a slot of spaces.
+pub fn take_line(
+    powers: &[u64; 16],
+    t: &[i64],
+    rows: usize,
+    len: usize,
+    full: &[u8],
+    d: &[u8],
+    from: usize,
+    list: &mut [i64],
+    room: &mut [u8],
+    spare: &mut [u8],
+    bytes: &mut [u8],
+) -> LineEnd
+    requires { ⌜ Tens (now powers) ⌝ }
+    requires { ⌜ TableKnown (now t) rows len × (rows ≡ rowsOf (now t)) × (len ≡ lengthOf (now t)) ⌝ }
+    requires { ⌜ (from ≤ length (now d)) × (now bytes ≡ spaces len) × FullRows (now t) rows (now full) ⌝ }
+    requires { ⌜ (length (now list) ≡ 9999) × (length (now room) ≡ 50000) × (length (now spare) ≡ 50000) ⌝ }
+    ensures { λ r. ⌜ LineTaken (now (t .entry)) (now (d .entry)) from (now (bytes .exit)) r ⌝ }
+{
+    let mut at = from;
+    let mut j: usize = 0;
+    let mut bad: usize = 0;
+    loop {
+        let end = build_field(powers, t, rows, len, full, d, at, j, bad, list, bytes);
+        let span = csv_fields::span_of(cut_at(d, at, end));
+        let p = span.from;
+        let q = span.to;
+        if span.torn {
+            return LineEnd::Torn(j + 1);
+        }
+        bad = build_slow(
+            powers,
+            t,
+            rows,
+            len,
+            j,
+            bad,
+            end,
+            &d[p..q],
+            span.bare,
+            list,
+            room,
+            spare,
+            bytes,
+        );
+        j += 1;
+        at = span.next;
+        if span.ends {
+            return line_end(rows, j, bad, at);
+        }
+    }
+}
+
+// Whether the row's lines are its categories.
+fn full_row(t: &[i64], rows: usize, row: Row) -> u8
+    requires { ⌜ LineFacts (now t) rows row ⌝ }
+    ensures { λ r. ⌜ (r ≡ 1 → EachLegal (now (t .entry)) rows row (row .width)) ⌝ }
+{
+    let w = row.width;
+    if 9999 < w {
+        return 0;
+    }
+    if sets::alike::lines_count(t, rows, row, w) {
+        1
+    } else {
+        0
+    }
+}
+
+// A 1 for each row whose lines are its categories, so that no field asks it again.
+pub fn mark_full(t: &[i64], rows: usize, len: usize, full: &mut [u8])
+    requires { ⌜ TableKnown (now t) rows len × (length (now full) ≡ 512) ⌝ }
+    ensures { λ _. ⌜ FullRows (now (t .entry)) rows (now (full .exit)) ⌝ }
+{
+    let mut j: usize = 0;
+    while j < rows {
+        full[j] = full_row(t, rows, Row::read(t, j));
+        j += 1;
     }
 }

@@ -9,6 +9,7 @@ ghost use Rattle.sound.specs.rule.Rows.{rowsOf, lengthOf};
 ghost use Rattle.sharing.specs.Known.{TableKnown};
 ghost use Rattle.csv_fields.specs.rule.Page.{start, page, linesOf};
 ghost use Rattle.import_rule.specs.rule.Text.{linesSay, dataOf};
+ghost use Rattle.import_lines.specs.Build.{FullRows};
 ghost use Rattle.import_passes.specs.Passes.{LineEnded, Accepted, JudgedAs};
 use import_lines::LineEnd;
 
@@ -28,6 +29,7 @@ fn take_record(
     t: &[i64],
     rows: usize,
     len: usize,
+    full: &[u8],
     d: &[u8],
     from: usize,
     list: &mut [i64],
@@ -37,7 +39,7 @@ fn take_record(
 ) -> LineEnd
     requires { ⌜ Tens (now powers) ⌝ }
     requires { ⌜ TableKnown (now t) rows len × (rows ≡ rowsOf (now t)) × (len ≡ lengthOf (now t)) ⌝ }
-    requires { ⌜ (from ≤ length (now d)) × (length (now slot) ≡ len + 2) ⌝ }
+    requires { ⌜ (from ≤ length (now d)) × (length (now slot) ≡ len + 2) × FullRows (now t) rows (now full) ⌝ }
     requires { ⌜ (length (now list) ≡ 9999) × (length (now room) ≡ 50000) × (length (now spare) ≡ 50000) ⌝ }
     ensures { λ r. ⌜ LineEnded (now (t .entry)) (now (d .entry)) from (now (slot .exit)) r ⌝ }
 {
@@ -47,6 +49,7 @@ fn take_record(
         t,
         rows,
         len,
+        full,
         d,
         from,
         list,
@@ -65,6 +68,7 @@ pub fn judge_lines(
     t: &[i64],
     rows: usize,
     len: usize,
+    full: &[u8],
     d: &[u8],
     from: usize,
     list: &mut [i64],
@@ -74,14 +78,14 @@ pub fn judge_lines(
 ) -> Judged
     requires { ⌜ Tens (now powers) ⌝ }
     requires { ⌜ TableKnown (now t) rows len × (rows ≡ rowsOf (now t)) × (len ≡ lengthOf (now t)) ⌝ }
-    requires { ⌜ (from ≤ length (now d)) × (length (now slot) ≡ len + 2) ⌝ }
+    requires { ⌜ (from ≤ length (now d)) × (length (now slot) ≡ len + 2) × FullRows (now t) rows (now full) ⌝ }
     requires { ⌜ (length (now list) ≡ 9999) × (length (now room) ≡ 50000) × (length (now spare) ≡ 50000) ⌝ }
     ensures { λ r. ⌜ JudgedAs (linesSay (now (t .entry)) 2 (linesOf (page start (drop from (now (d .entry)))))) r ⌝ }
 {
     let mut at = from;
     let mut n: usize = 0;
     while at < d.len() {
-        match import_lines::judge_line(powers, t, rows, len, d, at, list, room, spare, slot) {
+        match import_lines::judge_line(powers, t, rows, len, full, d, at, list, room, spare, slot) {
             LineEnd::Good(next) => {
                 n += 1;
                 at = next;
@@ -111,6 +115,7 @@ pub fn build_lines(
     t: &[i64],
     rows: usize,
     len: usize,
+    full: &[u8],
     d: &[u8],
     from: usize,
     n: usize,
@@ -121,7 +126,7 @@ pub fn build_lines(
 )
     requires { ⌜ Tens (now powers) ⌝ }
     requires { ⌜ TableKnown (now t) rows len × (rows ≡ rowsOf (now t)) × (len ≡ lengthOf (now t)) ⌝ }
-    requires { ⌜ (from ≤ length (now d)) × (n * (len + 2) ≤ length (now out)) × (len ≤ 16384) ⌝ }
+    requires { ⌜ (from ≤ length (now d)) × (n * (len + 2) ≤ length (now out)) × (len ≤ 16384) × FullRows (now t) rows (now full) ⌝ }
     requires { ⌜ Accepted (linesSay (now t) 2 (linesOf (page start (drop from (now d))))) n ⌝ }
     requires { ⌜ (length (now list) ≡ 9999) × (length (now room) ≡ 50000) × (length (now spare) ≡ 50000) ⌝ }
     ensures { λ _. ⌜ now (out .exit) ≡ dataOf (linesSay (now (t .entry)) 2 (linesOf (page start (drop from (now (d .entry))))))
@@ -138,6 +143,7 @@ pub fn build_lines(
             t,
             rows,
             len,
+            full,
             d,
             at,
             list,

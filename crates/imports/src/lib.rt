@@ -8,6 +8,7 @@ ghost use Rattle.sound.specs.rule.Rows.{rowsOf, lengthOf};
 ghost use Rattle.sharing.specs.Known.{TableKnown};
 ghost use Rattle.csv_fields.specs.rule.Page.{start, page, linesOf};
 ghost use Rattle.import_rule.specs.rule.Text.{linesSay};
+ghost use Rattle.import_lines.specs.Build.{FullRows};
 ghost use Rattle.import_passes.specs.Passes.{Accepted, JudgedAs};
 ghost use Rattle.imports.specs.rule.Import.{importSaid, importSays, Imported};
 ghost use Rattle.imports.specs.Import.{Roomed};
@@ -38,6 +39,7 @@ fn build_records(
     t: &[i64],
     rows: usize,
     len: usize,
+    full: &[u8],
     d: &[u8],
     from: usize,
     n: usize,
@@ -48,7 +50,7 @@ fn build_records(
 ) -> Import
     requires { ⌜ Tens (now powers) ⌝ }
     requires { ⌜ TableKnown (now t) rows len × (rows ≡ rowsOf (now t)) × (len ≡ lengthOf (now t)) ⌝ }
-    requires { ⌜ (from ≤ length (now d)) × (len ≤ 16384) ⌝ }
+    requires { ⌜ (from ≤ length (now d)) × (len ≤ 16384) × FullRows (now t) rows (now full) ⌝ }
     requires { ⌜ Accepted (linesSay (now t) 2 (linesOf (page start (drop from (now d))))) n ⌝ }
     requires { ⌜ (length (now list) ≡ 9999) × (length (now room) ≡ 50000) × (length (now spare) ≡ 50000) ⌝ }
     ensures { λ r. ⌜ Roomed (linesSay (now (t .entry)) 2 (linesOf (page start (drop from (now (d .entry)))))) (now (out .entry))
@@ -58,7 +60,20 @@ fn build_records(
     if out.len() / size < n {
         return Import::ShortRoom;
     }
-    import_passes::build_lines(powers, t, rows, len, d, from, n, list, room, spare, out);
+    import_passes::build_lines(
+        powers,
+        t,
+        rows,
+        len,
+        full,
+        d,
+        from,
+        n,
+        list,
+        room,
+        spare,
+        out,
+    );
     Import::Written {
         records: n,
         length: n * size,
@@ -71,6 +86,7 @@ fn judge_records(
     t: &[i64],
     rows: usize,
     len: usize,
+    full: &[u8],
     d: &[u8],
     from: usize,
     list: &mut [i64],
@@ -80,7 +96,7 @@ fn judge_records(
 ) -> Judged
     requires { ⌜ Tens (now powers) ⌝ }
     requires { ⌜ TableKnown (now t) rows len × (rows ≡ rowsOf (now t)) × (len ≡ lengthOf (now t)) ⌝ }
-    requires { ⌜ (from ≤ length (now d)) × (len ≤ 16384) × (length (now slot) ≡ 16386) ⌝ }
+    requires { ⌜ (from ≤ length (now d)) × (len ≤ 16384) × (length (now slot) ≡ 16386) × FullRows (now t) rows (now full) ⌝ }
     requires { ⌜ (length (now list) ≡ 9999) × (length (now room) ≡ 50000) × (length (now spare) ≡ 50000) ⌝ }
     ensures { λ r. ⌜ JudgedAs (linesSay (now (t .entry)) 2 (linesOf (page start (drop from (now (d .entry)))))) r ⌝ }
 {
@@ -90,6 +106,7 @@ fn judge_records(
         t,
         rows,
         len,
+        full,
         d,
         from,
         list,
@@ -118,11 +135,14 @@ fn import_records(
     let mut room = [0u8; 50000];
     let mut spare = [0u8; 50000];
     let mut slot = [0u8; 16386];
+    let mut full = [0u8; 512];
+    import_lines::mark_full(t, rows, len, &mut full);
     let judged = judge_records(
         &powers,
         t,
         rows,
         len,
+        &full,
         d,
         from,
         &mut list,
@@ -145,6 +165,7 @@ fn import_records(
             t,
             rows,
             len,
+            &full,
             d,
             from,
             n,

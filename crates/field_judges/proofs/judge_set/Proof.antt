@@ -2,20 +2,18 @@
 use mathlib.Core.Path.{ap, _∙_}
 use borrow.Author.Needs.{needs}
 use Rattle.layout.specs.declared.Kind.the-variants.{Multiple}
-use Rattle.field_judges.specs.Judged.{kind-known}
 use Rattle.field_judges.proofs.judge_set.Statement.{statement}
 use Rattle.field_judges.proofs.judge_set.Tie as tie
 
 judge-bits-requires : tie.Need-judge-bits-requires
 judge-bits-requires c κs =
     let p = c .before .before .before .pre in
-    let k = p .2 ∙ ap Multiple (c .enum-told .given .1) in
-    (p .0, kind-known _ k (p .1) .few, k, p .3)
+    (p .0, p .1 ∙ ap Multiple (c .enum-told .given .1), p .2)
 
 judge-spread-requires : tie.Need-judge-spread-requires
 judge-spread-requires c κs =
     let p = c .before .before .before .before .pre in
-    (p .2 ∙ ap Multiple (c .before .s .given .1), p .3)
+    (p .1 ∙ ap Multiple (c .before .s .given .1), p .2)
 
 pub judge-set-spec : {M : Type 1} → statement M
 judge-set-spec =

@@ -1,66 +1,57 @@
 -- `field_judges::judge_text` meets its contract.
-use mathlib.Core.Path.{_≡_, sym, _∙_}
 use native.Mathlib.Omega.{arith}
 use borrow.Author.Needs.{needs}
 use borrow.Author.Tests.{not-false}
-use Rattle.writes.specs.rule.Write.{valueOf}
-use Rattle.field_judges.specs.Judged.{judged-none, judged-some, text-stands, done-fits}
+use Rattle.field_judges.specs.Judged.{judged-none, judged-some, text-read}
 use Rattle.field_judges.proofs.judge_text.Statement.{statement}
 use Rattle.field_judges.proofs.judge_text.Tie as tie
 
-bare-to-requires : tie.Need-bare-to-requires
-bare-to-requires c κs = c .before .before .pre .2
+text-to-requires : tie.Need-text-to-requires
+text-to-requires c κs = (c .before .pre) .1
 
-part-write-text-end : tie.Need-part-write-text-end
-part-write-text-end c = omega (arith, c .before .before .bare-to .ensures .on, c .before .before .bare-to .ensures .within)
+sub-if2 : tie.Need-sub-if2
+sub-if2 c = omega (arith, (c .before .text-to) .ensures .bared .on)
 
-write-text-requires : tie.Need-write-text-requires
-write-text-requires c κs = c .before .before .before .before .before .before .before .pre .0
+sub-if3 : tie.Need-sub-if3
+sub-if3 c = omega (arith, (c .before .before .text-to) .ensures .bared .on, (c .before .if1) .left)
 
-add-result : tie.Need-add-result
-add-result c =
-    let b = c .before .before .before .before .before .before .before in
-    let stop = b .before .stops .ensures (not-false _ (b .if1 .left)) in
-    omega (arith, stop .within)
+shared-slice-read-if3 : tie.Need-shared-slice-read-if3
+shared-slice-read-if3 c = let b = (c .before .before .before .text-to) .ensures .bared in omega (arith, b .on, b .within, (c .before .before .if1) .left)
+
+returns : tie.Need-returns
+returns c = judged-none _ _ _ _ _
 
 returns-2 : tie.Need-returns-2
-unfolding valueOf
-returns-2 c =
-    let b = c .before .before .before .before .before .before .before in
-    let stop = b .before .stops .ensures (not-false _ (b .if1 .left)) in
-    judged-some (text-stands _ _ _ stop (b .before .before .bare-to .ensures)
-    (done-fits _ (sym (c .enum-told .given .1) ∙ c .before .before .before .before .write-text .ensures .says)))
+returns-2 c = judged-none _ _ _ _ _
+
+returns-3 : tie.Need-returns-3
+returns-3 c = judged-none _ _ _ _ _
+
+returns-4 : tie.Need-returns-4
+returns-4 c = judged-none _ _ _ _ _
+
+add-result : tie.Need-add-result
+add-result c = let stop = (c .before .stops) .ensures (not-false _ ((c .if4) .left)) in omega (arith, stop .within)
+
+returns-5 : tie.Need-returns-5
+returns-5 c =
+    let stop = (c .before .stops) .ensures (not-false _ ((c .if4) .left)) in
+    let b = (c .before .before .before .before .before .before .text-to) .ensures in
+    judged-some (text-read _ _ _ stop ((c .before .before .before .before .before .before .before .before .pre) .0) b (omega (arith, b .bared .on, (c .before .before .before .before .before .if1) .left)) (omega (arith, (c .before .before .before .before .if2) .left))
+    (omega (arith, (c .before .before .if3) .left)))
 
 pub judge-text-spec : {M : Type 1} → statement M
 judge-text-spec =
     tie.close
     (tie.spec
-    bare-to-requires
-    (λ c κs. search needs)
-    (λ c. judged-none _ _ _ _ _)
-    (λ c. omega (arith, c .before .before .bare-to .ensures .on))
-    (λ c. omega (arith, c .before .before .bare-to .ensures .on, c .before .before .bare-to .ensures .within))
-    part-write-text-end
-    write-text-requires
-    (λ c. search needs)
-    add-result
-    (λ c. search needs)
-    (λ c. search needs)
-    (λ c. search needs)
-    (λ c. search needs)
-    (λ c. search needs)
-    (λ c. search needs)
-    (λ c. search needs)
+    text-to-requires
+    returns
+    sub-if2
     returns-2
-    (λ c. search needs)
-    (λ c. judged-none _ _ _ _ _)
-    (λ c. search needs)
-    (λ c. judged-none _ _ _ _ _)
-    (λ c. search needs)
-    (λ c. judged-none _ _ _ _ _)
-    (λ c. search needs)
-    (λ c. judged-none _ _ _ _ _)
-    (λ c. search needs)
-    (λ c. judged-none _ _ _ _ _)
-    (λ c. search needs)
-    (λ c. judged-none _ _ _ _ _))
+    sub-if3
+    shared-slice-read-if3
+    returns-3
+    (λ c κs. search needs)
+    returns-4
+    add-result
+    returns-5)

@@ -6,153 +6,125 @@ use Prim.Native.Nat.{_+_, _-_, _≤_, _<_}
 use lib.ListN.{length, drop}
 use Rattle.fields.specs.rule.Field.{spaces}
 use Rattle.fieldlaws.specs.TextLaws.{length-spaces}
-use Rattle.csv_fields.specs.Page.{cut-torn, span-met}
+use Rattle.csv_fields.specs.Page.{cut-torn, span-met, span-from}
+use Rattle.field_judges.specs.Judged.{standing-bounded}
 use Rattle.import_lines.specs.Walk.{Walking, walking-none, walking-more, walking-last, walking-torn, raw-of, whole-taken}
+use Rattle.import_lines.specs.Build.{field-stepped}
 use Rattle.import_lines.proofs.take_line.Statement.{statement}
 use Rattle.import_lines.proofs.take_line.Tie as tie
 
 abbrev Inv-loop : tie.InvT-loop
-Inv-loop powers t rows len d from list₀ room₀ spare₀ bytes₀ at₀ j₀ bad₀ list room spare bytes at j bad =
+Inv-loop powers t rows len full d from list₀ room₀ spare₀ bytes₀ at₀ j₀ bad₀ list room spare bytes at j bad =
     Walking t rows d from at j bad (spaces len) bytes × (length list ≡ 9999) × (length room ≡ 50000) × (length spare ≡ 50000)
     × (length bytes ≡ len)
 
 abbrev μ-loop : tie.MeasureT-loop
-μ-loop powers t rows len d from list₀ room₀ spare₀ bytes₀ at₀ j₀ bad₀ list room spare bytes at j bad = length d - at
+μ-loop powers t rows len full d from list₀ room₀ spare₀ bytes₀ at₀ j₀ bad₀ list room spare bytes at j bad = length d - at
 
 loop-holds : tie.Need-loop-holds Inv-loop μ-loop
 loop-holds c =
-    let p = (c .before .before .before .before .pre) .1 .1 in
+    let p = (c .before .before .before .before .before .pre) .1 .1 in
     (rw (p .0 .1) (walking-none _ _ _ _ _ (p .0 .0)), p .1 .0, p .1 .1, p .1 .2, ap length (p .0 .1) ∙ length-spaces _)
 
-next-field-requires : tie.Need-next-field-requires Inv-loop μ-loop
-next-field-requires c κs = (c .loop) .inv .0 .within
+build-field-requires : tie.Need-build-field-requires Inv-loop μ-loop
+build-field-requires c κs =
+    let i = (c .before .before .loop) .inv in
+    ((c .before .before .before .before .before .before .before .before .pre) .0, (((c .before .before .before .before .before .before .before .before .pre) .1 .0 .0, omega (arith, i .4), i .0 .within, (c .before .before .before .before .before .before .before .before .pre) .1 .1 .0 .2), i .1))
 
-add-t19 : tie.Need-add-t19 Inv-loop μ-loop
-add-t19 c = let i = c .before .before .before .loop .inv .0 in omega (arith, i .on, i .within)
+cut-at-requires : tie.Need-cut-at-requires Inv-loop μ-loop
+cut-at-requires c κs = ((c .before .before .before .before .before .before .loop) .inv .0 .within, λ z. standing-bounded ((c .before .before .before .build-field) .ensures .judged z .standing))
+
+add-t25 : tie.Need-add-t25 Inv-loop μ-loop
+add-t25 c = let i = (c .before .before .before .before .before .before .before .before .before .loop) .inv .0 in omega (arith, i .on, i .within, (c .before .before .before .before .before .before .before .before .before .before .before .before .before .before .before .good) .1 .1 .1 .1 .1 .0)
 
 same-length : tie.Need-same-length Inv-loop μ-loop
-same-length c = c .before .before .before .loop .inv .1
-    ∙ sym (c .before .before .before .before .before .before .before .before .pre .1 .1 .1 .0)
+same-length c = (c .before .before .before .before .before .before .build-field) .kept .1 .1 .1 .1 .1 .1 .1 .1 .1 .0 ∙ (c .before .before .before .before .before .before .before .before .before .loop) .inv .1 ∙ sym ((c .before .before .before .before .before .before .before .before .before .before .before .before .before .before .before .pre) .1 .1 .1 .0)
 
 same-length-2 : tie.Need-same-length-2 Inv-loop μ-loop
-same-length-2 c = c .before .before .before .loop .inv .2
-    ∙ sym (c .before .before .before .before .before .before .before .before .pre .1 .1 .1 .1)
+same-length-2 c = (c .before .before .before .before .before .before .before .before .before .loop) .inv .2 ∙ sym ((c .before .before .before .before .before .before .before .before .before .before .before .before .before .before .before .pre) .1 .1 .1 .1)
 
 same-length-3 : tie.Need-same-length-3 Inv-loop μ-loop
-same-length-3 c = c .before .before .before .loop .inv .3
-    ∙ sym (c .before .before .before .before .before .before .before .before .pre .1 .1 .1 .2)
+same-length-3 c = (c .before .before .before .before .before .before .before .before .before .loop) .inv .3 ∙ sym ((c .before .before .before .before .before .before .before .before .before .before .before .before .before .before .before .pre) .1 .1 .1 .2)
 
 same-length-4 : tie.Need-same-length-4 Inv-loop μ-loop
-same-length-4 c = c .before .before .before .loop .inv .4
-    ∙ sym (ap length (c .before .before .before .before .before .before .before .before .pre .1 .1 .0 .1) ∙ length-spaces _)
+same-length-4 c = (c .before .before .before .before .before .before .build-field) .kept .1 .1 .1 .1 .1 .1 .1 .1 .1 .1 .0 ∙ (c .before .before .before .before .before .before .before .before .before .loop) .inv .4 ∙ sym (ap length ((c .before .before .before .before .before .before .before .before .before .before .before .before .before .before .before .pre) .1 .1 .0 .1) ∙ length-spaces _)
+
+same-length-5 : tie.Need-same-length-5 Inv-loop μ-loop
+same-length-5 c = (c .before .before .before .before .before .before .before .before .before .build-slow) .kept .1 .1 .1 .1 .1 .1 .1 .1 .1 .0 ∙ (c .before .before .before .before .before .before .before .before .before .before .before .before .before .before .before .before .before .before .before .before .before .build-field) .kept .1 .1 .1 .1 .1 .1 .1 .1 .1 .0 ∙ (c .before .before .before .before .before .before .before .before .before .before .before .before .before .before .before .before .before .before .before .before .before .before .before .before .loop) .inv .1 ∙ sym ((c .before .before .before .before .before .before .before .before .before .before .before .before .before .before .before .before .before .before .before .before .before .before .before .before .before .before .before .before .before .before .pre) .1 .1 .1 .0)
+
+same-length-6 : tie.Need-same-length-6 Inv-loop μ-loop
+same-length-6 c = (c .before .before .before .before .before .before .before .before .before .build-slow) .kept .1 .1 .1 .1 .1 .1 .1 .1 .1 .1 .0 ∙ (c .before .before .before .before .before .before .before .before .before .before .before .before .before .before .before .before .before .before .before .before .before .before .before .before .loop) .inv .2 ∙ sym ((c .before .before .before .before .before .before .before .before .before .before .before .before .before .before .before .before .before .before .before .before .before .before .before .before .before .before .before .before .before .before .pre) .1 .1 .1 .1)
+
+same-length-7 : tie.Need-same-length-7 Inv-loop μ-loop
+same-length-7 c = (c .before .before .before .before .before .before .before .before .before .build-slow) .kept .1 .1 .1 .1 .1 .1 .1 .1 .1 .1 .1 .0 ∙ (c .before .before .before .before .before .before .before .before .before .before .before .before .before .before .before .before .before .before .before .before .before .before .before .before .loop) .inv .3 ∙ sym ((c .before .before .before .before .before .before .before .before .before .before .before .before .before .before .before .before .before .before .before .before .before .before .before .before .before .before .before .before .before .before .pre) .1 .1 .1 .2)
+
+same-length-8 : tie.Need-same-length-8 Inv-loop μ-loop
+same-length-8 c = (c .before .before .before .before .before .before .before .before .before .build-slow) .kept .1 .1 .1 .1 .1 .1 .1 .1 .1 .1 .1 .1 .0 ∙ (c .before .before .before .before .before .before .before .before .before .before .before .before .before .before .before .before .before .before .before .before .before .build-field) .kept .1 .1 .1 .1 .1 .1 .1 .1 .1 .1 .0 ∙ (c .before .before .before .before .before .before .before .before .before .before .before .before .before .before .before .before .before .before .before .before .before .before .before .before .loop) .inv .4 ∙ sym (ap length ((c .before .before .before .before .before .before .before .before .before .before .before .before .before .before .before .before .before .before .before .before .before .before .before .before .before .before .before .before .before .before .pre) .1 .1 .0 .1) ∙ length-spaces _)
 
 returns : tie.Need-returns Inv-loop μ-loop
 returns c =
-    walking-torn (c .before .before .before .loop .inv .0)
-    (cut-torn (c .before .before .before .before .before .before .before .before .args .d .now) (c .before .before .next-field .result)
-    (c .before .before .next-field .ensures .0) (c .before .span-of .ensures .torn-is (c .if1 .taken)))
+    walking-torn ((c .before .before .before .before .before .before .before .before .before .loop) .inv .0) (cut-torn ((c .before .before .before .before .before .before .before .before .before .before .before .before .before .before .before .args) .d .now) ((c .before .before .cut-at) .result) ((c .before .before .cut-at) .ensures .0 .0) ((c .before .span-of) .ensures .torn-is ((c .if1) .taken)))
 
-sub-take-one : tie.Need-sub-take-one Inv-loop μ-loop
-sub-take-one c =
-    let e = c in
-    let k = span-met (e .before .before .before .before .before .before .before .before .args .d .now)
-    (e .before .before .next-field .result) (e .before .before .next-field .ensures) (e .before .span-of .ensures) (e .if1 .left) in
-    omega (arith, k .stands .on)
-
-part-take-one-start : tie.Need-part-take-one-start Inv-loop μ-loop
-part-take-one-start c =
-    let e = c in
-    let k = span-met (e .before .before .before .before .before .before .before .before .args .d .now)
-    (e .before .before .next-field .result) (e .before .before .next-field .ensures) (e .before .span-of .ensures) (e .if1 .left) in
+sub-build-slow : tie.Need-sub-build-slow Inv-loop μ-loop
+sub-build-slow c =
+    let k = span-met ((c .before .before .before .before .before .before .before .before .before .before .before .before .before .before .before .args) .d .now) ((c .before .before .cut-at) .result) ((c .before .before .cut-at) .ensures .0) ((c .before .span-of) .ensures) ((c .if1) .left) in
     omega (arith, k .stands .on, k .stands .within)
 
-part-take-one-end : tie.Need-part-take-one-end Inv-loop μ-loop
-part-take-one-end c =
-    let e = c in
-    let k = span-met (e .before .before .before .before .before .before .before .before .args .d .now)
-    (e .before .before .next-field .result) (e .before .before .next-field .ensures) (e .before .span-of .ensures) (e .if1 .left) in
+part-build-slow-start : tie.Need-part-build-slow-start Inv-loop μ-loop
+part-build-slow-start c =
+    let k = span-met ((c .before .before .before .before .before .before .before .before .before .before .before .before .before .before .before .args) .d .now) ((c .before .before .cut-at) .result) ((c .before .before .cut-at) .ensures .0) ((c .before .span-of) .ensures) ((c .if1) .left) in
     omega (arith, k .stands .on, k .stands .within)
 
-take-one-requires : tie.Need-take-one-requires Inv-loop μ-loop
-take-one-requires c κs =
-    let e = c .before .before .before .before .before in
-    let k = span-met (e .before .before .before .before .before .before .before .before .args .d .now)
-    (e .before .before .next-field .result) (e .before .before .next-field .ensures) (e .before .span-of .ensures) (e .if1 .left) in
-    let s = e .before .before .before .before .before .before .before .before in
-    let i = e .before .before .before .loop .inv in
-    (s .pre .0, ((s .pre .1 .0 .0, omega (arith, i .4)), (raw-of (k .stands), (i .1, i .2, i .3))))
+part-build-slow-end : tie.Need-part-build-slow-end Inv-loop μ-loop
+part-build-slow-end c =
+    let k = span-met ((c .before .before .before .before .before .before .before .before .before .before .before .before .before .before .before .args) .d .now) ((c .before .before .cut-at) .result) ((c .before .before .cut-at) .ensures .0) ((c .before .span-of) .ensures) ((c .if1) .left) in
+    omega (arith, k .stands .on, k .stands .within)
+
+build-slow-requires : tie.Need-build-slow-requires Inv-loop μ-loop
+build-slow-requires c κs =
+    let k = span-met ((c .before .before .before .before .before .before .before .before .before .before .before .before .before .before .before .before .before .before .before .before .args) .d .now) ((c .before .before .before .before .before .before .before .cut-at) .result) ((c .before .before .before .before .before .before .before .cut-at) .ensures .0) ((c .before .before .before .before .before .before .span-of) .ensures) ((c .before .before .before .before .before .if1) .left) in
+    let i = (c .before .before .before .before .before .before .before .before .before .before .before .before .before .before .loop) .inv in
+    let l = (c .before .before .before .before .before .before .before .before .before .before .before .build-field) .kept .1 .1 .1 .1 .1 .1 .1 .1 .1 in (
+      (c .before .before .before .before .before .before .before .before .before .before .before .before .before .before .before .before .before .before .before .before .pre) .0,
+      (((c .before .before .before .before .before .before .before .before .before .before .before .before .before .before .before .before .before .before .before .before .pre) .1 .0 .0, omega (arith, i .4, l .1 .0)), (raw-of (k .stands), (l .0 ∙ i .1, i .2, i .3))),
+    )
 
 add-j : tie.Need-add-j Inv-loop μ-loop
 add-j c =
-    let e = c .before .before .before .before .before .before .before .before .before .before .before .before .before in
-    let k = span-met (e .before .before .before .before .before .before .before .before .args .d .now)
-    (e .before .before .next-field .result) (e .before .before .next-field .ensures) (e .before .span-of .ensures) (e .if1 .left) in
-    omega (arith, e .before .before .before .loop .inv .0 .on, k .ahead, k .inside′)
+    let k = span-met ((c .before .before .before .before .before .before .before .before .before .before .before .before .before .before .before .before .before .before .before .before .before .before .before .before .before .before .before .before .args) .d .now) ((c .before .before .before .before .before .before .before .before .before .before .before .before .before .before .before .cut-at) .result) ((c .before .before .before .before .before .before .before .before .before .before .before .before .before .before .before .cut-at) .ensures .0) ((c .before .before .before .before .before .before .before .before .before .before .before .before .before .before .span-of) .ensures) ((c .before .before .before .before .before .before .before .before .before .before .before .before .before .if1) .left) in
+    omega (arith, (c .before .before .before .before .before .before .before .before .before .before .before .before .before .before .before .before .before .before .before .before .before .before .loop) .inv .0 .on, k .ahead, k .inside′, (c .before .before .before .before .before .before .before .before .before .before .before .before .before .before .before .before .before .before .before .before .before .before .before .before .before .before .before .before .good) .1 .1 .1 .1 .1 .0)
 
 line-end-requires : tie.Need-line-end-requires Inv-loop μ-loop
-line-end-requires c
-    κs = c .before .before .before .before .before .before .before .before .before .before .before .before .before .before .before .before
-    .before .before .before .before .before .before .pre .1 .0 .0 .few
-
-same-length-5 : tie.Need-same-length-5 Inv-loop μ-loop
-same-length-5
-    c = let l = c .before .before .before .before .before .before .before .before .before .before .before .before .before .before .before
-    .before .before .before in
-    c .before .before .before .before .before .before .before .before .before .take-one .kept .1 .1 .1 .1 .1 .1 .1 .1 .0 ∙ l .loop .inv .1
-    ∙ sym (l .before .before .before .before .before .pre .1 .1 .1 .0)
-
-same-length-6 : tie.Need-same-length-6 Inv-loop μ-loop
-same-length-6
-    c = let l = c .before .before .before .before .before .before .before .before .before .before .before .before .before .before .before
-    .before .before .before in
-    c .before .before .before .before .before .before .before .before .before .take-one .kept .1 .1 .1 .1 .1 .1 .1 .1 .1 .0
-    ∙ l .loop .inv .2 ∙ sym (l .before .before .before .before .before .pre .1 .1 .1 .1)
-
-same-length-7 : tie.Need-same-length-7 Inv-loop μ-loop
-same-length-7
-    c = let l = c .before .before .before .before .before .before .before .before .before .before .before .before .before .before .before
-    .before .before .before in
-    c .before .before .before .before .before .before .before .before .before .take-one .kept .1 .1 .1 .1 .1 .1 .1 .1 .1 .1 .0
-    ∙ l .loop .inv .3 ∙ sym (l .before .before .before .before .before .pre .1 .1 .1 .2)
-
-same-length-8 : tie.Need-same-length-8 Inv-loop μ-loop
-same-length-8
-    c = let l = c .before .before .before .before .before .before .before .before .before .before .before .before .before .before .before
-    .before .before .before in
-    c .before .before .before .before .before .before .before .before .before .take-one .kept .1 .1 .1 .1 .1 .1 .1 .1 .1 .1 .1 .0
-    ∙ l .loop .inv .4 ∙ sym (ap length (l .before .before .before .before .before .pre .1 .1 .0 .1) ∙ length-spaces _)
+line-end-requires c κs = (c .before .before .before .before .before .before .before .before .before .before .before .before .before .before .before .before .before .before .before .before .before .before .before .before .before .before .before .before .before .pre) .1 .0 .0 .few
 
 returns-2 : tie.Need-returns-2 Inv-loop μ-loop
 returns-2 c =
-    let e = c .before .before .before .before .before .before .before .before .before .before .before .before .before .before .before in
-    let k = span-met (e .before .before .before .before .before .before .before .before .args .d .now)
-    (e .before .before .next-field .result) (e .before .before .next-field .ensures) (e .before .span-of .ensures) (e .if1 .left) in
-    let i = e .before .before .before .loop .inv in
-    let p = e .before .before .before .before .before .before .before .before .pre .1 .0 in
-    let w = walking-last (i .0) (k .last-met (c .before .if2 .taken))
-    (c .before .before .before .before .before .before .before .before .before .take-one .ensures) in
-    rw (c .line-end .ensures) (whole-taken (p .1) (p .2) (i .0) w (omega (arith, k .ahead, i .0 .on)) (k .inside′))
+    let k = span-met ((c .before .before .before .before .before .before .before .before .before .before .before .before .before .before .before .before .before .before .before .before .before .before .before .before .before .before .before .before .before .before .args) .d .now) ((c .before .before .before .before .before .before .before .before .before .before .before .before .before .before .before .before .before .cut-at) .result) ((c .before .before .before .before .before .before .before .before .before .before .before .before .before .before .before .before .before .cut-at) .ensures .0) ((c .before .before .before .before .before .before .before .before .before .before .before .before .before .before .before .before .span-of) .ensures) ((c .before .before .before .before .before .before .before .before .before .before .before .before .before .before .before .if1) .left) in
+    let i = (c .before .before .before .before .before .before .before .before .before .before .before .before .before .before .before .before .before .before .before .before .before .before .before .before .loop) .inv in
+    let p = (c .before .before .before .before .before .before .before .before .before .before .before .before .before .before .before .before .before .before .before .before .before .before .before .before .before .before .before .before .before .before .pre) .1 .0 in
+    let step = field-stepped ((c .before .before .before .before .before .before .before .before .before .before .before .before .before .before .before .before .before .before .before .before .before .before .before .before .before .before .before .before .before .before .pre) .1 .0 .0 .row _) ((c .before .before .before .before .before .before .before .before .before .before .before .before .before .before .before .before .before .before .before .before .before .build-field) .ensures) (k .stands)
+    (λ z. span-from _ _ ((c .before .before .before .before .before .before .before .before .before .before .before .before .before .before .before .before .before .cut-at) .result) ((c .before .before .before .before .before .before .before .before .before .before .before .before .before .before .before .before .span-of) .ensures) ((c .before .before .before .before .before .before .before .before .before .before .before .before .before .before .before .if1) .left) ((c .before .before .before .before .before .before .before .before .before .before .before .before .before .before .before .before .before .cut-at) .ensures .1 z)) ((c .before .before .before .before .before .before .before .before .before .build-slow) .ensures) in
+    let w = walking-last (i .0) (k .last-met ((c .before .if2) .taken)) step in
+    rw ((c .line-end) .ensures) (whole-taken (p .1) (p .2) (i .0) w (omega (arith, k .ahead, i .0 .on)) (k .inside′))
 
 loop-less : tie.Need-loop-less Inv-loop μ-loop
 loop-less c =
-    let e = c .before .before .before .before .before .before .before .before .before .before .before .before .before .before in
-    let k = span-met (e .before .before .before .before .before .before .before .before .args .d .now)
-    (e .before .before .next-field .result) (e .before .before .next-field .ensures) (e .before .span-of .ensures) (e .if1 .left) in
+    let k = span-met ((c .before .before .before .before .before .before .before .before .before .before .before .before .before .before .before .before .before .before .before .before .before .before .before .before .before .before .before .before .before .args) .d .now) ((c .before .before .before .before .before .before .before .before .before .before .before .before .before .before .before .before .cut-at) .result) ((c .before .before .before .before .before .before .before .before .before .before .before .before .before .before .before .before .cut-at) .ensures .0) ((c .before .before .before .before .before .before .before .before .before .before .before .before .before .before .before .span-of) .ensures) ((c .before .before .before .before .before .before .before .before .before .before .before .before .before .before .if1) .left) in
     omega (arith, k .ahead, k .inside′)
 
 loop-again : tie.Need-loop-again Inv-loop μ-loop
 loop-again c =
-    let e = c .before .before .before .before .before .before .before .before .before .before .before .before .before .before in
-    let k = span-met (e .before .before .before .before .before .before .before .before .args .d .now)
-    (e .before .before .next-field .result) (e .before .before .next-field .ensures) (e .before .span-of .ensures) (e .if1 .left) in
-    let i = e .before .before .before .loop .inv in
-    let l = c .before .before .before .before .before .before .before .before .take-one .kept .1 .1 .1 .1 .1 .1 .1 .1 in (
-      walking-more (i .0) (k .comma-met (c .if2 .left))
-          (c .before .before .before .before .before .before .before .before .take-one .ensures) (k .ahead),
-      l .0 ∙ i .1,
+    let k = span-met ((c .before .before .before .before .before .before .before .before .before .before .before .before .before .before .before .before .before .before .before .before .before .before .before .before .before .before .before .before .before .args) .d .now) ((c .before .before .before .before .before .before .before .before .before .before .before .before .before .before .before .before .cut-at) .result) ((c .before .before .before .before .before .before .before .before .before .before .before .before .before .before .before .before .cut-at) .ensures .0) ((c .before .before .before .before .before .before .before .before .before .before .before .before .before .before .before .span-of) .ensures) ((c .before .before .before .before .before .before .before .before .before .before .before .before .before .before .if1) .left) in
+    let i = (c .before .before .before .before .before .before .before .before .before .before .before .before .before .before .before .before .before .before .before .before .before .before .before .loop) .inv in
+    let step = field-stepped ((c .before .before .before .before .before .before .before .before .before .before .before .before .before .before .before .before .before .before .before .before .before .before .before .before .before .before .before .before .before .pre) .1 .0 .0 .row _) ((c .before .before .before .before .before .before .before .before .before .before .before .before .before .before .before .before .before .before .before .before .build-field) .ensures) (k .stands)
+    (λ z. span-from _ _ ((c .before .before .before .before .before .before .before .before .before .before .before .before .before .before .before .before .cut-at) .result) ((c .before .before .before .before .before .before .before .before .before .before .before .before .before .before .before .span-of) .ensures) ((c .before .before .before .before .before .before .before .before .before .before .before .before .before .before .if1) .left) ((c .before .before .before .before .before .before .before .before .before .before .before .before .before .before .before .before .cut-at) .ensures .1 z)) ((c .before .before .before .before .before .before .before .before .build-slow) .ensures) in
+    let f = (c .before .before .before .before .before .before .before .before .before .before .before .before .before .before .before .before .before .before .before .before .build-field) .kept .1 .1 .1 .1 .1 .1 .1 .1 .1 in
+    let l = (c .before .before .before .before .before .before .before .before .build-slow) .kept .1 .1 .1 .1 .1 .1 .1 .1 .1 in (
+      walking-more (i .0) (k .comma-met ((c .if2) .left)) step (k .ahead),
+      l .0 ∙ f .0 ∙ i .1,
       l .1 .0 ∙ i .2,
       l .1 .1 .0 ∙ i .3,
-      l .1 .1 .1 .0 ∙ i .4,
+      l .1 .1 .1 .0 ∙ f .1 .0 ∙ i .4,
     )
 
 pub take-line-spec : {M : Type 1} → statement M
@@ -162,18 +134,19 @@ take-line-spec =
     Inv-loop
     μ-loop
     loop-holds
-    next-field-requires
+    build-field-requires
+    cut-at-requires
     (λ c κs. search needs)
-    add-t19
+    add-t25
     same-length
     same-length-2
     same-length-3
     same-length-4
     returns
-    sub-take-one
-    part-take-one-start
-    part-take-one-end
-    take-one-requires
+    sub-build-slow
+    part-build-slow-start
+    part-build-slow-end
+    build-slow-requires
     add-j
     line-end-requires
     same-length-5

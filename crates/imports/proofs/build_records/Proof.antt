@@ -14,17 +14,17 @@ use Rattle.imports.proofs.build_records.Tie as tie
 
 returns : tie.Need-returns
 unfolding importSaid
-returns c = roomed-short ((c .before .before .before .before .before .pre) .1 .1 .1 .0)
-    (accepted-sized ((c .before .before .before .before .before .args) .t .now)
-    (linesOf (page start (drop ((c .before .before .before .before .before .args) .from)
-    ((c .before .before .before .before .before .args) .d .now)))) ((c .before .before .before .before .before .pre) .1 .1 .1 .0)
-    ((c .before .before .before .before .before .pre) .1 .0 .2)) (omega arith) ((c .before .before .before .before .before .args) .out .now)
+returns c = roomed-short ((c .before .before .before .before .before .before .pre) .1 .1 .1 .0)
+    (accepted-sized ((c .before .before .before .before .before .before .args) .t .now)
+    (linesOf (page start (drop ((c .before .before .before .before .before .before .args) .from)
+    ((c .before .before .before .before .before .before .args) .d .now)))) ((c .before .before .before .before .before .before .pre) .1 .1 .1 .0)
+    ((c .before .before .before .before .before .before .pre) .1 .0 .2)) (omega arith) ((c .before .before .before .before .before .before .args) .out .now)
     ((c .if1) .taken)
 
 build-lines-requires : tie.Need-build-lines-requires
 build-lines-requires c κs =
     let at-if1 = c .before .before .before .before in
-    let the-start = at-if1 .before .before .before .before .before in (
+    let the-start = at-if1 .before .before .before .before .before .before in (
       (the-start .pre) .0,
       (
         (the-start .pre) .1 .0,
@@ -35,6 +35,7 @@ build-lines-requires c κs =
                 (linesOf (page start (drop ((the-start .args) .from) ((the-start .args) .d .now)))) ((the-start .pre) .1 .1 .1 .0)
                 ((the-start .pre) .1 .0 .2)) (omega arith) ((the-start .args) .out .now) ((at-if1 .if1) .left),
             (the-start .pre) .1 .1 .0 .1,
+            (the-start .pre) .1 .1 .0 .2,
           ),
           (
             (the-start .pre) .1 .1 .1 .0,
@@ -44,35 +45,35 @@ build-lines-requires c κs =
       ),
     )
 
-mul-t13 : tie.Need-mul-t13
-mul-t13 c =
+mul-t14 : tie.Need-mul-t14
+mul-t14 c =
     let at-if1 = c .before .before .before .before .before .before .before .before .before .before .before .before in
-    let the-start = at-if1 .before .before .before .before .before in
+    let the-start = at-if1 .before .before .before .before .before .before in
     omega (
       arith,
       roomed-fits ((the-start .pre) .1 .1 .1 .0) (accepted-sized ((the-start .args) .t .now) (linesOf (page start
           (drop ((the-start .args) .from) ((the-start .args) .d .now)))) ((the-start .pre) .1 .1 .1 .0)
           ((the-start .pre) .1 .0 .2)) (omega arith) ((the-start .args) .out .now) ((at-if1 .if1) .left),
-      (the-start .good) .1 .1 .1 .1 .1 .1 .1 .1 .1 .1 .0,
+      (the-start .good) .1 .1 .1 .1 .1 .1 .1 .1 .1 .1 .1 .0,
     )
 
 returns-2 : tie.Need-returns-2
 unfolding importSaid
 returns-2 c = roomed-written
-    ((c .before .before .before .before .before .before .before .before .before .before .before .before .before .before .before .before
+    ((c .before .before .before .before .before .before .before .before .before .before .before .before .before .before .before .before .before
     .before .pre) .1 .1 .1 .0)
     (accepted-sized
-    ((c .before .before .before .before .before .before .before .before .before .before .before .before .before .before .before .before
+    ((c .before .before .before .before .before .before .before .before .before .before .before .before .before .before .before .before .before
     .before .args) .t .now) (linesOf (page start (drop
-    ((c .before .before .before .before .before .before .before .before .before .before .before .before .before .before .before .before
+    ((c .before .before .before .before .before .before .before .before .before .before .before .before .before .before .before .before .before
     .before .args) .from)
-    ((c .before .before .before .before .before .before .before .before .before .before .before .before .before .before .before .before
+    ((c .before .before .before .before .before .before .before .before .before .before .before .before .before .before .before .before .before
     .before .args) .d .now))))
-    ((c .before .before .before .before .before .before .before .before .before .before .before .before .before .before .before .before
+    ((c .before .before .before .before .before .before .before .before .before .before .before .before .before .before .before .before .before
     .before .pre) .1 .1 .1 .0)
-    ((c .before .before .before .before .before .before .before .before .before .before .before .before .before .before .before .before
+    ((c .before .before .before .before .before .before .before .before .before .before .before .before .before .before .before .before .before
     .before .pre) .1 .0 .2)) (omega arith)
-    ((c .before .before .before .before .before .before .before .before .before .before .before .before .before .before .before .before
+    ((c .before .before .before .before .before .before .before .before .before .before .before .before .before .before .before .before .before
     .before .args) .out .now)
     ((c .before .before .before .before .before .before .before .before .before .before .before .before .if1) .left)
     ((c .before .before .before .before .before .before .before .build-lines) .ensures)
@@ -85,7 +86,7 @@ build-records-spec =
     (λ c. search needs)
     returns
     build-lines-requires
-    mul-t13
+    mul-t14
     (λ c. search needs)
     (λ c. search needs)
     (λ c. search needs)

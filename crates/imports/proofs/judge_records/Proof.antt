@@ -10,7 +10,7 @@ use Rattle.imports.proofs.judge_records.Tie as tie
 
 slice-aggregate-judge-lines : tie.Need-slice-aggregate-judge-lines
 slice-aggregate-judge-lines c =
-    let start = c .before .before .before .before .before .before .before .before in
+    let start = c .before .before .before .before .before .before .before .before .before in
     sym (length-take-le ((start .args) .len + 2) ((start .args) .slot .now) (omega (
       arith,
       (start .pre) .1 .1 .0 .1,
@@ -19,7 +19,7 @@ slice-aggregate-judge-lines c =
 
 judge-lines-requires : tie.Need-judge-lines-requires
 judge-lines-requires c κs =
-    let start = c .before .before .before .before .before .before .before .before in (
+    let start = c .before .before .before .before .before .before .before .before .before in (
       (start .pre) .0,
       (
         (start .pre) .1 .0,
@@ -31,6 +31,7 @@ judge-lines-requires c κs =
               (start .pre) .1 .1 .0 .1,
               (start .pre) .1 .1 .0 .2,
             )),
+            (start .pre) .1 .1 .0 .3,
           ),
           (start .pre) .1 .1 .1,
         ),

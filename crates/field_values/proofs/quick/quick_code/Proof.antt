@@ -1,21 +1,16 @@
 -- `field_values::quick::quick_code` meets its contract.
 use mathlib.Core.Path.{_≡_}
-use mathlib.Core.Bool.{true}
 use borrow.Author.Needs.{needs}
-use borrow.Author.Tests.{not-false}
 use mir.Syntax.{w64}
 use mir.Val.{toZ, ofZ}
 use Rattle.field_values.specs.Steps.{single-number}
-use Rattle.field_values.specs.Quick.{NumberRead, quick-none, ready-as, written-as, number-quick}
+use Rattle.field_values.specs.Quick.{quick-none, ready-as, written-as, number-quick}
 use Rattle.field_values.proofs.quick.quick_code.Statement.{statement}
 use Rattle.field_values.proofs.quick.quick_code.Tie as tie
 
 -- the number is read back from its bits as it is
-back : (c : tie.After-struct-told) → toZ w64 (ofZ w64 (c .before .number-of .result .z)) ≡ c .before .number-of .result .z
+back : (c : tie.After-struct-told) → toZ w64 (ofZ w64 (c .before .number-from .result .z)) ≡ c .before .number-from .result .z
 back c = search needs
-
-number-of-requires : tie.Need-number-of-requires
-number-of-requires c κs = c .before .before .pre .1 .1 .0
 
 returns : tie.Need-returns
 returns c = quick-none _ _ _ _ _
@@ -29,18 +24,17 @@ write-code-requires c κs = let s = c .before .before .before .before .before .b
 returns-2 : tie.Need-returns-2
 returns-2 c =
     let s = c .before .before .before .before .before .before .before .before .before .before .before in
-    let n = c .before .before .before .before .before .before .before .before .number-of in
+    let n = c .before .before .before .before .before .before .before .before .number-from in
     let k = single-number (s .args .row) (s .pre .1 .1 .1) in
-    let a : NumberRead 0 (s .args .f .now) true (n .result .z) = rw (not-false (n .result .good)
-    (c .before .before .before .before .before .if1 .left)) at (n .ensures) in
-    number-quick (s .pre .1 .1 .0) (k .0) (k .1) (rw (back (c .before .before .before .before .before .before .before)) a)
+    number-quick (s .pre .1 .1 .0) (k .0) (k .1) (rw (back (c .before .before .before .before .before .before .before)) (n .ensures))
+    (c .before .before .before .before .before .if1 .left)
     (written-as (s .pre .1 .1 .1) (c .before .before .before .write-code .ensures)) (c .is-done .ensures)
 
 pub quick-code-spec : {M : Type 1} → statement M
 quick-code-spec =
     tie.close
     (tie.spec
-    number-of-requires
+    (λ c κs. search needs)
     returns
     write-code-requires
     (λ c κs. search needs)
