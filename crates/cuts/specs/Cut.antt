@@ -2,10 +2,12 @@
 use mathlib.Core.Path.{_≡_, refl, sym, ap, _∙_}
 use mathlib.Core.Bool.{Bool, true, false, cond}
 use mathlib.Core.List.{List, [], _∷_, _++_}
+use mathlib.Core.Logic.{⊎-elim}
 use Prim.Native.Nat.{ℕ, zero, suc, _+_, _-_, _≤_, _<_}
 use native.Mathlib.Numerals.{add-one}
 use native.Mathlib.Omega.{arith}
 use borrow.Author.Tests.{eq-eqb, ne-eqb, ltb-false}
+use Rattle.below.specs.Below.{lt-or-le}
 use lib.Seq.{drop-cons}
 use lib.Dec.{eqb}
 use lib.ListN.{length, drop, getD, drop-of-length-le}
@@ -15,6 +17,11 @@ use Rattle.cuts.specs.declared.Terminator.{Terminator}
 use Rattle.cuts.specs.declared.Next.the-variants.{Ended, Unended, Nothing}
 use Rattle.cuts.specs.rule.Cut.{single, pair, none, beginsWith, terminatorAt, terminatorOf, wholeAt, beginsAt, endFrom, nextFrom}
 use Rattle.cuts.specs.rule.Cut.{Found}
+
+-- the first place of d from `from` on where a byte below 32 stands, or the end
+pub record FirstLow (d : List ℕ) (from to : ℕ) : Type 0 where
+  pub clear : Clear d from to
+  pub low : to < length d → lowAt d to ≡ true
 
 -- a place of d from `from` on, with no byte between that a terminator begins with
 pub record Unbroken (d : List ℕ) (w : Terminator) (from to : ℕ) : Type 0 where
@@ -114,6 +121,14 @@ first-low (b ∷ s) = go (eqb b 13) (eqb b 10) (first-low s)
 -- the file's terminator is one that its records can be cut by
 pub found-ending : {d : List ℕ} {w : Terminator} → Found d w → Ending w
 found-ending {d} f = record { low = rw (f .is) (first-low d); few = f .few }
+
+-- one stretch without a byte below 32 behind another
+pub clear-join : {d : List ℕ} {a b c : ℕ} → Clear d a b → Clear d b c → Clear d a c
+clear-join {d} {a} {b} p q = record {
+  on = omega (arith, p .on, q .on);
+  within = q .within;
+  plain = λ j x y. ⊎-elim (λ l. p .plain j x l) (λ l. q .plain j l y) (lt-or-le j b);
+}
 
 -- ---- places that nothing begins at are passed together
 pub unbroken-none : (d : List ℕ) (w : Terminator) (from : ℕ) → from ≤ length d → Unbroken d w from from

@@ -4,7 +4,8 @@ ghost use mathlib.Core.Bool.{true};
 ghost use Prim.Native.Nat.{_+_, _≤_, _<_};
 ghost use lib.ListN.{length, drop};
 ghost use Rattle.cuts.specs.rule.Cut.{terminatorAt, terminatorOf, wholeAt, beginsAt, nextFrom, NextFound, Found};
-ghost use Rattle.cuts.specs.Cut.{Unbroken, Ending};
+ghost use Rattle.lows.specs.Lows.{Clear};
+ghost use Rattle.cuts.specs.Cut.{FirstLow, Unbroken, Ending};
 ghost use Rattle.cuts.specs.Records.{PlainNext, PlainRun};
 
 // A file's terminator: one byte or two, and how many; none where the file has no CR and no LF.
@@ -50,12 +51,52 @@ fn terminator_at(d: &[u8], i: usize, first: u8, second: u8) -> Terminator
     }
 }
 
+// A place from `from` on with no byte below 32 before it. The first thirty-two are looked at sixteen at a time: a short record ends there.
+fn clear_to(d: &[u8], from: usize) -> usize
+    requires { ⌜ from ≤ length (now d) ⌝ }
+    ensures { λ r. ⌜ Clear (now (d .entry)) from r ⌝ }
+{
+    if d.len() - from < 32 {
+        return lows::plain_to(d, from);
+    }
+    if !lows::plain_short(d, from, 16) {
+        return from;
+    }
+    let half = from + 16;
+    if !lows::plain_short(d, half, 16) {
+        return half;
+    }
+    lows::plain_to(d, half)
+}
+
+// The first place from `from` on where a byte below 32 stands; the end where none does.
+pub fn low_from(d: &[u8], from: usize) -> usize
+    requires { ⌜ from ≤ length (now d) ⌝ }
+    ensures { λ r. ⌜ FirstLow (now (d .entry)) from r ⌝ }
+{
+    let mut i = clear_to(d, from);
+    while i < d.len() {
+        if d[i] < 32 {
+            return i;
+        }
+        i += 1;
+    }
+    i
+}
+
 // The file's terminator: the first one met.
 pub fn find_terminator(d: &[u8]) -> Terminator
     ensures { λ r. ⌜ Found (now (d .entry)) r ⌝ }
 {
-    // No CR and no LF stands where no byte is below 32.
-    let mut i = lows::plain_to(d, 0);
+    terminator_behind(d, lows::plain_to(d, 0))
+}
+
+// The same where no byte below 32 stands before a place: no CR and no LF stands there.
+pub fn terminator_behind(d: &[u8], clear: usize) -> Terminator
+    requires { ⌜ Clear (now d) 0 clear ⌝ }
+    ensures { λ r. ⌜ Found (now (d .entry)) r ⌝ }
+{
+    let mut i = clear;
     while i < d.len() {
         let b = d[i];
         if b == 13 {
@@ -115,7 +156,18 @@ pub fn next_from(d: &[u8], w: Terminator, from: usize) -> Next
     if d.len() <= from {
         return Next::Nothing;
     }
-    let mut i = unbroken_to(d, w, from);
+    next_behind(d, w, from, unbroken_to(d, w, from))
+}
+
+// The same where no terminator stands before a place.
+pub fn next_behind(d: &[u8], w: Terminator, from: usize, clear: usize) -> Next
+    requires { ⌜ (w .size ≤ 2) × Unbroken (now d) w from clear ⌝ }
+    ensures { λ r. ⌜ r ≡ nextFrom w from (drop from (now (d .entry))) ⌝ }
+{
+    if d.len() <= from {
+        return Next::Nothing;
+    }
+    let mut i = clear;
     while i < d.len() {
         if begins_at(d, w, i) {
             return Next::Ended {

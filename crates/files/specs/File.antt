@@ -39,6 +39,10 @@ go-fault (refused k) n rest e = refl
 go-fault (lowByte p) n rest e = refl
 go-fault (badField i x) n rest e = refl
 
+-- a file ends at a record whose fault is known
+pub go-known : (v v′ : Verdict) (n : ℕ) (rest : FileVerdict) → v ≡ v′ → isSound v′ ≡ false → goOn v n rest ≡ faultIn (n + 1) v′
+go-known v v′ n rest e h = go-fault v n rest (ap isSound e ∙ h) ∙ ap (faultIn (n + 1)) e
+
 module _ (t : List ℤ) (first : ℕ) (r : List ℕ) where
   pub verdict-other : (length r ≡ first → ⊥) → recordVerdict t first r ≡ refused 31
   unfolding recordVerdict

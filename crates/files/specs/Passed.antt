@@ -10,6 +10,7 @@ use lib.Dec.{eqb, leb}
 use lib.IntN.{ℤ}
 use lib.ListN.{length, drop}
 use Rattle.below.specs.Below.{holds-not}
+use Rattle.lows.specs.Lows.{Clear, clear-none}
 use Rattle.cuts.specs.declared.Terminator.{Terminator}
 use Rattle.cuts.specs.rule.Records.{recordsFrom}
 use Rattle.cuts.specs.Records.{part, next-ended, PlainNext}
@@ -24,12 +25,14 @@ pub record SoundNext (t : List ℤ) (d : List ℕ) (w : Terminator) (first from 
   pub next : PlainNext d w from first
   pub sound : isSound (recordVerdict t first (part d from (from + first))) ≡ true
 
--- from one place of a file to another: the verdict on the records that are left, each after its count of others, is the same
-pub record Passed (t : List ℤ) (d : List ℕ) (w : Terminator) (first : ℕ) (a b : Place) : Type 0 where
-  pub on : a .from ≤ b .from
-  pub more : a .n ≤ b .n
+-- from a place of a file, behind n records, to another: the verdict on the records that are left, each after its count of others, is the
+-- same
+pub record Passed (t : List ℤ) (d : List ℕ) (w : Terminator) (first from n : ℕ) (b : Place) : Type 0 where
+  pub on : from ≤ b .from
+  pub more : n ≤ b .n
   pub fewer : b .n ≤ b .from + 1
-  pub same : recordsVerdict t (a .n) first (recordsFrom w (drop (a .from) d))
+  pub clear : b .from < length d → Clear d (b .from) (b .clear)
+  pub same : recordsVerdict t n first (recordsFrom w (drop from d))
       ≡ recordsVerdict t (b .n) first (recordsFrom w (drop (b .from) d))
 
 -- ---- laws
@@ -44,13 +47,25 @@ sound-next t d w first from p l e s = record {
   sound = ap isSound (verdict-rows t first (part d from (from + first)) (p .long) (rw (p .long) l) ∙ sym e) ∙ s;
 }
 
+-- no way at all
+pub passed-none : (t : List ℤ) (d : List ℕ) (w : Terminator) (first from n : ℕ) → n ≤ from + 1
+    → Passed t d w first from n (record { from = from; clear = from; n = n })
+passed-none t d w first from n h = record {
+  on = omega arith;
+  more = omega arith;
+  fewer = h;
+  clear = λ l. clear-none d from (omega arith);
+  same = refl;
+}
+
 -- one way behind the other
-pub passed-on : {t : List ℤ} {d : List ℕ} {w : Terminator} {first : ℕ} {a b c : Place} → Passed t d w first a b → Passed t d w first b c
-    → Passed t d w first a c
+pub passed-on : {t : List ℤ} {d : List ℕ} {w : Terminator} {first from n : ℕ} {b c : Place} → Passed t d w first from n b
+    → Passed t d w first (b .from) (b .n) c → Passed t d w first from n c
 passed-on p q = record {
   on = omega (arith, p .on, q .on);
   more = omega (arith, p .more, q .more);
   fewer = q .fewer;
+  clear = q .clear;
   same = p .same ∙ q .same;
 }
 

@@ -6,33 +6,33 @@ use native.Mathlib.Omega.{arith}
 use borrow.Author.Needs.{needs}
 use borrow.Author.Tests.{not-false}
 use lib.ListN.{length}
+use Rattle.lows.specs.Lows.{clear-none}
 use Rattle.cuts.specs.Records.{part, PlainRun}
 use Rattle.records.specs.rule.Verdict.{sound, rowsVerdict}
 use Rattle.records.specs.Tables.{table-ready}
 use Rattle.sound.specs.rule.Rows.{rowsOf}
 use Rattle.files.specs.rule.File.{isSound}
 use Rattle.files.specs.Tested.{tested-rows}
-use Rattle.files.specs.Passed.{SoundNext, Passed, sound-next, sound-many}
+use Rattle.files.specs.Passed.{SoundNext, Passed, passed-none, sound-next, sound-many}
 use Rattle.files.proofs.pass_batches.Statement.{statement}
 use Rattle.files.proofs.pass_batches.Tie as tie
 
 abbrev Inv-loop : tie.InvT-loop
 Inv-loop t h d w first scratch₀ step from₀ n₀ scratch from n =
-    (length scratch ≡ length scratch₀) × (1 ≤ n) × Passed t d w first (record { from = from₀; n = n₀ }) (record { from = from; n = n })
+    (length scratch ≡ length scratch₀) × (1 ≤ n) × Passed t d w first from₀ n₀ (record { from = from; clear = from; n = n })
 
 abbrev μ-loop : tie.MeasureT-loop
 μ-loop t h d w first scratch₀ step from₀ n₀ scratch from n = length d - from
 
 returns : tie.Need-returns Inv-loop μ-loop
-returns c = let p = c .before .before .before .pre .1 .0 in record { on = omega arith; more = omega arith; fewer = p .2; same = refl }
+returns c = passed-none _ _ _ _ _ _ (c .before .before .before .pre .1 .0 .2)
 
 returns-2 : tie.Need-returns-2 Inv-loop μ-loop
-returns-2 c = let p = c .before .before .before .before .pre .1 .0 in
-    record { on = omega arith; more = omega arith; fewer = p .2; same = refl }
+returns-2 c = passed-none _ _ _ _ _ _ (c .before .before .before .before .pre .1 .0 .2)
 
 loop-holds : tie.Need-loop-holds Inv-loop μ-loop
 loop-holds c = let p = c .before .before .before .before .before .pre .1 .0 in
-    (refl, p .1, record { on = omega arith; more = omega arith; fewer = p .2; same = refl })
+    (refl, p .1, record { on = omega arith; more = omega arith; fewer = p .2; clear = λ l. clear-none _ _ (omega arith); same = refl })
 
 plain-run-requires : tie.Need-plain-run-requires Inv-loop μ-loop
 plain-run-requires c κs = let s = c .before .before .before .before .before .before .before .before in (
@@ -100,6 +100,7 @@ loop-again c =
         on = omega (arith, p .on);
         more = omega (arith, p .more);
         fewer = omega (arith, p .fewer);
+        clear = λ m. clear-none _ _ (omega arith);
         same = p .same ∙ sound-many (a .t .now) (a .d .now) (a .w) (a .first) (l .from) (l .n) (l .inv .1) _ (each c);
       },
     )

@@ -5,58 +5,84 @@ use native.Mathlib.Omega.{arith}
 use borrow.Author.Needs.{needs}
 use borrow.Author.Tests.{not-false}
 use lib.ListN.{length}
-use Rattle.cuts.specs.Records.{next-ended}
-use Rattle.files.specs.Passed.{SoundNext, Passed, sound-on}
+use Rattle.lows.specs.Lows.{clear-none}
+use Rattle.cuts.specs.Records.{part, PlainNext, next-ended}
+use Rattle.records.specs.rule.Verdict.{sound, rowsVerdict}
+use Rattle.records.specs.Tables.{TableReady, table-ready}
+use Rattle.sound.specs.rule.Rows.{rowsOf}
+use Rattle.files.specs.rule.File.{isSound}
+use Rattle.files.specs.Tested.{tested-rows}
+use Rattle.files.specs.Known.{plain-clear}
+use Rattle.files.specs.Passed.{SoundNext, Passed, passed-none, sound-next, sound-on}
 use Rattle.files.proofs.pass_each.Statement.{statement}
 use Rattle.files.proofs.pass_each.Tie as tie
 
 abbrev Inv-loop : tie.InvT-loop
 Inv-loop t h d w first scratch₀ from₀ n₀ scratch from n =
-    (length scratch ≡ length scratch₀) × (1 ≤ n) × Passed t d w first (record { from = from₀; n = n₀ }) (record { from = from; n = n })
+    (length scratch ≡ length scratch₀) × (1 ≤ n) × Passed t d w first from₀ n₀ (record { from = from; clear = from; n = n })
 
 abbrev μ-loop : tie.MeasureT-loop
 μ-loop t h d w first scratch₀ from₀ n₀ scratch from n = length d - from
 
 loop-holds : tie.Need-loop-holds Inv-loop μ-loop
-loop-holds c = let p = c .before .before .pre .1 .0 in (
-  refl,
-  p .1,
-  record { on = omega arith; more = omega arith; fewer = p .2; same = refl },
-)
+loop-holds c = let p = c .before .before .pre .1 .0 in (refl, p .1, passed-none _ _ _ _ _ _ (p .2))
 
-next-sound-requires : tie.Need-next-sound-requires Inv-loop μ-loop
-next-sound-requires c κs = (
-  c .before .before .before .before .before .pre .0,
-  (
-    (c .before .before .before .before .before .pre .1 .0 .0, omega arith),
-    rw (c .before .before .loop .inv .0) (c .before .before .before .before .before .pre .1 .1),
-  ),
-)
-
-sound : (c : tie.Else1 Inv-loop μ-loop) → let args = c .before .before .before .before .before .before .before .before .before .args in
-    SoundNext (args .t .now) (args .d .now) (args .w) (args .first) (c .before .before .before .before .before .before .loop .from)
-sound c = c .before .before .before .next-sound .ensures (not-false _ (c .if1 .left))
+found : (c : tie.Else1 Inv-loop μ-loop) → let a = c .before .before .before .before .before .before .args in
+    PlainNext (a .d .now) (a .w) (c .before .before .before .loop .from) (a .first)
+found c = c .before .next-plain .ensures (not-false _ (c .if1 .left))
 
 -- a terminator was passed
-sized : (c : tie.Else1 Inv-loop μ-loop) → 1 ≤ c .before .before .before .before .before .before .before .before .before .args .w .size
-sized c =
-    let at-loop = c .before .before .before .before .before .before in
-    let args = at-loop .before .before .before .args in
-    next-ended (args .d .now) (args .w) (at-loop .loop .from) (sound c .next .ends) .sized
+sized : (c : tie.Else1 Inv-loop μ-loop) → 1 ≤ c .before .before .before .before .before .before .args .w .size
+sized c = next-ended (c .before .before .before .before .before .before .args .d .now)
+    (c .before .before .before .before .before .before .args .w) (c .before .before .before .loop .from) (found c .ends) .sized
+
+plain-sound-requires : tie.Need-plain-sound-requires Inv-loop μ-loop
+plain-sound-requires c κs =
+    let s = c .before .before .before .before .before .before .before .before in
+    let a = s .args in
+    let g = s .pre .0 in
+    let p = found (c .before .before) in
+    let from = c .before .before .before .before .before .loop .from in
+    let r : TableReady (a .t .now) (a .h .rows) (length (part (a .d .now) from (from + a .first))) =
+    rw (p .long, tested-rows (g .0)) (table-ready (a .t .now) (g .0 .good) (a .first) (g .1)) in
+    (r, (p .plain, rw (c .before .before .before .before .before .loop .inv .0) (s .pre .1 .1)))
+
+returns-2 : tie.Need-returns-2 Inv-loop μ-loop
+returns-2 c = let p = c .before .before .before .before .before .before .before .before .before .loop .inv .2 in record {
+  on = p .on;
+  more = p .more;
+  fewer = p .fewer;
+  clear = λ l. plain-clear (found (c .before .before .before .before .before .before));
+  same = p .same;
+}
+
+sound-here : (c : tie.Else2 Inv-loop μ-loop)
+    → let a = c .before .before .before .before .before .before .before .before .before .before .before .before .args in
+    SoundNext (a .t .now) (a .d .now) (a .w) (a .first)
+    (c .before .before .before .before .before .before .before .before .before .loop .from)
+unfolding isSound
+sound-here c =
+    let a = c .before .before .before .before .before .before .before .before .before .before .before .before .args in
+    let g = c .before .before .before .before .before .before .before .before .before .before .before .before .pre .0 in
+    let from = c .before .before .before .before .before .before .before .before .before .loop .from in
+    let v : rowsVerdict (a .t .now) (rowsOf (a .t .now)) (part (a .d .now) from (from + a .first)) ≡ sound =
+    rw (tested-rows (g .0)) at (c .before .before .before .plain-sound .ensures (not-false _ (c .if2 .left))) in
+    sound-next (a .t .now) (a .d .now) (a .w) (a .first) from (found (c .before .before .before .before .before .before)) (g .1) (sym v)
+    refl
 
 loop-again : tie.Need-loop-again Inv-loop μ-loop
 loop-again c =
-    let at-next-sound = c .before .before .before .before in
-    let the-loop = at-next-sound .before .before .before in
-    let a = the-loop .before .before .before .args in
-    let l = the-loop .loop in let p = l .inv .2 in let s = sound (c .before) in (
-      at-next-sound .next-sound .kept .1 .1 .1 .1 .1 .1 .0 ∙ l .inv .0,
+    let a = c .before .before .before .before .before .before .before .before .before .before .before .before .before .args in
+    let l = c .before .before .before .before .before .before .before .before .before .before .loop in
+    let p = l .inv .2 in (
+      c .before .before .before .before .plain-sound .kept .1 .1 .1 .0 ∙ l .inv .0,
       omega arith,
       record {
         on = omega (arith, p .on);
         more = omega (arith, p .more);
-        fewer = omega (arith, p .fewer, sized (c .before));
-        same = p .same ∙ sound-on (a .t .now) (a .d .now) (a .w) (a .first) (l .from) (l .n) (l .inv .1) s;
+        fewer = omega (arith, p .fewer, sized (c .before .before .before .before .before .before .before));
+        clear = λ m. clear-none _ _ (omega arith);
+        same = p .same ∙ sound-on (a .t .now) (a .d .now) (a .w) (a .first) (l .from) (l .n) (l .inv .1) (sound-here (c .before));
       },
     )
 
@@ -67,15 +93,24 @@ pass-each-spec =
     Inv-loop
     μ-loop
     loop-holds
-    next-sound-requires
-    (λ c. c .before .before .before .next-sound .kept .1 .1 .1 .1 .1 .1 .0
-    ∙ c .before .before .before .before .before .before .loop .inv .0)
-    (λ c. c .before .before .before .before .before .before .loop .inv .2)
-    (λ c. let h = sound c .next .inside in omega arith)
-    (λ c. let h = sound (c .before) .next .inside in
-    omega (arith, c .before .before .before .before .before .before .before .before .before .before .pre .1 .0 .0 .few))
-    (λ c. let h = c .before .before .before .before .before .before .before .loop .inv .2 .fewer in omega arith)
-    (λ c. omega (arith, sized (c .before)))
+    (λ c κs. (c .before .before .before .before .pre .1 .0 .0, omega arith))
+    (λ c. c .before .before .before .loop .inv .0)
+    (λ c. c .before .before .before .loop .inv .2)
+    (λ c. let h = found c .inside in omega arith)
+    (λ c. omega arith)
+    (λ c. omega arith)
+    (λ c. let h = found c .inside in omega arith)
+    plain-sound-requires
+    (λ c. c .before .before .before .plain-sound .kept .1 .1 .1 .0
+    ∙ c .before .before .before .before .before .before .before .before .before .loop .inv .0)
+    returns-2
+    (λ c. let h = found (c .before .before .before .before .before .before .before) .inside in
+    omega (
+      arith,
+      c .before .before .before .before .before .before .before .before .before .before .before .before .before .pre .1 .0 .0 .few,
+    ))
+    (λ c. let h = c .before .before .before .before .before .before .before .before .before .before .loop .inv .2 .fewer in omega arith)
+    (λ c. omega (arith, sized (c .before .before .before .before .before .before .before)))
     loop-again
     (λ c. c .before .loop .inv .0)
     (λ c. c .before .loop .inv .2))
