@@ -109,7 +109,8 @@ module _ {t : List ℤ} {v : ℕ} {r : Row} {d : List ℕ} {at to : ℕ} {old ne
   unfolding valueOf valueText
   set-built {ms} reads w = stood w done {x = members ms} refl yes reads (set-plain ms) stop
 
-  pub text-built : {list : List ℤ} → BareTo d at to → WrittenBy (r .kind) t v r Text list (part d at to) old new a → Built t v r d at to old new
+  pub text-built : {list : List ℤ} → BareTo d at to → WrittenBy (r .kind) t v r Text list (part d at to) old new a
+      → Built t v r d at to old new
   unfolding valueOf valueText
   text-built b w =
       stood w done {x = text (part d at to)} refl yes
@@ -118,7 +119,8 @@ module _ {t : List ℤ} {v : ℕ} {r : Row} {d : List ℕ} {at to : ℕ} {old ne
   pub truth-built : at < length d → 48 ≤ getD d at 0 → getD d at 0 ≤ 49 → to ≡ at + 1
       → WrittenBy (r .kind) t v r (Truth (eqb (getD d at 0) 49)) [] [] old new a → Built t v r d at to old new
   unfolding valueOf valueText
-  truth-built h l u e w = stood w done {x = truth (eqb (getD d at 0) 49)} refl yes (rw e (reads-byte d at h (byte (eqb (getD d at 0) 49) refl)))
+  truth-built h l u e w = stood w done {x = truth (eqb (getD d at 0) 49)} refl yes
+      (rw e (reads-byte d at h (byte (eqb (getD d at 0) 49) refl)))
       (truth-plain (eqb (getD d at 0) 49)) stop
     where
       byte : (q : Bool) → eqb (getD d at 0) 49 ≡ q → getD d at 0 ≡ cond q 49 48

@@ -98,7 +98,8 @@ fn judge_amount(t: &[i64], rows: usize, row: Row, q: Format, d: &[u8], at: usize
 
 // A set of a bitstring whose lines are its categories, if they are.
 fn judge_bits(t: &[i64], rows: usize, row: Row, full: bool, d: &[u8], at: usize) -> usize
-    requires { ⌜ (full ≡ true → EachLegal (now t) rows row (row .width)) × (row .kind ≡ kind.Multiple spread.Bits) × (at ≤ length (now d)) ⌝ }
+    requires { ⌜ (full ≡ true → EachLegal (now t) rows row (row .width)) × (row .kind ≡ kind.Multiple spread.Bits)
+        × (at ≤ length (now d)) ⌝ }
     ensures { λ r. ⌜ JudgedAt (now (t .entry)) rows row (now (d .entry)) at r ⌝ }
 {
     let w = row.width;

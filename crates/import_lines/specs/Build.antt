@@ -82,7 +82,8 @@ pub record SlowBuilt (t : List ℤ) (v j : ℕ) (f : List ℕ) (bad end : ℕ) (
 pub slow-none : (t : List ℤ) (v j : ℕ) (f : List ℕ) (bad : ℕ) {end : ℕ} (old : List ℕ) → (end ≡ 0 → ⊥) → SlowBuilt t v j f bad end old old 0
 slow-none t v j f bad old n = record { slow = λ z. absurd (n z); good = λ z. refl; kept = λ z. refl }
 
-pub slow-some : {t : List ℤ} {v j : ℕ} {f : List ℕ} {bad end : ℕ} {old new : List ℕ} {r : ℕ} → end ≡ 0 → walk-of r new ≡ step t v j f bad old
+pub slow-some : {t : List ℤ} {v j : ℕ} {f : List ℕ} {bad end : ℕ} {old new : List ℕ} {r : ℕ} → end ≡ 0 → walk-of r new
+    ≡ step t v j f bad old
     → SlowBuilt t v j f bad end old new r
 slow-some e k = record { slow = λ z. k; good = λ z. absurd (z e); kept = λ z. absurd (z e) }
 

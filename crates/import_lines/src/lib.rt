@@ -327,7 +327,8 @@ fn build_slow(
     requires { ⌜ TableKnown (now t) rows len × (len ≤ length (now bytes)) ⌝ }
     requires { ⌜ RawOf (now raw) bare ⌝ }
     requires { ⌜ (length (now list) ≡ 9999) × (length (now room) ≡ 50000) × (length (now spare) ≡ 50000) ⌝ }
-    ensures { λ r. ⌜ SlowBuilt (now (t .entry)) rows j (undoubled false (now (raw .entry))) bad end (now (bytes .entry)) (now (bytes .exit)) r ⌝ }
+    ensures { λ r. ⌜ SlowBuilt (now (t .entry)) rows j (undoubled false (now (raw .entry))) bad end (now (bytes .entry)) (now (bytes .exit))
+        r ⌝ }
 {
     if end != 0 {
         return 0;

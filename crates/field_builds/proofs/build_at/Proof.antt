@@ -4,16 +4,31 @@ use Rattle.field_builds.proofs.build_at.Statement.{statement}
 use Rattle.field_builds.proofs.build_at.Tie as tie
 
 build-code-requires : tie.Need-build-code-requires
-build-code-requires c κs = ((c .before .before .before .before .before .pre) .0, ((c .before .before .before .before .before .pre) .1 .0, (c .before .enum-told) .given .1))
+build-code-requires c κs = (
+  (c .before .before .before .before .before .pre) .0,
+  ((c .before .before .before .before .before .pre) .1 .0, (c .before .enum-told) .given .1),
+)
 
 build-set-requires : tie.Need-build-set-requires
-build-set-requires c κs = ((c .before .before .before .before .before .before .before .pre) .0, (((c .before .before .before .before .before .before .before .pre) .1 .0, (c .before .before .before .kind) .given .1), (c .before .before .before .before .before .before .before .pre) .1 .1))
+build-set-requires c κs = (
+  (c .before .before .before .before .before .before .before .pre) .0,
+  (
+    ((c .before .before .before .before .before .before .before .pre) .1 .0, (c .before .before .before .kind) .given .1),
+    (c .before .before .before .before .before .before .before .pre) .1 .1,
+  ),
+)
 
 build-amount-requires : tie.Need-build-amount-requires
-build-amount-requires c κs = ((c .before .before .before .before .before .before .pre) .0, ((c .before .before .before .before .before .before .pre) .1 .0, (c .before .before .kind2) .given .1))
+build-amount-requires c κs = (
+  (c .before .before .before .before .before .before .pre) .0,
+  ((c .before .before .before .before .before .before .pre) .1 .0, (c .before .before .kind2) .given .1),
+)
 
 build-text-requires : tie.Need-build-text-requires
-build-text-requires c κs = ((c .before .before .before .before .before .pre) .1 .0, (c .before .before .before .before .before .pre) .1 .1 .1)
+build-text-requires c κs = (
+  (c .before .before .before .before .before .pre) .1 .0,
+  (c .before .before .before .before .before .pre) .1 .1 .1,
+)
 
 build-truth-requires : tie.Need-build-truth-requires
 build-truth-requires c κs = (c .before .before .before .before .before .pre) .1 .0

@@ -20,21 +20,36 @@ cell-of-requires : tie.Need-cell-of-requires
 cell-of-requires c κs = omega (arith, (c .before .before .before .code-from) .ensures .few)
 
 write-code-requires : tie.Need-write-code-requires
-write-code-requires c κs = ((c .before .before .before .before .before .before .before .before .pre) .0, ready-as ((c .before .before .before .before .before .before .before .before .pre) .1 .1) ((c .before .before .before .before .before .before .before .before .pre) .1 .0))
+write-code-requires c κs = (
+  (c .before .before .before .before .before .before .before .before .pre) .0,
+  ready-as ((c .before .before .before .before .before .before .before .before .pre) .1 .1)
+      ((c .before .before .before .before .before .before .before .before .pre) .1 .0),
+)
 
 returns-3 : tie.Need-returns-3
-returns-3 c = built-none (write-kept (written-as ((c .before .before .before .before .before .before .before .before .before .before .before .before .before .pre) .1 .1) ((c .before .before .before .before .write-code) .ensures)) ((c .before .is-done) .ensures) (not-true _ ((c .if3) .taken)))
+returns-3 c = built-none
+    (write-kept
+    (written-as ((c .before .before .before .before .before .before .before .before .before .before .before .before .before .pre) .1 .1)
+    ((c .before .before .before .before .write-code) .ensures)) ((c .before .is-done) .ensures) (not-true _ ((c .if3) .taken)))
 
 add-result : tie.Need-add-result
-add-result c = let stop = (c .before .before .before .before .before .before .before .before .stops) .ensures (not-false _ ((c .before .before .before .before .before .before .before .if2) .left)) in omega (arith, stop .within)
+add-result c = let stop = (c .before .before .before .before .before .before .before .before .stops) .ensures
+    (not-false _ ((c .before .before .before .before .before .before .before .if2) .left)) in omega (arith, stop .within)
 
 returns-4 : tie.Need-returns-4
 returns-4 c =
-    let stop = (c .before .before .before .before .before .before .before .before .stops) .ensures (not-false _ ((c .before .before .before .before .before .before .before .if2) .left)) in
+    let stop = (c .before .before .before .before .before .before .before .before .stops) .ensures
+    (not-false _ ((c .before .before .before .before .before .before .before .if2) .left)) in
     let cell = (c .before .before .before .before .before .before .cell-of) in
-    built-some (code-built stop ((c .before .is-done) .ensures) (not-false _ ((c .if3) .left)) ((c .before .before .before .before .before .before .before .before .before .before .code-from) .result .n) (single-number ((c .before .before .before .before .before .before .before .before .before .before .before .before .before .args) .row) ((c .before .before .before .before .before .before .before .before .before .before .before .before .before .pre) .1 .1) .1)
-    (toZ-ofZ (sfits-of (cell .ok)) ∙ cell .ensures) ((c .before .before .before .before .before .before .before .before .before .before .code-from) .ensures .reads ((c .before .before .before .before .before .before .before .before .before .if1) .left))
-    (written-as ((c .before .before .before .before .before .before .before .before .before .before .before .before .before .pre) .1 .1) ((c .before .before .before .before .write-code) .ensures)))
+    built-some (code-built stop ((c .before .is-done) .ensures) (not-false _ ((c .if3) .left))
+    ((c .before .before .before .before .before .before .before .before .before .before .code-from) .result .n)
+    (single-number ((c .before .before .before .before .before .before .before .before .before .before .before .before .before .args) .row)
+    ((c .before .before .before .before .before .before .before .before .before .before .before .before .before .pre) .1 .1) .1)
+    (toZ-ofZ (sfits-of (cell .ok)) ∙ cell .ensures)
+    ((c .before .before .before .before .before .before .before .before .before .before .code-from) .ensures .reads
+    ((c .before .before .before .before .before .before .before .before .before .if1) .left))
+    (written-as ((c .before .before .before .before .before .before .before .before .before .before .before .before .before .pre) .1 .1)
+    ((c .before .before .before .before .write-code) .ensures)))
 
 pub build-code-spec : {M : Type 1} → statement M
 build-code-spec =

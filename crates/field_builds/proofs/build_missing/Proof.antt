@@ -17,7 +17,8 @@ add-result : tie.Need-add-result
 add-result c = omega (arith, (c .before .before .before .before .before .before .before .pre) .1 .within)
 
 returns-2 : tie.Need-returns-2
-returns-2 c = built-some (missing-built ((c .before .before .before .before .before .before .before .pre) .1) ((c .before .before .before .blank-run) .ensures .0 (not-false _ ((c .if1) .left))))
+returns-2 c = built-some (missing-built ((c .before .before .before .before .before .before .before .pre) .1)
+    ((c .before .before .before .blank-run) .ensures .0 (not-false _ ((c .if1) .left))))
 
 pub build-missing-spec : {M : Type 1} → statement M
 build-missing-spec =

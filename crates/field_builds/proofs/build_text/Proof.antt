@@ -26,15 +26,20 @@ write-text-requires : tie.Need-write-text-requires
 write-text-requires c κs = (c .before .before .before .before .before .before .before .pre) .0
 
 returns-2 : tie.Need-returns-2
-returns-2 c = built-none (write-kept ((c .before .before .before .before .write-text) .ensures) ((c .before .is-done) .ensures) (not-true _ ((c .if2) .taken)))
+returns-2 c = built-none (write-kept ((c .before .before .before .before .write-text) .ensures) ((c .before .is-done) .ensures)
+    (not-true _ ((c .if2) .taken)))
 
 add-result : tie.Need-add-result
-add-result c = let stop = (c .before .before .before .before .before .before .before .before .stops) .ensures (not-false _ ((c .before .before .before .before .before .before .before .if1) .left)) in omega (arith, stop .within)
+add-result c = let stop = (c .before .before .before .before .before .before .before .before .stops) .ensures
+    (not-false _ ((c .before .before .before .before .before .before .before .if1) .left)) in omega (arith, stop .within)
 
 returns-3 : tie.Need-returns-3
 returns-3 c =
-    let stop = (c .before .before .before .before .before .before .before .before .stops) .ensures (not-false _ ((c .before .before .before .before .before .before .before .if1) .left)) in
-    built-some (text-built stop ((c .before .is-done) .ensures) (not-false _ ((c .if2) .left)) ((c .before .before .before .before .before .before .before .before .before .bare-to) .ensures) ((c .before .before .before .before .write-text) .ensures))
+    let stop = (c .before .before .before .before .before .before .before .before .stops) .ensures
+    (not-false _ ((c .before .before .before .before .before .before .before .if1) .left)) in
+    built-some (text-built stop ((c .before .is-done) .ensures) (not-false _ ((c .if2) .left))
+    ((c .before .before .before .before .before .before .before .before .before .bare-to) .ensures)
+    ((c .before .before .before .before .write-text) .ensures))
 
 pub build-text-spec : {M : Type 1} → statement M
 build-text-spec =

@@ -23,16 +23,22 @@ write-truth-requires : tie.Need-write-truth-requires
 write-truth-requires c κs = (c .before .before .before .before .before .before .before .before .before .pre)
 
 returns-5 : tie.Need-returns-5
-returns-5 c = built-none (write-kept ((c .before .before .before .before .write-truth) .ensures) ((c .before .is-done) .ensures) (not-true _ ((c .if5) .taken)))
+returns-5 c = built-none (write-kept ((c .before .before .before .before .write-truth) .ensures) ((c .before .is-done) .ensures)
+    (not-true _ ((c .if5) .taken)))
 
 add-result : tie.Need-add-result
-add-result c = let stop = (c .before .before .before .before .before .before .before .stops) .ensures (not-false _ ((c .before .before .before .before .before .before .if4) .left)) in omega (arith, stop .within)
+add-result c = let stop = (c .before .before .before .before .before .before .before .stops) .ensures
+    (not-false _ ((c .before .before .before .before .before .before .if4) .left)) in omega (arith, stop .within)
 
 returns-6 : tie.Need-returns-6
 returns-6 c =
-    let stop = (c .before .before .before .before .before .before .before .stops) .ensures (not-false _ ((c .before .before .before .before .before .before .if4) .left)) in
-    built-some (truth-built stop ((c .before .is-done) .ensures) (not-false _ ((c .if5) .left)) (omega (arith, (c .before .before .before .before .before .before .before .before .before .before .before .if1) .left)) (omega (arith, (c .before .before .before .before .before .before .before .before .before .if2) .left))
-    (omega (arith, (c .before .before .before .before .before .before .before .before .if3) .left)) refl ((c .before .before .before .before .write-truth) .ensures))
+    let stop = (c .before .before .before .before .before .before .before .stops) .ensures
+    (not-false _ ((c .before .before .before .before .before .before .if4) .left)) in
+    built-some (truth-built stop ((c .before .is-done) .ensures) (not-false _ ((c .if5) .left))
+    (omega (arith, (c .before .before .before .before .before .before .before .before .before .before .before .if1) .left))
+    (omega (arith, (c .before .before .before .before .before .before .before .before .before .if2) .left))
+    (omega (arith, (c .before .before .before .before .before .before .before .before .if3) .left)) refl
+    ((c .before .before .before .before .write-truth) .ensures))
 
 pub build-truth-spec : {M : Type 1} → statement M
 build-truth-spec =

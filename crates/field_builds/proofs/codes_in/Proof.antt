@@ -26,25 +26,58 @@ same-length-2 : tie.Need-same-length-2 Inv-loop μ-loop
 same-length-2 c = (c .before .before .before .before .loop) .inv .2 ∙ sym ((c .before .before .before .before .before .before .pre) .3)
 
 mul-t15 : tie.Need-mul-t15 Inv-loop μ-loop
-mul-t15 c = omega (arith, (c .before .before .before .before .before .loop) .inv .1, (c .before .before .if1) .left, (c .before .if2) .left, (c .before .before .before .before .before .before .before .pre) .2)
+mul-t15 c = omega (
+  arith,
+  (c .before .before .before .before .before .loop) .inv .1,
+  (c .before .before .if1) .left,
+  (c .before .if2) .left,
+  (c .before .before .before .before .before .before .before .pre) .2,
+)
 
 slice-set-from-list : tie.Need-slice-set-from-list Inv-loop μ-loop
-slice-set-from-list c = omega (arith, (c .before .before .before .before .before .loop) .inv .1, (c .before .before .before .before .before .loop) .inv .2, (c .before .before .if1) .left, (c .before .if2) .left, (c .before .before .before .before .before .before .before .pre) .2)
+slice-set-from-list c = omega (
+  arith,
+  (c .before .before .before .before .before .loop) .inv .1,
+  (c .before .before .before .before .before .loop) .inv .2,
+  (c .before .before .if1) .left,
+  (c .before .if2) .left,
+  (c .before .before .before .before .before .before .before .pre) .2,
+)
 
 add-k : tie.Need-add-k Inv-loop μ-loop
-add-k c = omega (arith, (c .before .before .before .before .before .loop) .inv .1, (c .before .before .if1) .left, (c .before .if2) .left, (c .before .before .before .before .before .before .before .pre) .2)
+add-k c = omega (
+  arith,
+  (c .before .before .before .before .before .loop) .inv .1,
+  (c .before .before .if1) .left,
+  (c .before .if2) .left,
+  (c .before .before .before .before .before .before .before .pre) .2,
+)
 
 shared-slice-read-if3 : tie.Need-shared-slice-read-if3 Inv-loop μ-loop
-shared-slice-read-if3 c = omega (arith, (c .before .before .before .before .code-from) .ensures .behind (λ z. omega (arith, z, (c .before .before .before .before .before .before .loop) .inv .1, (c .before .before .before .if1) .left)))
+shared-slice-read-if3 c = omega (
+  arith,
+  (c .before .before .before .before .code-from) .ensures .behind
+      (λ z. omega (arith, z, (c .before .before .before .before .before .before .loop) .inv .1, (c .before .before .before .if1) .left)),
+)
 
 same-length-3 : tie.Need-same-length-3 Inv-loop μ-loop
-same-length-3 c = simp length-set ((c .before .before .before .before .before .before .before .loop) .inv .2 ∙ sym ((c .before .before .before .before .before .before .before .before .before .pre) .3))
+same-length-3 c = simp length-set ((c .before .before .before .before .before .before .before .loop) .inv .2
+    ∙ sym ((c .before .before .before .before .before .before .before .before .before .pre) .3))
 
 add-least : tie.Need-add-least Inv-loop μ-loop
 add-least c = omega (arith, (c .before .before .before .before .before .code-from) .ensures .few)
 
 add-i : tie.Need-add-i Inv-loop μ-loop
-add-i c = omega (arith, (c .before .before .before .before .before .code-from) .ensures .behind (λ z. omega (arith, z, (c .before .before .before .before .before .before .before .loop) .inv .1, (c .before .before .before .before .if1) .left)))
+add-i c = omega (
+  arith,
+  (c .before .before .before .before .before .code-from) .ensures .behind
+      (λ z. omega (
+        arith,
+        z,
+        (c .before .before .before .before .before .before .before .loop) .inv .1,
+        (c .before .before .before .before .if1) .left,
+      )),
+)
 
 same-length-4 : tie.Need-same-length-4 Inv-loop μ-loop
 same-length-4 c = (c .before .loop) .inv .2 ∙ sym ((c .before .before .before .pre) .3)
@@ -62,9 +95,25 @@ returns-3 : tie.Need-returns-3 Inv-loop μ-loop
 returns-3 c =
     let l = (c .before .before .before .before .before .before .before .loop) .inv in
     let cell = (c .before .before .cell-of) in
-    climb-end (l .0) ((c .before .before .before .before .before .code-from) .ensures) (λ z. omega (arith, z, l .1, (c .before .before .before .before .if1) .left)) (omega (arith, (c .before .before .before .before .if1) .left)) (omega (arith, (c .before .before .before .if2) .left))
-    (omega (arith, l .1, l .2, (c .before .before .before .before .if1) .left, (c .before .before .before .if2) .left, (c .before .before .before .before .before .before .before .before .before .pre) .2)) (toZ-ofZ (sfits-of (cell .ok)) ∙ cell .ensures)
-    (omega (arith, (c .before .before .before .before .before .before .loop-test) .taken)) (omega (arith, l .1, (c .before .before .before .before .if1) .left, (c .before .before .before .if2) .left, (c .before .before .before .before .before .before .before .before .before .pre) .2))
+    climb-end (l .0) ((c .before .before .before .before .before .code-from) .ensures)
+    (λ z. omega (arith, z, l .1, (c .before .before .before .before .if1) .left))
+    (omega (arith, (c .before .before .before .before .if1) .left)) (omega (arith, (c .before .before .before .if2) .left))
+    (omega (
+      arith,
+      l .1,
+      l .2,
+      (c .before .before .before .before .if1) .left,
+      (c .before .before .before .if2) .left,
+      (c .before .before .before .before .before .before .before .before .before .pre) .2,
+    )) (toZ-ofZ (sfits-of (cell .ok)) ∙ cell .ensures)
+    (omega (arith, (c .before .before .before .before .before .before .loop-test) .taken))
+    (omega (
+      arith,
+      l .1,
+      (c .before .before .before .before .if1) .left,
+      (c .before .before .before .if2) .left,
+      (c .before .before .before .before .before .before .before .before .before .pre) .2,
+    ))
 
 loop-less : tie.Need-loop-less Inv-loop μ-loop
 loop-less c = omega (arith, (c .before .before .before .before .before .before .loop-test) .taken)
@@ -73,8 +122,17 @@ loop-again : tie.Need-loop-again Inv-loop μ-loop
 loop-again c =
     let l = (c .before .before .before .before .before .before .before .loop) .inv in
     let cell = (c .before .before .cell-of) in (
-      climb-more (l .0) ((c .before .before .before .before .before .code-from) .ensures) (λ z. omega (arith, z, l .1, (c .before .before .before .before .if1) .left)) (omega (arith, (c .before .before .before .before .if1) .left)) (omega (arith, (c .before .before .before .if2) .left))
-      (omega (arith, l .1, l .2, (c .before .before .before .before .if1) .left, (c .before .before .before .if2) .left, (c .before .before .before .before .before .before .before .before .before .pre) .2)) (toZ-ofZ (sfits-of (cell .ok)) ∙ cell .ensures) ((c .if3) .left),
+      climb-more (l .0) ((c .before .before .before .before .before .code-from) .ensures)
+          (λ z. omega (arith, z, l .1, (c .before .before .before .before .if1) .left))
+          (omega (arith, (c .before .before .before .before .if1) .left)) (omega (arith, (c .before .before .before .if2) .left))
+          (omega (
+            arith,
+            l .1,
+            l .2,
+            (c .before .before .before .before .if1) .left,
+            (c .before .before .before .if2) .left,
+            (c .before .before .before .before .before .before .before .before .before .pre) .2,
+          )) (toZ-ofZ (sfits-of (cell .ok)) ∙ cell .ensures) ((c .if3) .left),
       omega (arith, l .1, (c .before .before .before .before .if1) .left),
       simp length-set (l .2),
     )

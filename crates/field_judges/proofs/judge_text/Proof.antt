@@ -16,7 +16,8 @@ sub-if3 : tie.Need-sub-if3
 sub-if3 c = omega (arith, (c .before .before .text-to) .ensures .bared .on, (c .before .if1) .left)
 
 shared-slice-read-if3 : tie.Need-shared-slice-read-if3
-shared-slice-read-if3 c = let b = (c .before .before .before .text-to) .ensures .bared in omega (arith, b .on, b .within, (c .before .before .if1) .left)
+shared-slice-read-if3 c = let b = (c .before .before .before .text-to) .ensures .bared in
+    omega (arith, b .on, b .within, (c .before .before .if1) .left)
 
 returns : tie.Need-returns
 returns c = judged-none _ _ _ _ _
@@ -37,7 +38,9 @@ returns-5 : tie.Need-returns-5
 returns-5 c =
     let stop = (c .before .stops) .ensures (not-false _ ((c .if4) .left)) in
     let b = (c .before .before .before .before .before .before .text-to) .ensures in
-    judged-some (text-read _ _ _ stop ((c .before .before .before .before .before .before .before .before .pre) .0) b (omega (arith, b .bared .on, (c .before .before .before .before .before .if1) .left)) (omega (arith, (c .before .before .before .before .if2) .left))
+    judged-some (text-read _ _ _ stop ((c .before .before .before .before .before .before .before .before .pre) .0) b
+    (omega (arith, b .bared .on, (c .before .before .before .before .before .if1) .left))
+    (omega (arith, (c .before .before .before .before .if2) .left))
     (omega (arith, (c .before .before .if3) .left)))
 
 pub judge-text-spec : {M : Type 1} → statement M

@@ -22,11 +22,17 @@ read-requires c κs =
 
 build-missing-requires : tie.Need-build-missing-requires
 build-missing-requires c κs =
-    let p = (c .before .before .before .before .before .before .before .before .before .pre) .1 .0 in
-    (rw ((c .before .read) .ensures) (ready _ (p .0 .row ((c .before .before .before .before .before .before .before .before .before .args) .j) (omega (arith, (c .before .before .before .before .if2) .left))) (p .1)), (c .before .before .before .stops) .ensures ((c .before .before .if3) .taken))
+    let p = (c .before .before .before .before .before .before .before .before .before .pre) .1 .0 in (
+      rw ((c .before .read) .ensures) (ready _ (p .0 .row
+          ((c .before .before .before .before .before .before .before .before .before .args) .j)
+          (omega (arith, (c .before .before .before .before .if2) .left))) (p .1)),
+      (c .before .before .before .stops) .ensures ((c .before .before .if3) .taken),
+    )
 
 returns-3 : tie.Need-returns-3
-returns-3 c = field-some ((c .before .before .before .before .before .before .before .before .if1) .left) (omega (arith, (c .before .before .before .before .before .before .before .if2) .left)) ((c .before .before .before .before .read) .ensures) ((c .before .before .build-missing) .ensures)
+returns-3 c = field-some ((c .before .before .before .before .before .before .before .before .if1) .left)
+    (omega (arith, (c .before .before .before .before .before .before .before .if2) .left))
+    ((c .before .before .before .before .read) .ensures) ((c .before .before .build-missing) .ensures)
 
 read-requires-2 : tie.Need-read-requires-2
 read-requires-2 c κs =
@@ -35,21 +41,34 @@ read-requires-2 c κs =
     (omega (arith, (c .before .before .if2) .left), omega (arith, (c .before .before .if2) .left))
 
 shared-slice-read-build-at : tie.Need-shared-slice-read-build-at
-shared-slice-read-build-at c = omega (arith, (c .before .before .before .before .if2) .left, (c .before .before .before .before .before .before .before .before .before .pre) .1 .0 .3 .long)
+shared-slice-read-build-at c = omega (
+  arith,
+  (c .before .before .before .before .if2) .left,
+  (c .before .before .before .before .before .before .before .before .before .pre) .1 .0 .3 .long,
+)
 
 build-at-requires : tie.Need-build-at-requires
 build-at-requires c κs =
-    let p = (c .before .before .before .before .before .before .before .before .before .before .before .pre) .1 .0 in
-    (
+    let p = (c .before .before .before .before .before .before .before .before .before .before .before .pre) .1 .0 in (
       (c .before .before .before .before .before .before .before .before .before .before .before .pre) .0,
       (
-        rw ((c .before .before .before .read2) .ensures) (ready _ (p .0 .row ((c .before .before .before .before .before .before .before .before .before .before .before .args) .j) (omega (arith, (c .before .before .before .before .before .before .if2) .left))) (p .1)),
-        (λ e. rw ((c .before .before .before .read2) .ensures) (p .3 .each ((c .before .before .before .before .before .before .before .before .before .before .before .args) .j) (omega (arith, (c .before .before .before .before .before .before .if2) .left)) (eqb-true _ _ e)), p .2, (c .before .before .before .before .before .before .before .before .before .before .before .pre) .1 .1),
+        rw ((c .before .before .before .read2) .ensures)
+            (ready _ (p .0 .row ((c .before .before .before .before .before .before .before .before .before .before .before .args) .j)
+            (omega (arith, (c .before .before .before .before .before .before .if2) .left))) (p .1)),
+        (
+          λ e. rw ((c .before .before .before .read2) .ensures)
+              (p .3 .each ((c .before .before .before .before .before .before .before .before .before .before .before .args) .j)
+              (omega (arith, (c .before .before .before .before .before .before .if2) .left)) (eqb-true _ _ e)),
+          p .2,
+          (c .before .before .before .before .before .before .before .before .before .before .before .pre) .1 .1,
+        ),
       ),
     )
 
 returns-4 : tie.Need-returns-4
-returns-4 c = field-some ((c .before .before .before .before .before .before .before .before .before .before .before .if1) .left) (omega (arith, (c .before .before .before .before .before .before .before .before .before .before .if2) .left)) ((c .before .before .before .before .before .before .before .read2) .ensures) ((c .before .before .before .build-at) .ensures)
+returns-4 c = field-some ((c .before .before .before .before .before .before .before .before .before .before .before .if1) .left)
+    (omega (arith, (c .before .before .before .before .before .before .before .before .before .before .if2) .left))
+    ((c .before .before .before .before .before .before .before .read2) .ensures) ((c .before .before .before .build-at) .ensures)
 
 pub build-field-spec : {M : Type 1} → statement M
 build-field-spec =

@@ -21,14 +21,26 @@ returns-3 c = slow-some ((c .before .before .if1) .left) (step-none _ _ _ _ _ _ 
 
 take-slow-requires : tie.Need-take-slow-requires
 take-slow-requires c κs =
-    let k = (c .before .before .before .before .before .before .before .before .before .before .before .pre) .1 .0 in
-    ((c .before .before .before .before .before .before .before .before .before .before .before .pre) .0, ((k .0, k .1, omega (arith, (c .before .before .before .before .if3) .left)), ((c .before .before .before .before .before .before .before .before .before .before .before .pre) .1 .1 .0, (c .before .before .before .before .before .before .before .before .before .before .before .pre) .1 .1 .1)))
+    let k = (c .before .before .before .before .before .before .before .before .before .before .before .pre) .1 .0 in (
+      (c .before .before .before .before .before .before .before .before .before .before .before .pre) .0,
+      (
+        (k .0, k .1, omega (arith, (c .before .before .before .before .if3) .left)),
+        (
+          (c .before .before .before .before .before .before .before .before .before .before .before .pre) .1 .1 .0,
+          (c .before .before .before .before .before .before .before .before .before .before .before .pre) .1 .1 .1,
+        ),
+      ),
+    )
 
 returns-4 : tie.Need-returns-4
 returns-4 c =
-    let a = (c .before .before .before .before .before .before .before .before .before .before .before .before .before .before .before .before .before .before .before .args) in
-    slow-some ((c .before .before .before .before .before .before .before .before .before .before .before .before .before .before .if1) .left) ((c .before .before .before .before .before .before .before .take-slow) .ensures
-    ∙ ap (λ (x : ℕ). step (a .t .now) (a .rows) (a .j) (undoubled false (a .raw .now)) x (a .bytes .now)) (sym ((c .before .before .before .before .before .before .before .before .before .before .before .before .before .if2) .left)))
+    let a = (c .before .before .before .before .before .before .before .before .before .before .before .before .before .before .before
+    .before .before .before .before .args) in
+    slow-some
+    ((c .before .before .before .before .before .before .before .before .before .before .before .before .before .before .if1) .left)
+    ((c .before .before .before .before .before .before .before .take-slow) .ensures
+    ∙ ap (λ (x : ℕ). step (a .t .now) (a .rows) (a .j) (undoubled false (a .raw .now)) x (a .bytes .now))
+    (sym ((c .before .before .before .before .before .before .before .before .before .before .before .before .before .if2) .left)))
 
 pub build-slow-spec : {M : Type 1} → statement M
 build-slow-spec =

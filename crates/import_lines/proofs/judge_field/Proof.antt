@@ -20,12 +20,18 @@ read-requires c κs =
     (omega (arith, (c .if2) .left), omega (arith, (c .if2) .left))
 
 shared-slice-read-judge-at : tie.Need-shared-slice-read-judge-at
-shared-slice-read-judge-at c = omega (arith, (c .before .before .if2) .left, (c .before .before .before .before .before .before .pre) .2 .long)
+shared-slice-read-judge-at c = omega (
+  arith,
+  (c .before .before .if2) .left,
+  (c .before .before .before .before .before .before .pre) .2 .long,
+)
 
 judge-at-requires : tie.Need-judge-at-requires
 judge-at-requires c κs = (
-  rw ((c .before .read) .ensures) ((c .before .before .before .before .before .before .pre) .0 .row ((c .before .before .before .before .before .before .args) .j) (omega (arith, (c .before .before .if2) .left)) .lines),
-  λ e. rw ((c .before .read) .ensures) ((c .before .before .before .before .before .before .pre) .2 .each ((c .before .before .before .before .before .before .args) .j) (omega (arith, (c .before .before .if2) .left)) (eqb-true _ _ e)),
+  rw ((c .before .read) .ensures) ((c .before .before .before .before .before .before .pre) .0 .row
+      ((c .before .before .before .before .before .before .args) .j) (omega (arith, (c .before .before .if2) .left)) .lines),
+  λ e. rw ((c .before .read) .ensures) ((c .before .before .before .before .before .before .pre) .2 .each
+      ((c .before .before .before .before .before .before .args) .j) (omega (arith, (c .before .before .if2) .left)) (eqb-true _ _ e)),
   (c .before .before .before .before .before .before .pre) .1,
 )
 

@@ -27,7 +27,12 @@ full-row-requires : tie.Need-full-row-requires Inv-loop μ-loop
 full-row-requires c κs = rw ((c .read) .ensures) ((c .before .before .before .before .pre) .0 .row _ ((c .before .loop-test) .taken) .lines)
 
 slice-write-full : tie.Need-slice-write-full Inv-loop μ-loop
-slice-write-full c = omega (arith, (c .before .before .before .loop) .inv .1, (c .before .before .before .before .before .pre) .0 .few, (c .before .before .loop-test) .taken)
+slice-write-full c = omega (
+  arith,
+  (c .before .before .before .loop) .inv .1,
+  (c .before .before .before .before .before .pre) .0 .few,
+  (c .before .before .loop-test) .taken,
+)
 
 add-j : tie.Need-add-j Inv-loop μ-loop
 add-j c = omega (arith, (c .before .before .before .before .before .pre) .0 .few, (c .before .before .loop-test) .taken)
@@ -38,7 +43,9 @@ same-length c = (c .before .loop) .inv .1 ∙ sym ((c .before .before .before .p
 loop-again : tie.Need-loop-again Inv-loop μ-loop
 loop-again c =
     let i = (c .before .before .before .loop) .inv in (
-      full-more ((c .full-row) .result) (i .0) (omega (arith, i .1, (c .before .before .before .before .before .pre) .0 .few, (c .before .before .loop-test) .taken)) ((c .before .read) .ensures) ((c .full-row) .ensures),
+      full-more ((c .full-row) .result) (i .0) (omega
+          (arith, i .1, (c .before .before .before .before .before .pre) .0 .few, (c .before .before .loop-test) .taken))
+          ((c .before .read) .ensures) ((c .full-row) .ensures),
       simp length-set (i .1),
       omega (arith, (c .before .before .loop-test) .taken),
     )
@@ -47,7 +54,8 @@ loop-less : tie.Need-loop-less Inv-loop μ-loop
 loop-less c = omega (arith, (c .before .before .loop-test) .taken)
 
 returns : tie.Need-returns Inv-loop μ-loop
-returns c = let i = (c .before .loop) .inv in full-rows (i .0) (omega (arith, (c .loop-test) .left)) (omega (arith, i .1, (c .before .before .before .pre) .0 .few))
+returns c = let i = (c .before .loop) .inv in full-rows (i .0) (omega (arith, (c .loop-test) .left))
+    (omega (arith, i .1, (c .before .before .before .pre) .0 .few))
 
 pub mark-full-spec : {M : Type 1} → statement M
 mark-full-spec =

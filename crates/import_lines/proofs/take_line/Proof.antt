@@ -28,97 +28,255 @@ loop-holds c =
 
 build-field-requires : tie.Need-build-field-requires Inv-loop μ-loop
 build-field-requires c κs =
-    let i = (c .before .before .loop) .inv in
-    ((c .before .before .before .before .before .before .before .before .pre) .0, (((c .before .before .before .before .before .before .before .before .pre) .1 .0 .0, omega (arith, i .4), i .0 .within, (c .before .before .before .before .before .before .before .before .pre) .1 .1 .0 .2), i .1))
+    let i = (c .before .before .loop) .inv in (
+      (c .before .before .before .before .before .before .before .before .pre) .0,
+      (
+        (
+          (c .before .before .before .before .before .before .before .before .pre) .1 .0 .0,
+          omega (arith, i .4),
+          i .0 .within,
+          (c .before .before .before .before .before .before .before .before .pre) .1 .1 .0 .2,
+        ),
+        i .1,
+      ),
+    )
 
 cut-at-requires : tie.Need-cut-at-requires Inv-loop μ-loop
-cut-at-requires c κs = ((c .before .before .before .before .before .before .loop) .inv .0 .within, λ z. standing-bounded ((c .before .before .before .build-field) .ensures .judged z .standing))
+cut-at-requires c κs = (
+  (c .before .before .before .before .before .before .loop) .inv .0 .within,
+  λ z. standing-bounded ((c .before .before .before .build-field) .ensures .judged z .standing),
+)
 
 add-t25 : tie.Need-add-t25 Inv-loop μ-loop
-add-t25 c = let i = (c .before .before .before .before .before .before .before .before .before .loop) .inv .0 in omega (arith, i .on, i .within, (c .before .before .before .before .before .before .before .before .before .before .before .before .before .before .before .good) .1 .1 .1 .1 .1 .0)
+add-t25 c = let i = (c .before .before .before .before .before .before .before .before .before .loop) .inv .0 in
+    omega (
+      arith,
+      i .on,
+      i .within,
+      (c .before .before .before .before .before .before .before .before .before .before .before .before .before .before .before .good) .1
+          .1 .1 .1 .1 .0,
+    )
 
 same-length : tie.Need-same-length Inv-loop μ-loop
-same-length c = (c .before .before .before .before .before .before .build-field) .kept .1 .1 .1 .1 .1 .1 .1 .1 .1 .0 ∙ (c .before .before .before .before .before .before .before .before .before .loop) .inv .1 ∙ sym ((c .before .before .before .before .before .before .before .before .before .before .before .before .before .before .before .pre) .1 .1 .1 .0)
+same-length c = (c .before .before .before .before .before .before .build-field) .kept .1 .1 .1 .1 .1 .1 .1 .1 .1 .0
+    ∙ (c .before .before .before .before .before .before .before .before .before .loop) .inv .1
+    ∙ sym ((c .before .before .before .before .before .before .before .before .before .before .before .before .before .before .before .pre)
+    .1 .1 .1 .0)
 
 same-length-2 : tie.Need-same-length-2 Inv-loop μ-loop
-same-length-2 c = (c .before .before .before .before .before .before .before .before .before .loop) .inv .2 ∙ sym ((c .before .before .before .before .before .before .before .before .before .before .before .before .before .before .before .pre) .1 .1 .1 .1)
+same-length-2 c = (c .before .before .before .before .before .before .before .before .before .loop) .inv .2
+    ∙ sym ((c .before .before .before .before .before .before .before .before .before .before .before .before .before .before .before .pre)
+    .1 .1 .1 .1)
 
 same-length-3 : tie.Need-same-length-3 Inv-loop μ-loop
-same-length-3 c = (c .before .before .before .before .before .before .before .before .before .loop) .inv .3 ∙ sym ((c .before .before .before .before .before .before .before .before .before .before .before .before .before .before .before .pre) .1 .1 .1 .2)
+same-length-3 c = (c .before .before .before .before .before .before .before .before .before .loop) .inv .3
+    ∙ sym ((c .before .before .before .before .before .before .before .before .before .before .before .before .before .before .before .pre)
+    .1 .1 .1 .2)
 
 same-length-4 : tie.Need-same-length-4 Inv-loop μ-loop
-same-length-4 c = (c .before .before .before .before .before .before .build-field) .kept .1 .1 .1 .1 .1 .1 .1 .1 .1 .1 .0 ∙ (c .before .before .before .before .before .before .before .before .before .loop) .inv .4 ∙ sym (ap length ((c .before .before .before .before .before .before .before .before .before .before .before .before .before .before .before .pre) .1 .1 .0 .1) ∙ length-spaces _)
+same-length-4 c = (c .before .before .before .before .before .before .build-field) .kept .1 .1 .1 .1 .1 .1 .1 .1 .1 .1 .0
+    ∙ (c .before .before .before .before .before .before .before .before .before .loop) .inv .4
+    ∙ sym (ap length
+    ((c .before .before .before .before .before .before .before .before .before .before .before .before .before .before .before .pre) .1 .1
+    .0 .1) ∙ length-spaces _)
 
 same-length-5 : tie.Need-same-length-5 Inv-loop μ-loop
-same-length-5 c = (c .before .before .before .before .before .before .before .before .before .build-slow) .kept .1 .1 .1 .1 .1 .1 .1 .1 .1 .0 ∙ (c .before .before .before .before .before .before .before .before .before .before .before .before .before .before .before .before .before .before .before .before .before .build-field) .kept .1 .1 .1 .1 .1 .1 .1 .1 .1 .0 ∙ (c .before .before .before .before .before .before .before .before .before .before .before .before .before .before .before .before .before .before .before .before .before .before .before .before .loop) .inv .1 ∙ sym ((c .before .before .before .before .before .before .before .before .before .before .before .before .before .before .before .before .before .before .before .before .before .before .before .before .before .before .before .before .before .before .pre) .1 .1 .1 .0)
+same-length-5
+    c = (c .before .before .before .before .before .before .before .before .before .build-slow) .kept .1 .1 .1 .1 .1 .1 .1 .1 .1 .0
+    ∙ (c .before .before .before .before .before .before .before .before .before .before .before .before .before .before .before .before
+    .before .before .before .before .before .build-field) .kept .1 .1 .1 .1 .1 .1 .1 .1 .1 .0
+    ∙ (c .before .before .before .before .before .before .before .before .before .before .before .before .before .before .before .before
+    .before .before .before .before .before .before .before .before .loop) .inv .1
+    ∙ sym ((c .before .before .before .before .before .before .before .before .before .before .before .before .before .before .before
+    .before .before .before .before .before .before .before .before .before .before .before .before .before .before .before .pre) .1 .1 .1
+    .0)
 
 same-length-6 : tie.Need-same-length-6 Inv-loop μ-loop
-same-length-6 c = (c .before .before .before .before .before .before .before .before .before .build-slow) .kept .1 .1 .1 .1 .1 .1 .1 .1 .1 .1 .0 ∙ (c .before .before .before .before .before .before .before .before .before .before .before .before .before .before .before .before .before .before .before .before .before .before .before .before .loop) .inv .2 ∙ sym ((c .before .before .before .before .before .before .before .before .before .before .before .before .before .before .before .before .before .before .before .before .before .before .before .before .before .before .before .before .before .before .pre) .1 .1 .1 .1)
+same-length-6
+    c = (c .before .before .before .before .before .before .before .before .before .build-slow) .kept .1 .1 .1 .1 .1 .1 .1 .1 .1 .1 .0
+    ∙ (c .before .before .before .before .before .before .before .before .before .before .before .before .before .before .before .before
+    .before .before .before .before .before .before .before .before .loop) .inv .2
+    ∙ sym ((c .before .before .before .before .before .before .before .before .before .before .before .before .before .before .before
+    .before .before .before .before .before .before .before .before .before .before .before .before .before .before .before .pre) .1 .1 .1
+    .1)
 
 same-length-7 : tie.Need-same-length-7 Inv-loop μ-loop
-same-length-7 c = (c .before .before .before .before .before .before .before .before .before .build-slow) .kept .1 .1 .1 .1 .1 .1 .1 .1 .1 .1 .1 .0 ∙ (c .before .before .before .before .before .before .before .before .before .before .before .before .before .before .before .before .before .before .before .before .before .before .before .before .loop) .inv .3 ∙ sym ((c .before .before .before .before .before .before .before .before .before .before .before .before .before .before .before .before .before .before .before .before .before .before .before .before .before .before .before .before .before .before .pre) .1 .1 .1 .2)
+same-length-7
+    c = (c .before .before .before .before .before .before .before .before .before .build-slow) .kept .1 .1 .1 .1 .1 .1 .1 .1 .1 .1 .1 .0
+    ∙ (c .before .before .before .before .before .before .before .before .before .before .before .before .before .before .before .before
+    .before .before .before .before .before .before .before .before .loop) .inv .3
+    ∙ sym ((c .before .before .before .before .before .before .before .before .before .before .before .before .before .before .before
+    .before .before .before .before .before .before .before .before .before .before .before .before .before .before .before .pre) .1 .1 .1
+    .2)
 
 same-length-8 : tie.Need-same-length-8 Inv-loop μ-loop
-same-length-8 c = (c .before .before .before .before .before .before .before .before .before .build-slow) .kept .1 .1 .1 .1 .1 .1 .1 .1 .1 .1 .1 .1 .0 ∙ (c .before .before .before .before .before .before .before .before .before .before .before .before .before .before .before .before .before .before .before .before .before .build-field) .kept .1 .1 .1 .1 .1 .1 .1 .1 .1 .1 .0 ∙ (c .before .before .before .before .before .before .before .before .before .before .before .before .before .before .before .before .before .before .before .before .before .before .before .before .loop) .inv .4 ∙ sym (ap length ((c .before .before .before .before .before .before .before .before .before .before .before .before .before .before .before .before .before .before .before .before .before .before .before .before .before .before .before .before .before .before .pre) .1 .1 .0 .1) ∙ length-spaces _)
+same-length-8
+    c = (c .before .before .before .before .before .before .before .before .before .build-slow) .kept .1 .1 .1 .1 .1 .1 .1 .1 .1 .1 .1 .1 .0
+    ∙ (c .before .before .before .before .before .before .before .before .before .before .before .before .before .before .before .before
+    .before .before .before .before .before .build-field) .kept .1 .1 .1 .1 .1 .1 .1 .1 .1 .1 .0
+    ∙ (c .before .before .before .before .before .before .before .before .before .before .before .before .before .before .before .before
+    .before .before .before .before .before .before .before .before .loop) .inv .4
+    ∙ sym (ap length
+    ((c .before .before .before .before .before .before .before .before .before .before .before .before .before .before .before .before
+    .before .before .before .before .before .before .before .before .before .before .before .before .before .before .pre) .1 .1 .0 .1)
+    ∙ length-spaces _)
 
 returns : tie.Need-returns Inv-loop μ-loop
 returns c =
-    walking-torn ((c .before .before .before .before .before .before .before .before .before .loop) .inv .0) (cut-torn ((c .before .before .before .before .before .before .before .before .before .before .before .before .before .before .before .args) .d .now) ((c .before .before .cut-at) .result) ((c .before .before .cut-at) .ensures .0 .0) ((c .before .span-of) .ensures .torn-is ((c .if1) .taken)))
+    walking-torn ((c .before .before .before .before .before .before .before .before .before .loop) .inv .0)
+    (cut-torn
+    ((c .before .before .before .before .before .before .before .before .before .before .before .before .before .before .before .args) .d
+    .now) ((c .before .before .cut-at) .result) ((c .before .before .cut-at) .ensures .0 .0)
+    ((c .before .span-of) .ensures .torn-is ((c .if1) .taken)))
 
 sub-build-slow : tie.Need-sub-build-slow Inv-loop μ-loop
 sub-build-slow c =
-    let k = span-met ((c .before .before .before .before .before .before .before .before .before .before .before .before .before .before .before .args) .d .now) ((c .before .before .cut-at) .result) ((c .before .before .cut-at) .ensures .0) ((c .before .span-of) .ensures) ((c .if1) .left) in
+    let k = span-met
+    ((c .before .before .before .before .before .before .before .before .before .before .before .before .before .before .before .args) .d
+    .now) ((c .before .before .cut-at) .result) ((c .before .before .cut-at) .ensures .0) ((c .before .span-of) .ensures)
+    ((c .if1) .left) in
     omega (arith, k .stands .on, k .stands .within)
 
 part-build-slow-start : tie.Need-part-build-slow-start Inv-loop μ-loop
 part-build-slow-start c =
-    let k = span-met ((c .before .before .before .before .before .before .before .before .before .before .before .before .before .before .before .args) .d .now) ((c .before .before .cut-at) .result) ((c .before .before .cut-at) .ensures .0) ((c .before .span-of) .ensures) ((c .if1) .left) in
+    let k = span-met
+    ((c .before .before .before .before .before .before .before .before .before .before .before .before .before .before .before .args) .d
+    .now) ((c .before .before .cut-at) .result) ((c .before .before .cut-at) .ensures .0) ((c .before .span-of) .ensures)
+    ((c .if1) .left) in
     omega (arith, k .stands .on, k .stands .within)
 
 part-build-slow-end : tie.Need-part-build-slow-end Inv-loop μ-loop
 part-build-slow-end c =
-    let k = span-met ((c .before .before .before .before .before .before .before .before .before .before .before .before .before .before .before .args) .d .now) ((c .before .before .cut-at) .result) ((c .before .before .cut-at) .ensures .0) ((c .before .span-of) .ensures) ((c .if1) .left) in
+    let k = span-met
+    ((c .before .before .before .before .before .before .before .before .before .before .before .before .before .before .before .args) .d
+    .now) ((c .before .before .cut-at) .result) ((c .before .before .cut-at) .ensures .0) ((c .before .span-of) .ensures)
+    ((c .if1) .left) in
     omega (arith, k .stands .on, k .stands .within)
 
 build-slow-requires : tie.Need-build-slow-requires Inv-loop μ-loop
 build-slow-requires c κs =
-    let k = span-met ((c .before .before .before .before .before .before .before .before .before .before .before .before .before .before .before .before .before .before .before .before .args) .d .now) ((c .before .before .before .before .before .before .before .cut-at) .result) ((c .before .before .before .before .before .before .before .cut-at) .ensures .0) ((c .before .before .before .before .before .before .span-of) .ensures) ((c .before .before .before .before .before .if1) .left) in
-    let i = (c .before .before .before .before .before .before .before .before .before .before .before .before .before .before .loop) .inv in
-    let l = (c .before .before .before .before .before .before .before .before .before .before .before .build-field) .kept .1 .1 .1 .1 .1 .1 .1 .1 .1 in (
-      (c .before .before .before .before .before .before .before .before .before .before .before .before .before .before .before .before .before .before .before .before .pre) .0,
-      (((c .before .before .before .before .before .before .before .before .before .before .before .before .before .before .before .before .before .before .before .before .pre) .1 .0 .0, omega (arith, i .4, l .1 .0)), (raw-of (k .stands), (l .0 ∙ i .1, i .2, i .3))),
+    let k = span-met
+    ((c .before .before .before .before .before .before .before .before .before .before .before .before .before .before .before .before
+    .before .before .before .before .args) .d .now) ((c .before .before .before .before .before .before .before .cut-at) .result)
+    ((c .before .before .before .before .before .before .before .cut-at) .ensures .0)
+    ((c .before .before .before .before .before .before .span-of) .ensures) ((c .before .before .before .before .before .if1) .left) in
+    let i = (c .before .before .before .before .before .before .before .before .before .before .before .before .before .before .loop)
+    .inv in
+    let l = (c .before .before .before .before .before .before .before .before .before .before .before .build-field) .kept .1 .1 .1 .1 .1 .1
+    .1 .1 .1 in (
+      (c .before .before .before .before .before .before .before .before .before .before .before .before .before .before .before .before
+          .before .before .before .before .pre) .0,
+      (
+        (
+          (c .before .before .before .before .before .before .before .before .before .before .before .before .before .before .before .before
+              .before .before .before .before .pre) .1 .0 .0,
+          omega (arith, i .4, l .1 .0),
+        ),
+        (raw-of (k .stands), (l .0 ∙ i .1, i .2, i .3)),
+      ),
     )
 
 add-j : tie.Need-add-j Inv-loop μ-loop
 add-j c =
-    let k = span-met ((c .before .before .before .before .before .before .before .before .before .before .before .before .before .before .before .before .before .before .before .before .before .before .before .before .before .before .before .before .args) .d .now) ((c .before .before .before .before .before .before .before .before .before .before .before .before .before .before .before .cut-at) .result) ((c .before .before .before .before .before .before .before .before .before .before .before .before .before .before .before .cut-at) .ensures .0) ((c .before .before .before .before .before .before .before .before .before .before .before .before .before .before .span-of) .ensures) ((c .before .before .before .before .before .before .before .before .before .before .before .before .before .if1) .left) in
-    omega (arith, (c .before .before .before .before .before .before .before .before .before .before .before .before .before .before .before .before .before .before .before .before .before .before .loop) .inv .0 .on, k .ahead, k .inside′, (c .before .before .before .before .before .before .before .before .before .before .before .before .before .before .before .before .before .before .before .before .before .before .before .before .before .before .before .before .good) .1 .1 .1 .1 .1 .0)
+    let k = span-met
+    ((c .before .before .before .before .before .before .before .before .before .before .before .before .before .before .before .before
+    .before .before .before .before .before .before .before .before .before .before .before .before .args) .d .now)
+    ((c .before .before .before .before .before .before .before .before .before .before .before .before .before .before .before .cut-at)
+    .result) ((c .before .before .before .before .before .before .before .before .before .before .before .before .before .before .before
+    .cut-at) .ensures .0)
+    ((c .before .before .before .before .before .before .before .before .before .before .before .before .before .before .span-of) .ensures)
+    ((c .before .before .before .before .before .before .before .before .before .before .before .before .before .if1) .left) in
+    omega (
+      arith,
+      (c .before .before .before .before .before .before .before .before .before .before .before .before .before .before .before .before
+          .before .before .before .before .before .before .loop) .inv .0 .on,
+      k .ahead,
+      k .inside′,
+      (c .before .before .before .before .before .before .before .before .before .before .before .before .before .before .before .before
+          .before .before .before .before .before .before .before .before .before .before .before .before .good) .1 .1 .1 .1 .1 .0,
+    )
 
 line-end-requires : tie.Need-line-end-requires Inv-loop μ-loop
-line-end-requires c κs = (c .before .before .before .before .before .before .before .before .before .before .before .before .before .before .before .before .before .before .before .before .before .before .before .before .before .before .before .before .before .pre) .1 .0 .0 .few
+line-end-requires c
+    κs = (c .before .before .before .before .before .before .before .before .before .before .before .before .before .before .before .before
+    .before .before .before .before .before .before .before .before .before .before .before .before .before .pre) .1 .0 .0 .few
 
 returns-2 : tie.Need-returns-2 Inv-loop μ-loop
 returns-2 c =
-    let k = span-met ((c .before .before .before .before .before .before .before .before .before .before .before .before .before .before .before .before .before .before .before .before .before .before .before .before .before .before .before .before .before .before .args) .d .now) ((c .before .before .before .before .before .before .before .before .before .before .before .before .before .before .before .before .before .cut-at) .result) ((c .before .before .before .before .before .before .before .before .before .before .before .before .before .before .before .before .before .cut-at) .ensures .0) ((c .before .before .before .before .before .before .before .before .before .before .before .before .before .before .before .before .span-of) .ensures) ((c .before .before .before .before .before .before .before .before .before .before .before .before .before .before .before .if1) .left) in
-    let i = (c .before .before .before .before .before .before .before .before .before .before .before .before .before .before .before .before .before .before .before .before .before .before .before .before .loop) .inv in
-    let p = (c .before .before .before .before .before .before .before .before .before .before .before .before .before .before .before .before .before .before .before .before .before .before .before .before .before .before .before .before .before .before .pre) .1 .0 in
-    let step = field-stepped ((c .before .before .before .before .before .before .before .before .before .before .before .before .before .before .before .before .before .before .before .before .before .before .before .before .before .before .before .before .before .before .pre) .1 .0 .0 .row _) ((c .before .before .before .before .before .before .before .before .before .before .before .before .before .before .before .before .before .before .before .before .before .build-field) .ensures) (k .stands)
-    (λ z. span-from _ _ ((c .before .before .before .before .before .before .before .before .before .before .before .before .before .before .before .before .before .cut-at) .result) ((c .before .before .before .before .before .before .before .before .before .before .before .before .before .before .before .before .span-of) .ensures) ((c .before .before .before .before .before .before .before .before .before .before .before .before .before .before .before .if1) .left) ((c .before .before .before .before .before .before .before .before .before .before .before .before .before .before .before .before .before .cut-at) .ensures .1 z)) ((c .before .before .before .before .before .before .before .before .before .build-slow) .ensures) in
+    let k = span-met
+    ((c .before .before .before .before .before .before .before .before .before .before .before .before .before .before .before .before
+    .before .before .before .before .before .before .before .before .before .before .before .before .before .before .args) .d .now)
+    ((c .before .before .before .before .before .before .before .before .before .before .before .before .before .before .before .before
+    .before .cut-at) .result)
+    ((c .before .before .before .before .before .before .before .before .before .before .before .before .before .before .before .before
+    .before .cut-at) .ensures .0)
+    ((c .before .before .before .before .before .before .before .before .before .before .before .before .before .before .before .before
+    .span-of) .ensures)
+    ((c .before .before .before .before .before .before .before .before .before .before .before .before .before .before .before .if1)
+    .left) in
+    let i = (c .before .before .before .before .before .before .before .before .before .before .before .before .before .before .before
+    .before .before .before .before .before .before .before .before .before .loop) .inv in
+    let p = (c .before .before .before .before .before .before .before .before .before .before .before .before .before .before .before
+    .before .before .before .before .before .before .before .before .before .before .before .before .before .before .before .pre) .1 .0 in
+    let step = field-stepped
+    ((c .before .before .before .before .before .before .before .before .before .before .before .before .before .before .before .before
+    .before .before .before .before .before .before .before .before .before .before .before .before .before .before .pre) .1 .0 .0 .row _)
+    ((c .before .before .before .before .before .before .before .before .before .before .before .before .before .before .before .before
+    .before .before .before .before .before .build-field) .ensures) (k .stands)
+    (λ z. span-from _ _
+    ((c .before .before .before .before .before .before .before .before .before .before .before .before .before .before .before .before
+    .before .cut-at) .result)
+    ((c .before .before .before .before .before .before .before .before .before .before .before .before .before .before .before .before
+    .span-of) .ensures)
+    ((c .before .before .before .before .before .before .before .before .before .before .before .before .before .before .before .if1) .left)
+    ((c .before .before .before .before .before .before .before .before .before .before .before .before .before .before .before .before
+    .before .cut-at) .ensures .1 z)) ((c .before .before .before .before .before .before .before .before .before .build-slow) .ensures) in
     let w = walking-last (i .0) (k .last-met ((c .before .if2) .taken)) step in
     rw ((c .line-end) .ensures) (whole-taken (p .1) (p .2) (i .0) w (omega (arith, k .ahead, i .0 .on)) (k .inside′))
 
 loop-less : tie.Need-loop-less Inv-loop μ-loop
 loop-less c =
-    let k = span-met ((c .before .before .before .before .before .before .before .before .before .before .before .before .before .before .before .before .before .before .before .before .before .before .before .before .before .before .before .before .before .args) .d .now) ((c .before .before .before .before .before .before .before .before .before .before .before .before .before .before .before .before .cut-at) .result) ((c .before .before .before .before .before .before .before .before .before .before .before .before .before .before .before .before .cut-at) .ensures .0) ((c .before .before .before .before .before .before .before .before .before .before .before .before .before .before .before .span-of) .ensures) ((c .before .before .before .before .before .before .before .before .before .before .before .before .before .before .if1) .left) in
+    let k = span-met
+    ((c .before .before .before .before .before .before .before .before .before .before .before .before .before .before .before .before
+    .before .before .before .before .before .before .before .before .before .before .before .before .before .args) .d .now)
+    ((c .before .before .before .before .before .before .before .before .before .before .before .before .before .before .before .before
+    .cut-at) .result)
+    ((c .before .before .before .before .before .before .before .before .before .before .before .before .before .before .before .before
+    .cut-at) .ensures .0)
+    ((c .before .before .before .before .before .before .before .before .before .before .before .before .before .before .before .span-of)
+    .ensures)
+    ((c .before .before .before .before .before .before .before .before .before .before .before .before .before .before .if1) .left) in
     omega (arith, k .ahead, k .inside′)
 
 loop-again : tie.Need-loop-again Inv-loop μ-loop
 loop-again c =
-    let k = span-met ((c .before .before .before .before .before .before .before .before .before .before .before .before .before .before .before .before .before .before .before .before .before .before .before .before .before .before .before .before .before .args) .d .now) ((c .before .before .before .before .before .before .before .before .before .before .before .before .before .before .before .before .cut-at) .result) ((c .before .before .before .before .before .before .before .before .before .before .before .before .before .before .before .before .cut-at) .ensures .0) ((c .before .before .before .before .before .before .before .before .before .before .before .before .before .before .before .span-of) .ensures) ((c .before .before .before .before .before .before .before .before .before .before .before .before .before .before .if1) .left) in
-    let i = (c .before .before .before .before .before .before .before .before .before .before .before .before .before .before .before .before .before .before .before .before .before .before .before .loop) .inv in
-    let step = field-stepped ((c .before .before .before .before .before .before .before .before .before .before .before .before .before .before .before .before .before .before .before .before .before .before .before .before .before .before .before .before .before .pre) .1 .0 .0 .row _) ((c .before .before .before .before .before .before .before .before .before .before .before .before .before .before .before .before .before .before .before .before .build-field) .ensures) (k .stands)
-    (λ z. span-from _ _ ((c .before .before .before .before .before .before .before .before .before .before .before .before .before .before .before .before .cut-at) .result) ((c .before .before .before .before .before .before .before .before .before .before .before .before .before .before .before .span-of) .ensures) ((c .before .before .before .before .before .before .before .before .before .before .before .before .before .before .if1) .left) ((c .before .before .before .before .before .before .before .before .before .before .before .before .before .before .before .before .cut-at) .ensures .1 z)) ((c .before .before .before .before .before .before .before .before .build-slow) .ensures) in
-    let f = (c .before .before .before .before .before .before .before .before .before .before .before .before .before .before .before .before .before .before .before .before .build-field) .kept .1 .1 .1 .1 .1 .1 .1 .1 .1 in
+    let k = span-met
+    ((c .before .before .before .before .before .before .before .before .before .before .before .before .before .before .before .before
+    .before .before .before .before .before .before .before .before .before .before .before .before .before .args) .d .now)
+    ((c .before .before .before .before .before .before .before .before .before .before .before .before .before .before .before .before
+    .cut-at) .result)
+    ((c .before .before .before .before .before .before .before .before .before .before .before .before .before .before .before .before
+    .cut-at) .ensures .0)
+    ((c .before .before .before .before .before .before .before .before .before .before .before .before .before .before .before .span-of)
+    .ensures)
+    ((c .before .before .before .before .before .before .before .before .before .before .before .before .before .before .if1) .left) in
+    let i = (c .before .before .before .before .before .before .before .before .before .before .before .before .before .before .before
+    .before .before .before .before .before .before .before .before .loop) .inv in
+    let step = field-stepped
+    ((c .before .before .before .before .before .before .before .before .before .before .before .before .before .before .before .before
+    .before .before .before .before .before .before .before .before .before .before .before .before .before .pre) .1 .0 .0 .row _)
+    ((c .before .before .before .before .before .before .before .before .before .before .before .before .before .before .before .before
+    .before .before .before .before .build-field) .ensures) (k .stands)
+    (λ z. span-from _ _
+    ((c .before .before .before .before .before .before .before .before .before .before .before .before .before .before .before .before
+    .cut-at) .result)
+    ((c .before .before .before .before .before .before .before .before .before .before .before .before .before .before .before .span-of)
+    .ensures)
+    ((c .before .before .before .before .before .before .before .before .before .before .before .before .before .before .if1) .left)
+    ((c .before .before .before .before .before .before .before .before .before .before .before .before .before .before .before .before
+    .cut-at) .ensures .1 z)) ((c .before .before .before .before .before .before .before .before .build-slow) .ensures) in
+    let f = (c .before .before .before .before .before .before .before .before .before .before .before .before .before .before .before
+    .before .before .before .before .before .build-field) .kept .1 .1 .1 .1 .1 .1 .1 .1 .1 in
     let l = (c .before .before .before .before .before .before .before .before .build-slow) .kept .1 .1 .1 .1 .1 .1 .1 .1 .1 in (
       walking-more (i .0) (k .comma-met ((c .if2) .left)) step (k .ahead),
       l .0 ∙ f .0 ∙ i .1,

@@ -17,7 +17,13 @@ abbrev μ-loop : tie.MeasureT-loop
 μ-loop powers t rows len full d from list₀ room₀ spare₀ slot₀ at₀ n₀ list room spare slot at n = length d - at
 
 loop-holds : tie.Need-loop-holds Inv-loop μ-loop
-loop-holds c = let p = (c .before .before .before .before .before .pre) .1 .1 in (judging-none _ _ _ (p .0 .0), p .1 .0, p .1 .1, p .1 .2, p .0 .1)
+loop-holds c = let p = (c .before .before .before .before .before .pre) .1 .1 in (
+  judging-none _ _ _ (p .0 .0),
+  p .1 .0,
+  p .1 .1,
+  p .1 .2,
+  p .0 .1,
+)
 
 judge-line-requires : tie.Need-judge-line-requires Inv-loop μ-loop
 judge-line-requires c κs =
@@ -96,7 +102,8 @@ same-length-2
     c = (c .before .before .before .before .before .before .before .before .before .before .judge-line) .kept .1 .1 .1 .1 .1 .1 .1 .1 .0
     ∙ (c .before .before .before .before .before .before .before .before .before .before .before .before .before .before .before .before
     .loop) .inv .2
-    ∙ sym ((c .before .before .before .before .before .before .before .before .before .before .before .before .before .before .before .before
+    ∙ sym ((c .before .before .before .before .before .before .before .before .before .before .before .before .before .before .before
+    .before
     .before .before .before .before .before .before .pre) .1 .1 .1 .1)
 
 same-length-3 : tie.Need-same-length-3 Inv-loop μ-loop
@@ -104,15 +111,18 @@ same-length-3
     c = (c .before .before .before .before .before .before .before .before .before .before .judge-line) .kept .1 .1 .1 .1 .1 .1 .1 .1 .1 .0
     ∙ (c .before .before .before .before .before .before .before .before .before .before .before .before .before .before .before .before
     .loop) .inv .3
-    ∙ sym ((c .before .before .before .before .before .before .before .before .before .before .before .before .before .before .before .before
+    ∙ sym ((c .before .before .before .before .before .before .before .before .before .before .before .before .before .before .before
+    .before
     .before .before .before .before .before .before .pre) .1 .1 .1 .2)
 
 same-length-4 : tie.Need-same-length-4 Inv-loop μ-loop
 same-length-4
-    c = (c .before .before .before .before .before .before .before .before .before .before .judge-line) .kept .1 .1 .1 .1 .1 .1 .1 .1 .1 .1 .0
+    c = (c .before .before .before .before .before .before .before .before .before .before .judge-line) .kept .1 .1 .1 .1 .1 .1 .1 .1 .1 .1
+    .0
     ∙ (c .before .before .before .before .before .before .before .before .before .before .before .before .before .before .before .before
     .loop) .inv .4
-    ∙ sym ((c .before .before .before .before .before .before .before .before .before .before .before .before .before .before .before .before
+    ∙ sym ((c .before .before .before .before .before .before .before .before .before .before .before .before .before .before .before
+    .before
     .before .before .before .before .before .before .pre) .1 .1 .0 .1)
 
 returns : tie.Need-returns Inv-loop μ-loop
@@ -142,7 +152,8 @@ same-length-5
     c = (c .before .before .before .before .before .before .before .before .before .before .judge-line) .kept .1 .1 .1 .1 .1 .1 .1 .0
     ∙ (c .before .before .before .before .before .before .before .before .before .before .before .before .before .before .before .before
     .loop) .inv .1
-    ∙ sym ((c .before .before .before .before .before .before .before .before .before .before .before .before .before .before .before .before
+    ∙ sym ((c .before .before .before .before .before .before .before .before .before .before .before .before .before .before .before
+    .before
     .before .before .before .before .before .before .pre) .1 .1 .1 .0)
 
 same-length-6 : tie.Need-same-length-6 Inv-loop μ-loop
@@ -150,7 +161,8 @@ same-length-6
     c = (c .before .before .before .before .before .before .before .before .before .before .judge-line) .kept .1 .1 .1 .1 .1 .1 .1 .1 .0
     ∙ (c .before .before .before .before .before .before .before .before .before .before .before .before .before .before .before .before
     .loop) .inv .2
-    ∙ sym ((c .before .before .before .before .before .before .before .before .before .before .before .before .before .before .before .before
+    ∙ sym ((c .before .before .before .before .before .before .before .before .before .before .before .before .before .before .before
+    .before
     .before .before .before .before .before .before .pre) .1 .1 .1 .1)
 
 same-length-7 : tie.Need-same-length-7 Inv-loop μ-loop
@@ -158,15 +170,18 @@ same-length-7
     c = (c .before .before .before .before .before .before .before .before .before .before .judge-line) .kept .1 .1 .1 .1 .1 .1 .1 .1 .1 .0
     ∙ (c .before .before .before .before .before .before .before .before .before .before .before .before .before .before .before .before
     .loop) .inv .3
-    ∙ sym ((c .before .before .before .before .before .before .before .before .before .before .before .before .before .before .before .before
+    ∙ sym ((c .before .before .before .before .before .before .before .before .before .before .before .before .before .before .before
+    .before
     .before .before .before .before .before .before .pre) .1 .1 .1 .2)
 
 same-length-8 : tie.Need-same-length-8 Inv-loop μ-loop
 same-length-8
-    c = (c .before .before .before .before .before .before .before .before .before .before .judge-line) .kept .1 .1 .1 .1 .1 .1 .1 .1 .1 .1 .0
+    c = (c .before .before .before .before .before .before .before .before .before .before .judge-line) .kept .1 .1 .1 .1 .1 .1 .1 .1 .1 .1
+    .0
     ∙ (c .before .before .before .before .before .before .before .before .before .before .before .before .before .before .before .before
     .loop) .inv .4
-    ∙ sym ((c .before .before .before .before .before .before .before .before .before .before .before .before .before .before .before .before
+    ∙ sym ((c .before .before .before .before .before .before .before .before .before .before .before .before .before .before .before
+    .before
     .before .before .before .before .before .before .pre) .1 .1 .0 .1)
 
 returns-2 : tie.Need-returns-2 Inv-loop μ-loop

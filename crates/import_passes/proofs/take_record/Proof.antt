@@ -46,7 +46,8 @@ take-line-requires c κs =
 
 add-slot : tie.Need-add-slot
 add-slot c =
-    let the-start = c .before .before .before .before .before .before .before .before .before .before .before .before .before .before .before
+    let the-start = c .before .before .before .before .before .before .before .before .before .before .before .before .before .before
+    .before
     .before .before .before .before .before .before in
     omega (
       arith,
@@ -81,7 +82,8 @@ returns c =
     let start = at-blank .before .before .before .before .before .before .before in
     line-ended _ _ _ ((at-take-line .take-line) .last .1 .1 .1 .1 .1 .1 .1 .1 .1 .1 .0) ((at-take-line .take-line) .result)
     ((at-take-line .take-line) .ensures) (ended-by ((at-take-line .take-line) .last .1 .1 .1 .1 .1 .1 .1 .1 .1 .1 .0)
-    (drop ((start .args) .len) ((at-blank .blank) .last .0)) _ ((at-take-line .take-line) .kept .1 .1 .1 .1 .1 .1 .1 .1 .1 .1 .0 ∙ blank-size
+    (drop ((start .args) .len) ((at-blank .blank) .last .0)) _
+    ((at-take-line .take-line) .kept .1 .1 .1 .1 .1 .1 .1 .1 .1 .1 .0 ∙ blank-size
     ((start .args) .slot .now) ((start .args) .len) ((start .pre) .1 .1 .0 .1) ((at-blank .blank) .ensures)) (behind-two
     ((start .args) .slot .now) ((start .args) .len) ((start .pre) .1 .1 .0 .1) ((at-blank .blank) .ensures)))
 

@@ -17,8 +17,10 @@ unfolding importSaid
 returns c = roomed-short ((c .before .before .before .before .before .before .pre) .1 .1 .1 .0)
     (accepted-sized ((c .before .before .before .before .before .before .args) .t .now)
     (linesOf (page start (drop ((c .before .before .before .before .before .before .args) .from)
-    ((c .before .before .before .before .before .before .args) .d .now)))) ((c .before .before .before .before .before .before .pre) .1 .1 .1 .0)
-    ((c .before .before .before .before .before .before .pre) .1 .0 .2)) (omega arith) ((c .before .before .before .before .before .before .args) .out .now)
+    ((c .before .before .before .before .before .before .args) .d .now))))
+    ((c .before .before .before .before .before .before .pre) .1 .1 .1 .0)
+    ((c .before .before .before .before .before .before .pre) .1 .0 .2)) (omega arith)
+    ((c .before .before .before .before .before .before .args) .out .now)
     ((c .if1) .taken)
 
 build-lines-requires : tie.Need-build-lines-requires
@@ -60,20 +62,27 @@ mul-t14 c =
 returns-2 : tie.Need-returns-2
 unfolding importSaid
 returns-2 c = roomed-written
-    ((c .before .before .before .before .before .before .before .before .before .before .before .before .before .before .before .before .before
+    ((c .before .before .before .before .before .before .before .before .before .before .before .before .before .before .before .before
+    .before
     .before .pre) .1 .1 .1 .0)
     (accepted-sized
-    ((c .before .before .before .before .before .before .before .before .before .before .before .before .before .before .before .before .before
+    ((c .before .before .before .before .before .before .before .before .before .before .before .before .before .before .before .before
+    .before
     .before .args) .t .now) (linesOf (page start (drop
-    ((c .before .before .before .before .before .before .before .before .before .before .before .before .before .before .before .before .before
+    ((c .before .before .before .before .before .before .before .before .before .before .before .before .before .before .before .before
+    .before
     .before .args) .from)
-    ((c .before .before .before .before .before .before .before .before .before .before .before .before .before .before .before .before .before
+    ((c .before .before .before .before .before .before .before .before .before .before .before .before .before .before .before .before
+    .before
     .before .args) .d .now))))
-    ((c .before .before .before .before .before .before .before .before .before .before .before .before .before .before .before .before .before
+    ((c .before .before .before .before .before .before .before .before .before .before .before .before .before .before .before .before
+    .before
     .before .pre) .1 .1 .1 .0)
-    ((c .before .before .before .before .before .before .before .before .before .before .before .before .before .before .before .before .before
+    ((c .before .before .before .before .before .before .before .before .before .before .before .before .before .before .before .before
+    .before
     .before .pre) .1 .0 .2)) (omega arith)
-    ((c .before .before .before .before .before .before .before .before .before .before .before .before .before .before .before .before .before
+    ((c .before .before .before .before .before .before .before .before .before .before .before .before .before .before .before .before
+    .before
     .before .args) .out .now)
     ((c .before .before .before .before .before .before .before .before .before .before .before .before .if1) .left)
     ((c .before .before .before .before .before .before .before .build-lines) .ensures)

@@ -14,19 +14,52 @@ mark-full-requires : tie.Need-mark-full-requires
 mark-full-requires c κs = ((c .before .before .before .before .pre) .0 .0, search needs)
 
 judge-records-requires : tie.Need-judge-records-requires
-judge-records-requires c κs =
-    ((c .before .before .before .before .before .before .before .before .before .powers) .ensures, ((c .before .before .before .before .before .before .before .before .before .before .before .before .pre) .0, (((c .before .before .before .before .before .before .before .before .before .before .before .before .pre) .1 .0, (c .before .before .before .before .before .before .before .before .before .before .before .before .pre) .1 .1, search needs, (c .before .before .before .before .before .before .before .mark-full) .ensures), (search needs, search needs, search needs))))
+judge-records-requires c κs = (
+  (c .before .before .before .before .before .before .before .before .before .powers) .ensures,
+  (
+    (c .before .before .before .before .before .before .before .before .before .before .before .before .pre) .0,
+    (
+      (
+        (c .before .before .before .before .before .before .before .before .before .before .before .before .pre) .1 .0,
+        (c .before .before .before .before .before .before .before .before .before .before .before .before .pre) .1 .1,
+        search needs,
+        (c .before .before .before .before .before .before .before .mark-full) .ensures,
+      ),
+      (search needs, search needs, search needs),
+    ),
+  ),
+)
 
 build-records-requires : tie.Need-build-records-requires
 build-records-requires c κs = (
-  (c .before .before .before .before .before .before .before .before .before .before .before .before .before .before .before .before .before .before .before .before .before .before .before .powers) .ensures,
+  (c .before .before .before .before .before .before .before .before .before .before .before .before .before .before .before .before .before
+      .before .before .before .before .before .before .powers) .ensures,
   (
-    (c .before .before .before .before .before .before .before .before .before .before .before .before .before .before .before .before .before .before .before .before .before .before .before .before .before .before .pre) .0,
+    (c .before .before .before .before .before .before .before .before .before .before .before .before .before .before .before .before
+        .before .before .before .before .before .before .before .before .before .before .pre) .0,
     (
-      ((c .before .before .before .before .before .before .before .before .before .before .before .before .before .before .before .before .before .before .before .before .before .before .before .before .before .before .pre) .1 .0, (c .before .before .before .before .before .before .before .before .before .before .before .before .before .before .before .before .before .before .before .before .before .before .before .before .before .before .pre) .1 .1, (c .before .before .before .before .before .before .before .before .before .before .before .before .before .before .before .before .before .before .before .before .before .mark-full) .ensures),
       (
-        judged-done (linesSay ((c .before .before .before .before .before .before .before .before .before .before .before .before .before .before .before .before .before .before .before .before .before .before .before .before .before .before .args) .t .now) 2 (linesOf (page start (drop ((c .before .before .before .before .before .before .before .before .before .before .before .before .before .before .before .before .before .before .before .before .before .before .before .before .before .before .args) .from) ((c .before .before .before .before .before .before .before .before .before .before .before .before .before .before .before .before .before .before .before .before .before .before .before .before .before .before .args) .d .now))))) ((c .before .before .before .before .before .before .before .before .before .before .before .before .before .judge-records) .result)
-            ((c .before .before .before .before .before .before .before .before .before .before .before .before .before .judge-records) .ensures) ((c .before .before .before .before .before .before .before .judged2) .given .1),
+        (c .before .before .before .before .before .before .before .before .before .before .before .before .before .before .before .before
+            .before .before .before .before .before .before .before .before .before .before .pre) .1 .0,
+        (c .before .before .before .before .before .before .before .before .before .before .before .before .before .before .before .before
+            .before .before .before .before .before .before .before .before .before .before .pre) .1 .1,
+        (c .before .before .before .before .before .before .before .before .before .before .before .before .before .before .before .before
+            .before .before .before .before .before .mark-full) .ensures,
+      ),
+      (
+        judged-done
+            (linesSay
+            ((c .before .before .before .before .before .before .before .before .before .before .before .before .before .before .before
+            .before .before .before .before .before .before .before .before .before .before .before .args) .t .now) 2
+            (linesOf (page start
+            (drop ((c .before .before .before .before .before .before .before .before .before .before .before .before .before .before
+            .before .before .before .before .before .before .before .before .before .before .before .before .args) .from)
+            ((c .before .before .before .before .before .before .before .before .before .before .before .before .before .before .before
+            .before .before .before .before .before .before .before .before .before .before .before .args) .d .now)))))
+            ((c .before .before .before .before .before .before .before .before .before .before .before .before .before .judge-records)
+            .result)
+            ((c .before .before .before .before .before .before .before .before .before .before .before .before .before .judge-records)
+            .ensures) ((c .before .before .before .before .before .before .before .judged2) .given .1),
         (search needs, search needs, search needs),
       ),
     ),
@@ -36,8 +69,20 @@ build-records-requires c κs = (
 returns : tie.Need-returns
 unfolding importSaid
 returns c =
-    roomed-refused ((c .before .before .before .before .before .before .before .before .before .before .before .before .before .before .before .before .before .before .before .before .args) .out .now) (judged-refused (linesSay ((c .before .before .before .before .before .before .before .before .before .before .before .before .before .before .before .before .before .before .before .before .args) .t .now) 2 (linesOf (page start (drop ((c .before .before .before .before .before .before .before .before .before .before .before .before .before .before .before .before .before .before .before .before .args) .from) ((c .before .before .before .before .before .before .before .before .before .before .before .before .before .before .before .before .before .before .before .before .args) .d .now)))))
-    ((c .before .before .before .before .before .before .before .judge-records) .result) ((c .before .before .before .before .before .before .before .judge-records) .ensures) ((c .before .judged) .given .1))
+    roomed-refused
+    ((c .before .before .before .before .before .before .before .before .before .before .before .before .before .before .before .before
+    .before .before .before .before .args) .out .now)
+    (judged-refused
+    (linesSay
+    ((c .before .before .before .before .before .before .before .before .before .before .before .before .before .before .before .before
+    .before .before .before .before .args) .t .now) 2
+    (linesOf (page start
+    (drop ((c .before .before .before .before .before .before .before .before .before .before .before .before .before .before .before
+    .before .before .before .before .before .args) .from)
+    ((c .before .before .before .before .before .before .before .before .before .before .before .before .before .before .before .before
+    .before .before .before .before .args) .d .now)))))
+    ((c .before .before .before .before .before .before .before .judge-records) .result)
+    ((c .before .before .before .before .before .before .before .judge-records) .ensures) ((c .before .judged) .given .1))
 
 pub import-records-spec : {M : Type 1} → statement M
 import-records-spec =
