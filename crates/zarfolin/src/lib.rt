@@ -402,7 +402,11 @@ pub extern "C" fn zarfolin_read_value(
 pub extern "C" fn zarfolin_judge_file(table: &[i64], d: &[u8], answer: &mut [i64; 4]) -> u64
     ensures { λ r. ⌜ FileTold (now (table .entry)) (now (d .entry)) (now (answer .exit)) r ⌝ }
 {
-    tell(answer, file_cells(files::judge_file(table, d)))
+    // The table is tested here and not in `files::judge_file`: what was just lent is not lent on before it is read.
+    if sound::well_formed(table) {
+        return tell(answer, file_cells(files::judge_tested(table, d)));
+    }
+    tell(answer, file_cells(Judgement::BadTable))
 }
 
 // Judges a part of a data file that begins where a record does. A `last` of 0 says that more of the file follows.
